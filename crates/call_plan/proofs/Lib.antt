@@ -1,0 +1,6 @@
+pub mod Repeats
+pub mod Lawful
+pub mod Inserting
+pub mod Joining
+pub mod Shapes
+pub mod Texts

@@ -1,0 +1,25 @@
+use Rattle.std.proofs.lemmas.Result.{err_from_is_err_and}
+use Rattle.call_plan.specs.PlanFile.{branch_of}
+use Rattle.call_plan.proofs.draft.read_branch.Goals as goal
+
+pub returns-in_err-name : goal.returns-in_err-name
+unfolding branch_of
+returns-in_err-name c =
+    let p = err_from_is_err_and c.from_residual.result c.from_residual.ensures.1 in
+    rw (p.1, p.2) (λ fault. let shape = c.in_err-name.ensures fault in (shape.0, rw shape.1))
+
+pub returns-in_err-address : goal.returns-in_err-address
+unfolding branch_of
+returns-in_err-address c =
+    let p = err_from_is_err_and c.from_residual-in_err-address.result c.from_residual-in_err-address.ensures.1 in
+    rw (p.1, p.2) (λ fault. let shape = c.in_err-address.ensures fault in (shape.0, rw (c.in_ok-name.ensures, shape.1)))
+
+pub returns-in_err-path : goal.returns-in_err-path
+unfolding branch_of
+returns-in_err-path c =
+    let p = err_from_is_err_and c.from_residual-in_err-path.result c.from_residual-in_err-path.ensures.1 in
+    rw (p.1, p.2) (λ fault. let shape = c.in_err-path.ensures fault in (shape.0, rw (c.in_ok-name.ensures, c.in_ok-address.ensures, shape.1)))
+
+pub returns : goal.returns
+unfolding branch_of
+returns c = rw (c.in_ok-name.ensures, c.in_ok-address.ensures, c.in_ok-path.ensures)

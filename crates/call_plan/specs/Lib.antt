@@ -1,0 +1,4 @@
+pub mod Rules
+pub mod Plan
+pub mod Plans
+pub mod PlanFile

@@ -1,0 +1,12 @@
+use http_pieces::Text;
+
+/// One request of a plan: who is asked, and under which name the answer stands in the joined reply.
+#[derive(Debug, Drop, PartialEq, Eq)]
+pub struct Branch {
+    /// The key of the answer in the joined reply.
+    pub name: Text,
+    /// The backend's host and port, as `127.0.0.1:9001`.
+    pub address: Text,
+    /// The path that the backend is asked for.
+    pub path: Text,
+}

@@ -1,0 +1,21 @@
+//! Plans: what a path of the gateway asks of which backends, and how their answers are joined.
+//!
+//! A `Plan` that exists is lawful, and the plans of a `Plans` have distinct paths. A plan file is a JSON array of
+//! plans, read by `read_plans`.
+#![tactic(auto)]
+
+mod branch;
+mod draft;
+mod error;
+mod plan;
+mod plans;
+mod read;
+mod rules;
+#[cfg(test)]
+mod tests;
+
+pub use branch::Branch;
+pub use error::PlanError;
+pub use plan::Plan;
+pub use plans::Plans;
+pub use read::{plans_of, read_plans};

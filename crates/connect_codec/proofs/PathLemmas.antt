@@ -1,0 +1,61 @@
+-- The parts of a request's target.
+use Rattle.std.proofs.Common.{◌≡◌, ℕ, ◌+◌, ◌<◌, ◌≤◌, ◌==◌, suc, Bool, true, false, List, [], ◌∷◌, length, take, drop, map, refl, sym, ap, arith, Some, None, codes, nat_eq}
+use Rattle.std.proofs.lemmas.List.{take_all, length-map}
+use Rattle.std.specs.Prelude.{position}
+use Rattle.std.specs.Char.{to_ascii_lowercase}
+use Rattle.std.specs.List.{position_or_len, before_first, starts_with}
+use Rattle.http_pieces.proofs.FieldLemmas.{same_is}
+use Rattle.connect_codec.specs.Path.{from_slash, path_and_query, path_of}
+use Rattle.connect_codec.proofs.TextLemmas.{position_found, position_missing}
+
+-- what stands from the first slash on, by its place
+record FromSlash (text : List ℕ) (n : ℕ) : Type 0 where
+  found : n < length text → from_slash text ≡ Some (drop n text)
+  missing : length text ≤ n → from_slash text ≡ None
+
+from_place : (text : List ℕ) → FromSlash text (position_or_len (λ b. b == 47) text)
+from_place [] = record { found = λ lt. absurd (omega arith); missing = λ le. refl }
+from_place (b ∷ text) = by_first (from_place text) (b == 47) refl
+  where
+    by_first : FromSlash text (position_or_len (λ b. b == 47) text) → (t : Bool) → (b == 47) ≡ t → FromSlash (b ∷ text) (position_or_len (λ b. b == 47) (b ∷ text))
+    by_first later true slash = rw slash (record { found = λ lt. rw slash refl; missing = λ le. absurd (omega arith) })
+    by_first later false other =
+        let suc_n : 1 + position_or_len (λ b. b == 47) text ≡ suc (position_or_len (λ b. b == 47) text) = omega arith in
+        rw (other, suc_n) (record { found = λ lt. rw other (later.found (omega arith)); missing = λ le. rw other (later.missing (omega arith)) })
+
+pub from_slash_found : (text : List ℕ) (i : ℕ) → position (λ b. b == 47) text ≡ Some i → from_slash text ≡ Some (drop i text)
+from_slash_found text i e =
+    let place = position_found (λ b. b == 47) text i e in
+    rw (← place.0) ((from_place text).found (omega arith))
+
+pub from_slash_missing : (text : List ℕ) → position (λ b. b == 47) text ≡ None → from_slash text ≡ None
+from_slash_missing text e = (from_place text).missing (position_missing (λ b. b == 47) text e)
+
+-- ---- a target
+
+pub path_and_query_absolute : (target : List ℕ) → starts_with nat_eq target (codes "/") ≡ false
+    → map to_ascii_lowercase (take 7 target) ≡ map to_ascii_lowercase (codes "http://")
+    → path_and_query target ≡ from_slash (drop 7 target)
+path_and_query_absolute target other scheme = rw (other, sym (same_is (take 7 target) (codes "http://") true ((λ _. scheme), (λ _. refl)))) refl
+
+pub path_and_query_none : (target : List ℕ) → starts_with nat_eq target (codes "/") ≡ false
+    → ¬ (map to_ascii_lowercase (take 7 target) ≡ map to_ascii_lowercase (codes "http://"))
+    → path_and_query target ≡ None
+path_and_query_none target other scheme =
+    rw (other, sym (same_is (take 7 target) (codes "http://") false ((λ wrong. absurd (cc)), (λ same. absurd (scheme same))))) refl
+
+-- a shorter text has no such scheme
+pub no_scheme : (target : List ℕ) → length target < 7 → ¬ (map to_ascii_lowercase (take 7 target) ≡ map to_ascii_lowercase (codes "http://"))
+no_scheme target short same =
+    let whole : take 7 target ≡ target = take_all 7 target (omega arith) in
+    let lengths = ap length same in
+    absurd (omega (arith, rw (length-map {A = ℕ} {B = ℕ}, whole) at lengths))
+
+-- what stands before the query
+pub path_of-none : (target : List ℕ) → path_and_query target ≡ None → path_of target ≡ None
+unfolding path_of
+path_of-none target e = rw e refl
+
+pub path_of-some : (target text : List ℕ) → path_and_query target ≡ Some text → path_of target ≡ Some (before_first (λ b. b == 63) text)
+unfolding path_of
+path_of-some target text e = rw e refl

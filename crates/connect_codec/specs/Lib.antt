@@ -1,0 +1,9 @@
+pub mod BranchRequest
+pub mod Headers
+pub mod Message
+pub mod Outcome
+pub mod Path
+pub mod Reply
+pub mod Verdict
+pub mod BranchAsk
+pub mod ReadBack

@@ -1,0 +1,26 @@
+//! The Connect protocol over HTTP/1.1, for unary calls in JSON: which requests are calls, what the
+//! replies and the requests to branches are, byte for byte, and what a branch's reply means.
+#![tactic(auto)]
+
+mod answer;
+mod ask;
+mod branch;
+mod head;
+mod headers;
+mod json;
+pub mod laws;
+mod meaning;
+mod path;
+mod reply;
+#[cfg(test)]
+mod tests;
+mod text;
+mod verdict;
+
+pub use answer::Outcome;
+pub use ask::BranchAsk;
+pub use branch::branch_request;
+pub use meaning::outcome;
+pub use path::target_path;
+pub use reply::{bare_reply, error_reply, success_reply};
+pub use verdict::{Verdict, judge};

@@ -1,0 +1,4 @@
+pub mod Names
+pub mod Written
+pub mod Reading
+pub mod Texts

@@ -1,0 +1,14 @@
+//! The error codes of the Connect protocol and the JSON document that carries an error.
+//!
+//! A `Code` has a name and an HTTP status. `write` makes the document of an error, and `read` finds
+//! the error that a reply other than 200 stands for, whatever its body is.
+#![tactic(auto)]
+
+mod code;
+mod document;
+pub mod laws;
+#[cfg(test)]
+mod tests;
+
+pub use code::Code;
+pub use document::{RpcError, read, write};

@@ -1,0 +1,293 @@
+use crate::{Code, RpcError, read, write};
+use http::StatusCode;
+use http_pieces::Text;
+use std::alloc::{AllocError, Global};
+use std::process::Abort;
+use std::test::Fail;
+
+fn error(alloc: Global, code: Code, message: &str) -> Result<RpcError, AllocError> {
+    Ok(RpcError {
+        code,
+        message: Text::from_str(alloc, message)?,
+    })
+}
+
+fn read_at(
+    rt: &impl Abort,
+    alloc: Global,
+    status: u16,
+    body: &[u8],
+) -> Result<RpcError, AllocError> {
+    let Ok(status) = StatusCode::from_u16(status) else {
+        panic!(rt; "{status} is no status");
+    };
+    assert!(rt; status.as_u16() != 200);
+    read(alloc, status, body)
+}
+
+#[test]
+fn codes_have_names_and_statuses(rt: HostRuntime) {
+    for (code, name, status) in [
+        (Code::Canceled, "canceled", 499),
+        (Code::Unknown, "unknown", 500),
+        (Code::InvalidArgument, "invalid_argument", 400),
+        (Code::DeadlineExceeded, "deadline_exceeded", 504),
+        (Code::NotFound, "not_found", 404),
+        (Code::AlreadyExists, "already_exists", 409),
+        (Code::PermissionDenied, "permission_denied", 403),
+        (Code::ResourceExhausted, "resource_exhausted", 429),
+        (Code::FailedPrecondition, "failed_precondition", 400),
+        (Code::Aborted, "aborted", 409),
+        (Code::OutOfRange, "out_of_range", 400),
+        (Code::Unimplemented, "unimplemented", 501),
+        (Code::Internal, "internal", 500),
+        (Code::Unavailable, "unavailable", 503),
+        (Code::DataLoss, "data_loss", 500),
+        (Code::Unauthenticated, "unauthenticated", 401),
+    ] {
+        assert_eq!(rt; code.name(), name);
+        assert_eq!(rt; code.status(), status, "{name}");
+        assert_eq!(rt; Code::from_name(name.as_bytes()), Some(code));
+    }
+    for name in [
+        "",
+        "Canceled",
+        "CANCELED",
+        "cancelled",
+        "cancele",
+        "canceled ",
+        "ok",
+        "not-found",
+    ] {
+        assert_eq!(rt; Code::from_name(name.as_bytes()), None, "{name}");
+    }
+}
+
+#[test]
+fn statuses_stand_for_codes(rt: HostRuntime) -> Result<(), Fail> {
+    for (status, code) in [
+        (100, Code::Unknown),
+        (204, Code::Unknown),
+        (302, Code::Unknown),
+        (400, Code::Internal),
+        (401, Code::Unauthenticated),
+        (402, Code::Unknown),
+        (403, Code::PermissionDenied),
+        (404, Code::Unimplemented),
+        (405, Code::Unknown),
+        (409, Code::Unknown),
+        (429, Code::Unavailable),
+        (500, Code::Unknown),
+        (501, Code::Unknown),
+        (502, Code::Unavailable),
+        (503, Code::Unavailable),
+        (504, Code::Unavailable),
+        (505, Code::Unknown),
+        (999, Code::Unknown),
+    ] {
+        let status = StatusCode::from_u16(status)?;
+        assert_eq!(rt; Code::inferred(status), code, "{}", status.as_str());
+    }
+    Ok(())
+}
+
+#[test]
+fn writes_documents(rt: HostRuntime) -> Result<(), Fail> {
+    for (code, message, text) in [
+        (
+            Code::Unavailable,
+            "pong: HTTP status 503",
+            r#"{"code":"unavailable","message":"pong: HTTP status 503"}"#,
+        ),
+        (
+            Code::DeadlineExceeded,
+            "context deadline exceeded",
+            r#"{"code":"deadline_exceeded","message":"context deadline exceeded"}"#,
+        ),
+        (
+            Code::Canceled,
+            "context canceled",
+            r#"{"code":"canceled","message":"context canceled"}"#,
+        ),
+        (Code::Aborted, "", r#"{"code":"aborted"}"#),
+        (
+            Code::Internal,
+            r#"a "b" \ /"#,
+            r#"{"code":"internal","message":"a \"b\" \\ /"}"#,
+        ),
+        (
+            Code::Internal,
+            "\n\r\t\u{8}\u{c}",
+            r#"{"code":"internal","message":"\n\r\t\b\f"}"#,
+        ),
+        (
+            Code::Internal,
+            "\0\u{1}\u{1b}\u{1f}\u{7f}",
+            "{\"code\":\"internal\",\"message\":\"\\u0000\\u0001\\u001b\\u001f\u{7f}\"}",
+        ),
+        (
+            Code::Unknown,
+            "é ☃ 😀",
+            r#"{"code":"unknown","message":"é ☃ 😀"}"#,
+        ),
+    ] {
+        let error = error(rt.alloc(), code, message)?;
+        let written = write(rt.alloc(), &error)?;
+        assert_eq!(rt; written.as_slice(), text.as_bytes(), "{message}");
+        assert!(rt;
+            read_at(&rt, rt.alloc(), 599, written.as_slice())? == error,
+            "{message}"
+        );
+        assert!(rt; error.clone()? == error, "{message}");
+    }
+    Ok(())
+}
+
+#[test]
+fn written_lengths(rt: HostRuntime) -> Result<(), Fail> {
+    for (code, message, len) in [
+        (Code::Unavailable, "pong: HTTP status 503", 56),
+        (Code::DeadlineExceeded, "context deadline exceeded", 66),
+        (Code::Canceled, "context canceled", 48),
+    ] {
+        let error = error(rt.alloc(), code, message)?;
+        assert_eq!(rt; write(rt.alloc(), &error)?.len(), len, "{message}");
+    }
+    Ok(())
+}
+
+#[test]
+fn reads_bodies(rt: HostRuntime) -> Result<(), Fail> {
+    for (status, body, code, message) in [
+        (503, "busy", Code::Unavailable, "HTTP status 503"),
+        (
+            404,
+            r#"{"code":"not_found","message":"no","details":[{"type":"t","value":"AA"}]}"#,
+            Code::NotFound,
+            "no",
+        ),
+        (409, r#"{"code":"aborted"}"#, Code::Aborted, ""),
+        (404, r#"{"message":"m"}"#, Code::Unimplemented, "m"),
+        // No object, or no JSON.
+        (500, "", Code::Unknown, "HTTP status 500"),
+        (500, "null", Code::Unknown, "HTTP status 500"),
+        (401, r#""code""#, Code::Unauthenticated, "HTTP status 401"),
+        (
+            400,
+            r#"[{"code":"aborted"}]"#,
+            Code::Internal,
+            "HTTP status 400",
+        ),
+        (
+            403,
+            r#"{"code":"aborted""#,
+            Code::PermissionDenied,
+            "HTTP status 403",
+        ),
+        (
+            429,
+            r#"{"code":"aborted"} x"#,
+            Code::Unavailable,
+            "HTTP status 429",
+        ),
+        (
+            302,
+            r#"{"code":"aborted","x":1e400}"#,
+            Code::Unknown,
+            "HTTP status 302",
+        ),
+        // No code among the sixteen.
+        (404, "{}", Code::Unimplemented, "HTTP status 404"),
+        (
+            503,
+            r#"{"code":"Aborted","message":"m"}"#,
+            Code::Unavailable,
+            "m",
+        ),
+        (503, r#"{"code":5,"message":"m"}"#, Code::Unavailable, "m"),
+        (503, r#"{"code":"ok","message":""}"#, Code::Unavailable, ""),
+        (
+            503,
+            r#"{"code":null,"message":5}"#,
+            Code::Unavailable,
+            "HTTP status 503",
+        ),
+        // A message that is no text.
+        (503, r#"{"code":"aborted","message":5}"#, Code::Aborted, ""),
+        (
+            503,
+            r#"{"code":"aborted","message":null}"#,
+            Code::Aborted,
+            "",
+        ),
+        // The last value of a repeated key.
+        (
+            503,
+            r#"{"code":"aborted","code":"internal","message":1,"message":"b"}"#,
+            Code::Internal,
+            "b",
+        ),
+        (
+            503,
+            r#"{"code":"aborted","code":5}"#,
+            Code::Unavailable,
+            "HTTP status 503",
+        ),
+        // Spaces and escapes.
+        (
+            503,
+            r#" { "\u0063ode" : "\u0061borted" , "message" : "\n\u00e9" } "#,
+            Code::Aborted,
+            "\né",
+        ),
+    ] {
+        let read = read_at(&rt, rt.alloc(), status, body.as_bytes())?;
+        assert!(rt;
+            read == error(rt.alloc(), code, message)?,
+            "{status} {body}"
+        );
+    }
+    Ok(())
+}
+
+#[test]
+fn bytes_that_are_no_text(rt: HostRuntime) -> Result<(), Fail> {
+    for body in [
+        b"{\"code\":\"aborted\",\"message\":\"\xff\"}".as_slice(),
+        b"{\"code\":\"aborted\",\"\xc3\":1}".as_slice(),
+        b"\xef\xbb\xbf{\"code\":\"aborted\"}".as_slice(),
+    ] {
+        let read = read_at(&rt, rt.alloc(), 502, body)?;
+        assert!(rt; read == error(rt.alloc(), Code::Unavailable, "HTTP status 502")?);
+    }
+    Ok(())
+}
+
+#[test]
+fn nesting_ends_at_127(rt: HostRuntime) -> Result<(), Fail> {
+    let alloc = rt.alloc();
+    for (arrays, code, message) in [
+        (126, Code::Aborted, "m"),
+        (127, Code::Unimplemented, "HTTP status 404"),
+    ] {
+        let mut body = String::from_str(alloc, r#"{"code":"aborted","message":"m","x":"#)?;
+        for _ in 0..arrays {
+            body.push_str("[")?;
+        }
+        for _ in 0..arrays {
+            body.push_str("]")?;
+        }
+        body.push_str("}")?;
+        let read = read_at(&rt, rt.alloc(), 404, body.as_bytes())?;
+        assert!(rt; read == error(alloc, code, message)?, "{arrays}");
+    }
+    Ok(())
+}
+
+#[test]
+fn shows_code_and_message(rt: HostRuntime) -> Result<(), Fail> {
+    let error = error(rt.alloc(), Code::NotFound, "no")?;
+    let shown = format!(in rt.alloc(); "{error}")?;
+    assert_eq!(rt; shown.as_str(), "not_found: no");
+    Ok(())
+}

@@ -1,0 +1,7 @@
+use Rattle.std.proofs.Common.{refl}
+use Rattle.gateway_core.specs.Arrival.{refusal_reply}
+use Rattle.gateway_core.proofs.connection.too_large.Goals as goal
+
+pub returns : goal.returns
+unfolding refusal_reply
+returns c = rw (c.in_ok-bytes.ensures, c.in_ok-from_str.ensures) refl

@@ -1,0 +1,104 @@
+-- A call of a plan, and how far its branches are.
+use Rattle.std.specs.Prelude.{◌≡◌, ℕ, ◌+◌, ◌<◌, ◌≤◌, Bool, true, false, if◌then◌else◌, List, [], ◌∷◌, ◌++◌, length, min, replicate, slice_index_or, slice_set, codes}
+use Rattle.error_document.specs.declared.document.RpcError.{RpcError}
+use Rattle.connect_codec.specs.Reply.{success_reply, error_reply}
+use Rattle.call_plan.specs.Plan.{PlanRecord, join_text}
+use Rattle.http_pieces.specs.Request.{HttpRequest, closes}
+use Rattle.gateway_core.specs.declared.id.CallId.{CallId}
+use Rattle.gateway_core.specs.declared.reply.Reply.{Reply}
+use Rattle.gateway_core.specs.Job.{branch_at}
+use Rattle.gateway_core.specs.declared.fault.Seen.{Seen}
+use Rattle.gateway_core.specs.declared.fault.Seen.TheVariants.{Counted, Late, Unknown}
+
+pub record CallValue : Type 0 where
+  pub id : CallId
+  pub plan : PlanRecord
+  pub request : HttpRequest
+  -- the branches below this number have started
+  pub started : ℕ
+  -- how many answers counted
+  pub answered : ℕ
+  -- which branches are out: started, and with no result since
+  pub out : List Bool
+  pub answers : List (List ℕ)
+  pub decided : Bool
+
+abbrev pub call_value : CallId → PlanRecord → HttpRequest → ℕ → ℕ → List Bool → List (List ℕ) → Bool → CallValue
+call_value id plan request started answered out answers decided = record {
+  id = id;
+  plan = plan;
+  request = request;
+  started = started;
+  answered = answered;
+  out = out;
+  answers = answers;
+  decided = decided;
+}
+
+-- a call that begins
+abbrev pub new_call : CallId → PlanRecord → HttpRequest → CallValue
+new_call id plan request =
+    call_value id plan request 0 0 (replicate (length plan.branches) false) (replicate (length plan.branches) []) false
+
+-- how many branches are to have started: the plan's limit, and one more for each answer that counted
+abbrev pub due_of : CallValue → ℕ
+due_of c = min (length c.plan.branches) (c.plan.limit + c.answered)
+
+-- that branch starts, behind those before it
+abbrev pub start_of : ℕ → CallValue → CallValue
+start_of i c = record c { started = i + 1; out = slice_set c.out i true }
+
+-- a result of that branch came
+abbrev pub back : ℕ → CallValue → CallValue
+back i c = record c { out = slice_set c.out i false }
+
+-- an answer of that branch counted, of which there are at most as many as branches
+abbrev pub answered_by : ℕ → List ℕ → CallValue → CallValue
+answered_by i body c = record c { answered = min (c.answered + 1) (length c.plan.branches); answers = slice_set c.answers i body }
+
+abbrev pub decided_of : CallValue → CallValue
+decided_of c = record c { decided = true }
+
+-- the same call, with the same answers and the same decision
+pub record IsSameCall (old new : CallValue) : Type 0 where
+  pub id : new.id ≡ old.id
+  pub plan : new.plan ≡ old.plan
+  pub request : new.request ≡ old.request
+  pub answered : new.answered ≡ old.answered
+  pub answers : new.answers ≡ old.answers
+  pub decided : new.decided ≡ old.decided
+
+-- the branch is out
+abbrev pub is_out : CallValue → ℕ → Bool
+is_out c i = slice_index_or c.out i false
+
+-- how a result of that branch is seen
+abbrev pub call_sees : CallValue → ℕ → Seen
+call_sees c i = if is_out c i then (if c.decided then Late else Counted) else Unknown
+
+-- one place for each branch of the plan
+pub record IsCallSound (c : CallValue) : Type 0 where
+  pub out_is : length c.out ≡ length c.plan.branches
+  pub answers_are : length c.answers ≡ length c.plan.branches
+  pub started_is : c.started ≤ length c.plan.branches
+  pub answered_is : c.answered ≤ length c.plan.branches
+  pub few : length c.plan.branches ≤ 16
+
+-- the error of a failed branch, as the caller is told it: behind the branch's name
+abbrev pub named_message : List ℕ → List ℕ → List ℕ
+named_message name [] = name
+named_message name (b ∷ message) = name ++ codes ": " ++ b ∷ message
+
+abbrev pub branch_error : List ℕ → RpcError → RpcError
+branch_error name error = record { code = error.code; message = named_message name error.message }
+
+abbrev pub reply_of : List ℕ → Bool → Reply
+reply_of bytes last = record { bytes = bytes; last = last }
+
+-- the reply of a call whose branches have all answered
+abbrev pub success_of : CallValue → Reply
+success_of c = reply_of (success_reply (join_text c.plan.branches c.answers) (closes c.request)) (closes c.request)
+
+-- the reply of a call that fails with the error of that branch
+abbrev pub failure_of : ℕ → RpcError → CallValue → Reply
+failure_of i error c = reply_of (error_reply (branch_error (branch_at c.plan i).name error) (closes c.request)) (closes c.request)

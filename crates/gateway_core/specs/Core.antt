@@ -1,0 +1,141 @@
+-- The gateway's state, as its callers see it.
+use Rattle.std.specs.Prelude.{◌≡◌, ℕ, ◌+◌, ◌<◌, ◌≤◌, Bool, true, false, not, ◌&&◌, ◌||◌, ◌==◌, if◌then◌else◌, List, [], ◌∷◌, ◌++◌, length, count_by, nat_lt, Option, None, Some, is_some, MatchBool, ⊤}
+use Rattle.call_plan.specs.Plan.{PlanRecord}
+use Rattle.http_pieces.specs.Request.{HttpRequest}
+use Rattle.http_pieces.specs.declared.state.State.{State}
+use Rattle.http_pieces.specs.declared.state.State.TheVariants as state
+use Rattle.http_pieces.specs.Reader.{ReaderValue, Reading, reader_value, Partial, Waiting, Stopped, Done, state_of}
+use Rattle.gateway_core.specs.declared.id.CallId.{CallId}
+use Rattle.gateway_core.specs.declared.reply.Reply.{Reply}
+use Rattle.gateway_core.specs.declared.fault.Seen.{Seen}
+use Rattle.gateway_core.specs.declared.fault.Seen.TheVariants.{Counted, Late, Unknown}
+use Rattle.gateway_core.specs.Arrival.{Arrival, Answered, Begins}
+use Rattle.gateway_core.specs.Call.{CallValue, is_out, new_call, back, answered_by, decided_of, success_of, failure_of, IsSameCall}
+use Rattle.connect_codec.specs.declared.answer.Outcome.{Outcome}
+use Rattle.connect_codec.specs.declared.answer.Outcome.TheVariants.{Answer, Fail}
+use Rattle.gateway_core.specs.Job.{JobValue}
+
+-- The connection: what it has read, whether its first request has arrived (or was refused), the call that it began if it
+-- is one, the replies not taken yet, and whether the connection is broken.
+pub record ConnValue : Type 0 where
+  pub reader : ReaderValue
+  pub arrived : Bool
+  pub call : Option CallValue
+  pub replies : List Reply
+  pub broken : Bool
+
+abbrev pub conn_value : ReaderValue → Bool → Option CallValue → List Reply → Bool → ConnValue
+conn_value reader arrived call replies broken =
+    record { reader = reader; arrived = arrived; call = call; replies = replies; broken = broken }
+
+-- a whole request waits in the reader
+abbrev pub is_waiting : Reading → Bool
+is_waiting (Partial left) = false
+is_waiting (Waiting q) = true
+is_waiting (Stopped r) = false
+is_waiting Done = false
+
+-- a connection that was opened
+abbrev pub new_conn : ConnValue
+new_conn = conn_value (reader_value 0 (Partial [])) false None [] false
+
+-- the plans, the connection if one was opened, and the jobs not taken yet
+pub record CoreValue : Type 0 where
+  pub plans : List PlanRecord
+  pub conn : Option ConnValue
+  pub jobs : List JobValue
+
+abbrev pub core_value : List PlanRecord → Option ConnValue → List JobValue → CoreValue
+core_value plans conn jobs = record { plans = plans; conn = conn; jobs = jobs }
+
+-- the connection of that number
+abbrev pub conn_at : ℕ → CoreValue → Option ConnValue
+conn_at number core = if number == 0 then core.conn else None
+
+abbrev pub is_unbroken : Option ConnValue → Bool
+is_unbroken None = false
+is_unbroken (Some conn) = not conn.broken
+
+-- the connection of that number was opened, and is not broken
+abbrev pub is_live : ℕ → CoreValue → Bool
+is_live number core = is_unbroken (conn_at number core)
+
+-- the replies of a connection that were not taken yet
+abbrev pub replies_of : Option ConnValue → List Reply
+replies_of None = []
+replies_of (Some conn) = conn.replies
+
+abbrev pub untaken_of : ℕ → CoreValue → List Reply
+untaken_of number core = replies_of (conn_at number core)
+
+abbrev pub is_broken_conn : Option ConnValue → Bool
+is_broken_conn None = false
+is_broken_conn (Some conn) = conn.broken
+
+-- the call of that connection and request number, if there is one
+abbrev pub call_of : Option ConnValue → Option CallValue
+call_of None = None
+call_of (Some conn) = conn.call
+
+abbrev pub call_at : CallId → CoreValue → Option CallValue
+call_at id core = if id.request == 0 then call_of (conn_at id.conn core) else None
+
+-- how a result of a branch is seen: counted if the branch is out and its call undecided on an unbroken connection
+abbrev pub sees : Option CallValue → Bool → ℕ → Seen
+sees None broken branch = Unknown
+sees (Some call) broken branch = if is_out call branch then (if call.decided || broken then Late else Counted) else Unknown
+
+abbrev pub core_sees : CallId → ℕ → CoreValue → Seen
+core_sees id branch core = sees (call_at id core) (is_broken_conn (conn_at id.conn core)) branch
+
+-- how many branches of a call are out
+abbrev pub outs : Option CallValue → ℕ
+outs None = 0
+outs (Some call) = count_by (λ out. out) call.out
+
+-- no call is undecided
+abbrev pub is_settled : Option CallValue → Bool
+is_settled None = true
+is_settled (Some call) = call.decided
+
+-- nothing more is read of a stream in this state
+abbrev pub has_stopped : State → Bool
+has_stopped state.More = false
+has_stopped state.Complete = false
+has_stopped (state.Refused r) = true
+has_stopped state.Ended = true
+
+-- the connection queues no more replies: it is unknown, broken, or its stream has ended and no call of it is undecided
+abbrev pub is_ended : Option ConnValue → Bool
+is_ended None = true
+is_ended (Some conn) = conn.broken || (has_stopped (state_of conn.reader.reading) && is_settled conn.call)
+
+-- a counted outcome of a branch: a failure decides the call, and so does the last answer; another answer starts what is due
+abbrev pub CountsTo : ℕ → Outcome → ConnValue → CallValue → ConnValue → Type 0
+CountsTo branch (Fail error) old call new =
+    new ≡ record old { call = Some (decided_of call); replies = old.replies ++ failure_of branch error call ∷ [] }
+CountsTo branch (Answer body) old call new =
+    let answered = answered_by branch body call in
+    MatchBool (nat_lt answered.answered (length call.plan.branches))
+    ((new.replies ≡ old.replies) × ((later : CallValue) × (new.call ≡ Some later) × IsSameCall answered later))
+    (new ≡ record old { call = Some (decided_of answered); replies = old.replies ++ success_of answered ∷ [] })
+
+-- the connection after a counted outcome of a branch, which is no longer out
+abbrev pub CountedIn : ℕ → Outcome → ConnValue → CallValue → Option ConnValue → Type 0
+CountedIn branch outcome old was None = ⊥
+CountedIn branch outcome old was (Some new) = CountsTo branch outcome (record old { call = Some (back branch was) }) (back branch was) new
+
+-- the first call of the first connection
+abbrev pub first_call : CallId
+first_call = record { conn = 0; request = 0 }
+
+-- a call of the plan begins, and its first branches start
+abbrev pub BeginsCall : PlanRecord → HttpRequest → ConnValue → ConnValue → Type 0
+BeginsCall plan q old new =
+    (new.replies ≡ old.replies) × ((call : CallValue) × (new.call ≡ Some call) × IsSameCall (new_call first_call plan q) call)
+
+-- what the first request adds to a connection as it arrives: a reply, or a call
+abbrev pub ArrivesAs : HttpRequest → ConnValue → ConnValue → Option Arrival → Type 0
+ArrivesAs q old new (Some (Answered reply)) = (new.replies ≡ old.replies ++ reply ∷ []) × (new.call ≡ old.call)
+ArrivesAs q old new (Some (Begins plan)) = BeginsCall plan q old new
+ArrivesAs q old new None = ⊤

@@ -1,0 +1,4 @@
+pub mod Job
+pub mod Call
+pub mod Arrival
+pub mod Core

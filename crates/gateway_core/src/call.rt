@@ -1,0 +1,224 @@
+ghost use Rattle.std.specs.Prelude.{◌≡◌, ◌<◌, ◌++◌, ◌∷◌, [], IfOk, OnOk, OnErr, length, replicate, count_by, not, nat_lt};
+ghost use Rattle.std.specs.Arc.{arc_value};
+ghost use Rattle.gateway_core.specs.Call.{new_call, is_out, call_sees, branch_error, due_of, start_of, back, answered_by, success_of, failure_of, decided_of, IsSameCall};
+ghost use Rattle.gateway_core.specs.Job.{job_of, branch_at};
+
+use crate::id::CallId;
+use crate::job::Job;
+use crate::reply::Reply;
+use call_plan::Plan;
+use connect_codec::{error_reply, success_reply};
+use error_document::RpcError;
+use http_pieces::{Bytes, Request, Text};
+use std::alloc::{AllocError, Global};
+use std::collections::VecDeque;
+use std::marker::Model;
+use std::sync::Arc;
+
+/// A call of a plan, and how far its branches are.
+#[derive(Drop)]
+pub(crate) struct Call {
+    id: CallId,
+    plan: Arc<Plan>,
+    request: Arc<Request>,
+    /// The branches below this number have started.
+    started: usize,
+    /// How many answers counted.
+    answered: usize,
+    /// Which branches are out: started, and with no result since.
+    out: Vec<bool>,
+    answers: Vec<Bytes>,
+    decided: bool,
+}
+
+impl Model for Call {
+    ghost use Rattle.std.specs.Arc.{arc_value};
+    ghost use Rattle.gateway_core.specs.Call.{CallValue, call_value, IsCallSound};
+
+    ghost Value = { CallValue };
+
+    ghost view = { λ c. call_value c.id (arc_value c.plan) (arc_value c.request) c.started c.answered c.out.items c.answers.items c.decided };
+
+    ghost invariant = { λ c. IsCallSound (call_value c.id (arc_value c.plan) (arc_value c.request) c.started c.answered c.out.items c.answers.items c.decided) };
+}
+
+impl Call {
+    /// A call that begins: no branch has started.
+    pub(crate) fn new(
+        alloc: Global,
+        id: CallId,
+        plan: Arc<Plan>,
+        request: Request,
+    ) -> Result<Call, AllocError>
+        ensures { IfOk result (λ c. c ≡ new_call id (arc_value plan) request) }
+    {
+        let count = plan.branches().len();
+        let out = vec![in alloc; false; count]?;
+        let answers = empty_answers(alloc, count)?;
+        let request = Arc::new(alloc, request)?;
+        Ok(Call {
+            id,
+            plan,
+            request,
+            started: 0,
+            answered: 0,
+            out,
+            answers,
+            decided: false,
+        })
+    }
+
+    /// Starts the branches that are due, in declared order, and queues their jobs: those up to the
+    /// plan's limit, and one more for each answer that counted.
+    pub(crate) fn start_due(&mut self, jobs: &mut VecDeque<Job>) -> Result<(), AllocError>
+        ensures same { IsSameCall self.old self.new }
+    {
+        let due = self.due();
+        for index in self.started..due {
+            self.start(index, jobs)?;
+        }
+        Ok(())
+    }
+
+    /// How many branches are to have started by now.
+    fn due(&self) -> usize
+        ensures { result ≡ due_of self.now }
+    {
+        let allowed = (self.plan.limit() as usize).saturating_add(self.answered);
+        self.plan.branches().len().min(allowed)
+    }
+
+    /// Starts the branch, and queues its job.
+    fn start(&mut self, index: usize, jobs: &mut VecDeque<Job>) -> Result<(), AllocError>
+        requires { index < length self.old.plan.branches }
+        ensures ok { OnOk result (self.new ≡ start_of index self.old) }
+        ensures job { OnOk result (jobs.new.items ≡ jobs.old.items ++ job_of self.old.id index self.old.plan self.old.request ∷ []) }
+        ensures err { OnErr result ((self.new ≡ self.old) × (jobs.new.items ≡ jobs.old.items)) }
+    {
+        jobs.push_back(Job {
+            call: self.id,
+            branch: index as u32,
+            plan: Arc::try_clone(&self.plan)?,
+            request: Arc::try_clone(&self.request)?,
+        })?;
+        self.out[index] = true;
+        self.started = index + 1;
+        Ok(())
+    }
+
+    /// Whether the branch is out.
+    pub(crate) fn is_out(&self, branch: u32) -> bool
+        ensures { result ≡ is_out self.now branch }
+    {
+        let index = branch as usize;
+        index < self.out.len() && self.out[index]
+    }
+
+    /// Whether the call has its answer.
+    pub(crate) fn is_decided(&self) -> bool
+        ensures { result ≡ self.now.decided }
+    {
+        self.decided
+    }
+
+    /// How many branches are out.
+    pub(crate) fn branches_out(&self) -> usize
+        ensures { result ≡ count_by (λ out. out) self.now.out }
+    {
+        self.out.iter().filter(|out| **out).count()
+    }
+
+    /// A result of the branch came: it is no longer out.
+    pub(crate) fn come_back(&mut self, branch: u32)
+        ensures { self.new ≡ back branch self.old }
+    {
+        let index = branch as usize;
+        if index < self.out.len() {
+            self.out[index] = false;
+        }
+    }
+
+    /// Keeps an answer that counted.
+    pub(crate) fn keep_answer(&mut self, branch: u32, body: Bytes)
+        ensures { self.new ≡ answered_by branch body self.old }
+    {
+        let index = branch as usize;
+        if index < self.answers.len() {
+            self.answers[index] = body;
+        }
+        self.answered = (self.answered + 1).min(self.answers.len());
+    }
+
+    /// Whether all branches have answered.
+    pub(crate) fn is_answered(&self) -> bool
+        ensures { result ≡ not (nat_lt self.now.answered (length self.now.plan.branches)) }
+    {
+        self.answered >= self.plan.branches().len()
+    }
+
+    /// The reply of a call whose branches have all answered: their answers joined, in declared order.
+    pub(crate) fn success(&self, alloc: Global) -> Result<Reply, AllocError>
+        ensures { IfOk result (λ reply. reply ≡ success_of self.now) }
+    {
+        let body = self.plan.join(alloc, &self.answers)?;
+        let last = self.request.closes();
+        let bytes = success_reply(alloc, body.as_slice(), last)?;
+        Ok(Reply { bytes, last })
+    }
+
+    /// The reply of a call that fails with this error of a branch.
+    pub(crate) fn failure(
+        &self,
+        alloc: Global,
+        branch: u32,
+        error: &RpcError,
+    ) -> Result<Reply, AllocError>
+        ensures { IfOk result (λ reply. reply ≡ failure_of branch error.now self.now) }
+    {
+        let error = named(alloc, self.branch_name(branch), error)?;
+        let last = self.request.closes();
+        let bytes = error_reply(alloc, &error, last)?;
+        Ok(Reply { bytes, last })
+    }
+
+    fn branch_name(&self, branch: u32) -> &str
+        ensures { result.now ≡ (branch_at self.now.plan branch).name }
+    {
+        match self.plan.branches().get(branch as usize) {
+            Some(branch) => branch.name.as_str(),
+            None => "",
+        }
+    }
+
+    /// The call has its answer.
+    pub(crate) fn decide(&mut self)
+        ensures { self.new ≡ decided_of self.old }
+    {
+        self.decided = true;
+    }
+}
+
+fn empty_answers(alloc: Global, count: usize) -> Result<Vec<Bytes>, AllocError>
+    ensures { IfOk result (λ v. v.items ≡ replicate count []) }
+{
+    let mut answers = Vec::new(alloc);
+    for _ in 0..count {
+        answers.push(Bytes::new(alloc))?;
+    }
+    Ok(answers)
+}
+
+/// The error behind the branch's name.
+fn named(alloc: Global, name: &str, error: &RpcError) -> Result<RpcError, AllocError>
+    ensures { IfOk result (λ e. e ≡ branch_error name.now error.now) }
+{
+    let mut message = String::from_str(alloc, name)?;
+    if !error.message.as_str().is_empty() {
+        message.push_str(": ")?;
+        message.push_str(error.message.as_str())?;
+    }
+    Ok(RpcError {
+        code: error.code,
+        message: Text::from_string(message),
+    })
+}

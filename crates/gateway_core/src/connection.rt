@@ -1,0 +1,302 @@
+ghost use Rattle.std.specs.Prelude.{◌≡◌, ◌<◌, ◌≤◌, ◌++◌, ◌∷◌, [], ◌==◌, Some, None, option_map, IfOk, OnOk, IsTrue, length, true, false, if◌then◌else◌};
+ghost use Rattle.connect_codec.specs.Reply.{bare_reply, is_bare_status};
+ghost use Rattle.gateway_core.specs.Arrival.{refusal_reply, arrival_of};
+ghost use Rattle.gateway_core.specs.Call.{CallValue, reply_of, back};
+ghost use Rattle.gateway_core.specs.Core.{new_conn, is_ended, call_of, sees, outs, is_settled, CountsTo, ArrivesAs, BeginsCall};
+ghost use Rattle.std.specs.Arc.{arc_value};
+
+use crate::call::Call;
+use crate::fault::{Seen, Took};
+use crate::id::{CallId, ConnId};
+use crate::job::Job;
+use crate::reply::Reply;
+use call_plan::{Plan, Plans};
+use connect_codec::{Outcome, Verdict, bare_reply, error_reply, judge, target_path};
+use error_document::{Code, RpcError};
+use http_pieces::{Bytes, Reader, Refusal, Request, State, Text};
+use std::alloc::{AllocError, Global};
+use std::collections::VecDeque;
+use std::marker::Model;
+use std::sync::Arc;
+
+/// The one connection: its first request is answered, and those behind it are taken and dropped.
+#[derive(Drop)]
+pub(crate) struct Connection {
+    reader: Reader,
+    /// The first request has arrived, or was refused.
+    arrived: bool,
+    /// The call that the first request began, if it is one.
+    call: Option<Call>,
+    /// The replies not taken yet.
+    pub(crate) replies: VecDeque<Reply>,
+    pub(crate) broken: bool,
+}
+
+impl Model for Connection {
+    ghost use Rattle.std.specs.Prelude.{◌≡◌, false};
+    ghost use Rattle.gateway_core.specs.Core.{ConnValue, conn_value, is_waiting};
+
+    ghost Value = { ConnValue };
+
+    ghost view = { λ c. conn_value c.reader c.arrived c.call c.replies.items c.broken };
+
+    ghost invariant = { λ c. is_waiting c.reader.reading ≡ false };
+}
+
+impl Connection {
+    pub(crate) fn new(alloc: Global) -> Connection
+        ensures { result ≡ new_conn }
+    {
+        Connection {
+            reader: Reader::new(alloc),
+            arrived: false,
+            call: None,
+            replies: VecDeque::new(alloc),
+            broken: false,
+        }
+    }
+
+    /// Takes bytes up to the end of a request, and answers how many.
+    pub(crate) fn feed(
+        &mut self,
+        alloc: Global,
+        plans: &Plans,
+        jobs: &mut VecDeque<Job>,
+        bytes: &[u8],
+    ) -> Result<usize, AllocError>
+        ensures within { IfOk result (λ n. n ≤ length bytes.now) }
+        ensures moves { 0 < length bytes.now → IfOk result (λ n. 0 < n) }
+        ensures kept { OnOk result (self.new.broken ≡ self.old.broken) }
+    {
+        let taken = self.reader.push(bytes)?;
+        match self.reader.state() {
+            State::Complete => {
+                if let Some(request) = self.reader.take() {
+                    self.arrive(alloc, plans, jobs, request)?;
+                }
+            }
+            State::Refused(refusal) => self.refuse(alloc, refusal)?,
+            State::More | State::Ended => {}
+        }
+        Ok(taken)
+    }
+
+    /// How a result of this branch is seen.
+    fn sees(&self, request: u64, branch: u32) -> Seen
+        ensures { result ≡ sees (if request == 0 then self.now.call else None) self.now.broken branch }
+    {
+        match &self.call {
+            Some(call) if request == 0 && call.is_out(branch) => {
+                if call.is_decided() || self.broken {
+                    Seen::Late
+                } else {
+                    Seen::Counted
+                }
+            }
+            _ => Seen::Unknown,
+        }
+    }
+
+    /// How many branches of this request's call are out.
+    pub(crate) fn branches_out(&self, request: u64) -> usize
+        ensures { result ≡ outs (if request == 0 then self.now.call else None) }
+    {
+        match &self.call {
+            Some(call) if request == 0 => call.branches_out(),
+            _ => 0,
+        }
+    }
+
+    /// Whether the connection queues no more replies.
+    pub(crate) fn is_ended(&self) -> bool
+        ensures { result ≡ is_ended (Some self.now) }
+    {
+        let stopped = matches!(self.reader.state(), State::Refused(_) | State::Ended);
+        let settled = match &self.call {
+            Some(call) => call.is_decided(),
+            None => true,
+        };
+        self.broken || (stopped && settled)
+    }
+
+    /// Takes the result of a branch.
+    pub(crate) fn take_result(
+        &mut self,
+        alloc: Global,
+        request: u64,
+        branch: u32,
+        outcome: Outcome,
+        jobs: &mut VecDeque<Job>,
+    ) -> Took
+        ensures seen { result.seen ≡ sees (if request == 0 then self.old.call else None) self.old.broken branch }
+        ensures unknown { result.seen ≡ Seen.Unknown → (self.new ≡ self.old) × (jobs.new.items ≡ jobs.old.items) }
+        ensures late { result.seen ≡ Seen.Late
+            → self.new ≡ record self.old { call = option_map (back branch) self.old.call } }
+        ensures counted { (was : CallValue) → self.old.call ≡ Some was → result.seen ≡ Seen.Counted → result.broke ≡ false
+            → CountsTo branch outcome (record self.old { call = Some (back branch was) }) (back branch was) self.new }
+        ensures broke { IsTrue result.broke → (result.seen ≡ Seen.Counted) × (self.new.broken ≡ true) }
+    {
+        let seen = self.sees(request, branch);
+        match seen {
+            Seen::Unknown => Took { seen, broke: false },
+            Seen::Late => {
+                self.come_back(branch);
+                Took { seen, broke: false }
+            }
+            Seen::Counted => {
+                self.come_back(branch);
+                let broke = self.count(alloc, branch, outcome, jobs).is_err();
+                if broke {
+                    self.broken = true;
+                }
+                Took { seen, broke }
+            }
+        }
+    }
+
+    /// A result of a branch that was out: the branch is no longer.
+    fn come_back(&mut self, branch: u32)
+        ensures { self.new ≡ record self.old { call = option_map (back branch) self.old.call } }
+    {
+        if let Some(call) = self.call.as_mut() {
+            call.come_back(branch);
+        }
+    }
+
+    /// Takes a counted outcome of a branch.
+    fn count(
+        &mut self,
+        alloc: Global,
+        branch: u32,
+        outcome: Outcome,
+        jobs: &mut VecDeque<Job>,
+    ) -> Result<(), AllocError>
+        ensures { (call : CallValue) → self.old.call ≡ Some call
+            → OnOk result (CountsTo branch outcome self.old call self.new) }
+    {
+        let Some(call) = self.call.as_mut() else {
+            return Ok(());
+        };
+        let reply = match outcome {
+            Outcome::Answer(body) => {
+                call.keep_answer(branch, body);
+                if !call.is_answered() {
+                    return call.start_due(jobs);
+                }
+                call.success(alloc)?
+            }
+            Outcome::Fail(error) => call.failure(alloc, branch, &error)?,
+        };
+        call.decide();
+        self.replies.push_back(reply)?;
+        Ok(())
+    }
+
+    /// The stream is refused: this is the last reply.
+    fn refuse(&mut self, alloc: Global, refusal: Refusal) -> Result<(), AllocError>
+        ensures { OnOk result (self.new ≡ (if self.old.arrived then self.old else
+            record self.old { arrived = true; replies = self.old.replies ++ refusal_reply refusal ∷ [] })) }
+    {
+        if self.arrived {
+            return Ok(());
+        }
+        let reply = refused(alloc, refusal)?;
+        self.arrived = true;
+        self.replies.push_back(reply)?;
+        Ok(())
+    }
+
+    /// A request arrives. Those behind the first are dropped.
+    fn arrive(
+        &mut self,
+        alloc: Global,
+        plans: &Plans,
+        jobs: &mut VecDeque<Job>,
+        request: Request,
+    ) -> Result<(), AllocError>
+        ensures kept { OnOk result (self.new.broken ≡ self.old.broken) }
+        ensures arrives { self.old.arrived ≡ false → OnOk result (ArrivesAs request self.old self.new (arrival_of plans.now request)) }
+        ensures dropped { self.old.arrived ≡ true → self.new ≡ self.old }
+    {
+        if self.arrived {
+            return Ok(());
+        }
+        self.arrived = true;
+        let plan = match target_path(&request) {
+            Some(path) => plans.find(path),
+            None => None,
+        };
+        let last = request.closes();
+        match judge(alloc, &request, plan.is_some())? {
+            Verdict::Bare(status) => self.answer(bare_reply(alloc, status, last)?, last),
+            Verdict::Fail(error) => self.answer(error_reply(alloc, &error, last)?, last),
+            Verdict::Ask { .. } => match plan {
+                Some(plan) => self.begin(alloc, Arc::try_clone(plan)?, request, jobs),
+                None => Ok(()),
+            },
+        }
+    }
+
+    fn answer(&mut self, bytes: Bytes, last: bool) -> Result<(), AllocError>
+        ensures { OnOk result (self.new ≡ record self.old { replies = self.old.replies ++ reply_of bytes last ∷ [] }) }
+    {
+        self.replies.push_back(Reply { bytes, last })?;
+        Ok(())
+    }
+
+    /// The request begins a call of the plan.
+    fn begin(
+        &mut self,
+        alloc: Global,
+        plan: Arc<Plan>,
+        request: Request,
+        jobs: &mut VecDeque<Job>,
+    ) -> Result<(), AllocError>
+        ensures kept { OnOk result (self.new.broken ≡ self.old.broken) }
+        ensures begins { OnOk result (BeginsCall (arc_value plan) request self.old self.new) }
+    {
+        let id = CallId {
+            conn: ConnId::of(0),
+            request: 0,
+        };
+        let mut call = Call::new(alloc, id, plan, request)?;
+        call.start_due(jobs)?;
+        self.call = Some(call);
+        Ok(())
+    }
+}
+
+/// The reply to a stream that is refused.
+#[tactic(auto, unfolding(crate::specs::Arrival::refusal_reply))]
+fn refused(alloc: Global, refusal: Refusal) -> Result<Reply, AllocError>
+    ensures { IfOk result (λ reply. reply ≡ refusal_reply refusal) }
+{
+    match refusal {
+        Refusal::HeadTooLarge => last_bare(alloc, 431),
+        Refusal::NotAHead => last_bare(alloc, 400),
+        Refusal::LengthRequired => last_bare(alloc, 411),
+        Refusal::BadLength => last_bare(alloc, 400),
+        Refusal::BadHost => last_bare(alloc, 400),
+        Refusal::BodyTooLarge => too_large(alloc),
+    }
+}
+
+fn last_bare(alloc: Global, status: u16) -> Result<Reply, AllocError>
+    requires { IsTrue (is_bare_status status) }
+    ensures { IfOk result (λ reply. reply ≡ reply_of (bare_reply status true) true) }
+{
+    let bytes = bare_reply(alloc, status, true)?;
+    Ok(Reply { bytes, last: true })
+}
+
+#[tactic(auto, unfolding(crate::specs::Arrival::refusal_reply))]
+fn too_large(alloc: Global) -> Result<Reply, AllocError>
+    ensures { IfOk result (λ reply. reply ≡ refusal_reply Refusal.BodyTooLarge) }
+{
+    let error = RpcError {
+        code: Code::ResourceExhausted,
+        message: Text::from_str(alloc, "body larger than 65536 bytes")?,
+    };
+    let bytes = error_reply(alloc, &error, true)?;
+    Ok(Reply { bytes, last: true })
+}

@@ -1,0 +1,39 @@
+use thiserror::Error;
+
+/// Why no connection was opened.
+#[derive(Clone, Copy, PartialEq, Eq, Debug, Error)]
+pub enum OpenError {
+    /// As many connections were opened as there may be.
+    #[error("no more connections")]
+    Full,
+}
+
+/// Why a step was not made, or not made whole.
+#[derive(Clone, Copy, PartialEq, Eq, Debug, Error)]
+pub enum StepFault {
+    /// There is no such connection, or it is broken. Nothing changed.
+    #[error("the connection is gone")]
+    Gone,
+    /// The connection is now broken: it queues no more replies.
+    #[error("no memory")]
+    Memory,
+}
+
+/// How a branch's result was seen.
+#[derive(Clone, Copy, PartialEq, Eq, Debug)]
+pub enum Seen {
+    /// The branch was out and its call undecided.
+    Counted,
+    /// The branch was out, and its call decided or its connection broken.
+    Late,
+    /// The branch was not out. Nothing changed.
+    Unknown,
+}
+
+/// What came of a branch's result.
+#[derive(Clone, Copy, PartialEq, Eq, Debug)]
+pub struct Took {
+    pub seen: Seen,
+    /// Whether the connection broke in this step, for want of memory.
+    pub broke: bool,
+}

@@ -1,0 +1,192 @@
+ghost use Rattle.std.specs.Prelude.{◌≡◌, ◌<◌, ◌≤◌, ◌++◌, [], ◌↔◌, IfOk, OnOk, OnErr, IsSome, length, option_to_list, true, false, IsTrue};
+ghost use Rattle.gateway_core.specs.Core.{core_value, new_conn, conn_at, is_live, untaken_of, is_broken_conn, core_sees, call_at, outs, is_ended, ConnValue, CountedIn};
+ghost use Rattle.gateway_core.specs.Call.{CallValue};
+
+use crate::connection::Connection;
+use crate::fault::{OpenError, Seen, StepFault, Took};
+use crate::id::{CallId, ConnId};
+use crate::job::Job;
+use crate::reply::Reply;
+use call_plan::Plans;
+use connect_codec::Outcome;
+use std::alloc::{AllocError, Global};
+use std::collections::VecDeque;
+use std::marker::Model;
+
+/// The gateway. Today it serves one connection, and answers the first request on it.
+#[derive(Drop)]
+pub struct Core {
+    alloc: Global,
+    plans: Plans,
+    connection: Option<Connection>,
+    /// The jobs not taken yet.
+    jobs: VecDeque<Job>,
+}
+
+impl Model for Core {
+    ghost use Rattle.gateway_core.specs.Core.{CoreValue, core_value};
+
+    ghost Value = { CoreValue };
+
+    ghost view = { λ c. core_value c.plans c.connection c.jobs.items };
+}
+
+impl Core {
+    /// A gateway that serves these plans.
+    pub fn new(alloc: Global, plans: Plans) -> Result<Core, AllocError>
+        ensures { IfOk result (λ core. core ≡ core_value plans None []) }
+    {
+        Ok(Core {
+            alloc,
+            plans,
+            connection: None,
+            jobs: VecDeque::new(alloc),
+        })
+    }
+
+    /// Opens the connection. `Full` where it was opened before.
+    pub fn open_conn(&mut self) -> Result<ConnId, OpenError>
+        ensures opened { IfOk result (λ conn. (conn ≡ 0) × (self.new ≡ core_value self.old.plans (Some new_conn) self.old.jobs)) }
+        ensures full { (result ≡ Err OpenError.Full) ↔ IsSome self.old.conn }
+        ensures unchanged { OnErr result (self.new ≡ self.old) }
+    {
+        if self.connection.is_some() {
+            return Err(OpenError::Full);
+        }
+        self.connection = Some(Connection::new(self.alloc));
+        Ok(ConnId::of(0))
+    }
+
+    /// Takes bytes of the connection's stream, at most up to the end of a request, and answers how
+    /// many: at least one of a piece that is not empty, and all of a stream that has ended.
+    pub fn feed(&mut self, conn: ConnId, bytes: &[u8]) -> Result<usize, StepFault>
+        ensures within { IfOk result (λ n. n ≤ length bytes.now) }
+        ensures moves { 0 < length bytes.now → IfOk result (λ n. 0 < n) }
+        ensures gone { (result ≡ Err StepFault.Gone) ↔ (is_live conn self.old ≡ false) }
+        ensures unchanged { result ≡ Err StepFault.Gone → self.new ≡ self.old }
+        ensures broken { result ≡ Err StepFault.Memory → is_broken_conn (conn_at conn self.new) ≡ true }
+        ensures unbroken { OnOk result (is_live conn self.new ≡ true) }
+    {
+        if conn.number() != 0 {
+            return Err(StepFault::Gone);
+        }
+        let Some(connection) = self.connection.as_mut() else {
+            return Err(StepFault::Gone);
+        };
+        if connection.broken {
+            return Err(StepFault::Gone);
+        }
+        match connection.feed(self.alloc, &self.plans, &mut self.jobs, bytes) {
+            Ok(taken) => Ok(taken),
+            Err(AllocError) => {
+                connection.broken = true;
+                Err(StepFault::Memory)
+            }
+        }
+    }
+
+    /// Takes the result of a branch. After `Counted` or `Late` the branch is no longer out.
+    pub fn result(&mut self, call: CallId, branch: u32, outcome: Outcome) -> Took
+        ensures seen { result.seen ≡ core_sees call branch self.old }
+        ensures unknown { result.seen ≡ Seen.Unknown → self.new ≡ self.old }
+        ensures counted { (conn : ConnValue) (was : CallValue) → conn_at call.conn self.old ≡ Some conn → conn.call ≡ Some was
+            → result.seen ≡ Seen.Counted → result.broke ≡ false
+            → CountedIn branch outcome conn was (conn_at call.conn self.new) }
+        ensures broke { IsTrue result.broke → (result.seen ≡ Seen.Counted) × (is_broken_conn (conn_at call.conn self.new) ≡ true) }
+    {
+        let unknown = Took {
+            seen: Seen::Unknown,
+            broke: false,
+        };
+        if call.conn.number() != 0 {
+            return unknown;
+        }
+        match self.connection.as_mut() {
+            Some(connection) => connection.take_result(
+                self.alloc,
+                call.request,
+                branch,
+                outcome,
+                &mut self.jobs,
+            ),
+            None => unknown,
+        }
+    }
+
+    /// Gives the next job, in order of start.
+    pub fn take_job(&mut self) -> Option<Job>
+        ensures first { self.old.jobs ≡ option_to_list result ++ self.new.jobs }
+        ensures none { result ≡ None → self.old.jobs ≡ [] }
+        ensures rest { self.new ≡ core_value self.old.plans self.old.conn self.new.jobs }
+    {
+        self.jobs.pop_front()
+    }
+
+    /// Gives the connection's next reply, in order of requests.
+    pub fn take_reply(&mut self, conn: ConnId) -> Option<Reply>
+        ensures first { untaken_of conn self.old ≡ option_to_list result ++ untaken_of conn self.new }
+        ensures none { result ≡ None → untaken_of conn self.old ≡ [] }
+        ensures jobs { self.new.jobs ≡ self.old.jobs }
+    {
+        if conn.number() != 0 {
+            return None;
+        }
+        match self.connection.as_mut() {
+            Some(connection) => connection.replies.pop_front(),
+            None => None,
+        }
+    }
+
+    /// Whether the connection queues no more replies: it is unknown or broken, or its stream has ended
+    /// and no call of it is undecided.
+    pub fn ended(&self, conn: ConnId) -> bool
+        ensures { result ≡ is_ended (conn_at conn self.now) }
+    {
+        if conn.number() != 0 {
+            return true;
+        }
+        match &self.connection {
+            Some(connection) => connection.is_ended(),
+            None => true,
+        }
+    }
+
+    /// How many replies of the connection were not taken yet.
+    pub fn untaken(&self, conn: ConnId) -> usize
+        ensures { result ≡ length (untaken_of conn self.now) }
+    {
+        if conn.number() != 0 {
+            return 0;
+        }
+        match &self.connection {
+            Some(connection) => connection.replies.len(),
+            None => 0,
+        }
+    }
+
+    /// Whether the connection is broken: memory was refused in a step of it.
+    pub fn is_broken(&self, conn: ConnId) -> bool
+        ensures { result ≡ is_broken_conn (conn_at conn self.now) }
+    {
+        if conn.number() != 0 {
+            return false;
+        }
+        match &self.connection {
+            Some(connection) => connection.broken,
+            None => false,
+        }
+    }
+
+    /// How many branches of the call are out.
+    pub fn branches_out(&self, call: CallId) -> usize
+        ensures { result ≡ outs (call_at call self.now) }
+    {
+        if call.conn.number() != 0 {
+            return 0;
+        }
+        match &self.connection {
+            Some(connection) => connection.branches_out(call.request),
+            None => 0,
+        }
+    }
+}

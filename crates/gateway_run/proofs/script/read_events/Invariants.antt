@@ -1,0 +1,8 @@
+use Rattle.std.proofs.Common.{◌≡◌}
+use Rattle.serde_json.specs.View.{items_view}
+use Rattle.gateway_run.specs.Script.{events_from}
+use Rattle.gateway_run.proofs.Entries.{with_rest}
+use Rattle.gateway_run.proofs.script.read_events.Given as goal
+
+abbrev pub invariant-loop-entry : goal.invariant-loop-entry
+invariant-loop-entry l = events_from 0 (items_view l.entries) ≡ with_rest l.events.items l.entries l.entry-index

@@ -1,0 +1,23 @@
+//! Whole runs of the gateway: a list of events in, the bytes queued for each connection out; the script that
+//! such a list is read from, and the text that a run is written as.
+#![tactic(auto)]
+
+mod delivery;
+mod event;
+mod fault;
+mod outcome;
+mod script;
+mod stepping;
+#[cfg(test)]
+mod tests_script;
+mod text;
+mod whole;
+
+pub use delivery::deliver;
+pub use event::Event;
+pub use fault::ScriptError;
+pub use outcome::{Run, RunError, Start};
+pub use script::read_script;
+pub use stepping::{Stepped, step};
+pub use text::{WriteFault, write_run};
+pub use whole::run;

@@ -1,0 +1,245 @@
+-- A cut depends on the shortest block alone, and bytes that follow change neither a message nor a refusal.
+use Rattle.std.proofs.Common.{◌≡◌, ℕ, zero, suc, ◌+◌, ◌-◌, ◌<◌, ◌≤◌, ◌==◌, Bool, true, false, ◌&&◌, nat_eq, nat_lt, List, [], ◌∷◌, ◌++◌, length, take, drop, refl, sym, ap, subst, ◌∙◌, arith, min, ◌⊎◌, inl, inr, zero-add, length-take, length-append, length-take-le}
+use Rattle.std.proofs.lemmas.Bool.{eqb-true, cases_lt, both_ways}
+use Rattle.std.proofs.lemmas.Bool.Decides.{nat_tests, Decides-eqb}
+use Rattle.std.proofs.lemmas.Slice.Eq.{starts_is}
+use Rattle.std.specs.List.{starts_with}
+use Rattle.std.proofs.lemmas.List.{take-append-le, drop-append-le, length-drop, drop-drop, take_rest, take_all, take-append-drop}
+use Rattle.std.proofs.Math.Seq.{take-length}
+use Rattle.http_pieces.specs.Cut.{Incomplete, Refused, Complete, Asks, Refusal, Body, Kind, skip_pairs, EndsInEmptyLine, most_head, IsBlock, HasNoBlock, cut_unblocked, cut_after, IsCutText, without_block, without_head, with_head}
+
+abbrev is_pair : ℕ → ℕ → Bool
+is_pair a b = (a == 13) && (b == 10)
+
+-- ---- the pairs that lead a text
+
+pub skip_append : (s more : List ℕ) → skip_pairs (s ++ more) ≡ skip_pairs (skip_pairs s ++ more)
+skip_append [] more = refl
+skip_append (a ∷ []) more = refl
+skip_append (a ∷ b ∷ s) more = by_test (skip_append s more) (is_pair a b) refl
+  where
+    by_test : skip_pairs (s ++ more) ≡ skip_pairs (skip_pairs s ++ more) → (t : Bool) → is_pair a b ≡ t
+        → skip_pairs (a ∷ b ∷ s ++ more) ≡ skip_pairs (skip_pairs (a ∷ b ∷ s) ++ more)
+    by_test later true pair = rw pair later
+    by_test later false other = rw (other, other) refl
+
+pub skip_long : (s more : List ℕ) → 2 ≤ length (skip_pairs s) → skip_pairs (s ++ more) ≡ skip_pairs s ++ more
+skip_long [] more le = absurd (omega arith)
+skip_long (a ∷ []) more le = absurd (omega arith)
+skip_long (a ∷ b ∷ s) more le = by_test (skip_long s more) (is_pair a b) refl le
+  where
+    by_test : (2 ≤ length (skip_pairs s) → skip_pairs (s ++ more) ≡ skip_pairs s ++ more) → (t : Bool) → is_pair a b ≡ t
+        → 2 ≤ length (skip_pairs (a ∷ b ∷ s)) → skip_pairs (a ∷ b ∷ s ++ more) ≡ skip_pairs (a ∷ b ∷ s) ++ more
+    by_test later true pair long = rw pair (later (rw pair at long))
+    by_test later false other long = rw other refl
+
+pub skip_shorter : (s : List ℕ) → length (skip_pairs s) ≤ length s
+skip_shorter [] = omega arith
+skip_shorter (a ∷ []) = omega arith
+skip_shorter (a ∷ b ∷ s) = by_test (skip_shorter s) (is_pair a b) refl
+  where
+    by_test : length (skip_pairs s) ≤ length s → (t : Bool) → is_pair a b ≡ t → length (skip_pairs (a ∷ b ∷ s)) ≤ length (a ∷ b ∷ s)
+    by_test later true pair = rw pair (omega arith)
+    by_test later false other = rw other (omega arith)
+
+-- a text that no pair leads stays
+pub skip_none : (s : List ℕ) → ((rest : List ℕ) → s ≡ 13 ∷ 10 ∷ rest → ⊥) → skip_pairs s ≡ s
+skip_none [] other = refl
+skip_none (a ∷ []) other = refl
+skip_none (a ∷ b ∷ s) other = by_tests (nat_eq a 13) refl (nat_eq b 10) refl
+  where
+    by_tests : (t : Bool) → nat_eq a 13 ≡ t → (u : Bool) → nat_eq b 10 ≡ u → skip_pairs (a ∷ b ∷ s) ≡ a ∷ b ∷ s
+    by_tests true x true y =
+        let first : a ≡ 13 = eqb-true a 13 x in
+        let second : b ≡ 10 = eqb-true b 10 y in
+        absurd (other s (rw (first, second) refl))
+    by_tests true x false y = rw (x, y) refl
+    by_tests false x u y = rw x refl
+
+pub skip_one : (s : List ℕ) → s ≡ 13 ∷ 10 ∷ drop 2 s → skip_pairs s ≡ skip_pairs (drop 2 s)
+skip_one s e = ap skip_pairs e
+
+-- what is cut off behind the pairs does not change them
+pub skip_front : (s : List ℕ) (d e : ℕ) → d ≤ length s → drop d s ≡ skip_pairs s
+    → skip_pairs (take (d + suc (suc e)) s) ≡ take (suc (suc e)) (drop d s)
+skip_front [] zero e le rest = rw zero-add refl
+skip_front [] (suc d) e le rest = absurd (omega arith)
+skip_front (a ∷ []) zero e le rest = rw zero-add refl
+skip_front (a ∷ []) (suc d) e le rest = absurd (omega (arith, ap length rest, length-drop {A = ℕ} d []))
+skip_front (a ∷ b ∷ s) zero e le rest = by_test (is_pair a b) refl
+  where
+    by_test : (t : Bool) → is_pair a b ≡ t → skip_pairs (take (0 + suc (suc e)) (a ∷ b ∷ s)) ≡ take (suc (suc e)) (a ∷ b ∷ s)
+    by_test true pair =
+        let same : a ∷ b ∷ s ≡ skip_pairs s = rw pair at rest in
+        absurd (omega (arith, ap length same, skip_shorter s))
+    by_test false other = rw (zero-add, other) refl
+skip_front (a ∷ b ∷ s) (suc zero) e le rest = by_test (is_pair a b) refl
+  where
+    by_test : (t : Bool) → is_pair a b ≡ t → skip_pairs (take (1 + suc (suc e)) (a ∷ b ∷ s)) ≡ take (suc (suc e)) (b ∷ s)
+    by_test true pair =
+        let same : b ∷ s ≡ skip_pairs s = rw pair at rest in
+        absurd (omega (arith, ap length same, skip_shorter s))
+    by_test false other =
+        let same : b ∷ s ≡ a ∷ b ∷ s = rw other at rest in
+        absurd (omega (arith, ap length same))
+skip_front (a ∷ b ∷ s) (suc (suc d)) e le rest = by_test (skip_front s d e (omega arith)) (is_pair a b) refl
+  where
+    by_test : (drop d s ≡ skip_pairs s → skip_pairs (take (d + suc (suc e)) s) ≡ take (suc (suc e)) (drop d s)) → (t : Bool) → is_pair a b ≡ t
+        → skip_pairs (take (suc (suc d) + suc (suc e)) (a ∷ b ∷ s)) ≡ take (suc (suc e)) (drop d s)
+    by_test later true pair =
+        let longer : suc (suc d) + suc (suc e) ≡ suc (suc (d + suc (suc e))) = omega arith in
+        rw (longer, pair) (later (rw pair at rest))
+    by_test later false other =
+        let same : drop d s ≡ a ∷ b ∷ s = rw other at rest in
+        absurd (omega (arith, ap length same, length-drop d s))
+
+-- ---- the block
+
+pub block_unique : (text : List ℕ) (m n : ℕ) → IsBlock text m → IsBlock text n → m ≡ n
+block_unique text m n a b =
+    let not_less : m < n → ⊥ = λ lt. b.shortest m lt a.ends in
+    let not_more : n < m → ⊥ = λ lt. a.shortest n lt b.ends in
+    omega arith
+
+pub block_long : (text : List ℕ) (n : ℕ) → IsBlock text n → 4 ≤ n
+block_long text n b =
+    omega (arith, ap length b.ends.1, length-append b.ends.0 (13 ∷ 10 ∷ 13 ∷ 10 ∷ []), length-take-le n text b.within)
+
+pub block_append : (text more : List ℕ) (n : ℕ) → IsBlock text n → IsBlock (text ++ more) n
+block_append text more n b = record {
+  within = omega (arith, b.within, length-append text more);
+  limit = b.limit;
+  ends = rw (take-append-le n text more b.within) b.ends;
+  shortest = λ m lt ends. b.shortest m lt (rw (take-append-le m text more (omega (arith, b.within))) at ends);
+}
+
+pub take_prefix : (text : List ℕ) (n e : ℕ) → n ≤ length (take e text) → take n (take e text) ≡ take n text
+take_prefix text n e le = sym (take-append-le n (take e text) (drop e text) le) ∙ ap (take n) (take-append-drop e text)
+
+-- the block of the whole is that of each prefix that holds it
+pub block_trim : (text : List ℕ) (n e : ℕ) → n ≤ e → IsBlock text n → IsBlock (take e text) n
+block_trim text n e le b =
+    let fits : n ≤ length (take e text) = omega (arith, b.within, length-take e text) in
+    record {
+      within = fits;
+      limit = b.limit;
+      ends = rw (take_prefix text n e fits) b.ends;
+      shortest = λ m lt ends. b.shortest m lt (rw (take_prefix text m e (omega (arith, fits))) at ends);
+    }
+
+pub no_block_append : (text more : List ℕ) → most_head ≤ length text → HasNoBlock text → HasNoBlock (text ++ more)
+no_block_append text more long none = λ n le ends. none n le (rw (take-append-le n text more (omega arith)) at ends)
+
+-- ---- what follows a head
+
+pub record CompletesAfter {R V : Type 0} (a : Asks R V) (after : List ℕ) (v : V) (rest : List ℕ) : Type 0 where
+  pub size : ℕ
+  pub message : List ℕ → V
+  pub asks_is : a ≡ Body size message
+  pub within : size ≤ length after
+  pub v_is : v ≡ message (take size after)
+  pub rest_is : rest ≡ drop size after
+
+pub after_complete : {R V : Type 0} (a : Asks R V) (after : List ℕ) (v : V) (rest : List ℕ) → Complete v rest ≡ cut_after a after → CompletesAfter a after v rest
+after_complete (Refusal r) after v rest e = absurd (cc)
+after_complete {R = R} {V = V} (Body n message) after v rest e = by_test (nat_lt (length after) n) refl
+  where
+    by_test : (t : Bool) → nat_lt (length after) n ≡ t → CompletesAfter {R = R} (Body n message) after v rest
+    by_test true short = absurd (let same : Complete v rest ≡ Incomplete = rw short at e in cc)
+    by_test false enough =
+        let same : Complete v rest ≡ Complete (message (take n after)) (drop n after) = rw enough at e in
+        record {
+          size = n;
+          message = message;
+          asks_is = refl;
+          within = grind (arith, nat_tests);
+          v_is = cc;
+          rest_is = cc;
+        }
+
+pub after_complete_intro : {R V : Type 0} (n : ℕ) (message : List ℕ → V) (after : List ℕ) → n ≤ length after
+    → cut_after {R = R} (Body n message) after ≡ Complete (message (take n after)) (drop n after)
+after_complete_intro n message after le =
+    let enough : nat_lt (length after) n ≡ false = grind (arith, nat_tests) in
+    rw enough refl
+
+pub after_refused : {R V : Type 0} (a : Asks R V) (after : List ℕ) (r : R) → Refused r ≡ cut_after a after → a ≡ Refusal r
+after_refused (Refusal s) after r e = cc
+after_refused (Body n message) after r e = by_test (nat_lt (length after) n) refl
+  where
+    by_test : (t : Bool) → nat_lt (length after) n ≡ t → Body n message ≡ Refusal r
+    by_test true short = absurd (let same : Refused r ≡ Incomplete = rw short at e in cc)
+    by_test false enough = absurd (let same : Refused r ≡ Complete (message (take n after)) (drop n after) = rw enough at e in cc)
+
+-- ---- more bytes
+
+pub unblocked_incomplete : {R V : Type 0} (kind : Kind R V) (text : List ℕ) (v : V) (rest : List ℕ) → Complete v rest ≡ cut_unblocked kind text → ⊥
+unblocked_incomplete kind text v rest e = by_test (nat_lt (length text) most_head) refl
+  where
+    by_test : (t : Bool) → nat_lt (length text) most_head ≡ t → ⊥
+    by_test true short = let same : Complete v rest ≡ Incomplete = rw short at e in cc
+    by_test false long = let same : Complete v rest ≡ Refused kind.too_large = rw long at e in cc
+
+pub unblocked_refused : {R V : Type 0} (kind : Kind R V) (text : List ℕ) (r : R) → Refused r ≡ cut_unblocked kind text → (most_head ≤ length text) × (r ≡ kind.too_large)
+unblocked_refused kind text r e = by_test (nat_lt (length text) most_head) refl
+  where
+    by_test : (t : Bool) → nat_lt (length text) most_head ≡ t → (most_head ≤ length text) × (r ≡ kind.too_large)
+    by_test true short = absurd (let same : Refused r ≡ Incomplete = rw short at e in cc)
+    by_test false long = let same : Refused r ≡ Refused kind.too_large = rw long at e in (grind (arith, nat_tests), cc)
+
+pub complete_more : {R V : Type 0} (a : Asks R V) (after more : List ℕ) (v : V) (rest : List ℕ) → CompletesAfter a after v rest
+    → Complete v (rest ++ more) ≡ cut_after a (after ++ more)
+complete_more a after more v rest h =
+    let fits : h.size ≤ length (after ++ more) = omega (arith, h.within, length-append after more) in
+    let front : take h.size (after ++ more) ≡ take h.size after = take-append-le h.size after more h.within in
+    let back : drop h.size (after ++ more) ≡ drop h.size after ++ more = drop-append-le h.size after more h.within in
+    ap (λ x. Complete x (rest ++ more)) (h.v_is ∙ ap h.message (sym front))
+    ∙ ap (λ r. Complete (h.message (take h.size (after ++ more))) r) (ap (λ r. r ++ more) h.rest_is ∙ sym back)
+    ∙ sym (after_complete_intro h.size h.message (after ++ more) fits)
+    ∙ ap (λ x. cut_after x (after ++ more)) (sym h.asks_is)
+
+pub text_complete : {R V : Type 0} (kind : Kind R V) (text more : List ℕ) (v : V) (rest : List ℕ)
+    → IsCutText kind text (Complete v rest) → IsCutText kind (text ++ more) (Complete v (rest ++ more))
+text_complete kind text more v rest (without_block none e) = absurd (unblocked_incomplete kind text v rest e)
+text_complete kind text more v rest (without_head n b other e) = absurd (cc)
+text_complete kind text more v rest (with_head n a b head e) =
+    let h = after_complete a (drop n text) v rest e in
+    with_head n a (block_append text more n b) (rw (take-append-le n text more b.within) head)
+    (complete_more a (drop n text) more v rest h ∙ ap (cut_after a) (sym (drop-append-le n text more b.within)))
+
+pub text_refused : {R V : Type 0} (kind : Kind R V) (text more : List ℕ) (r : R)
+    → IsCutText kind text (Refused r) → IsCutText kind (text ++ more) (Refused r)
+text_refused kind text more r (without_block none e) =
+    let h = unblocked_refused kind text r e in
+    let longer : most_head ≤ length (text ++ more) = omega (arith, h.0, length-append text more) in
+    let long : nat_lt (length (text ++ more)) most_head ≡ false = grind (arith, nat_tests) in
+    without_block (no_block_append text more h.0 none) (rw (long, h.1) refl)
+text_refused kind text more r (without_head n b other e) =
+    without_head n (block_append text more n b) (rw (take-append-le n text more b.within) other) e
+text_refused kind text more r (with_head n a b head e) =
+    with_head n a (block_append text more n b) (rw (take-append-le n text more b.within) head)
+    (rw (after_refused a (drop n text) r e) refl)
+
+-- prefixes up to the end, or up to the limit, are all that have to be looked at
+pub no_block_within : (text : List ℕ) → ((n : ℕ) → n ≤ min (length text) most_head → ¬ (EndsInEmptyLine (take n text))) → HasNoBlock text
+no_block_within text none = λ n le ends. by_length n le ends (cases_lt n (length text))
+  where
+    by_length : (n : ℕ) → n ≤ most_head → EndsInEmptyLine (take n text) → (n < length text) ⊎ (length text ≤ n) → ⊥
+    by_length n le ends (inl lt) = none n (omega arith) ends
+    by_length n le ends (inr ge) =
+        let all : take n text ≡ take (length text) text = take_all n text ge ∙ sym (take-length text) in
+        none (length text) (omega arith) (subst EndsInEmptyLine all ends)
+
+-- a step over one pair, and the end of the pairs
+pub pair_step : (text : List ℕ) (i : ℕ) (r : Bool) → i ≤ length text → r ≡ starts_with nat_eq (take (length text - i) (drop i text)) (13 ∷ 10 ∷ []) → r ≡ true
+    → (i + 2 ≤ length text) × (skip_pairs (drop i text) ≡ skip_pairs (drop (i + 2) text))
+pair_step text i r le is starts =
+    let from : r ≡ starts_with nat_eq (drop i text) (13 ∷ 10 ∷ []) = rw (take_rest text i) at is in
+    let here : drop i text ≡ 13 ∷ 10 ∷ drop 2 (drop i text) = (starts_is Decides-eqb (drop i text) (13 ∷ 10 ∷ []) r from).0 starts in
+    (omega (arith, ap length here, length-drop i text), skip_one (drop i text) here ∙ ap skip_pairs (drop-drop 2 i text))
+
+pub pair_stop : (text : List ℕ) (i : ℕ) (r : Bool) → r ≡ starts_with nat_eq (take (length text - i) (drop i text)) (13 ∷ 10 ∷ []) → r ≡ false
+    → skip_pairs (drop i text) ≡ drop i text
+pair_stop text i r is other =
+    let from : r ≡ starts_with nat_eq (drop i text) (13 ∷ 10 ∷ []) = rw (take_rest text i) at is in
+    skip_none (drop i text) (λ rest e. both_ways r other ((starts_is Decides-eqb (drop i text) (13 ∷ 10 ∷ []) r from).1 rest e))

@@ -1,0 +1,34 @@
+//! What the definitions of this crate come to, as facts on all texts. The functions do nothing.
+ghost use Rattle.std.specs.Prelude.{◌≡◌, ℕ, ◌+◌, List, ◌++◌, length};
+ghost use Rattle.http_pieces.specs.Cut.{Cut, Refused, Complete, IsBlock, IsCut, skip_pairs};
+ghost use Rattle.http_pieces.specs.Head.{request_kind};
+ghost use Rattle.http_pieces.specs.Request.{HttpRequest};
+ghost use Rattle.http_pieces.specs.Requests.{Ending, Open, Requests};
+ghost use Rattle.http_pieces.specs.declared.refusal.Refusal.{Refusal};
+
+/// A text has one block at most, and what follows it does not change it.
+pub fn block_law()
+    ensures unique { (text : List ℕ) (m n : ℕ) → IsBlock text m → IsBlock text n → m ≡ n }
+    ensures stays { (text more : List ℕ) (n : ℕ) → IsBlock text n → IsBlock (text ++ more) n }
+{}
+
+/// A text is cut in one way. More bytes never change a request or a refusal that was cut.
+pub fn cut_law()
+    ensures unique { (k : ℕ) (text : List ℕ) (c d : Cut Refusal HttpRequest)
+        → IsCut (request_kind k) text c → IsCut (request_kind k) text d → c ≡ d }
+    ensures request_stays { (k : ℕ) (text more : List ℕ) (q : HttpRequest) (rest : List ℕ)
+        → IsCut (request_kind k) text (Complete q rest)
+        → IsCut (request_kind k) (text ++ more) (Complete q (rest ++ more)) }
+    ensures refusal_stays { (k : ℕ) (text more : List ℕ) (r : Refusal)
+        → IsCut (request_kind k) text (Refused r) → IsCut (request_kind k) (text ++ more) (Refused r) }
+{}
+
+/// A text has one list of requests, and more bytes add to it what they add to the bytes left over.
+pub fn requests_law()
+    ensures unique { (k : ℕ) (text : List ℕ) (given other : List HttpRequest) (a b : Ending)
+        → Requests k text given a → Requests k text other b → (given ≡ other) × (a ≡ b) }
+    ensures more { (k : ℕ) (text : List ℕ) (given : List HttpRequest) (left : List ℕ)
+        → Requests k text given (Open left) → (more : List ℕ) (requests : List HttpRequest) (ending : Ending)
+        → Requests (k + length given) (left ++ more) requests ending
+        → Requests k (text ++ more) (given ++ requests) ending }
+{}

@@ -1,0 +1,171 @@
+ghost use Rattle.std.specs.Prelude.{◌≡◌, ◌<◌, ◌≤◌, ◌++◌, ◌∷◌, [], ℕ, List, length, take, IfOk, IfSome, OnErr, drop, Some, IfNone, MatchOption, ◌⊎◌, ◌+◌};
+ghost use Rattle.http_pieces.specs.Cut.{IsCut, Incomplete};
+ghost use Rattle.http_pieces.specs.Head.{request_kind};
+ghost use Rattle.http_pieces.specs.Layout.{Advances};
+ghost use Rattle.http_pieces.specs.Reader.{HasRead, IsShortest, state_of, after_request, reader_value, Partial, Waiting};
+ghost use Rattle.http_pieces.specs.Request.{HttpRequest};
+
+use crate::cut::{Cut, cut_request};
+use crate::head::Head;
+use crate::refusal::Refusal;
+use crate::request::Request;
+use crate::state::State;
+use std::alloc::{AllocError, Global};
+use std::marker::Model;
+use std::mem;
+
+/// Reads the requests of one connection from pieces of its bytes.
+#[derive(Drop)]
+pub struct Reader {
+    /// The bytes of the current request, behind the CR LF pairs that lead it.
+    bytes: Vec<u8>,
+    phase: Phase,
+    /// How many requests were taken.
+    taken: u64,
+}
+
+/// How far the current request is.
+#[derive(Drop)]
+pub(crate) enum Phase {
+    More,
+    /// It is whole: its head, and the place of its body.
+    Complete(Head, usize),
+    Refused(Refusal),
+    Ended,
+}
+
+impl Model for Reader {
+    ghost use Rattle.http_pieces.specs.Reader.{ReaderValue, reader_value};
+    ghost use Rattle.http_pieces.specs.Layout.{reading_of, IsReaderSound};
+
+    ghost Value = { ReaderValue };
+
+    ghost view = { λ r. reader_value r.taken (reading_of r.bytes.items r.phase r.taken) };
+
+    ghost invariant = { λ r. IsReaderSound r.bytes.items r.phase r.taken };
+}
+
+impl Reader {
+    /// A reader of a connection's first byte on. Its buffer lies on this allocator.
+    pub fn new(alloc: Global) -> Reader
+        ensures reader { result ≡ reader_value 0 (Partial []) }
+        ensures reads { HasRead result [] [] }
+    {
+        Reader {
+            bytes: Vec::new(alloc),
+            phase: Phase::More,
+            taken: 0,
+        }
+    }
+
+    /// Takes bytes up to the end of the first whole request, and answers how many. With a request
+    /// waiting it takes none; after a refusal or the last request it takes all and drops them, as
+    /// it does with a piece that leads to a refusal. Without memory the reader stays as it was.
+    pub fn push(&mut self, piece: &[u8]) -> Result<usize, AllocError>
+        ensures within { IfOk result (λ n. n ≤ length piece.now) }
+        ensures reads { (bytes : List ℕ) (given : List HttpRequest) → HasRead self.old bytes given
+            → IfOk result (λ n. HasRead self.new (bytes ++ take n piece.now) given) }
+
+        // In `More` it takes the shortest prefix that makes a whole request, and else all.
+        ensures shortest { (left : List ℕ) → self.old.reading ≡ Partial left
+            → IfOk result (IsShortest self.old left piece.now) }
+        ensures all { IfOk result (λ n. (n ≡ length piece.now) ⊎ ((q : HttpRequest) × (self.new.reading ≡ Waiting q))) }
+
+        ensures moves { 0 < length piece.now
+            → IfOk result (λ n. (0 < n) ⊎ ((q : HttpRequest) × (self.old.reading ≡ Waiting q))) }
+        ensures waits { (q : HttpRequest) → self.old.reading ≡ Waiting q → IfOk result (λ n. (n ≡ 0) × (self.new ≡ self.old)) }
+        ensures err { OnErr result (self.new ≡ self.old) }
+    {
+        match self.phase {
+            Phase::More => {
+                let (taken, phase) = advance(&mut self.bytes, piece)?;
+                self.phase = phase;
+                Ok(taken)
+            }
+            Phase::Complete(..) => Ok(0),
+            Phase::Refused(_) => Ok(piece.len()),
+            Phase::Ended => Ok(piece.len()),
+        }
+    }
+
+    /// How far the reader is.
+    pub fn state(&self) -> State
+        ensures { result ≡ state_of self.now.reading }
+    {
+        match self.phase {
+            Phase::More => State::More,
+            Phase::Complete(..) => State::Complete,
+            Phase::Refused(refusal) => State::Refused(refusal),
+            Phase::Ended => State::Ended,
+        }
+    }
+
+    /// Gives the request that waits, if one does. The state is then `Ended` if the request closes,
+    /// and else `More`.
+    pub fn take(&mut self) -> Option<Request>
+        ensures reads { (bytes : List ℕ) (given : List HttpRequest) → HasRead self.old bytes given
+            → MatchOption result (HasRead self.new bytes given) (λ q. HasRead self.new bytes (given ++ q ∷ [])) }
+        ensures waits { (q : HttpRequest) → self.old.reading ≡ Waiting q → result ≡ Some q }
+        ensures gives { IfSome result (λ q. self.old.reading ≡ Waiting q) }
+        ensures after { IfSome result (λ q. self.new ≡ reader_value (self.old.taken + 1) (after_request q)) }
+        ensures none { IfNone result (self.new ≡ self.old) }
+    {
+        match mem::replace(&mut self.phase, Phase::More) {
+            Phase::Complete(head, body) => {
+                let empty = Vec::new(*self.bytes.allocator());
+                let request = Request {
+                    bytes: mem::replace(&mut self.bytes, empty),
+                    head,
+                    body,
+                    number: self.taken,
+                };
+                self.taken += 1;
+                if request.closes() {
+                    self.phase = Phase::Ended;
+                }
+                Some(request)
+            }
+            phase => {
+                self.phase = phase;
+                None
+            }
+        }
+    }
+}
+
+/// Adds the piece to bytes that are no whole request, and says how many of it were taken and what came of it.
+fn advance(bytes: &mut Vec<u8>, piece: &[u8]) -> Result<(usize, Phase), AllocError>
+    requires { (k : ℕ) → IsCut (request_kind k) bytes.old.items Incomplete }
+    ensures ok { IfOk result (λ r. Advances bytes.old.items piece.now bytes.new.items r.0 r.1) }
+    ensures err { OnErr result (bytes.new.items ≡ bytes.old.items) }
+{
+    let before = bytes.len();
+    bytes.extend_from_slice(piece)?;
+    match cut_request(*bytes.allocator(), bytes) {
+        Err(refused) => {
+            bytes.truncate(before);
+            Err(refused)
+        }
+        Ok(Cut::Incomplete(start)) => {
+            drop_front(bytes, start);
+            Ok((piece.len(), Phase::More))
+        }
+        Ok(Cut::Refused(refusal)) => {
+            bytes.clear();
+            Ok((piece.len(), Phase::Refused(refusal)))
+        }
+        Ok(Cut::Complete(layout)) => {
+            let taken = layout.end - before;
+            bytes.truncate(layout.end);
+            drop_front(bytes, layout.start);
+            Ok((taken, Phase::Complete(layout.head, layout.body)))
+        }
+    }
+}
+
+fn drop_front(bytes: &mut Vec<u8>, count: usize)
+    requires { count ≤ length bytes.old.items }
+    ensures { bytes.new.items ≡ drop count bytes.old.items }
+{
+    bytes.drain(..count);
+}

@@ -1,0 +1,14 @@
+use crate::bytes::Bytes;
+use http::StatusCode;
+
+/// A backend's whole reply.
+#[derive(Debug, Drop)]
+pub struct HttpReply {
+    /// The status, from 200 to 999.
+    pub status: StatusCode,
+    /// The value of the one `Content-Type` field, without blanks at both ends; None where there is no
+    /// such field, or more than one.
+    pub content_type: Option<Bytes>,
+    /// The body, of as many bytes as `Content-Length` says.
+    pub body: Bytes,
+}
