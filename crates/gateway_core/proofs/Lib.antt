@@ -1,1 +1,10 @@
+pub mod ArrivalLemmas
 pub mod CountLemmas
+pub mod LimitLemmas
+pub mod PastLemmas
+pub mod StartLemmas
+pub mod Places
+pub mod StandsLemmas
+pub mod ConnLemmas
+pub mod ArriveLemmas
+pub mod CoreLemmas

@@ -1,8 +1,9 @@
 -- What a request comes to as it arrives.
-use Rattle.std.specs.Prelude.{◌≡◌, ℕ, Bool, true, false, List, [], ◌∷◌, ◌++◌, Option, None, Some, is_some, option_and_then, codes}
+use Rattle.std.specs.Prelude.{ℕ, Bool, true, false, List, [], Option, option_and_then, codes}
+use Rattle.std.specs.Option.{option_map_or}
 use Rattle.http_pieces.specs.declared.refusal.Refusal.{Refusal}
 use Rattle.http_pieces.specs.declared.refusal.Refusal.TheVariants as refusal
-use Rattle.http_pieces.specs.Request.{HttpRequest, closes}
+use Rattle.http_pieces.specs.Request.{HttpRequest}
 use Rattle.error_document.specs.declared.code.Code.TheVariants.{ResourceExhausted}
 use Rattle.connect_codec.specs.Path.{path_of}
 use Rattle.connect_codec.specs.Reply.{bare_reply, error_reply}
@@ -14,24 +15,31 @@ use Rattle.call_plan.specs.Plans.{plan_at}
 use Rattle.gateway_core.specs.declared.reply.Reply.{Reply}
 use Rattle.gateway_core.specs.Call.{reply_of}
 
--- a request is answered at once, or it begins a call of a plan
+-- what a request comes to
 pub data Arrival : Type 0 where
-  Answered : Reply → Arrival
-  Begins : PlanRecord → Arrival
+  -- it is no call, and is answered by its verdict
+  Judged : Verdict → Arrival
+  -- it asks for a call of the plan, with the timeout in milliseconds that it names
+  Asks : PlanRecord → Option ℕ → Arrival
 
 -- the plan that the request's path names
 abbrev pub plan_of : List PlanRecord → HttpRequest → Option PlanRecord
 plan_of plans q = option_and_then (λ path. plan_at path plans) (path_of q.target)
 
-abbrev pub arrival_by : Verdict → Option PlanRecord → Bool → Option Arrival
-arrival_by (Ask timeout id) None last = None
-arrival_by (Ask timeout id) (Some plan) last = Some (Begins plan)
-arrival_by (Bare status) plan last = Some (Answered (reply_of (bare_reply status last) last))
-arrival_by (Fail error) plan last = Some (Answered (reply_of (error_reply error last) last))
+abbrev pub arrival_by : Verdict → PlanRecord → Arrival
+arrival_by (Ask timeout id) plan = Asks plan timeout
+arrival_by (Bare status) plan = Judged (Bare status)
+arrival_by (Fail error) plan = Judged (Fail error)
 
--- what the request comes to: the answer of its verdict, or a call of its plan
-abbrev pub arrival_of : List PlanRecord → HttpRequest → Option Arrival
-arrival_of plans q = arrival_by (verdict_of q (is_some (plan_of plans q))) (plan_of plans q) (closes q)
+-- what the request comes to by its verdict, for which its path names a plan or none
+abbrev pub arrival_of : List PlanRecord → HttpRequest → Arrival
+arrival_of plans q = option_map_or (λ plan. arrival_by (verdict_of q true) plan) (plan_of plans q) (Judged (verdict_of q false))
+
+-- the reply to a request that is no call
+abbrev pub verdict_reply : Verdict → Bool → Reply
+verdict_reply (Ask timeout id) last = reply_of [] last
+verdict_reply (Bare status) last = reply_of (bare_reply status last) last
+verdict_reply (Fail error) last = reply_of (error_reply error last) last
 
 -- the last reply of a stream that is refused: a status alone, or the error of a body that is too large
 unfoldable pub refusal_reply : Refusal → Reply

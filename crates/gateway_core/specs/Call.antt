@@ -1,12 +1,13 @@
 -- A call of a plan, and how far its branches are.
-use Rattle.std.specs.Prelude.{◌≡◌, ℕ, ◌+◌, ◌<◌, ◌≤◌, Bool, true, false, if◌then◌else◌, List, [], ◌∷◌, ◌++◌, length, min, replicate, slice_index_or, slice_set, codes}
+use Rattle.std.specs.Prelude.{◌≡◌, ℕ, ◌+◌, ◌≤◌, Bool, true, false, if◌then◌else◌, ◌-◌, nat_le, nat_lt, ◌&&◌, ◌||◌, List, [], ◌∷◌, ◌++◌, length, map, min, replicate, slice_index_or, slice_set, codes}
+use Rattle.std.specs.List.{range_with_len}
 use Rattle.error_document.specs.declared.document.RpcError.{RpcError}
 use Rattle.connect_codec.specs.Reply.{success_reply, error_reply}
 use Rattle.call_plan.specs.Plan.{PlanRecord, join_text}
 use Rattle.http_pieces.specs.Request.{HttpRequest, closes}
 use Rattle.gateway_core.specs.declared.id.CallId.{CallId}
 use Rattle.gateway_core.specs.declared.reply.Reply.{Reply}
-use Rattle.gateway_core.specs.Job.{branch_at}
+use Rattle.gateway_core.specs.Job.{JobValue, branch_at, job_of}
 use Rattle.gateway_core.specs.declared.fault.Seen.{Seen}
 use Rattle.gateway_core.specs.declared.fault.Seen.TheVariants.{Counted, Late, Unknown}
 
@@ -72,6 +73,19 @@ pub record IsSameCall (old new : CallValue) : Type 0 where
 abbrev pub is_out : CallValue → ℕ → Bool
 is_out c i = slice_index_or c.out i false
 
+-- the jobs of the branches that start where those below `to` are to have started, in declared order
+abbrev pub jobs_to : ℕ → CallValue → List JobValue
+jobs_to to c = map (λ i. job_of c.id i c.plan c.request) (range_with_len c.started (to - c.started))
+
+-- the branches below `to` have started: those that had not are out, and their jobs stand behind the others
+pub record HasStarted (to : ℕ) (old new : CallValue) (jobs after : List JobValue) : Type 0 where
+  pub same : IsSameCall old new
+  pub more : old.started ≤ to
+  pub started : new.started ≡ to
+  pub places : length new.out ≡ length old.out
+  pub out : (i : ℕ) → is_out new i ≡ (is_out old i || (nat_le old.started i && nat_lt i to))
+  pub jobs_are : after ≡ jobs ++ jobs_to to old
+
 -- how a result of that branch is seen
 abbrev pub call_sees : CallValue → ℕ → Seen
 call_sees c i = if is_out c i then (if c.decided then Late else Counted) else Unknown
@@ -80,7 +94,7 @@ call_sees c i = if is_out c i then (if c.decided then Late else Counted) else Un
 pub record IsCallSound (c : CallValue) : Type 0 where
   pub out_is : length c.out ≡ length c.plan.branches
   pub answers_are : length c.answers ≡ length c.plan.branches
-  pub started_is : c.started ≤ length c.plan.branches
+  pub started_is : c.started ≤ due_of c
   pub answered_is : c.answered ≤ length c.plan.branches
   pub few : length c.plan.branches ≤ 16
 

@@ -1,19 +1,22 @@
 -- The gateway's state, as its callers see it.
-use Rattle.std.specs.Prelude.{◌≡◌, ℕ, ◌+◌, ◌<◌, ◌≤◌, Bool, true, false, not, ◌&&◌, ◌||◌, ◌==◌, if◌then◌else◌, List, [], ◌∷◌, ◌++◌, length, count_by, nat_lt, Option, None, Some, is_some, MatchBool, ⊤}
+use Rattle.std.specs.Prelude.{◌≡◌, ℕ, Bool, true, false, not, ◌&&◌, ◌||◌, ◌==◌, if◌then◌else◌, List, [], ◌∷◌, ◌++◌, length, count_by, nat_lt, Option, None, Some, option_map, MatchBool}
 use Rattle.call_plan.specs.Plan.{PlanRecord}
-use Rattle.http_pieces.specs.Request.{HttpRequest}
+use Rattle.http_pieces.specs.Request.{HttpRequest, closes}
 use Rattle.http_pieces.specs.declared.state.State.{State}
 use Rattle.http_pieces.specs.declared.state.State.TheVariants as state
-use Rattle.http_pieces.specs.Reader.{ReaderValue, Reading, reader_value, Partial, Waiting, Stopped, Done, state_of}
+use Rattle.http_pieces.specs.Reader.{ReaderValue, Reading, reader_value, Partial, Waiting, Stopped, Done, state_of, HasRead}
 use Rattle.gateway_core.specs.declared.id.CallId.{CallId}
 use Rattle.gateway_core.specs.declared.reply.Reply.{Reply}
 use Rattle.gateway_core.specs.declared.fault.Seen.{Seen}
 use Rattle.gateway_core.specs.declared.fault.Seen.TheVariants.{Counted, Late, Unknown}
-use Rattle.gateway_core.specs.Arrival.{Arrival, Answered, Begins}
-use Rattle.gateway_core.specs.Call.{CallValue, is_out, new_call, back, answered_by, decided_of, success_of, failure_of, IsSameCall}
+use Rattle.http_pieces.specs.declared.refusal.Refusal.{Refusal}
+use Rattle.gateway_core.specs.Arrival.{Arrival, Judged, Asks, arrival_of, verdict_reply, refusal_reply}
+use Rattle.gateway_core.specs.Call.{CallValue, is_out, new_call, back, due_of, answered_by, decided_of, success_of, failure_of, HasStarted}
 use Rattle.connect_codec.specs.declared.answer.Outcome.{Outcome}
 use Rattle.connect_codec.specs.declared.answer.Outcome.TheVariants.{Answer, Fail}
 use Rattle.gateway_core.specs.Job.{JobValue}
+use Rattle.gateway_core.specs.Past.{is_due, smaller}
+use Rattle.gateway_core.specs.Queue.{expired_reply}
 
 -- The connection: what it has read, whether its first request has arrived (or was refused), the call that it began if it
 -- is one, the replies not taken yet, and whether the connection is broken.
@@ -65,6 +68,10 @@ abbrev pub replies_of : Option ConnValue → List Reply
 replies_of None = []
 replies_of (Some conn) = conn.replies
 
+-- the connection with these replies before those that were not taken
+abbrev pub with_untaken : List Reply → ConnValue → ConnValue
+with_untaken replies conn = record conn { replies = replies ++ conn.replies }
+
 abbrev pub untaken_of : ℕ → CoreValue → List Reply
 untaken_of number core = replies_of (conn_at number core)
 
@@ -110,32 +117,77 @@ abbrev pub is_ended : Option ConnValue → Bool
 is_ended None = true
 is_ended (Some conn) = conn.broken || (has_stopped (state_of conn.reader.reading) && is_settled conn.call)
 
+-- the call goes on: the branches that are due start
+abbrev pub GoesOn : CallValue → ConnValue → ConnValue → List JobValue → List JobValue → Type 0
+GoesOn call old new jobs after = (later : CallValue) × (new ≡ record old { call = Some later }) × HasStarted (due_of call) call later jobs after
+
+-- the call is decided by this reply, and nothing starts
+abbrev pub IsDecidedBy : Reply → CallValue → ConnValue → ConnValue → List JobValue → List JobValue → Type 0
+IsDecidedBy reply call old new jobs after =
+    (new ≡ record old { call = Some (decided_of call); replies = old.replies ++ reply ∷ [] }) × (after ≡ jobs)
+
 -- a counted outcome of a branch: a failure decides the call, and so does the last answer; another answer starts what is due
-abbrev pub CountsTo : ℕ → Outcome → ConnValue → CallValue → ConnValue → Type 0
-CountsTo branch (Fail error) old call new =
-    new ≡ record old { call = Some (decided_of call); replies = old.replies ++ failure_of branch error call ∷ [] }
-CountsTo branch (Answer body) old call new =
+abbrev pub CountsTo : ℕ → Outcome → ConnValue → CallValue → ConnValue → List JobValue → List JobValue → Type 0
+CountsTo branch (Fail error) old call new jobs after = IsDecidedBy (failure_of branch error call) call old new jobs after
+CountsTo branch (Answer body) old call new jobs after =
     let answered = answered_by branch body call in
     MatchBool (nat_lt answered.answered (length call.plan.branches))
-    ((new.replies ≡ old.replies) × ((later : CallValue) × (new.call ≡ Some later) × IsSameCall answered later))
-    (new ≡ record old { call = Some (decided_of answered); replies = old.replies ++ success_of answered ∷ [] })
+    (GoesOn answered old new jobs after)
+    (IsDecidedBy (success_of answered) answered old new jobs after)
 
 -- the connection after a counted outcome of a branch, which is no longer out
-abbrev pub CountedIn : ℕ → Outcome → ConnValue → CallValue → Option ConnValue → Type 0
-CountedIn branch outcome old was None = ⊥
-CountedIn branch outcome old was (Some new) = CountsTo branch outcome (record old { call = Some (back branch was) }) (back branch was) new
+abbrev pub CountedIn : ℕ → Outcome → ConnValue → CallValue → Option ConnValue → List JobValue → List JobValue → Type 0
+CountedIn branch outcome old was None jobs after = ⊥
+CountedIn branch outcome old was (Some new) jobs after =
+    CountsTo branch outcome (record old { call = Some (back branch was) }) (back branch was) new jobs after
+
+-- a branch of the connection's call is no longer out
+abbrev pub back_on : ℕ → ConnValue → ConnValue
+back_on branch conn = record conn { call = option_map (back branch) conn.call }
+
+-- the connection breaks: it keeps the replies that it had, and no job is lost
+pub record IsBroken (old new : ConnValue) (jobs after : List JobValue) : Type 0 where
+  pub broken : new.broken ≡ true
+  pub replies : new.replies ≡ old.replies
+  pub jobs_are : (started : List JobValue) × (after ≡ jobs ++ started)
+
+abbrev pub BreaksTo : Option ConnValue → Option ConnValue → List JobValue → List JobValue → Type 0
+BreaksTo (Some old) (Some new) jobs after = IsBroken old new jobs after
+BreaksTo (Some old) None jobs after = ⊥
+BreaksTo None new jobs after = ⊥
 
 -- the first call of the first connection
 abbrev pub first_call : CallId
 first_call = record { conn = 0; request = 0 }
 
--- a call of the plan begins, and its first branches start
-abbrev pub BeginsCall : PlanRecord → HttpRequest → ConnValue → ConnValue → Type 0
-BeginsCall plan q old new =
-    (new.replies ≡ old.replies) × ((call : CallValue) × (new.call ≡ Some call) × IsSameCall (new_call first_call plan q) call)
+-- what the first request comes to as it arrives: a reply, or a call, which may be over at once, or whose first branches start
+abbrev pub ArrivesAs : HttpRequest → ConnValue → ConnValue → List JobValue → List JobValue → Arrival → Type 0
+ArrivesAs q old new jobs after (Judged v) =
+    (new ≡ record old { arrived = true; replies = old.replies ++ verdict_reply v (closes q) ∷ [] }) × (after ≡ jobs)
+ArrivesAs q old new jobs after (Asks plan timeout) =
+    MatchBool (is_due 0 (smaller timeout plan.timeout))
+    ((new ≡ record old { arrived = true; replies = old.replies ++ expired_reply (closes q) ∷ [] }) × (after ≡ jobs))
+    (GoesOn (new_call first_call plan q) (record old { arrived = true }) new jobs after)
 
--- what the first request adds to a connection as it arrives: a reply, or a call
-abbrev pub ArrivesAs : HttpRequest → ConnValue → ConnValue → Option Arrival → Type 0
-ArrivesAs q old new (Some (Answered reply)) = (new.replies ≡ old.replies ++ reply ∷ []) × (new.call ≡ old.call)
-ArrivesAs q old new (Some (Begins plan)) = BeginsCall plan q old new
-ArrivesAs q old new None = ⊤
+-- the stream is refused: this is its last reply, where no request came before
+abbrev pub refused_by : Refusal → ConnValue → ConnValue
+refused_by r conn = if conn.arrived then conn else record conn { arrived = true; replies = conn.replies ++ refusal_reply r ∷ [] }
+
+-- what comes of a reader that stands so, with no request given
+abbrev pub without_request : Reading → ConnValue → ConnValue
+without_request (Partial left) conn = conn
+without_request (Waiting q) conn = conn
+without_request (Stopped r) conn = refused_by r conn
+without_request Done conn = conn
+
+-- the requests that bytes complete arrive, of which there is at most one; those behind the first are dropped
+abbrev pub FeedsTo : List PlanRecord → List HttpRequest → ConnValue → ConnValue → List JobValue → List JobValue → Type 0
+FeedsTo plans [] old new jobs after = (new ≡ without_request old.reader.reading old) × (after ≡ jobs)
+FeedsTo plans (q ∷ []) old new jobs after = MatchBool old.arrived ((new ≡ old) × (after ≡ jobs)) (ArrivesAs q old new jobs after (arrival_of plans q))
+FeedsTo plans (q ∷ r ∷ more) old new jobs after = ⊥
+
+-- the connection has read the text, with these requests given before, and those that the text completes arrive
+abbrev pub Feeds : List PlanRecord → List ℕ → List HttpRequest → ConnValue → Option ConnValue → List JobValue → List JobValue → Type 0
+Feeds plans text given old None jobs after = ⊥
+Feeds plans text given old (Some new) jobs after =
+    (more : List HttpRequest) × HasRead new.reader text (given ++ more) × FeedsTo plans more (record old { reader = new.reader }) new jobs after

@@ -2,3 +2,10 @@ pub mod Job
 pub mod Call
 pub mod Arrival
 pub mod Core
+pub mod Occurrence
+pub mod Past
+pub mod Finished
+pub mod Queue
+pub mod Starts
+pub mod Stands
+pub mod Rows

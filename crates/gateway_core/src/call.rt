@@ -1,6 +1,6 @@
-ghost use Rattle.std.specs.Prelude.{◌≡◌, ◌<◌, ◌++◌, ◌∷◌, [], IfOk, OnOk, OnErr, length, replicate, count_by, not, nat_lt};
+ghost use Rattle.std.specs.Prelude.{◌≡◌, ℕ, ◌<◌, ◌≤◌, ◌++◌, ◌∷◌, [], IfOk, OnOk, OnErr, length, replicate, count_by, not, nat_lt};
 ghost use Rattle.std.specs.Arc.{arc_value};
-ghost use Rattle.gateway_core.specs.Call.{new_call, is_out, call_sees, branch_error, due_of, start_of, back, answered_by, success_of, failure_of, decided_of, IsSameCall};
+ghost use Rattle.gateway_core.specs.Call.{new_call, is_out, call_sees, branch_error, due_of, start_of, back, answered_by, success_of, failure_of, decided_of, HasStarted};
 ghost use Rattle.gateway_core.specs.Job.{job_of, branch_at};
 
 use crate::id::CallId;
@@ -71,7 +71,8 @@ impl Call {
     /// Starts the branches that are due, in declared order, and queues their jobs: those up to the
     /// plan's limit, and one more for each answer that counted.
     pub(crate) fn start_due(&mut self, jobs: &mut VecDeque<Job>) -> Result<(), AllocError>
-        ensures same { IsSameCall self.old self.new }
+        ensures ok { OnOk result (HasStarted (due_of self.old) self.old self.new jobs.old.items jobs.new.items) }
+        ensures err { OnErr result ((to : ℕ) × (to ≤ due_of self.old) × HasStarted to self.old self.new jobs.old.items jobs.new.items) }
     {
         let due = self.due();
         for index in self.started..due {
@@ -90,7 +91,7 @@ impl Call {
 
     /// Starts the branch, and queues its job.
     fn start(&mut self, index: usize, jobs: &mut VecDeque<Job>) -> Result<(), AllocError>
-        requires { index < length self.old.plan.branches }
+        requires { index < due_of self.old }
         ensures ok { OnOk result (self.new ≡ start_of index self.old) }
         ensures job { OnOk result (jobs.new.items ≡ jobs.old.items ++ job_of self.old.id index self.old.plan self.old.request ∷ []) }
         ensures err { OnErr result ((self.new ≡ self.old) × (jobs.new.items ≡ jobs.old.items)) }

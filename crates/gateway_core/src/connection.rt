@@ -1,8 +1,13 @@
-ghost use Rattle.std.specs.Prelude.{◌≡◌, ◌<◌, ◌≤◌, ◌++◌, ◌∷◌, [], ◌==◌, Some, None, option_map, IfOk, OnOk, IsTrue, length, true, false, if◌then◌else◌};
+ghost use Rattle.std.specs.Prelude.{◌≡◌, ℕ, ◌<◌, ◌≤◌, ◌++◌, ◌∷◌, [], ◌==◌, Some, None, IfOk, OnOk, OnErr, IsTrue, List, length, take, true, false, if◌then◌else◌};
 ghost use Rattle.connect_codec.specs.Reply.{bare_reply, is_bare_status};
 ghost use Rattle.gateway_core.specs.Arrival.{refusal_reply, arrival_of};
-ghost use Rattle.gateway_core.specs.Call.{CallValue, reply_of, back};
-ghost use Rattle.gateway_core.specs.Core.{new_conn, is_ended, call_of, sees, outs, is_settled, CountsTo, ArrivesAs, BeginsCall};
+ghost use Rattle.gateway_core.specs.Past.{is_due, smaller};
+ghost use Rattle.gateway_core.specs.Queue.{expired_reply};
+ghost use Rattle.gateway_core.specs.Call.{CallValue, new_call, reply_of};
+ghost use Rattle.gateway_core.specs.Core.{new_conn, first_call, is_ended, sees, outs, back_on, refused_by, CountsTo, CountedIn, IsBroken, ArrivesAs, GoesOn, Feeds};
+ghost use Rattle.gateway_core.specs.Job.{JobValue};
+ghost use Rattle.http_pieces.specs.Reader.{HasRead};
+ghost use Rattle.http_pieces.specs.Request.{HttpRequest};
 ghost use Rattle.std.specs.Arc.{arc_value};
 
 use crate::call::Call;
@@ -66,7 +71,10 @@ impl Connection {
     ) -> Result<usize, AllocError>
         ensures within { IfOk result (λ n. n ≤ length bytes.now) }
         ensures moves { 0 < length bytes.now → IfOk result (λ n. 0 < n) }
+        ensures feeds { (stream : List ℕ) (given : List HttpRequest) → HasRead self.old.reader stream given
+            → IfOk result (λ n. Feeds plans.now (stream ++ take n bytes.now) given self.old (Some self.new) jobs.old.items jobs.new.items) }
         ensures kept { OnOk result (self.new.broken ≡ self.old.broken) }
+        ensures err { OnErr result ((self.new.replies ≡ self.old.replies) × ((started : List JobValue) × (jobs.new.items ≡ jobs.old.items ++ started))) }
     {
         let taken = self.reader.push(bytes)?;
         match self.reader.state() {
@@ -130,11 +138,10 @@ impl Connection {
     ) -> Took
         ensures seen { result.seen ≡ sees (if request == 0 then self.old.call else None) self.old.broken branch }
         ensures unknown { result.seen ≡ Seen.Unknown → (self.new ≡ self.old) × (jobs.new.items ≡ jobs.old.items) }
-        ensures late { result.seen ≡ Seen.Late
-            → self.new ≡ record self.old { call = option_map (back branch) self.old.call } }
+        ensures late { result.seen ≡ Seen.Late → (self.new ≡ back_on branch self.old) × (jobs.new.items ≡ jobs.old.items) }
         ensures counted { (was : CallValue) → self.old.call ≡ Some was → result.seen ≡ Seen.Counted → result.broke ≡ false
-            → CountsTo branch outcome (record self.old { call = Some (back branch was) }) (back branch was) self.new }
-        ensures broke { IsTrue result.broke → (result.seen ≡ Seen.Counted) × (self.new.broken ≡ true) }
+            → CountedIn branch outcome self.old was (Some self.new) jobs.old.items jobs.new.items }
+        ensures broke { IsTrue result.broke → (result.seen ≡ Seen.Counted) × IsBroken self.old self.new jobs.old.items jobs.new.items }
     {
         let seen = self.sees(request, branch);
         match seen {
@@ -156,7 +163,7 @@ impl Connection {
 
     /// A result of a branch that was out: the branch is no longer.
     fn come_back(&mut self, branch: u32)
-        ensures { self.new ≡ record self.old { call = option_map (back branch) self.old.call } }
+        ensures { self.new ≡ back_on branch self.old }
     {
         if let Some(call) = self.call.as_mut() {
             call.come_back(branch);
@@ -171,8 +178,9 @@ impl Connection {
         outcome: Outcome,
         jobs: &mut VecDeque<Job>,
     ) -> Result<(), AllocError>
-        ensures { (call : CallValue) → self.old.call ≡ Some call
-            → OnOk result (CountsTo branch outcome self.old call self.new) }
+        ensures counts { (call : CallValue) → self.old.call ≡ Some call
+            → OnOk result (CountsTo branch outcome self.old call self.new jobs.old.items jobs.new.items) }
+        ensures err { OnErr result ((self.new.replies ≡ self.old.replies) × ((started : List JobValue) × (jobs.new.items ≡ jobs.old.items ++ started))) }
     {
         let Some(call) = self.call.as_mut() else {
             return Ok(());
@@ -187,22 +195,21 @@ impl Connection {
             }
             Outcome::Fail(error) => call.failure(alloc, branch, &error)?,
         };
-        call.decide();
         self.replies.push_back(reply)?;
+        call.decide();
         Ok(())
     }
 
     /// The stream is refused: this is the last reply.
     fn refuse(&mut self, alloc: Global, refusal: Refusal) -> Result<(), AllocError>
-        ensures { OnOk result (self.new ≡ (if self.old.arrived then self.old else
-            record self.old { arrived = true; replies = self.old.replies ++ refusal_reply refusal ∷ [] })) }
+        ensures ok { OnOk result (self.new ≡ refused_by refusal self.old) }
+        ensures err { OnErr result (self.new.replies ≡ self.old.replies) }
     {
         if self.arrived {
             return Ok(());
         }
-        let reply = refused(alloc, refusal)?;
         self.arrived = true;
-        self.replies.push_back(reply)?;
+        self.replies.push_back(refused(alloc, refusal)?)?;
         Ok(())
     }
 
@@ -215,8 +222,10 @@ impl Connection {
         request: Request,
     ) -> Result<(), AllocError>
         ensures kept { OnOk result (self.new.broken ≡ self.old.broken) }
-        ensures arrives { self.old.arrived ≡ false → OnOk result (ArrivesAs request self.old self.new (arrival_of plans.now request)) }
-        ensures dropped { self.old.arrived ≡ true → self.new ≡ self.old }
+        ensures arrives { self.old.arrived ≡ false
+            → OnOk result (ArrivesAs request self.old self.new jobs.old.items jobs.new.items (arrival_of plans.now request)) }
+        ensures dropped { self.old.arrived ≡ true → (self.new ≡ self.old) × (jobs.new.items ≡ jobs.old.items) }
+        ensures err { OnErr result ((self.new.replies ≡ self.old.replies) × ((started : List JobValue) × (jobs.new.items ≡ jobs.old.items ++ started))) }
     {
         if self.arrived {
             return Ok(());
@@ -230,15 +239,26 @@ impl Connection {
         match judge(alloc, &request, plan.is_some())? {
             Verdict::Bare(status) => self.answer(bare_reply(alloc, status, last)?, last),
             Verdict::Fail(error) => self.answer(error_reply(alloc, &error, last)?, last),
-            Verdict::Ask { .. } => match plan {
+            Verdict::Ask { timeout, .. } => match plan {
+                Some(plan) if is_over(timeout, plan.timeout()) => self.expire(alloc, last),
                 Some(plan) => self.begin(alloc, Arc::try_clone(plan)?, request, jobs),
                 None => Ok(()),
             },
         }
     }
 
+    /// The call is decided by its deadline as it arrives.
+    fn expire(&mut self, alloc: Global, last: bool) -> Result<(), AllocError>
+        ensures ok { OnOk result (self.new ≡ record self.old { replies = self.old.replies ++ expired_reply last ∷ [] }) }
+        ensures err { OnErr result (self.new.replies ≡ self.old.replies) }
+    {
+        self.replies.push_back(expired(alloc, last)?)?;
+        Ok(())
+    }
+
     fn answer(&mut self, bytes: Bytes, last: bool) -> Result<(), AllocError>
-        ensures { OnOk result (self.new ≡ record self.old { replies = self.old.replies ++ reply_of bytes last ∷ [] }) }
+        ensures ok { OnOk result (self.new ≡ record self.old { replies = self.old.replies ++ reply_of bytes last ∷ [] }) }
+        ensures err { OnErr result (self.new.replies ≡ self.old.replies) }
     {
         self.replies.push_back(Reply { bytes, last })?;
         Ok(())
@@ -252,8 +272,8 @@ impl Connection {
         request: Request,
         jobs: &mut VecDeque<Job>,
     ) -> Result<(), AllocError>
-        ensures kept { OnOk result (self.new.broken ≡ self.old.broken) }
-        ensures begins { OnOk result (BeginsCall (arc_value plan) request self.old self.new) }
+        ensures begins { OnOk result (GoesOn (new_call first_call (arc_value plan) request) self.old self.new jobs.old.items jobs.new.items) }
+        ensures err { OnErr result ((self.new.replies ≡ self.old.replies) × ((started : List JobValue) × (jobs.new.items ≡ jobs.old.items ++ started))) }
     {
         let id = CallId {
             conn: ConnId::of(0),
@@ -264,6 +284,25 @@ impl Connection {
         self.call = Some(call);
         Ok(())
     }
+}
+
+/// Whether a call with these timeouts, its own and its plan's, is over as it begins.
+fn is_over(asked: Option<u64>, plan: Option<u64>) -> bool
+    ensures { result ≡ is_due 0 (smaller asked plan) }
+{
+    asked == Some(0) || plan == Some(0)
+}
+
+/// The reply to a call whose deadline is reached.
+fn expired(alloc: Global, last: bool) -> Result<Reply, AllocError>
+    ensures { IfOk result (λ reply. reply ≡ expired_reply last) }
+{
+    let error = RpcError {
+        code: Code::DeadlineExceeded,
+        message: Text::from_str(alloc, "context deadline exceeded")?,
+    };
+    let bytes = error_reply(alloc, &error, last)?;
+    Ok(Reply { bytes, last })
 }
 
 /// The reply to a stream that is refused.

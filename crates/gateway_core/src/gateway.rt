@@ -1,6 +1,8 @@
-ghost use Rattle.std.specs.Prelude.{◌≡◌, ◌<◌, ◌≤◌, ◌++◌, [], ◌↔◌, IfOk, OnOk, OnErr, IsSome, length, option_to_list, true, false, IsTrue};
-ghost use Rattle.gateway_core.specs.Core.{core_value, new_conn, conn_at, is_live, untaken_of, is_broken_conn, core_sees, call_at, outs, is_ended, ConnValue, CountedIn};
+ghost use Rattle.std.specs.Prelude.{◌≡◌, ℕ, ◌<◌, ◌≤◌, ◌++◌, [], ◌↔◌, IfOk, OnOk, OnErr, IsSome, List, length, take, option_map, option_to_list, true, false, IsTrue};
+ghost use Rattle.gateway_core.specs.Core.{core_value, new_conn, conn_at, is_live, untaken_of, is_broken_conn, core_sees, call_at, outs, is_ended, back_on, with_untaken, ConnValue, CountedIn, BreaksTo, Feeds};
 ghost use Rattle.gateway_core.specs.Call.{CallValue};
+ghost use Rattle.http_pieces.specs.Reader.{HasRead};
+ghost use Rattle.http_pieces.specs.Request.{HttpRequest};
 
 use crate::connection::Connection;
 use crate::fault::{OpenError, Seen, StepFault, Took};
@@ -64,7 +66,11 @@ impl Core {
         ensures moves { 0 < length bytes.now → IfOk result (λ n. 0 < n) }
         ensures gone { (result ≡ Err StepFault.Gone) ↔ (is_live conn self.old ≡ false) }
         ensures unchanged { result ≡ Err StepFault.Gone → self.new ≡ self.old }
-        ensures broken { result ≡ Err StepFault.Memory → is_broken_conn (conn_at conn self.new) ≡ true }
+        ensures plans { self.new.plans ≡ self.old.plans }
+        ensures feeds { (was : ConnValue) (stream : List ℕ) (given : List HttpRequest)
+            → conn_at conn self.old ≡ Some was → HasRead was.reader stream given
+            → IfOk result (λ n. Feeds self.old.plans (stream ++ take n bytes.now) given was (conn_at conn self.new) self.old.jobs self.new.jobs) }
+        ensures broken { result ≡ Err StepFault.Memory → BreaksTo (conn_at conn self.old) (conn_at conn self.new) self.old.jobs self.new.jobs }
         ensures unbroken { OnOk result (is_live conn self.new ≡ true) }
     {
         if conn.number() != 0 {
@@ -91,8 +97,11 @@ impl Core {
         ensures unknown { result.seen ≡ Seen.Unknown → self.new ≡ self.old }
         ensures counted { (conn : ConnValue) (was : CallValue) → conn_at call.conn self.old ≡ Some conn → conn.call ≡ Some was
             → result.seen ≡ Seen.Counted → result.broke ≡ false
-            → CountedIn branch outcome conn was (conn_at call.conn self.new) }
-        ensures broke { IsTrue result.broke → (result.seen ≡ Seen.Counted) × (is_broken_conn (conn_at call.conn self.new) ≡ true) }
+            → CountedIn branch outcome conn was (conn_at call.conn self.new) self.old.jobs self.new.jobs }
+        ensures late { result.seen ≡ Seen.Late → self.new ≡ core_value self.old.plans (option_map (back_on branch) self.old.conn) self.old.jobs }
+        ensures plans { self.new.plans ≡ self.old.plans }
+        ensures broke { IsTrue result.broke → (result.seen ≡ Seen.Counted)
+            × BreaksTo (conn_at call.conn self.old) (conn_at call.conn self.new) self.old.jobs self.new.jobs }
     {
         let unknown = Took {
             seen: Seen::Unknown,
@@ -126,7 +135,7 @@ impl Core {
     pub fn take_reply(&mut self, conn: ConnId) -> Option<Reply>
         ensures first { untaken_of conn self.old ≡ option_to_list result ++ untaken_of conn self.new }
         ensures none { result ≡ None → untaken_of conn self.old ≡ [] }
-        ensures jobs { self.new.jobs ≡ self.old.jobs }
+        ensures rest { self.old ≡ core_value self.new.plans (option_map (with_untaken (option_to_list result)) self.new.conn) self.new.jobs }
     {
         if conn.number() != 0 {
             return None;

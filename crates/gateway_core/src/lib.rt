@@ -8,7 +8,10 @@ mod fault;
 mod gateway;
 mod id;
 mod job;
+pub mod laws;
 mod reply;
+#[cfg(test)]
+mod rows;
 
 pub use fault::{OpenError, Seen, StepFault, Took};
 pub use gateway::Core;

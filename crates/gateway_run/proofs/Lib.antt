@@ -1,3 +1,5 @@
+pub mod EventLemmas
 pub mod Entries
 pub mod RunLemmas
 pub mod Scripts
+pub mod CutLemmas

@@ -1,3 +1,4 @@
 pub mod Run
 pub mod RunText
 pub mod Script
+pub mod Events

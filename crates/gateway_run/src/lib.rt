@@ -5,6 +5,7 @@
 mod delivery;
 mod event;
 mod fault;
+pub mod laws;
 mod outcome;
 mod script;
 mod stepping;

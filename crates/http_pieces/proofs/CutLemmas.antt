@@ -6,7 +6,7 @@ use Rattle.std.proofs.lemmas.Slice.Eq.{starts_is}
 use Rattle.std.specs.List.{starts_with}
 use Rattle.std.proofs.lemmas.List.{take-append-le, drop-append-le, length-drop, drop-drop, take_rest, take_all, take-append-drop}
 use Rattle.std.proofs.Math.Seq.{take-length}
-use Rattle.http_pieces.specs.Cut.{Incomplete, Refused, Complete, Asks, Refusal, Body, Kind, skip_pairs, EndsInEmptyLine, most_head, IsBlock, HasNoBlock, cut_unblocked, cut_after, IsCutText, without_block, without_head, with_head}
+use Rattle.http_pieces.specs.Cut.{Cut, Incomplete, Refused, Complete, Asks, Refusal, Body, Kind, IsSingle, IsCut, skip_pairs, EndsInEmptyLine, most_head, IsBlock, HasNoBlock, cut_unblocked, cut_after, IsCutText, without_block, without_head, with_head}
 
 abbrev is_pair : ℕ → ℕ → Bool
 is_pair a b = (a == 13) && (b == 10)
@@ -243,3 +243,53 @@ pub pair_stop : (text : List ℕ) (i : ℕ) (r : Bool) → r ≡ starts_with nat
 pair_stop text i r is other =
     let from : r ≡ starts_with nat_eq (drop i text) (13 ∷ 10 ∷ []) = rw (take_rest text i) at is in
     skip_none (drop i text) (λ rest e. both_ways r other ((starts_is Decides-eqb (drop i text) (13 ∷ 10 ∷ []) r from).1 rest e))
+
+-- ---- a kind whose heads ask for one thing each
+
+text_unique : {R V : Type 0} (kind : Kind R V) → IsSingle kind → (text : List ℕ) (c d : Cut R V) → IsCutText kind text c → IsCutText kind text d → c ≡ d
+text_unique kind single text c d (without_block none e) (without_block also f) = e ∙ sym f
+text_unique kind single text c d (without_block none e) (without_head n b other f) = absurd (none n b.limit b.ends)
+text_unique kind single text c d (without_block none e) (with_head n a b head f) = absurd (none n b.limit b.ends)
+text_unique kind single text c d (without_head n b other e) (without_block none f) = absurd (none n b.limit b.ends)
+text_unique kind single text c d (without_head n b other e) (without_head m b' also f) = e ∙ sym f
+text_unique kind single text c d (without_head n b other e) (with_head m a b' head f) =
+    absurd (other a (subst (λ x. kind.IsHead (take x text) a) (block_unique text m n b' b) head))
+text_unique kind single text c d (with_head n a b head e) (without_block none f) = absurd (none n b.limit b.ends)
+text_unique kind single text c d (with_head n a b head e) (without_head m b' other f) =
+    absurd (other a (subst (λ x. kind.IsHead (take x text) a) (block_unique text n m b b') head))
+text_unique kind single text c d (with_head n a b head e) (with_head m a' b' head' f) =
+    let place = block_unique text m n b' b in
+    let same : a' ≡ a = single (take n text) a' a (subst (λ x. kind.IsHead (take x text) a') place head') head in
+    e ∙ sym (f ∙ ap (λ x. cut_after a' (drop x text)) place ∙ ap (λ x. cut_after x (drop n text)) same)
+
+-- a text is cut in one way only
+pub kind_unique : {R V : Type 0} (kind : Kind R V) → IsSingle kind → (text : List ℕ) (c d : Cut R V) → IsCut kind text c → IsCut kind text d → c ≡ d
+kind_unique kind single text c d = text_unique kind single (skip_pairs text) c d
+
+text_complete_long : {R V : Type 0} (kind : Kind R V) (text : List ℕ) (v : V) (rest : List ℕ) → IsCutText kind text (Complete v rest) → 2 ≤ length text
+text_complete_long kind text v rest (without_block none e) = absurd (unblocked_incomplete kind text v rest e)
+text_complete_long kind text v rest (without_head n b other e) = absurd (cc)
+text_complete_long kind text v rest (with_head n a b head e) = omega (arith, block_long text n b, b.within)
+
+text_refused_long : {R V : Type 0} (kind : Kind R V) (text : List ℕ) (r : R) → IsCutText kind text (Refused r) → 2 ≤ length text
+text_refused_long kind text r (without_block none e) = omega (arith, (unblocked_refused kind text r e).0)
+text_refused_long kind text r (without_head n b other e) = omega (arith, block_long text n b, b.within)
+text_refused_long kind text r (with_head n a b head e) = omega (arith, block_long text n b, b.within)
+
+-- a message stays as it was cut
+pub kind_complete_append : {R V : Type 0} (kind : Kind R V) (text more : List ℕ) (v : V) (rest : List ℕ)
+    → IsCut kind text (Complete v rest) → IsCut kind (text ++ more) (Complete v (rest ++ more))
+kind_complete_append kind text more v rest cut =
+    let long = text_complete_long kind (skip_pairs text) v rest cut in
+    rw (skip_long text more long) (text_complete kind (skip_pairs text) more v rest cut)
+
+-- so does a refusal
+pub kind_refused_append : {R V : Type 0} (kind : Kind R V) (text more : List ℕ) (r : R)
+    → IsCut kind text (Refused r) → IsCut kind (text ++ more) (Refused r)
+kind_refused_append kind text more r cut =
+    let long = text_refused_long kind (skip_pairs text) r cut in
+    rw (skip_long text more long) (text_refused kind (skip_pairs text) more r cut)
+
+-- nothing is cut off no bytes
+pub kind_empty : {R V : Type 0} (kind : Kind R V) → IsCut kind [] Incomplete
+kind_empty kind = without_block (λ n le ends. absurd (omega (arith, ap length ends.1, length-append ends.0 (13 ∷ 10 ∷ 13 ∷ 10 ∷ []), length-take {A = ℕ} n []))) refl

@@ -1,7 +1,10 @@
-pub mod AdvanceLemmas
 pub mod CutLemmas
 pub mod DecimalLemmas
 pub mod FieldLemmas
+pub mod FormLemmas
 pub mod LayoutLemmas
+pub mod PhaseLemmas
+pub mod PushLemmas
 pub mod ReaderLemmas
+pub mod ReplyLemmas
 pub mod RequestsLemmas

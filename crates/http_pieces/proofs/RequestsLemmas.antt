@@ -1,71 +1,30 @@
 -- A text has one list of requests, and more bytes only add to it.
-use Rattle.std.proofs.Common.{◌≡◌, ℕ, suc, ◌+◌, ◌≤◌, Bool, true, false, List, [], ◌∷◌, ◌++◌, length, take, drop, refl, sym, ap, subst, ◌∙◌, arith, length-append, length-take, if◌then◌else◌, add-zero}
+use Rattle.std.proofs.Common.{◌≡◌, ℕ, suc, ◌+◌, Bool, true, false, List, [], ◌∷◌, ◌++◌, length, refl, sym, ap, subst, ◌∙◌, arith, if◌then◌else◌, add-zero}
 use Rattle.std.specs.Bool.{MatchBool}
-use Rattle.httparse.proofs.GrammarLemmas.{request_unique}
 use Rattle.http_pieces.specs.declared.refusal.Refusal.{Refusal}
-use Rattle.http_pieces.specs.Cut.{Cut, Incomplete, Refused, Complete, Asks, Kind, skip_pairs, cut_after, IsCutText, without_block, without_head, with_head, IsCut}
-use Rattle.http_pieces.specs.Head.{request_kind, request_asks}
+use Rattle.http_pieces.specs.Cut.{Cut, Incomplete, Refused, Complete, skip_pairs, IsCut}
+use Rattle.http_pieces.specs.Head.{request_kind}
 use Rattle.http_pieces.specs.Request.{HttpRequest, closes}
 use Rattle.http_pieces.specs.Requests.{Ending, Open, Broken, Closed, EndsAt, unfinished, broken, Requests}
 use Rattle.http_pieces.specs.Reader.{ending_after}
-use Rattle.http_pieces.proofs.CutLemmas.{skip_append, skip_long, block_unique, block_long, unblocked_refused, unblocked_incomplete, text_complete, text_refused}
+use Rattle.http_pieces.specs.Layout.{request_single}
+use Rattle.http_pieces.proofs.CutLemmas.{skip_append, kind_unique, kind_complete_append, kind_refused_append, kind_empty}
 
 -- ---- one cut
 
--- a block that is a head asks for one thing
-abbrev IsSingle : {R V : Type 0} → Kind R V → Type 0
-IsSingle {R} {V} kind = (block : List ℕ) (a b : Asks R V) → kind.IsHead block a → kind.IsHead block b → a ≡ b
-
-request_single : (k : ℕ) → IsSingle (request_kind k)
-request_single k block a b x y =
-    let same : x.head ≡ y.head = (request_unique block x.head y.head [] [] x.block_is.0 y.block_is.0).0 in
-    x.asks_is ∙ ap (request_asks k) same ∙ sym y.asks_is
-
-text_unique : {R V : Type 0} (kind : Kind R V) → IsSingle kind → (text : List ℕ) (c d : Cut R V) → IsCutText kind text c → IsCutText kind text d → c ≡ d
-text_unique kind single text c d (without_block none e) (without_block also f) = e ∙ sym f
-text_unique kind single text c d (without_block none e) (without_head n b other f) = absurd (none n b.limit b.ends)
-text_unique kind single text c d (without_block none e) (with_head n a b head f) = absurd (none n b.limit b.ends)
-text_unique kind single text c d (without_head n b other e) (without_block none f) = absurd (none n b.limit b.ends)
-text_unique kind single text c d (without_head n b other e) (without_head m b' also f) = e ∙ sym f
-text_unique kind single text c d (without_head n b other e) (with_head m a b' head f) =
-    absurd (other a (subst (λ x. kind.IsHead (take x text) a) (block_unique text m n b' b) head))
-text_unique kind single text c d (with_head n a b head e) (without_block none f) = absurd (none n b.limit b.ends)
-text_unique kind single text c d (with_head n a b head e) (without_head m b' other f) =
-    absurd (other a (subst (λ x. kind.IsHead (take x text) a) (block_unique text n m b b') head))
-text_unique kind single text c d (with_head n a b head e) (with_head m a' b' head' f) =
-    let place = block_unique text m n b' b in
-    let same : a' ≡ a = single (take n text) a' a (subst (λ x. kind.IsHead (take x text) a') place head') head in
-    e ∙ sym (f ∙ ap (λ x. cut_after a' (drop x text)) place ∙ ap (λ x. cut_after x (drop n text)) same)
-
 -- a text is cut in one way only
 pub cut_unique : (k : ℕ) (text : List ℕ) (c d : Cut Refusal HttpRequest) → IsCut (request_kind k) text c → IsCut (request_kind k) text d → c ≡ d
-cut_unique k text c d = text_unique (request_kind k) (request_single k) (skip_pairs text) c d
-
--- ---- more bytes
-
-text_complete_long : {R V : Type 0} (kind : Kind R V) (text : List ℕ) (v : V) (rest : List ℕ) → IsCutText kind text (Complete v rest) → 2 ≤ length text
-text_complete_long kind text v rest (without_block none e) = absurd (unblocked_incomplete kind text v rest e)
-text_complete_long kind text v rest (without_head n b other e) = absurd (cc)
-text_complete_long kind text v rest (with_head n a b head e) = omega (arith, block_long text n b, b.within)
-
-text_refused_long : {R V : Type 0} (kind : Kind R V) (text : List ℕ) (r : R) → IsCutText kind text (Refused r) → 2 ≤ length text
-text_refused_long kind text r (without_block none e) = omega (arith, (unblocked_refused kind text r e).0)
-text_refused_long kind text r (without_head n b other e) = omega (arith, block_long text n b, b.within)
-text_refused_long kind text r (with_head n a b head e) = omega (arith, block_long text n b, b.within)
+cut_unique k = kind_unique (request_kind k) (request_single k)
 
 -- a request stays as it was cut
 pub cut_complete_append : (k : ℕ) (text more : List ℕ) (q : HttpRequest) (rest : List ℕ)
     → IsCut (request_kind k) text (Complete q rest) → IsCut (request_kind k) (text ++ more) (Complete q (rest ++ more))
-cut_complete_append k text more q rest cut =
-    let long = text_complete_long (request_kind k) (skip_pairs text) q rest cut in
-    rw (skip_long text more long) (text_complete (request_kind k) (skip_pairs text) more q rest cut)
+cut_complete_append k = kind_complete_append (request_kind k)
 
 -- so does a refusal
 pub cut_refused_append : (k : ℕ) (text more : List ℕ) (r : Refusal)
     → IsCut (request_kind k) text (Refused r) → IsCut (request_kind k) (text ++ more) (Refused r)
-cut_refused_append k text more r cut =
-    let long = text_refused_long (request_kind k) (skip_pairs text) r cut in
-    rw (skip_long text more long) (text_refused (request_kind k) (skip_pairs text) more r cut)
+cut_refused_append k = kind_refused_append (request_kind k)
 
 -- ---- requests
 
@@ -121,7 +80,7 @@ requests_stay k s more (q ∷ given) ending final h =
 
 -- nothing is cut off no bytes
 pub cut_empty : (k : ℕ) → IsCut (request_kind k) [] Incomplete
-cut_empty k = without_block (λ n le ends. absurd (omega (arith, ap length ends.1, length-append ends.0 (13 ∷ 10 ∷ 13 ∷ 10 ∷ []), length-take {A = ℕ} n []))) refl
+cut_empty k = kind_empty (request_kind k)
 
 -- one whole request
 pub requests_one : (k : ℕ) (s : List ℕ) (q : HttpRequest) → IsCut (request_kind k) s (Complete q []) → Requests k s (q ∷ []) (ending_after q)

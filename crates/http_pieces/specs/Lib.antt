@@ -1,7 +1,11 @@
 pub mod Cut
 pub mod Fields
+pub mod Form
 pub mod Head
 pub mod Layout
+pub mod ReplyHead
+pub mod ReplyLayout
+pub mod ReplyReader
 pub mod Request
 pub mod Requests
 pub mod Reader

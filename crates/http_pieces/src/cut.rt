@@ -1,21 +1,20 @@
 ghost use Rattle.std.specs.Prelude.{◌≡◌, ◌≤◌, ◌↔◌, length, drop, IfOk, MatchOption, IsTrue};
 ghost use Rattle.http_pieces.specs.Cut.{skip_pairs, EndsInEmptyLine, IsBlock, HasNoBlock};
-ghost use Rattle.http_pieces.specs.Layout.{CutsTo};
+ghost use Rattle.http_pieces.specs.Form.{CutsTo};
 
-use crate::head::{Head, body_length, read_head};
-use crate::refusal::Refusal;
+use crate::message::Message;
 use std::alloc::{AllocError, Global};
 
 /// A head has at most so many bytes, from the end of the CR LF pairs before it.
 const MAX_HEAD: usize = 8192;
 
-/// Where a whole request lies in the bytes that were cut.
+/// Where a whole message lies in the bytes that were cut.
 #[derive(Debug, Drop)]
-pub(crate) struct Layout {
+pub(crate) struct Layout<H> {
     /// The place of the head, behind the CR LF pairs that lead it.
     pub(crate) start: usize,
-    /// The head's parts, counted from `start`.
-    pub(crate) head: Head,
+    /// What was read of the head, from `start` on.
+    pub(crate) head: H,
     /// The place of the body, counted from `start`.
     pub(crate) body: usize,
     /// The place behind the body.
@@ -24,16 +23,19 @@ pub(crate) struct Layout {
 
 /// What bytes are cut into.
 #[derive(Debug, Drop)]
-pub(crate) enum Cut {
-    /// No whole request yet. So many bytes lead it that belong to none.
+pub(crate) enum Cut<H, F> {
+    /// No whole message yet. So many bytes lead it that belong to none.
     Incomplete(usize),
-    Refused(Refusal),
-    Complete(Layout),
+    Refused(F),
+    Complete(Layout<H>),
 }
 
-/// Cuts the first request off these bytes.
-pub(crate) fn cut_request(alloc: Global, bytes: &[u8]) -> Result<Cut, AllocError>
-    ensures { IfOk result (CutsTo bytes.now) }
+/// Cuts the first message off these bytes.
+pub(crate) fn cut_message<M: Message>(
+    alloc: Global,
+    bytes: &[u8],
+) -> Result<Cut<M::Head, M::Fault>, AllocError>
+    ensures { IfOk result (CutsTo M.form bytes.now) }
 {
     let start = leading_pairs(bytes);
     let text = &bytes[start..];
@@ -41,24 +43,19 @@ pub(crate) fn cut_request(alloc: Global, bytes: &[u8]) -> Result<Cut, AllocError
         return Ok(if text.len() < MAX_HEAD {
             Cut::Incomplete(start)
         } else {
-            Cut::Refused(Refusal::HeadTooLarge)
+            Cut::Refused(M::too_large())
         });
     };
-    let Some(head) = read_head(alloc, &text[..block])? else {
-        return Ok(Cut::Refused(Refusal::NotAHead));
-    };
-    Ok(
-        match body_length(head.version, &text[..block], &head.headers) {
-            Err(refusal) => Cut::Refused(refusal),
-            Ok(length) if ((text.len() - block) as u64) < length => Cut::Incomplete(start),
-            Ok(length) => Cut::Complete(Layout {
-                start,
-                head,
-                body: block,
-                end: start + block + length as usize,
-            }),
-        },
-    )
+    Ok(match M::judge(alloc, &text[..block])? {
+        Err(fault) => Cut::Refused(fault),
+        Ok((_, length)) if ((text.len() - block) as u64) < length => Cut::Incomplete(start),
+        Ok((head, length)) => Cut::Complete(Layout {
+            start,
+            head,
+            body: block,
+            end: start + block + length as usize,
+        }),
+    })
 }
 
 /// How many bytes the CR LF pairs have that lead the text.

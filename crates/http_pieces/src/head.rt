@@ -7,6 +7,7 @@ ghost use Rattle.http_pieces.specs.Layout.{ReadsHead};
 use crate::decimal::read_decimal;
 use crate::field::Field;
 use crate::lookup::find_field;
+use crate::message::Message;
 use crate::refusal::Refusal;
 use crate::version::Version;
 use httparse::Status;
@@ -14,10 +15,10 @@ use httparse::spans::{EMPTY_HEADER_SPAN, HeaderSpan, Span, parse_request};
 use std::alloc::{AllocError, Global};
 
 /// A head has at most so many fields.
-const MAX_FIELDS: usize = 64;
+pub(crate) const MAX_FIELDS: usize = 64;
 
 /// A body has at most so many bytes.
-const MAX_BODY: u64 = 65_536;
+pub(crate) const MAX_BODY: u64 = 65_536;
 
 /// Where the parts of a request's head lie in its bytes.
 #[derive(Debug, Drop)]
@@ -28,8 +29,40 @@ pub(crate) struct Head {
     pub(crate) headers: Vec<HeaderSpan>,
 }
 
+/// Requests, as a kind of message.
+pub(crate) struct Requests;
+
+impl Message for Requests {
+    ghost use Rattle.http_pieces.specs.Request.{HttpRequest};
+    ghost use Rattle.http_pieces.specs.Layout.{request_form, request_single};
+
+    type Head = Head;
+
+    type Fault = Refusal;
+
+    ghost Whole = { HttpRequest };
+
+    ghost form = { request_form };
+
+    ghost single = { request_single };
+
+    fn too_large() -> Refusal {
+        Refusal::HeadTooLarge
+    }
+
+    fn judge(alloc: Global, block: &[u8]) -> Result<Result<(Head, u64), Refusal>, AllocError> {
+        let Some(head) = read_head(alloc, block)? else {
+            return Ok(Err(Refusal::NotAHead));
+        };
+        Ok(match body_length(head.version, block, &head.headers) {
+            Err(refusal) => Err(refusal),
+            Ok(length) => Ok((head, length)),
+        })
+    }
+}
+
 /// Reads the block as one request head; None where it is none, or has more than 64 fields.
-pub(crate) fn read_head(alloc: Global, block: &[u8]) -> Result<Option<Head>, AllocError>
+fn read_head(alloc: Global, block: &[u8]) -> Result<Option<Head>, AllocError>
     ensures { IfOk result (ReadsHead block.now) }
 {
     let mut headers = [EMPTY_HEADER_SPAN; MAX_FIELDS];
@@ -59,11 +92,7 @@ fn version_of(minor: u8) -> Version
 }
 
 /// The length of the body that follows the head, or the head's refusal.
-pub(crate) fn body_length(
-    version: Version,
-    bytes: &[u8],
-    headers: &[HeaderSpan],
-) -> Result<u64, Refusal>
+fn body_length(version: Version, bytes: &[u8], headers: &[HeaderSpan]) -> Result<u64, Refusal>
     requires { All (IsHeaderWithin (length bytes.now)) headers.now }
     ensures { result ≡ body_length version (map (header_bytes bytes.now) headers.now) }
 {
@@ -83,7 +112,8 @@ pub(crate) fn body_length(
     }
 }
 
-fn stated_length(field: Field<'_>) -> Option<u64>
+/// The length that `Content-Length` says, and 0 without the field; None where it says none.
+pub(crate) fn stated_length(field: Field<'_>) -> Option<u64>
     ensures { (values : List (List ℕ)) → IsFieldOf values field.entry → result ≡ stated_length values }
 {
     match field {

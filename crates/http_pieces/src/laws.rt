@@ -1,10 +1,13 @@
 //! What the definitions of this crate come to, as facts on all texts. The functions do nothing.
 ghost use Rattle.std.specs.Prelude.{◌≡◌, ℕ, ◌+◌, List, ◌++◌, length};
-ghost use Rattle.http_pieces.specs.Cut.{Cut, Refused, Complete, IsBlock, IsCut, skip_pairs};
+ghost use Rattle.http_pieces.specs.Cut.{Cut, Refused, Complete, IsBlock, IsCut};
 ghost use Rattle.http_pieces.specs.Head.{request_kind};
+ghost use Rattle.http_pieces.specs.ReplyHead.{reply_kind};
 ghost use Rattle.http_pieces.specs.Request.{HttpRequest};
 ghost use Rattle.http_pieces.specs.Requests.{Ending, Open, Requests};
 ghost use Rattle.http_pieces.specs.declared.refusal.Refusal.{Refusal};
+ghost use Rattle.http_pieces.specs.declared.reply.HttpReply.{HttpReply};
+ghost use Rattle.http_pieces.specs.declared.reply_fault.ReplyFault.{ReplyFault};
 
 /// A text has one block at most, and what follows it does not change it.
 pub fn block_law()
@@ -21,6 +24,16 @@ pub fn cut_law()
         → IsCut (request_kind k) (text ++ more) (Complete q (rest ++ more)) }
     ensures refusal_stays { (k : ℕ) (text more : List ℕ) (r : Refusal)
         → IsCut (request_kind k) text (Refused r) → IsCut (request_kind k) (text ++ more) (Refused r) }
+{}
+
+/// A text is cut in one way into a reply or a fault. More bytes never change the one or the other.
+pub fn reply_cut_law()
+    ensures unique { (text : List ℕ) (c d : Cut ReplyFault HttpReply)
+        → IsCut reply_kind text c → IsCut reply_kind text d → c ≡ d }
+    ensures reply_stays { (text more : List ℕ) (q : HttpReply) (rest : List ℕ)
+        → IsCut reply_kind text (Complete q rest) → IsCut reply_kind (text ++ more) (Complete q (rest ++ more)) }
+    ensures fault_stays { (text more : List ℕ) (f : ReplyFault)
+        → IsCut reply_kind text (Refused f) → IsCut reply_kind (text ++ more) (Refused f) }
 {}
 
 /// A text has one list of requests, and more bytes add to it what they add to the bytes left over.

@@ -1,7 +1,8 @@
-//! HTTP/1.1 requests, cut from a stream of bytes that comes in pieces.
+//! HTTP/1.1 requests and replies, cut from a stream of bytes that comes in pieces.
 //!
 //! A `Reader` is handed the pieces of one connection and gives the requests in them, whatever the
-//! places at which the pieces were cut (RFC 9112, sections 2, 3, 5 and 6).
+//! places at which the pieces were cut (RFC 9112, sections 2, 3, 5 and 6). A `ReplyReader` gives the
+//! one reply of a backend likewise (RFC 9112, sections 2 and 4 to 6).
 #![tactic(auto)]
 
 mod blanks;
@@ -12,9 +13,15 @@ mod field;
 mod head;
 pub mod laws;
 mod lookup;
+mod message;
+mod phase;
 mod reader;
 mod refusal;
 mod reply;
+mod reply_fault;
+mod reply_head;
+mod reply_reader;
+mod reply_state;
 mod request;
 mod state;
 mod text;
@@ -27,6 +34,9 @@ pub use field::Field;
 pub use reader::Reader;
 pub use refusal::Refusal;
 pub use reply::HttpReply;
+pub use reply_fault::ReplyFault;
+pub use reply_reader::ReplyReader;
+pub use reply_state::ReplyState;
 pub use request::Request;
 pub use state::State;
 pub use text::Text;
@@ -34,3 +44,5 @@ pub use version::Version;
 
 #[cfg(test)]
 mod tests;
+#[cfg(test)]
+mod tests_reply;

@@ -1,12 +1,9 @@
-ghost use Rattle.std.specs.Prelude.{◌≡◌, ◌<◌, ◌≤◌, ◌++◌, ◌∷◌, [], ℕ, List, length, take, IfOk, IfSome, OnErr, drop, Some, IfNone, MatchOption, ◌⊎◌, ◌+◌};
-ghost use Rattle.http_pieces.specs.Cut.{IsCut, Incomplete};
-ghost use Rattle.http_pieces.specs.Head.{request_kind};
-ghost use Rattle.http_pieces.specs.Layout.{Advances};
+ghost use Rattle.std.specs.Prelude.{◌≡◌, ◌<◌, ◌≤◌, ◌++◌, ◌∷◌, [], ℕ, List, length, take, IfOk, IfSome, OnErr, Some, IfNone, MatchOption, ◌⊎◌, ◌+◌};
 ghost use Rattle.http_pieces.specs.Reader.{HasRead, IsShortest, state_of, after_request, reader_value, Partial, Waiting};
 ghost use Rattle.http_pieces.specs.Request.{HttpRequest};
 
-use crate::cut::{Cut, cut_request};
-use crate::head::Head;
+use crate::head::{Head, Requests};
+use crate::phase::{Phase, push_into};
 use crate::refusal::Refusal;
 use crate::request::Request;
 use crate::state::State;
@@ -19,19 +16,9 @@ use std::mem;
 pub struct Reader {
     /// The bytes of the current request, behind the CR LF pairs that lead it.
     bytes: Vec<u8>,
-    phase: Phase,
+    phase: Phase<Head, Refusal>,
     /// How many requests were taken.
     taken: u64,
-}
-
-/// How far the current request is.
-#[derive(Drop)]
-pub(crate) enum Phase {
-    More,
-    /// It is whole: its head, and the place of its body.
-    Complete(Head, usize),
-    Refused(Refusal),
-    Ended,
 }
 
 impl Model for Reader {
@@ -76,16 +63,7 @@ impl Reader {
         ensures waits { (q : HttpRequest) → self.old.reading ≡ Waiting q → IfOk result (λ n. (n ≡ 0) × (self.new ≡ self.old)) }
         ensures err { OnErr result (self.new ≡ self.old) }
     {
-        match self.phase {
-            Phase::More => {
-                let (taken, phase) = advance(&mut self.bytes, piece)?;
-                self.phase = phase;
-                Ok(taken)
-            }
-            Phase::Complete(..) => Ok(0),
-            Phase::Refused(_) => Ok(piece.len()),
-            Phase::Ended => Ok(piece.len()),
-        }
+        push_into::<Requests>(&mut self.bytes, &mut self.phase, piece)
     }
 
     /// How far the reader is.
@@ -131,41 +109,4 @@ impl Reader {
             }
         }
     }
-}
-
-/// Adds the piece to bytes that are no whole request, and says how many of it were taken and what came of it.
-fn advance(bytes: &mut Vec<u8>, piece: &[u8]) -> Result<(usize, Phase), AllocError>
-    requires { (k : ℕ) → IsCut (request_kind k) bytes.old.items Incomplete }
-    ensures ok { IfOk result (λ r. Advances bytes.old.items piece.now bytes.new.items r.0 r.1) }
-    ensures err { OnErr result (bytes.new.items ≡ bytes.old.items) }
-{
-    let before = bytes.len();
-    bytes.extend_from_slice(piece)?;
-    match cut_request(*bytes.allocator(), bytes) {
-        Err(refused) => {
-            bytes.truncate(before);
-            Err(refused)
-        }
-        Ok(Cut::Incomplete(start)) => {
-            drop_front(bytes, start);
-            Ok((piece.len(), Phase::More))
-        }
-        Ok(Cut::Refused(refusal)) => {
-            bytes.clear();
-            Ok((piece.len(), Phase::Refused(refusal)))
-        }
-        Ok(Cut::Complete(layout)) => {
-            let taken = layout.end - before;
-            bytes.truncate(layout.end);
-            drop_front(bytes, layout.start);
-            Ok((taken, Phase::Complete(layout.head, layout.body)))
-        }
-    }
-}
-
-fn drop_front(bytes: &mut Vec<u8>, count: usize)
-    requires { count ≤ length bytes.old.items }
-    ensures { bytes.new.items ≡ drop count bytes.old.items }
-{
-    bytes.drain(..count);
 }

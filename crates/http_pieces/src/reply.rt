@@ -9,6 +9,6 @@ pub struct HttpReply {
     /// The value of the one `Content-Type` field, without blanks at both ends; None where there is no
     /// such field, or more than one.
     pub content_type: Option<Bytes>,
-    /// The body, of as many bytes as `Content-Length` says.
+    /// The body: as many bytes as `Content-Length` says, and none where the status is 204 or 304.
     pub body: Bytes,
 }

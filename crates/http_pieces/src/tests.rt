@@ -50,7 +50,7 @@ false GET / HTTP/1.1~Host: g~Connection: \"close\", keep-alive~~
 false GET / HTTP/1.1~Host: g~Connection:~~";
 
 /// The bytes that a case stands for.
-fn bytes_of(alloc: Global, case: &str) -> Result<Vec<u8>, AllocError> {
+pub(crate) fn bytes_of(alloc: Global, case: &str) -> Result<Vec<u8>, AllocError> {
     let mut bytes = Vec::new(alloc);
     for byte in case.bytes() {
         match byte {

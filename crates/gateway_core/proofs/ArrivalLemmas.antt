@@ -1,0 +1,19 @@
+-- A request whose path names no plan is no call.
+use Rattle.std.proofs.Common.{◌≡◌, ℕ, Bool, false, List, Option}
+use Rattle.std.specs.Prelude.{not, codes, bytes_eq}
+use Rattle.std.proofs.lemmas.Bool.{cond_both}
+use Rattle.http_pieces.specs.Request.{HttpRequest}
+use Rattle.connect_codec.specs.Verdict.{verdict_of}
+use Rattle.connect_codec.specs.declared.verdict.Verdict.{Verdict}
+use Rattle.connect_codec.specs.declared.verdict.Verdict.TheVariants.{Ask, Bare}
+
+unknown_no_call : (q : HttpRequest) (timeout : Option ℕ) (id : Option (List ℕ)) → verdict_of q false ≡ Ask timeout id → ⊥
+unfolding verdict_of
+unknown_no_call q timeout id e =
+    cond_both (not (bytes_eq q.method (codes "POST"))) (Bare 405) (Bare 404) (λ v. v ≡ Ask timeout id → ⊥)
+    (λ _ same. absurd (cc)) (λ _ same. absurd (cc)) e
+
+pub no_call : (q : HttpRequest) (known : Bool) (v : Verdict) (timeout : Option ℕ) (id : Option (List ℕ))
+    → v ≡ verdict_of q known → v ≡ Ask timeout id → known ≡ false → ⊥
+no_call q known v timeout id judged ask unknown =
+    unknown_no_call q timeout id (rw (← unknown, ← judged) ask)

@@ -1,0 +1,148 @@
+//! The worked rows: what the definitions give for them. The functions do nothing.
+ghost use Rattle.std.specs.Prelude.{◌≡◌, ℕ, ◌∷◌, [], ◌++◌, map, codes, true, false, None, Some};
+ghost use Rattle.std.specs.List.{range_with_len};
+ghost use Rattle.connect_codec.specs.Reply.{bare_reply};
+ghost use Rattle.gateway_core.specs.Call.{reply_of};
+ghost use Rattle.error_document.specs.declared.code.Code.{Code};
+ghost use Rattle.gateway_core.specs.declared.fault.Seen.{Seen};
+ghost use Rattle.http_pieces.specs.declared.refusal.Refusal.{Refusal};
+ghost use Rattle.gateway_core.specs.Occurrence.{Opening, HangUp, Moment, Drain, Closing};
+ghost use Rattle.gateway_core.specs.Past.{call_id, judged, past_of};
+ghost use Rattle.gateway_core.specs.Queue.{replies};
+ghost use Rattle.gateway_core.specs.Rows.{row_starts, start_of, ping, quote, asks, gets, refuses, answers, fails, succeeded, failed};
+
+/// One call, answered.
+fn ping_answered()
+    ensures replies { replies 0 (past_of (Opening ∷ asks ping None 0 ∷ answers 0 0 (codes "{\"ok\":true}") ∷ []))
+        ≡ succeeded (codes "{\"pong\":{\"ok\":true}}") ∷ [] }
+    ensures starts { row_starts (Opening ∷ asks ping None 0 ∷ answers 0 0 (codes "{\"ok\":true}") ∷ [])
+        ≡ start_of 1 0 0 ∷ [] }
+{}
+
+/// The backend is lost.
+fn ping_lost()
+    ensures replies { replies 0 (past_of (Opening ∷ asks ping None 0 ∷ fails 0 0 Code.Unavailable (codes "backend unreachable") ∷ []))
+        ≡ failed Code.Unavailable (codes "pong: backend unreachable") ∷ [] }
+{}
+
+/// The answers are joined in declared order; the third branch starts at the first answer.
+fn quote_joined()
+    ensures replies { replies 0 (past_of (Opening ∷ asks quote None 0 ∷ answers 0 1 (codes "2") ∷ answers 0 0 (codes "1") ∷ answers 0 2 (codes "3") ∷ []))
+        ≡ succeeded (codes "{\"flight\":1,\"hotel\":2,\"car\":3}") ∷ [] }
+    ensures starts { row_starts (Opening ∷ asks quote None 0 ∷ answers 0 1 (codes "2") ∷ answers 0 0 (codes "1") ∷ answers 0 2 (codes "3") ∷ [])
+        ≡ start_of 1 0 0 ∷ start_of 1 0 1 ∷ start_of 2 0 2 ∷ [] }
+{}
+
+/// The first failure decides, and the third branch never starts.
+fn quote_branch_fails()
+    ensures replies { replies 0 (past_of (Opening ∷ asks quote None 0 ∷ fails 0 1 Code.ResourceExhausted (codes "sold out") ∷ answers 0 0 (codes "1") ∷ []))
+        ≡ failed Code.ResourceExhausted (codes "hotel: sold out") ∷ [] }
+    ensures starts { row_starts (Opening ∷ asks quote None 0 ∷ fails 0 1 Code.ResourceExhausted (codes "sold out") ∷ answers 0 0 (codes "1") ∷ [])
+        ≡ start_of 1 0 0 ∷ start_of 1 0 1 ∷ [] }
+{}
+
+/// The request's timeout is reached at 1100, not at 1099.
+fn header_deadline()
+    ensures before { replies 0 (past_of (Opening ∷ Moment 1000 ∷ asks quote (Some 100) 0 ∷ Moment 1099 ∷ []))
+        ≡ [] }
+    ensures replies { replies 0 (past_of (Opening ∷ Moment 1000 ∷ asks quote (Some 100) 0 ∷ Moment 1099 ∷ Moment 1100 ∷ []))
+        ≡ failed Code.DeadlineExceeded (codes "context deadline exceeded") ∷ [] }
+{}
+
+/// The plan's timeout is the smaller one.
+fn plan_deadline()
+    ensures before { replies 0 (past_of (Opening ∷ Moment 0 ∷ asks quote (Some 9999999999) 0 ∷ Moment 4999 ∷ []))
+        ≡ [] }
+    ensures replies { replies 0 (past_of (Opening ∷ Moment 0 ∷ asks quote (Some 9999999999) 0 ∷ Moment 4999 ∷ Moment 5000 ∷ []))
+        ≡ failed Code.DeadlineExceeded (codes "context deadline exceeded") ∷ [] }
+{}
+
+/// A call that is decided as it arrives starts nothing.
+fn zero_timeout_and_drained()
+    ensures replies { replies 0 (past_of (Opening ∷ asks quote (Some 0) 0 ∷ []))
+        ≡ failed Code.DeadlineExceeded (codes "context deadline exceeded") ∷ [] }
+    ensures starts { row_starts (Opening ∷ asks quote (Some 0) 0 ∷ [])
+        ≡ [] }
+    ensures drained { replies 0 (past_of (Opening ∷ Drain ∷ asks quote None 0 ∷ []))
+        ≡ failed Code.Unavailable (codes "gateway is draining") ∷ [] }
+    ensures drained_starts { row_starts (Opening ∷ Drain ∷ asks quote None 0 ∷ [])
+        ≡ [] }
+{}
+
+/// Results of branches that are not out are not counted.
+fn stray_results()
+    ensures not_started { judged (call_id 0 0) 2 (past_of (Opening ∷ asks quote None 0 ∷ []))
+        ≡ Seen.Unknown }
+    ensures counted { judged (call_id 0 0) 1 (past_of (Opening ∷ asks quote None 0 ∷ answers 0 2 (codes "3") ∷ []))
+        ≡ Seen.Counted }
+    ensures again { judged (call_id 0 0) 1 (past_of (Opening ∷ asks quote None 0 ∷ answers 0 2 (codes "3") ∷ answers 0 1 (codes "2") ∷ []))
+        ≡ Seen.Unknown }
+    ensures failure { judged (call_id 0 0) 0 (past_of (Opening ∷ asks quote None 0 ∷ answers 0 2 (codes "3") ∷ answers 0 1 (codes "2") ∷ answers 0 1 (codes "9") ∷ []))
+        ≡ Seen.Counted }
+    ensures late { judged (call_id 0 0) 2 (past_of (Opening ∷ asks quote None 0 ∷ answers 0 2 (codes "3") ∷ answers 0 1 (codes "2") ∷ answers 0 1 (codes "9") ∷ fails 0 0 Code.Unavailable (codes "HTTP status 503") ∷ []))
+        ≡ Seen.Late }
+    ensures late_again { judged (call_id 0 0) 2 (past_of (Opening ∷ asks quote None 0 ∷ answers 0 2 (codes "3") ∷ answers 0 1 (codes "2") ∷ answers 0 1 (codes "9") ∷ fails 0 0 Code.Unavailable (codes "HTTP status 503") ∷ answers 0 2 (codes "3") ∷ []))
+        ≡ Seen.Unknown }
+    ensures replies { replies 0 (past_of (Opening ∷ asks quote None 0 ∷ answers 0 2 (codes "3") ∷ answers 0 1 (codes "2") ∷ answers 0 1 (codes "9") ∷ fails 0 0 Code.Unavailable (codes "HTTP status 503") ∷ answers 0 2 (codes "3") ∷ answers 0 2 (codes "3") ∷ []))
+        ≡ failed Code.Unavailable (codes "flight: HTTP status 503") ∷ [] }
+{}
+
+/// The peer hangs up.
+fn hang_up()
+    ensures replies { replies 0 (past_of (Opening ∷ asks ping None 0 ∷ HangUp 0 ∷ []))
+        ≡ failed Code.Canceled (codes "context canceled") ∷ [] }
+{}
+
+/// The greatest moment counts, not the newest.
+fn moments_back()
+    ensures before { replies 0 (past_of (Opening ∷ Moment 50 ∷ Moment 20 ∷ asks ping (Some 10) 0 ∷ Moment 59 ∷ []))
+        ≡ [] }
+    ensures replies { replies 0 (past_of (Opening ∷ Moment 50 ∷ Moment 20 ∷ asks ping (Some 10) 0 ∷ Moment 59 ∷ Moment 60 ∷ []))
+        ≡ failed Code.DeadlineExceeded (codes "context deadline exceeded") ∷ [] }
+{}
+
+/// An answer comes before the deadline.
+fn answered_before_deadline()
+    ensures replies { replies 0 (past_of (Opening ∷ asks ping (Some 10) 0 ∷ Moment 9 ∷ answers 0 0 (codes "1") ∷ Moment 10 ∷ []))
+        ≡ succeeded (codes "{\"pong\":1}") ∷ [] }
+{}
+
+/// A result after the deadline is late, and one of a call decided at its arrival is unknown.
+fn deadline_after_start()
+    ensures late { judged (call_id 0 0) 0 (past_of (Opening ∷ Moment 1000 ∷ asks ping (Some 100) 0 ∷ Moment 1099 ∷ Moment 1100 ∷ []))
+        ≡ Seen.Late }
+    ensures unknown { judged (call_id 0 0) 0 (past_of (Opening ∷ asks ping (Some 0) 0 ∷ []))
+        ≡ Seen.Unknown }
+{}
+
+/// Replies stand in the order of requests.
+fn pipelined_pair()
+    ensures second { replies 0 (past_of (Opening ∷ asks ping None 0 ∷ asks ping None 1 ∷ answers 1 0 (codes "1") ∷ []))
+        ≡ [] }
+    ensures replies { replies 0 (past_of (Opening ∷ asks ping None 0 ∷ asks ping None 1 ∷ answers 1 0 (codes "1") ∷ answers 0 0 (codes "0") ∷ []))
+        ≡ succeeded (codes "{\"pong\":0}") ∷ succeeded (codes "{\"pong\":1}") ∷ [] }
+{}
+
+/// The ninth call of a connection is one too many, and is answered behind the others.
+fn crowded()
+    ensures none { replies 0 (past_of (Opening ∷ map (asks ping None) (range_with_len 0 9)))
+        ≡ [] }
+    ensures replies { replies 0 (past_of (Opening ∷ map (asks ping None) (range_with_len 0 9) ++ answers 0 0 (codes "1") ∷ answers 1 0 (codes "1") ∷ answers 2 0 (codes "1") ∷ answers 3 0 (codes "1") ∷ answers 4 0 (codes "1") ∷ answers 5 0 (codes "1") ∷ answers 6 0 (codes "1") ∷ answers 7 0 (codes "1") ∷ []))
+        ≡ succeeded (codes "{\"pong\":1}") ∷ succeeded (codes "{\"pong\":1}") ∷ succeeded (codes "{\"pong\":1}") ∷ succeeded (codes "{\"pong\":1}") ∷ succeeded (codes "{\"pong\":1}") ∷ succeeded (codes "{\"pong\":1}") ∷ succeeded (codes "{\"pong\":1}") ∷ succeeded (codes "{\"pong\":1}") ∷ failed Code.ResourceExhausted (codes "more than 8 calls in flight") ∷ [] }
+{}
+
+/// A request that is no call, and a refusal, are answered at once and in their order.
+fn judged_and_refused()
+    ensures replies { replies 0 (past_of (Opening ∷ asks ping None 0 ∷ gets 1 ∷ refuses Refusal.BadHost ∷ answers 0 0 (codes "1") ∷ []))
+        ≡ succeeded (codes "{\"pong\":1}") ∷ reply_of (bare_reply 405 false) false ∷ reply_of (bare_reply 400 true) true ∷ [] }
+    ensures waiting { replies 0 (past_of (Opening ∷ asks ping None 0 ∷ gets 1 ∷ refuses Refusal.BadHost ∷ []))
+        ≡ [] }
+{}
+
+/// A closed connection's call is never decided.
+fn closing()
+    ensures late { judged (call_id 0 0) 0 (past_of (Opening ∷ asks ping None 0 ∷ Closing 0 ∷ []))
+        ≡ Seen.Late }
+    ensures replies { replies 0 (past_of (Opening ∷ asks ping None 0 ∷ Closing 0 ∷ answers 0 0 (codes "1") ∷ Drain ∷ []))
+        ≡ [] }
+{}

@@ -1,0 +1,80 @@
+-- What a push does to a reader of requests.
+use Rattle.std.proofs.Common.{◌≡◌, ℕ, ◌<◌, ◌⊎◌, inl, inr, List, ◌++◌, length, take, sym, ap, subst, ◌∙◌, arith, append-nil, Result}
+use Rattle.std.specs.Result.{IfOk}
+use Rattle.std.proofs.lemmas.Result.{IfOk-weaker}
+use Rattle.http_pieces.specs.declared.refusal.Refusal.{Refusal}
+use Rattle.http_pieces.specs.declared.head.Head.{Head}
+use Rattle.http_pieces.specs.declared.phase.Phase.{Phase}
+use Rattle.http_pieces.specs.declared.phase.Phase.TheVariants as phase
+use Rattle.http_pieces.specs.Cut.{Complete, IsCut}
+use Rattle.http_pieces.specs.Form.{Advances, Pushes}
+use Rattle.http_pieces.specs.Head.{request_kind}
+use Rattle.http_pieces.specs.Request.{HttpRequest}
+use Rattle.http_pieces.specs.Reader.{Partial, Waiting, ReaderValue, reader_value, HasRead, IsShortest}
+use Rattle.http_pieces.specs.Layout.{request_of, request_form, request_single, reading_of}
+use Rattle.http_pieces.proofs.PhaseLemmas.{advance_shortest}
+use Rattle.http_pieces.proofs.ReaderLemmas.{read_on, read_refusal, read_request, read_stopped, read_done}
+
+-- a reader of this number, bytes and phase, and what a push made of it
+module _ (k : ℕ) (before piece after : List ℕ) (n : ℕ) where
+  advance_reads : (new : Phase Head Refusal) → Advances request_form before piece after n new → (bytes : List ℕ) (given : List HttpRequest)
+      → HasRead (reader_value k (Partial before)) bytes given → HasRead (reader_value k (reading_of after new k)) (bytes ++ take n piece) given
+  advance_reads phase.More a bytes given h = rw a.to.1 (read_on k before bytes (take n piece) given (a.to.2 k) h)
+  advance_reads (phase.Refused r) a bytes given h = read_refusal k before bytes (take n piece) given r (a.to.1 k) h
+  advance_reads (phase.Complete head body) a bytes given h = read_request k before bytes (take n piece) given (request_of after head body k) (a.to k) h
+  advance_reads phase.Ended a bytes given h = absurd a.to
+
+  stays : (was new : Phase Head Refusal) → after ≡ before → new ≡ was → reading_of after new k ≡ reading_of before was k
+  stays was new bytes_are phase_is = ap (λ x. reading_of after x k) phase_is ∙ ap (λ b. reading_of b was k) bytes_are
+
+  reads_by : (was new : Phase Head Refusal) → Pushes request_form before was piece after new n → (bytes : List ℕ) (given : List HttpRequest)
+      → HasRead (reader_value k (reading_of before was k)) bytes given → HasRead (reader_value k (reading_of after new k)) (bytes ++ take n piece) given
+  reads_by phase.More new p bytes given h = advance_reads new p bytes given h
+  reads_by (phase.Complete head body) new p bytes given h =
+      let none : bytes ++ take n piece ≡ bytes = ap (λ m. bytes ++ take m piece) p.0 ∙ append-nil bytes in
+      subst (λ b. HasRead (reader_value k (reading_of after new k)) b given) (sym none)
+      (subst (λ x. HasRead (reader_value k x) bytes given) (sym (stays (phase.Complete head body) new p.1 p.2)) h)
+  reads_by (phase.Refused r) new p bytes given h =
+      subst (λ x. HasRead (reader_value k x) (bytes ++ take n piece) given) (sym (stays (phase.Refused r) new p.1 p.2)) (read_stopped k bytes (take n piece) given r h)
+  reads_by phase.Ended new p bytes given h =
+      subst (λ x. HasRead (reader_value k x) (bytes ++ take n piece) given) (sym (stays phase.Ended new p.1 p.2)) (read_done k bytes (take n piece) given h)
+
+-- the clauses of `push`, by the reader's value before it
+module _ (k : ℕ) (before piece after : List ℕ) (self : ReaderValue) (was new : Phase Head Refusal) (view : reader_value k (reading_of before was k) ≡ self) where
+  reading_is : self.reading ≡ reading_of before was k
+  reading_is = sym (ap (λ x. x.reading) view)
+
+  pub push_reads : {E : Type 0} (r : Result ℕ E) → IfOk r (Pushes request_form before was piece after new) → (bytes : List ℕ) (given : List HttpRequest)
+      → HasRead self bytes given → IfOk r (λ n. HasRead (reader_value k (reading_of after new k)) (bytes ++ take n piece) given)
+  push_reads r p bytes given h =
+      IfOk-weaker r (Pushes request_form before was piece after new) (λ n. HasRead (reader_value k (reading_of after new k)) (bytes ++ take n piece) given)
+      (λ n x. reads_by k before piece after n was new x bytes given (subst (λ x. HasRead x bytes given) (sym view) h)) p
+
+  pub push_shortest : {E : Type 0} (r : Result ℕ E) → IfOk r (Pushes request_form before was piece after new) → (left : List ℕ) → self.reading ≡ Partial left
+      → IfOk r (IsShortest self left piece)
+  push_shortest r p left is =
+      IfOk-weaker r (Pushes request_form before was piece after new) (IsShortest self left piece) (λ n x. by_phase n was (sym reading_is ∙ is) x) p
+    where
+      number : self.taken ≡ k
+      number = sym (ap (λ x. x.taken) view)
+
+      by_phase : (n : ℕ) (w : Phase Head Refusal) → reading_of before w k ≡ Partial left → Pushes request_form before w piece after new n → IsShortest self left piece n
+      by_phase n phase.More e a m q rest lt cut =
+          let same : left ≡ before = cc in
+          advance_shortest request_form k (request_single k) before piece after n new a m q rest lt
+          (subst (λ x. IsCut (request_kind k) (x ++ take m piece) (Complete q rest)) same (subst (λ x. IsCut (request_kind x) (left ++ take m piece) (Complete q rest)) number cut))
+      by_phase n (phase.Complete head body) e a m q rest lt cut = cc
+      by_phase n (phase.Refused r) e a m q rest lt cut = cc
+      by_phase n phase.Ended e a m q rest lt cut = cc
+
+  pub push_moves : {E : Type 0} (r : Result ℕ E) → IfOk r (Pushes request_form before was piece after new) → 0 < length piece
+      → IfOk r (λ n. (0 < n) ⊎ ((q : HttpRequest) × (self.reading ≡ Waiting q)))
+  push_moves r p some =
+      IfOk-weaker r (Pushes request_form before was piece after new) (λ n. (0 < n) ⊎ ((q : HttpRequest) × (self.reading ≡ Waiting q))) (λ n x. by_phase n was reading_is x) p
+    where
+      by_phase : (n : ℕ) (w : Phase Head Refusal) → self.reading ≡ reading_of before w k → Pushes request_form before w piece after new n
+          → (0 < n) ⊎ ((q : HttpRequest) × (self.reading ≡ Waiting q))
+      by_phase n phase.More e a = inl (a.moves some)
+      by_phase n (phase.Complete head body) e a = inr (request_of before head body k, e)
+      by_phase n (phase.Refused r) e a = inl (omega (arith, a.0, some))
+      by_phase n phase.Ended e a = inl (omega (arith, a.0, some))

@@ -1,0 +1,121 @@
+-- A reply is cut in one way, and what was read of its head in the bytes of the whole reply.
+use Rattle.std.proofs.Common.{◌≡◌, ℕ, List, [], ◌∷◌, ◌++◌, map, length, take, refl, sym, ap, subst, ◌∙◌, arith, append-nil, Result, Ok, Option, codes}
+use Rattle.std.specs.Result.{IfOk}
+use Rattle.std.proofs.lemmas.Result.{IfOk-weaker}
+use Rattle.std.proofs.Math.Seq.{drop-append_seam}
+use Rattle.httparse.specs.declared.spans.HeaderSpan.{HeaderSpan}
+use Rattle.httparse.specs.Grammar.{ResponseHead, status_code}
+use Rattle.httparse.specs.Spans.{header_bytes, name_and_value}
+use Rattle.http_pieces.specs.declared.field.Field.{Field}
+use Rattle.http_pieces.specs.declared.field.Field.TheVariants as field
+use Rattle.http_pieces.specs.declared.phase.Phase.{Phase}
+use Rattle.http_pieces.specs.declared.phase.Phase.TheVariants as phase
+use Rattle.http_pieces.specs.declared.reply.HttpReply.{HttpReply}
+use Rattle.http_pieces.specs.declared.reply_fault.ReplyFault.{ReplyFault}
+use Rattle.http_pieces.specs.declared.reply_head.ReplyHead.{ReplyHead}
+use Rattle.http_pieces.specs.Cut.{Cut, Incomplete, Refused, Complete, Body, skip_pairs, IsCutText, IsCut}
+use Rattle.http_pieces.specs.Fields.{values_of, IsFieldOf}
+use Rattle.http_pieces.specs.Form.{IsHeadOf, Advances, Pushes}
+use Rattle.http_pieces.specs.Head.{stated_length}
+use Rattle.http_pieces.specs.ReplyHead.{length_by_number, length_by_fields, reply_length, one_value, reply_with, asks_by_length, reply_kind}
+use Rattle.http_pieces.specs.ReplyLayout.{IsReplyHeadAt, reply_of, reply_form, reply_single, reply_reading_of}
+use Rattle.http_pieces.specs.ReplyReader.{ReplyReading, Partial, HasReadReply, IsShortestReply}
+use Rattle.http_pieces.proofs.CutLemmas.{skip_append, kind_unique, kind_complete_append, kind_refused_append}
+use Rattle.http_pieces.proofs.PhaseLemmas.{advance_shortest}
+
+-- ---- one cut
+
+pub reply_unique : (text : List ℕ) (c d : Cut ReplyFault HttpReply) → IsCut reply_kind text c → IsCut reply_kind text d → c ≡ d
+reply_unique = kind_unique reply_kind reply_single
+
+pub reply_complete_append : (text more : List ℕ) (q : HttpReply) (rest : List ℕ)
+    → IsCut reply_kind text (Complete q rest) → IsCut reply_kind (text ++ more) (Complete q (rest ++ more))
+reply_complete_append = kind_complete_append reply_kind
+
+pub reply_refused_append : (text more : List ℕ) (f : ReplyFault) → IsCut reply_kind text (Refused f) → IsCut reply_kind (text ++ more) (Refused f)
+reply_refused_append = kind_refused_append reply_kind
+
+-- ---- what a head asks for
+
+-- where there is a `Content-Length` field
+pub length_stated : (status : ℕ) (values : List (List ℕ)) (f : Field) → IsFieldOf values f → ¬ (f ≡ field.None)
+    → length_by_number status (stated_length values) ≡ length_by_fields status values
+length_stated status [] field.None is some = absurd (some refl)
+length_stated status [] (field.One value) is some = absurd (cc)
+length_stated status [] field.Many is some = absurd (omega (arith, is))
+length_stated status (v ∷ values) f is some = refl
+
+-- a head that asks for a body
+pub judged_reply : (block : List ℕ) (headers : List HeaderSpan) (status : ℕ) (content_type : Option (List ℕ)) (h : ResponseHead) (size : ℕ)
+    → IsReplyHeadAt block headers status h → Ok size ≡ reply_length status (map (header_bytes block) headers)
+    → content_type ≡ one_value (values_of (codes "content-type") (map (header_bytes block) headers))
+    → IsHeadOf reply_form block (record { status = status; content_type = content_type }) size
+judged_reply block headers status content_type h size at e type_is =
+    let same : reply_length (status_code h) (map name_and_value h.fields) ≡ Ok size = rw (← at.status_is, ← at.fields) (sym e) in
+    let type_of : content_type ≡ one_value (values_of (codes "content-type") (map name_and_value h.fields)) = rw (← at.fields) type_is in
+    let whole : (body : List ℕ) → reply_of (block ++ body) (record { status = status; content_type = content_type }) (length block) ≡ reply_with h body =
+    λ body i. record { status = at.status_is i; content_type = type_of i; body = drop-append_seam block body i } in
+    record {
+      asks = λ k. record {
+        head = h;
+        block_is = at.block_is;
+        asks_is = (λ i. Body size (λ body. whole body i)) ∙ ap (λ r. asks_by_length r (reply_with h)) (sym same);
+      };
+      within = λ body. tt;
+    }
+
+-- ---- what a push has read
+
+module _ (before piece after : List ℕ) (n : ℕ) where
+  -- bytes that were cut Incomplete, and what is left of them without the pairs in front
+  left_cut : (left bytes : List ℕ) (c : Cut ReplyFault HttpReply) → left ≡ skip_pairs bytes → IsCut reply_kind (left ++ take n piece) c
+      → IsCut reply_kind (bytes ++ take n piece) c
+  left_cut left bytes c is cut =
+      let same : skip_pairs (left ++ take n piece) ≡ skip_pairs (bytes ++ take n piece) = rw is (sym (skip_append bytes (take n piece))) in
+      subst (λ t. IsCutText reply_kind t c) same cut
+
+  advance_reads : (new : Phase ReplyHead ReplyFault) → Advances reply_form before piece after n new → (bytes : List ℕ) (given : Option HttpReply)
+      → HasReadReply (Partial before) bytes given → HasReadReply (reply_reading_of after new) (bytes ++ take n piece) given
+  advance_reads phase.More a bytes given h =
+      (h.0, a.to.1 ∙ ap (λ x. skip_pairs (x ++ take n piece)) h.1 ∙ sym (skip_append bytes (take n piece)), left_cut before bytes Incomplete h.1 (a.to.2 0))
+  advance_reads (phase.Refused f) a bytes given h = (h.0, left_cut before bytes (Refused f) h.1 (a.to.1 0))
+  advance_reads (phase.Complete head body) a bytes given h = (h.0, left_cut before bytes (Complete (reply_of after head body) []) h.1 (a.to 0))
+  advance_reads phase.Ended a bytes given h = absurd a.to
+
+  stays : (was new : Phase ReplyHead ReplyFault) → after ≡ before → new ≡ was → reply_reading_of before was ≡ reply_reading_of after new
+  stays was new bytes_are phase_is = sym (ap (λ x. reply_reading_of after x) phase_is ∙ ap (λ b. reply_reading_of b was) bytes_are)
+
+  reads_by : (was new : Phase ReplyHead ReplyFault) → Pushes reply_form before was piece after new n → (bytes : List ℕ) (given : Option HttpReply)
+      → HasReadReply (reply_reading_of before was) bytes given → HasReadReply (reply_reading_of after new) (bytes ++ take n piece) given
+  reads_by phase.More new p bytes given h = advance_reads new p bytes given h
+  reads_by (phase.Complete head body) new p bytes given h =
+      let none : bytes ≡ bytes ++ take n piece = sym (ap (λ m. bytes ++ take m piece) p.0 ∙ append-nil bytes) in
+      subst (λ b. HasReadReply (reply_reading_of after new) b given) none
+      (subst (λ x. HasReadReply x bytes given) (stays (phase.Complete head body) new p.1 p.2) h)
+  reads_by (phase.Refused f) new p bytes given h =
+      subst (λ x. HasReadReply x (bytes ++ take n piece) given) (stays (phase.Refused f) new p.1 p.2) (h.0, reply_refused_append bytes (take n piece) f h.1)
+  reads_by phase.Ended new p bytes given h =
+      subst (λ x. HasReadReply x (bytes ++ take n piece) given) (stays phase.Ended new p.1 p.2)
+      (h.0, h.1 ++ take n piece, h.2, reply_complete_append bytes (take n piece) h.0 h.1 h.3)
+
+-- the clauses of `push`, by the reader's value before it
+module _ (before piece after : List ℕ) (self : ReplyReading) (was new : Phase ReplyHead ReplyFault) (view : reply_reading_of before was ≡ self) where
+  pub reply_reads : {E : Type 0} (r : Result ℕ E) → IfOk r (Pushes reply_form before was piece after new) → (bytes : List ℕ) (given : Option HttpReply)
+      → HasReadReply self bytes given → IfOk r (λ n. HasReadReply (reply_reading_of after new) (bytes ++ take n piece) given)
+  reply_reads r p bytes given h =
+      IfOk-weaker r (Pushes reply_form before was piece after new) (λ n. HasReadReply (reply_reading_of after new) (bytes ++ take n piece) given)
+      (λ n x. reads_by before piece after n was new x bytes given (subst (λ x. HasReadReply x bytes given) (sym view) h)) p
+
+  pub reply_shortest : {E : Type 0} (r : Result ℕ E) → IfOk r (Pushes reply_form before was piece after new) → (left : List ℕ) → self ≡ Partial left
+      → IfOk r (IsShortestReply left piece)
+  reply_shortest r p left is =
+      IfOk-weaker r (Pushes reply_form before was piece after new) (IsShortestReply left piece) (λ n x. by_phase n was (view ∙ is) x) p
+    where
+      by_phase : (n : ℕ) (w : Phase ReplyHead ReplyFault) → reply_reading_of before w ≡ Partial left → Pushes reply_form before w piece after new n → IsShortestReply left piece n
+      by_phase n phase.More e a m q rest lt cut =
+          let same : left ≡ before = cc in
+          advance_shortest reply_form 0 reply_single before piece after n new a m q rest lt
+          (subst (λ x. IsCut reply_kind (x ++ take m piece) (Complete q rest)) same cut)
+      by_phase n (phase.Complete head body) e a m q rest lt cut = cc
+      by_phase n (phase.Refused f) e a m q rest lt cut = cc
+      by_phase n phase.Ended e a m q rest lt cut = cc

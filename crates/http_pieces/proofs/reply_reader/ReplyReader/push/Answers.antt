@@ -1,0 +1,12 @@
+use Rattle.http_pieces.proofs.ReplyLemmas.{reply_reads, reply_shortest}
+use Rattle.http_pieces.proofs.reply_reader.ReplyReader.push.Goals as goal
+
+pub returns-clause-reads : goal.returns-clause-reads
+returns-clause-reads c =
+    reply_reads c.self.inside.bytes.items c.args.piece.now c.push_into.new.bytes.items c.args.self.now c.self.inside.phase c.push_into.new.phase c.self.view_is
+    c.push_into.result c.push_into.ensures.ok
+
+pub returns-clause-shortest : goal.returns-clause-shortest
+returns-clause-shortest c =
+    reply_shortest c.self.inside.bytes.items c.args.piece.now c.push_into.new.bytes.items c.args.self.now c.self.inside.phase c.push_into.new.phase c.self.view_is
+    c.push_into.result c.push_into.ensures.ok

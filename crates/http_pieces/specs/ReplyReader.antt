@@ -1,0 +1,34 @@
+-- A reader of one reply, and what it has read.
+use Rattle.std.specs.Prelude.{◌≡◌, ℕ, ◌<◌, List, [], ◌++◌, take, Option, Some, None}
+use Rattle.http_pieces.specs.declared.reply.HttpReply.{HttpReply}
+use Rattle.http_pieces.specs.declared.reply_fault.ReplyFault.{ReplyFault}
+use Rattle.http_pieces.specs.declared.reply_state.ReplyState.{ReplyState}
+use Rattle.http_pieces.specs.declared.reply_state.ReplyState.TheVariants as state
+use Rattle.http_pieces.specs.Cut.{Incomplete, Refused, Complete, IsCut, skip_pairs}
+use Rattle.http_pieces.specs.ReplyHead.{reply_kind}
+
+-- how far a reader is: bytes of a reply that is not whole, a reply that waits to be taken, a fault, or the end
+pub data ReplyReading : Type 0 where
+  Partial : List ℕ → ReplyReading
+  Waiting : HttpReply → ReplyReading
+  Stopped : ReplyFault → ReplyReading
+  Done : ReplyReading
+
+abbrev pub state_of_reply : ReplyReading → ReplyState
+state_of_reply (Partial left) = state.More
+state_of_reply (Waiting q) = state.Complete
+state_of_reply (Stopped f) = state.Refused f
+state_of_reply Done = state.Ended
+
+-- the reader stands where it does after pushes that took these bytes, and takes that gave no reply, or this one: the bytes
+-- are cut into what it says, and only once the reply was given may others follow it
+abbrev pub HasReadReply : ReplyReading → List ℕ → Option HttpReply → Type 0
+HasReadReply (Partial left) bytes given = (given ≡ None) × (left ≡ skip_pairs bytes) × IsCut reply_kind bytes Incomplete
+HasReadReply (Waiting q) bytes given = (given ≡ None) × IsCut reply_kind bytes (Complete q [])
+HasReadReply (Stopped f) bytes given = (given ≡ None) × IsCut reply_kind bytes (Refused f)
+HasReadReply Done bytes given = (q : HttpReply) × (rest : List ℕ) × (given ≡ Some q) × IsCut reply_kind bytes (Complete q rest)
+
+-- no prefix of the piece that is shorter than n makes a whole reply of the bytes before it
+abbrev pub IsShortestReply : List ℕ → List ℕ → ℕ → Type 0
+IsShortestReply left piece n =
+    (m : ℕ) (q : HttpReply) (rest : List ℕ) → m < n → ¬ (IsCut reply_kind (left ++ take m piece) (Complete q rest))

@@ -1,0 +1,105 @@
+ghost use Rattle.std.specs.Prelude.{◌≡◌, ◌<◌, ◌≤◌, ◌++◌, [], ℕ, List, length, take, IfOk, IfSome, OnErr, Option, Some, None, IfNone, MatchOption, ◌⊎◌};
+ghost use Rattle.http_pieces.specs.declared.reply.HttpReply.{HttpReply};
+ghost use Rattle.http_pieces.specs.ReplyReader.{HasReadReply, IsShortestReply, state_of_reply, Partial, Waiting, Done};
+
+use crate::bytes::Bytes;
+use crate::phase::{Phase, drop_front, push_into};
+use crate::reply::HttpReply;
+use crate::reply_fault::ReplyFault;
+use crate::reply_head::{Replies, ReplyHead};
+use crate::reply_state::ReplyState;
+use std::alloc::{AllocError, Global};
+use std::marker::Model;
+use std::mem;
+
+/// Reads one reply of a backend from pieces of its bytes.
+#[derive(Drop)]
+pub struct ReplyReader {
+    /// The bytes of the reply, behind the CR LF pairs that lead it.
+    bytes: Vec<u8>,
+    phase: Phase<ReplyHead, ReplyFault>,
+}
+
+impl Model for ReplyReader {
+    ghost use Rattle.http_pieces.specs.Form.{IsPhaseSound};
+    ghost use Rattle.http_pieces.specs.ReplyReader.{ReplyReading};
+    ghost use Rattle.http_pieces.specs.ReplyLayout.{reply_form, reply_reading_of};
+
+    ghost Value = { ReplyReading };
+
+    ghost view = { λ r. reply_reading_of r.bytes.items r.phase };
+
+    ghost invariant = { λ r. IsPhaseSound reply_form r.bytes.items r.phase };
+}
+
+impl ReplyReader {
+    /// A reader of a reply from its first byte on. Its buffer lies on this allocator.
+    pub fn new(alloc: Global) -> ReplyReader
+        ensures reader { result ≡ Partial [] }
+        ensures reads { HasReadReply result [] None }
+    {
+        ReplyReader {
+            bytes: Vec::new(alloc),
+            phase: Phase::More,
+        }
+    }
+
+    /// Takes bytes up to the end of the reply, and answers how many. With the reply waiting it takes
+    /// none; after a fault, or once the reply was taken, it takes all and drops them, as it does with
+    /// a piece that leads to a fault. Without memory the reader stays as it was.
+    pub fn push(&mut self, piece: &[u8]) -> Result<usize, AllocError>
+        ensures within { IfOk result (λ n. n ≤ length piece.now) }
+        ensures reads { (bytes : List ℕ) (given : Option HttpReply) → HasReadReply self.old bytes given
+            → IfOk result (λ n. HasReadReply self.new (bytes ++ take n piece.now) given) }
+
+        // In `More` it takes the shortest prefix that makes the whole reply, and else all.
+        ensures shortest { (left : List ℕ) → self.old ≡ Partial left → IfOk result (IsShortestReply left piece.now) }
+        ensures all { IfOk result (λ n. (n ≡ length piece.now) ⊎ ((q : HttpReply) × (self.new ≡ Waiting q))) }
+
+        ensures moves { 0 < length piece.now
+            → IfOk result (λ n. (0 < n) ⊎ ((q : HttpReply) × (self.old ≡ Waiting q))) }
+        ensures waits { (q : HttpReply) → self.old ≡ Waiting q → IfOk result (λ n. (n ≡ 0) × (self.new ≡ self.old)) }
+        ensures err { OnErr result (self.new ≡ self.old) }
+    {
+        push_into::<Replies>(&mut self.bytes, &mut self.phase, piece)
+    }
+
+    /// How far the reader is.
+    pub fn state(&self) -> ReplyState
+        ensures { result ≡ state_of_reply self.now }
+    {
+        match self.phase {
+            Phase::More => ReplyState::More,
+            Phase::Complete(..) => ReplyState::Complete,
+            Phase::Refused(fault) => ReplyState::Refused(fault),
+            Phase::Ended => ReplyState::Ended,
+        }
+    }
+
+    /// Gives the reply, if it waits. The state is then `Ended`.
+    pub fn take(&mut self) -> Option<HttpReply>
+        ensures reads { (bytes : List ℕ) (given : Option HttpReply) → HasReadReply self.old bytes given
+            → MatchOption result (HasReadReply self.new bytes given) (λ q. HasReadReply self.new bytes (Some q)) }
+        ensures waits { (q : HttpReply) → self.old ≡ Waiting q → result ≡ Some q }
+        ensures gives { IfSome result (λ q. self.old ≡ Waiting q) }
+        ensures after { IfSome result (λ q. self.new ≡ Done) }
+        ensures none { IfNone result (self.new ≡ self.old) }
+    {
+        match mem::replace(&mut self.phase, Phase::Ended) {
+            Phase::Complete(head, body) => {
+                let empty = Vec::new(*self.bytes.allocator());
+                let mut bytes = mem::replace(&mut self.bytes, empty);
+                drop_front(&mut bytes, body);
+                Some(HttpReply {
+                    status: head.status,
+                    content_type: head.content_type,
+                    body: Bytes::from_vec(bytes),
+                })
+            }
+            phase => {
+                self.phase = phase;
+                None
+            }
+        }
+    }
+}

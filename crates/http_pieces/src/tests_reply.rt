@@ -1,0 +1,133 @@
+use super::*;
+use crate::tests::bytes_of;
+use std::alloc::{AllocError, Global};
+use std::process::Abort;
+use std::test::Fail;
+
+/// A reply: 71 bytes, the last of them the body.
+const REPLY: &[u8; 71] =
+    b"HTTP/1.1 200 OK\r\nContent-Type: application/json\r\nContent-Length: 1\r\n\r\n2";
+
+/// Cases, one a line: the state that is wanted, a space, and the bytes, where `~` is CR LF.
+const REPLIES: &str = "\
+Complete HTTP/1.1 200 OK~Content-Length: 0~~
+More HTTP/1.1 200 OK~Content-Length: 1~~
+Complete ~~HTTP/1.0 999~content-length: 0000000001~~2
+NotAHead HTTP/1.1 199 OK~Content-Length: 0~~
+NotAHead HTTP/1.1 100 Continue~~
+NotAHead HTTP/2 200 OK~Content-Length: 0~~
+NotFixedLength HTTP/1.1 200 OK~Transfer-Encoding: chunked~~1~2~0~~
+NotFixedLength HTTP/1.1 204 No Content~Transfer-Encoding:~Content-Length: x~~
+NotFixedLength HTTP/1.1 200 OK~~2
+Complete HTTP/1.1 204 No Content~~
+Complete HTTP/1.1 204 No Content~Content-Length: 99999~~
+Complete HTTP/1.1 304 Not Modified~Content-Length: 99999~~
+BadLength HTTP/1.1 204 No Content~Content-Length: x~~
+BadLength HTTP/1.1 200 OK~Content-Length: 00000000001~~2
+BadLength HTTP/1.1 200 OK~Content-Length: 1~Content-Length: 1~~2
+BodyTooLarge HTTP/1.1 200 OK~Content-Length: 65537~~
+More HTTP/1.1 200 OK~Content-Length: 65536~~";
+
+/// Cases, one a line: the content type in angle brackets, or a dash for none, a space, and fields.
+const CONTENT_TYPES: &str = "\
+<application/json> content-TYPE: \t application/json \t~
+<> Content-Type:~
+- Content-Types: a/b~
+- Content-Type: a/b~content-type: a/b~";
+
+/// The state of a new reader after these bytes, pushed at once.
+fn state_after(alloc: Global, bytes: &[u8]) -> Result<ReplyState, AllocError> {
+    let mut reader = ReplyReader::new(alloc);
+    reader.push(bytes)?;
+    Ok(reader.state())
+}
+
+#[test]
+fn each_fault_in_its_order(rt: HostRuntime) -> Result<(), Fail> {
+    for case in REPLIES.lines() {
+        let (wanted, text) = case.split_once(' ').ok_or("a state and bytes")?;
+        let bytes = bytes_of(rt.alloc(), text)?;
+        let state = match state_after(rt.alloc(), &bytes)? {
+            ReplyState::Refused(fault) => format!(in rt.alloc(); "{fault:?}")?,
+            state => format!(in rt.alloc(); "{state:?}")?,
+        };
+        assert_eq!(rt; state.as_str(), wanted, "{text}");
+    }
+    Ok(())
+}
+
+/// Takes the reply, which is `REPLY`, and looks at the state on the way.
+fn take_reply(rt: &impl Abort, reader: &mut ReplyReader) -> Result<(), Fail> {
+    assert_eq!(rt; reader.state(), ReplyState::Complete);
+    assert_eq!(rt; reader.push(REPLY)?, 0);
+    let reply = reader.take().ok_or("a reply")?;
+    assert_eq!(rt; reply.status.as_u16(), 200);
+    let content_type = reply.content_type.ok_or("a content type")?;
+    assert_eq!(rt; content_type.as_slice(), b"application/json".as_slice());
+    assert_eq!(rt; reply.body.as_slice(), b"2".as_slice());
+    assert_eq!(rt; reader.state(), ReplyState::Ended);
+    Ok(())
+}
+
+#[test]
+fn cut_at_every_place(rt: HostRuntime) -> Result<(), Fail> {
+    for place in 0..71usize {
+        let (front, back) = REPLY.split_at(place);
+        let mut reader = ReplyReader::new(rt.alloc());
+        assert_eq!(rt; reader.push(front)?, place);
+        assert_eq!(rt; reader.state(), ReplyState::More);
+        assert!(rt; reader.take().is_none());
+        assert_eq!(rt; reader.push(back)?, 71 - place);
+        take_reply(&rt, &mut reader)?;
+    }
+    Ok(())
+}
+
+#[test]
+fn byte_by_byte(rt: HostRuntime) -> Result<(), Fail> {
+    let mut reader = ReplyReader::new(rt.alloc());
+    for byte in REPLY {
+        assert_eq!(rt; reader.state(), ReplyState::More);
+        assert_eq!(rt; reader.push(&[*byte])?, 1);
+    }
+    take_reply(&rt, &mut reader)?;
+    assert_eq!(rt; reader.push(REPLY)?, 71);
+    assert!(rt; reader.take().is_none());
+    assert_eq!(rt; reader.state(), ReplyState::Ended);
+    Ok(())
+}
+
+#[test]
+fn largest_body(rt: HostRuntime) -> Result<(), Fail> {
+    let mut reader = ReplyReader::new(rt.alloc());
+    reader.push(b"HTTP/1.1 500 No\r\nContent-Length: 65536\r\n\r\n")?;
+    reader.push(&[b'x'; 65_535])?;
+    assert_eq!(rt; reader.state(), ReplyState::More);
+    assert_eq!(rt; reader.push(b"yz")?, 1);
+    let reply = reader.take().ok_or("a reply")?;
+    assert_eq!(rt; reply.status.as_u16(), 500);
+    assert_eq!(rt; reply.body.len(), 65_536);
+    Ok(())
+}
+
+#[test]
+fn content_types(rt: HostRuntime) -> Result<(), Fail> {
+    for case in CONTENT_TYPES.lines() {
+        let (wanted, fields) = case.split_once(' ').ok_or("a type and fields")?;
+        let text = format!(in rt.alloc(); "HTTP/1.1 304 Not Modified~{fields}~")?;
+        let bytes = bytes_of(rt.alloc(), text.as_str())?;
+        let mut reader = ReplyReader::new(rt.alloc());
+        assert_eq!(rt; reader.push(&bytes)?, bytes.len());
+        let reply = reader.take().ok_or("a reply")?;
+        let found = match &reply.content_type {
+            Some(value) => {
+                let name = std::str::from_utf8(value.as_slice()).map_err(|_| "not text")?;
+                format!(in rt.alloc(); "<{name}>")?
+            }
+            None => format!(in rt.alloc(); "-")?,
+        };
+        assert_eq!(rt; found.as_str(), wanted, "{fields}");
+        assert!(rt; reply.body.is_empty());
+    }
+    Ok(())
+}
