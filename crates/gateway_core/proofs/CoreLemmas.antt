@@ -98,7 +98,7 @@ fed_core old new number text plans taken occurred was given (Some c) there h new
     let stands : ConnStands was taken (marked occurred) = subst (λ x. ConnStands x taken (marked occurred)) old_c h.conn_stands in
     let next : ConnStands c taken (marked (occurred_by plans was.arrived step.0 c.reader.reading occurred)) =
     fed plans was c taken occurred step.0 old.jobs new.jobs was.arrived refl stands step.2 in
-    (step.0, rw new_c step.1, record { unbroken = rw new_c (not_broken c.broken live); conn_stands = rw new_c next })
+    (step.0, rw new_c step.1, record { unbroken = rw new_c (not_broken c.broken live); conn_stands = rw new_c next }, rw new_c step.3)
 
 -- ---- results
 

@@ -191,3 +191,4 @@ abbrev pub Feeds : List PlanRecord → List ℕ → List HttpRequest → ConnVal
 Feeds plans text given old None jobs after = ⊥
 Feeds plans text given old (Some new) jobs after =
     (more : List HttpRequest) × HasRead new.reader text (given ++ more) × FeedsTo plans more (record old { reader = new.reader }) new jobs after
+    × (is_waiting new.reader.reading ≡ false)

@@ -11,7 +11,7 @@ use Rattle.gateway_core.specs.declared.id.CallId.{CallId}
 use Rattle.gateway_core.specs.declared.reply.Reply.{Reply}
 use Rattle.gateway_core.specs.Arrival.{Asks, arrival_of}
 use Rattle.gateway_core.specs.Call.{CallValue, is_out as has_out}
-use Rattle.gateway_core.specs.Core.{ConnValue, CoreValue, new_conn, first_call, conn_at, core_value, core_sees, back_on, CountedIn}
+use Rattle.gateway_core.specs.Core.{ConnValue, CoreValue, new_conn, first_call, is_waiting, conn_at, core_value, core_sees, back_on, CountedIn}
 use Rattle.gateway_core.specs.Occurrence.{Occurrence, Entry, Request, Refused}
 use Rattle.gateway_core.specs.Past.{Past, Asked, call, answers, began, started, is_out, decided, entries, now, is_drained, is_closed, marked}
 use Rattle.gateway_core.specs.Queue.{came, own_events, answers_in, replies}
@@ -76,6 +76,7 @@ abbrev pub StandsAfter : List PlanRecord → List ℕ → List HttpRequest → C
 StandsAfter plans text given old core taken occurred =
     (more : List HttpRequest) × HasRead (conn_of core).reader text (given ++ more)
     × StandsFor core taken (occurred_by plans old.arrived more (conn_of core).reader.reading occurred)
+    × (is_waiting (conn_of core).reader.reading ≡ false)
 
 -- what a result makes of the core: how it is seen, and what it changes
 abbrev pub ResultTaken : CoreValue → CoreValue → CallId → ℕ → Outcome → Seen → Type 0

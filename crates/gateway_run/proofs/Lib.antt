@@ -3,3 +3,4 @@ pub mod Entries
 pub mod RunLemmas
 pub mod Scripts
 pub mod CutLemmas
+pub mod DeliverLemmas

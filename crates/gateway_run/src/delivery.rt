@@ -1,5 +1,10 @@
-ghost use Rattle.std.specs.Prelude.{◌≡◌, ◌↔◌, OnOk, true, false};
-ghost use Rattle.gateway_core.specs.Core.{is_live, conn_at, is_broken_conn};
+ghost use Rattle.std.specs.Prelude.{◌≡◌, ℕ, ◌↔◌, ◌++◌, OnOk, Some, List, true, false};
+ghost use Rattle.gateway_core.specs.Core.{ConnValue, is_live, conn_at, is_broken_conn};
+ghost use Rattle.gateway_core.specs.Occurrence.{Occurrence};
+ghost use Rattle.gateway_core.specs.Stands.{StandsFor, StandsAfter};
+ghost use Rattle.gateway_core.specs.declared.reply.Reply.{Reply};
+ghost use Rattle.http_pieces.specs.Reader.{HasRead};
+ghost use Rattle.http_pieces.specs.Request.{HttpRequest};
 
 use gateway_core::{ConnId, Core, StepFault};
 
@@ -12,12 +17,19 @@ pub fn deliver(core: &mut Core, conn: ConnId, piece: &[u8]) -> Result<(), StepFa
     ensures unchanged { result ≡ Err StepFault.Gone → core.new ≡ core.old }
     ensures broken { result ≡ Err StepFault.Memory → is_broken_conn (conn_at conn core.new) ≡ true }
     ensures unbroken { OnOk result (is_live conn core.new ≡ true) }
+    ensures plans { core.new.plans ≡ core.old.plans }
+
+    // The core stands for what occurs by the piece.
+    ensures stands { (was : ConnValue) (stream : List ℕ) (given : List HttpRequest) (taken : List Reply) (occurred : List Occurrence)
+        → conn_at conn core.old ≡ Some was → StandsFor core.old taken occurred → HasRead was.reader stream given
+        → OnOk result (StandsAfter core.old.plans (stream ++ piece.now) given was core.new taken occurred) }
 {
-    let taken = core.feed(conn, piece)?;
-    let mut rest = &piece[taken..];
-    while !rest.is_empty() {
+    let mut rest = piece;
+    loop {
         let taken = core.feed(conn, rest)?;
         rest = &rest[taken..];
+        if rest.is_empty() {
+            return Ok(());
+        }
     }
-    Ok(())
 }
