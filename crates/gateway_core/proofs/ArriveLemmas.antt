@@ -1,6 +1,6 @@
 -- A connection stands for what has occurred: its first request arrives, or its stream is refused.
-use Rattle.std.proofs.Common.{◌≡◌, ℕ, zero, suc, ◌+◌, ◌≤◌, ◌<◌, min, Bool, true, false, List, [], ◌∷◌, ◌++◌, map, length, replicate, Option, None, Some, refl, sym, ap, ◌∙◌, subst, arith, zero-add, append_assoc, ⊎_elim}
-use Rattle.std.specs.Prelude.{is_some, is_none, if◌then◌else◌, ◌==◌, MatchBool, option_map, option_and_then, slice_index_or}
+use Rattle.std.proofs.Common.{◌≡◌, ℕ, zero, suc, ◌+◌, ◌≤◌, ◌<◌, min, true, false, List, [], ◌∷◌, ◌++◌, map, length, replicate, Option, None, Some, refl, sym, ap, ◌∙◌, subst, arith, zero-add, append_assoc, ⊎_elim}
+use Rattle.std.specs.Prelude.{is_some, is_none, if◌then◌else◌, ◌==◌, option_map, option_and_then, slice_index_or}
 use Rattle.std.specs.Option.{option_map_or, unwrap_or}
 use Rattle.std.specs.List.{range_with_len}
 use Rattle.std.proofs.lemmas.Bool.{cond_both, cases_lt, le-ltb, ne_eqb, le-leb}
@@ -22,6 +22,7 @@ use Rattle.gateway_core.specs.Queue.{came, own_events, answers_in, expired_reply
 use Rattle.gateway_core.specs.Stands.{CallStands, MayStand, ConnStands}
 use Rattle.gateway_core.proofs.LimitLemmas.{unanswered}
 use Rattle.gateway_core.proofs.StandsLemmas.{replies_one, replies_none, replies_undecided}
+use Rattle.gateway_core.proofs.Cases.{either_way}
 
 -- ---- before a request of that number has come
 
@@ -64,15 +65,15 @@ unborn id (m ∷ past) le =
 
 -- ---- the first to come
 
-abbrev comes : Past → Entering → Mark
+abbrev pub comes : Past → Entering → Mark
 comes past x = mark_of past (Entry 0 x)
 
 -- nothing has come on the connection, and no call of it has begun
-record First (os : List Occurrence) : Type 0 where
-  none : entries 0 (marked os) ≡ 0
-  now_is : now (marked os) ≡ 0
-  undrained : is_drained (marked os) ≡ false
-  unclosed : is_closed 0 (marked os) ≡ false
+pub record First (os : List Occurrence) : Type 0 where
+  pub none : entries 0 (marked os) ≡ 0
+  pub now_is : now (marked os) ≡ 0
+  pub undrained : is_drained (marked os) ≡ false
+  pub unclosed : is_closed 0 (marked os) ≡ false
 
 not_crowded : (x : Entering) (past : Past) → entries 0 past ≡ 0 → crowds (Entry 0 x) past ≡ false
 not_crowded (Refused r) past e = refl
@@ -85,7 +86,7 @@ entering_is x past e = rw e refl
 asked_is : (x : Entering) (past : Past) → entries 0 past ≡ 0 → asked_now first_call (comes past x) past ≡ asked_by (now past) x
 asked_is x past e = rw (not_crowded x past e, entering_is x past e) refl
 
-call_now : (x : Entering) (os : List Occurrence) → First os → call first_call (comes (marked os) x ∷ marked os) ≡ asked_by (now (marked os)) x
+pub call_now : (x : Entering) (os : List Occurrence) → First os → call first_call (comes (marked os) x ∷ marked os) ≡ asked_by (now (marked os)) x
 call_now x os h = rw ((unborn first_call (marked os) (omega (arith, h.none))).no_call, asked_is x (marked os) h.none) refl
 
 came_now : (x : Entering) (os : List Occurrence) → First os → came first_call (comes (marked os) x ∷ marked os) ≡ Some (x, false)
@@ -120,10 +121,10 @@ arrived conn new taken os x h f arrived_is stands replies_are = record {
   replies_are = replies_are;
 }
 
-first_of : (conn : ConnValue) (taken : List Reply) (os : List Occurrence) → ConnStands conn taken (marked os) → conn.arrived ≡ false → First os
+pub first_of : (conn : ConnValue) (taken : List Reply) (os : List Occurrence) → ConnStands conn taken (marked os) → conn.arrived ≡ false → First os
 first_of conn taken os h fresh = record { none = h.entries_are ∙ rw fresh refl; now_is = h.now_is; undrained = h.undrained; unclosed = h.unclosed }
 
-no_call_yet : (conn : ConnValue) (taken : List Reply) (os : List Occurrence) → ConnStands conn taken (marked os) → First os → conn.call ≡ None
+pub no_call_yet : (conn : ConnValue) (taken : List Reply) (os : List Occurrence) → ConnStands conn taken (marked os) → First os → conn.call ≡ None
 no_call_yet conn taken os h f = by_call conn.call refl
   where
     by_call : (o : Option CallValue) → conn.call ≡ o → conn.call ≡ None
@@ -240,10 +241,6 @@ begun_first conn taken os q plan timeout later jobs after h f not_due s =
     arrived conn _ taken os x h f refl stands
     (no_replies_yet conn taken os h f ∙ sym (replies_undecided later (comes (marked os) x ∷ marked os) stands going))
 
-by_due : (b : Bool) (P Q R : Type 0) → (b ≡ true → P → R) → (b ≡ false → Q → R) → MatchBool b P Q → R
-by_due true P Q R p q h = p refl h
-by_due false P Q R p q h = q refl h
-
 -- the first request, as the core takes it
 pub arrived_conn : (conn new : ConnValue) (taken : List Reply) (os : List Occurrence) (q : HttpRequest) (jobs after : List JobValue) (arrival : Arrival)
     → ConnStands conn taken (marked os) → conn.arrived ≡ false → ArrivesAs q conn new jobs after arrival
@@ -253,7 +250,7 @@ arrived_conn conn new taken os q jobs after (Judged v) h fresh step =
 arrived_conn conn new taken os q jobs after (Asks plan timeout) h fresh step =
     let f = first_of conn taken os h fresh in
     let next : Past = comes (marked os) (Request q (Asks plan timeout)) ∷ marked os in
-    by_due (is_due 0 (smaller timeout plan.timeout))
+    either_way (is_due 0 (smaller timeout plan.timeout))
     ((new ≡ record conn { arrived = true; replies = conn.replies ++ expired_reply (closes q) ∷ [] }) × (after ≡ jobs))
     (GoesOn (new_call first_call plan q) (record conn { arrived = true }) new jobs after)
     (ConnStands new taken next)

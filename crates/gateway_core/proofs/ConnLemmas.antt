@@ -1,6 +1,6 @@
 -- A connection stands for what has occurred: its steps.
-use Rattle.std.proofs.Common.{◌≡◌, ℕ, Bool, true, false, List, [], ◌∷◌, ◌++◌, length, Option, None, Some, refl, sym, ap, ◌∙◌, subst, arith, append_assoc, ⊎_elim}
-use Rattle.std.specs.Prelude.{is_some, nat_lt, MatchBool, option_map, option_and_then}
+use Rattle.std.proofs.Common.{◌≡◌, ℕ, true, false, List, [], ◌∷◌, ◌++◌, length, Option, None, Some, refl, sym, ap, ◌∙◌, subst, arith, append_assoc, ⊎_elim}
+use Rattle.std.specs.Prelude.{is_some, nat_lt, option_map, option_and_then}
 use Rattle.std.specs.Option.{option_map_or}
 use Rattle.std.proofs.lemmas.Bool.{cond_both, cases_Bool}
 use Rattle.connect_codec.specs.declared.answer.Outcome.{Outcome}
@@ -16,7 +16,8 @@ use Rattle.gateway_core.specs.Past.{Mark, Past, Answered, Failed, call, is_out, 
 use Rattle.gateway_core.specs.Queue.{own_events, record_of, call_reply, replies}
 use Rattle.gateway_core.specs.Stands.{CallStands, MayStand, ConnStands}
 use Rattle.gateway_core.proofs.LimitLemmas.{same_call}
-use Rattle.gateway_core.proofs.StandsLemmas.{Quiet, no_asked, no_event_of, quiet_stands, and_true, Counting, result_of, foreign_stands, unknown_stands, late_stands, failed_stands, going_stands, last_stands, replies_undecided, replies_decided, failed_reply, answered_reply, ended, open_still, answers_then, own_is, decided_is, result_quiet, began_same, replies_same, and_false}
+use Rattle.gateway_core.proofs.StandsLemmas.{Quiet, no_asked, no_event_of, quiet_stands, Counting, result_of, foreign_stands, unknown_stands, late_stands, failed_stands, going_stands, last_stands, replies_undecided, replies_decided, failed_reply, answered_reply, ended, open_still, answers_then, own_is, decided_is, result_quiet, began_same, replies_same}
+use Rattle.gateway_core.proofs.Cases.{and_true, and_false, either_way}
 
 none_of : {A : Type 0} (o : Option A) → is_some o ≡ false → o ≡ None
 none_of None e = refl
@@ -103,10 +104,6 @@ going_conn conn taken os c later i body jobs after h hc out undecided unfinished
     let still : replies 0 (result_of past i (Answer body) ∷ past) ≡ [] = replies_undecided later (result_of past i (Answer body) ∷ past) stands (open_still c i body past hc n unfinished) in
     framed conn _ taken first_call i (Answer body) past h refl stands (h.replies_are ∙ replies_undecided c past hc n.undecided ∙ sym still)
 
-by_answered : (b : Bool) (P Q R : Type 0) → (b ≡ true → P → R) → (b ≡ false → Q → R) → MatchBool b P Q → R
-by_answered true P Q R p q h = p refl h
-by_answered false P Q R p q h = q refl h
-
 -- a result that counts, as the core takes it
 pub counted_conn : (conn new : ConnValue) (taken : List Reply) (os : List Occurrence) (c : CallValue) (i : ℕ) (outcome : Outcome) (jobs after : List JobValue)
     → ConnStands conn taken (marked os) → conn.call ≡ Some c → has_out c i ≡ true → c.decided ≡ false
@@ -119,7 +116,7 @@ counted_conn conn new taken os c i (Answer body) jobs after h call_is out undeci
     let past : Past = marked os in
     let d : CallValue = answered_by i body (back i c) in
     let on : ConnValue = record conn { call = Some (back i c) } in
-    by_answered (nat_lt d.answered (length c.plan.branches)) (GoesOn d on new jobs after) (IsDecidedBy (success_of d) d on new jobs after)
+    either_way (nat_lt d.answered (length c.plan.branches)) (GoesOn d on new jobs after) (IsDecidedBy (success_of d) d on new jobs after)
     (ConnStands new taken (result_of past i (Answer body) ∷ past))
     (λ unfinished g. subst (λ x. ConnStands x taken (result_of past i (Answer body) ∷ past)) (sym g.1)
     (going_conn conn taken os c g.0 i body jobs after h hc out undecided unfinished g.2))

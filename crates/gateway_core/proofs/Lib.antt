@@ -1,3 +1,4 @@
+pub mod Cases
 pub mod ArrivalLemmas
 pub mod CountLemmas
 pub mod LimitLemmas
@@ -7,4 +8,6 @@ pub mod Places
 pub mod StandsLemmas
 pub mod ConnLemmas
 pub mod ArriveLemmas
+pub mod JobLemmas
 pub mod CoreLemmas
+pub mod RowLemmas

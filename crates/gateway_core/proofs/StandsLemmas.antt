@@ -20,24 +20,13 @@ use Rattle.gateway_core.specs.Past.{Mark, Past, Asked, CallEvent, Answered, Fail
 use Rattle.gateway_core.specs.Queue.{came, own_events, record_of, entry_by, entry, answer_of, answer_in, answer_of_branch, answers_in, call_reply, front, replies, last_event}
 use Rattle.gateway_core.specs.Stands.{CallStands}
 use Rattle.gateway_core.proofs.LimitLemmas.{out_started, outs_limit, count_without}
+use Rattle.gateway_core.proofs.Cases.{or_false, and_true, and_false}
 
 -- ---- an occurrence that does not concern a call
 
 pub or_none : {A : Type 0} (x : Option A) → option_or x None ≡ x
 or_none None = refl
 or_none (Some a) = refl
-
-pub or_false : (b : Bool) → (b || false) ≡ b
-or_false true = refl
-or_false false = refl
-
-pub and_true : (b : Bool) → (b && true) ≡ b
-and_true true = refl
-and_true false = refl
-
-pub and_false : (b : Bool) → (b && false) ≡ false
-and_false true = refl
-and_false false = refl
 
 pub record Quiet (id : CallId) (m : Mark) (past : Past) : Type 0 where
   pub no_entry : entering_on id.conn m.what ≡ None
@@ -88,7 +77,7 @@ then_same : {A B : Type 0} (f g : A → Option B) → ((a : A) → f a ≡ g a) 
 then_same f g h None = refl
 then_same f g h (Some a) = h a
 
-entry_same : (id : CallId) (m : Mark) (past : Past) → Quiet id m past → entry id (m ∷ past) ≡ entry id past
+pub entry_same : (id : CallId) (m : Mark) (past : Past) → Quiet id m past → entry id (m ∷ past) ≡ entry id past
 entry_same id m past q =
     ap (λ o. option_and_then (entry_by id (m ∷ past)) o) (came_same id m past q)
     ∙ then_same (entry_by id (m ∷ past)) (entry_by id past) (entry_by_same id m past q) (came id past)

@@ -6,18 +6,7 @@ use Rattle.std.proofs.lemmas.List.{get_or-set_same, get_or-set_other, length-set
 use Rattle.std.proofs.lemmas.List.FromFn.{map-range_with_len_more}
 use Rattle.gateway_core.specs.Call.{CallValue, HasStarted, IsCallSound, due_of, start_of, is_out, jobs_to}
 use Rattle.gateway_core.specs.Job.{JobValue, job_of}
-
-or_true : (b : Bool) → (b || true) ≡ true
-or_true true = refl
-or_true false = refl
-
-or_false : (b : Bool) → (b || false) ≡ b
-or_false true = refl
-or_false false = refl
-
-and_false : (b : Bool) → (b && false) ≡ false
-and_false true = refl
-and_false false = refl
+use Rattle.gateway_core.proofs.Cases.{or_true, or_false, and_false}
 
 -- below i is below i + 1, but for i
 lt_more : (i j : ℕ) → (j ≡ i → ⊥) → nat_lt j (i + 1) ≡ nat_lt j i

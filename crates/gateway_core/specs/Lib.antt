@@ -9,3 +9,4 @@ pub mod Queue
 pub mod Starts
 pub mod Stands
 pub mod Rows
+pub mod Record

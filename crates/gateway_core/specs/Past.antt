@@ -29,7 +29,7 @@ abbrev pub moment_of : Occurrence → ℕ
 moment_of (Moment m) = min m (2 ^ 62)
 moment_of _ = 0
 
--- the current moment: the greatest one handed in, or 0 (Go `time`, a clock that never goes back)
+-- the current moment: the greatest one handed in, or 0 (this project's choice, so that the clock never goes back)
 abbrev pub now : Past → ℕ
 now [] = 0
 now (m ∷ past) = max (now past) (moment_of m.what)

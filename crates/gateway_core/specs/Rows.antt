@@ -1,5 +1,5 @@
 -- Worked rows: what occurs in each.
-use Rattle.std.specs.Prelude.{ℕ, false, List, [], ◌∷◌, reverse, codes, Option, None, Some}
+use Rattle.std.specs.Prelude.{ℕ, zero, suc, Bool, false, ◌&&◌, option_and_then, List, [], ◌∷◌, reverse, codes, Option, None, Some}
 use Rattle.std.specs.List.{enumerate_from}
 use Rattle.error_document.specs.declared.code.Code.{Code}
 use Rattle.error_document.specs.declared.document.RpcError.{RpcError}
@@ -13,17 +13,17 @@ use Rattle.call_plan.specs.Plan.{PlanRecord}
 use Rattle.gateway_core.specs.Arrival.{Judged, Asks}
 use Rattle.gateway_core.specs.declared.reply.Reply.{Reply}
 use Rattle.gateway_core.specs.Call.{reply_of}
-use Rattle.gateway_core.specs.Occurrence.{Occurrence, Entry, Result, Request, Refused}
-use Rattle.gateway_core.specs.Past.{call_id}
-use Rattle.gateway_core.specs.Starts.{Start, starts}
+use Rattle.gateway_core.specs.Occurrence.{Occurrence, Opening, Entry, Result, Request, Refused}
+use Rattle.gateway_core.specs.Past.{CallEvent, call_id, past_of}
+use Rattle.gateway_core.specs.Queue.{CallRecord, ReplyEntry, Calling, entry}
+use Rattle.gateway_core.specs.Record.{is_lawful, is_decided}
+use Rattle.std.specs.Option.{option_map_or}
+use Rattle.gateway_core.specs.Job.{job_of}
+use Rattle.gateway_core.specs.Starts.{Start, start, starts}
 
 -- what starts, where each occurrence is an event of its own
 abbrev pub row_starts : List Occurrence → List Start
 row_starts os = starts (reverse (enumerate_from 0 os))
-
--- the start of a branch of that request's call on connection 0
-abbrev pub start_of : ℕ → ℕ → ℕ → Start
-start_of place request branch = record { place = place; id = call_id 0 request; branch = branch }
 
 -- ---- the plans
 
@@ -59,13 +59,25 @@ request_for path k = record {
   number = k;
 }
 
+-- the branch of that request's call on connection 0 starts at that place
+abbrev pub starts_then : PlanRecord → ℕ → ℕ → ℕ → Start
+starts_then plan place request branch = start place (job_of (call_id 0 request) branch plan (request_for plan.path request))
+
 -- request number k asks for a call of the plan, with that timeout
 abbrev pub asks : PlanRecord → Option ℕ → ℕ → Occurrence
 asks plan timeout k = Entry 0 (Request (request_for plan.path k) (Asks plan timeout))
 
 -- request number k is no call: its method is not `POST`
+abbrev pub get_request : ℕ → HttpRequest
+get_request k = record (request_for (codes "/acme.v1.Ping/Ping") k) { method = codes "GET" }
+
 abbrev pub gets : ℕ → Occurrence
-gets k = Entry 0 (Request (record (request_for (codes "/acme.v1.Ping/Ping") k) { method = codes "GET" }) (Judged (Bare 405)))
+gets k = Entry 0 (Request (get_request k) (Judged (Bare 405)))
+
+-- so many of them, newest first
+unfoldable pub after_gets : ℕ → List Occurrence
+after_gets zero = Opening ∷ []
+after_gets (suc n) = gets n ∷ after_gets n
 
 -- the stream is refused
 abbrev pub refuses : Refusal → Occurrence
@@ -90,3 +102,21 @@ succeeded body = reply_of (success_reply body false) false
 
 abbrev pub failed : Code → List ℕ → Reply
 failed code message = reply_of (error_reply (error code message) false) false
+
+-- ---- records
+
+-- the record of the call that request 0 began, where it is decided
+abbrev pub called : ReplyEntry → Option CallRecord
+called (Calling r) = Some r
+called e = None
+
+abbrev pub record_in : List Occurrence → Option CallRecord
+record_in os = option_and_then called (entry (call_id 0 0) (past_of os))
+
+-- it is lawful, and decided
+abbrev pub is_lawful_row : List Occurrence → Bool
+is_lawful_row os = option_map_or (λ r. is_lawful r && is_decided r) (record_in os) false
+
+-- a record of Quote that begins at moment 0, with these events
+abbrev pub quote_record : List CallEvent → CallRecord
+quote_record events = record { plan = quote; start = 0; deadline = Some 5000; last = false; events = events }

@@ -1,20 +1,18 @@
 -- What the core stands for. Today it serves one connection, of whose requests the first alone is answered.
-use Rattle.std.specs.Prelude.{◌≡◌, ℕ, ◌≤◌, ◌-◌, Bool, true, false, if◌then◌else◌, is_some, option_map, List, [], ◌∷◌, ◌++◌, length, Option, None, Some}
+use Rattle.std.specs.Prelude.{◌≡◌, ℕ, ◌≤◌, ◌-◌, Bool, true, false, if◌then◌else◌, is_some, List, [], ◌∷◌, ◌++◌, length, Option, None, Some}
 use Rattle.std.specs.Option.{option_map_or}
 use Rattle.http_pieces.specs.Request.{HttpRequest}
 use Rattle.http_pieces.specs.Reader.{Reading, Partial, Waiting, Stopped, Done, HasRead}
 use Rattle.call_plan.specs.Plan.{PlanRecord}
-use Rattle.connect_codec.specs.declared.answer.Outcome.{Outcome}
-use Rattle.gateway_core.specs.declared.fault.Seen.{Seen}
-use Rattle.gateway_core.specs.declared.fault.Seen.TheVariants.{Counted, Late, Unknown}
-use Rattle.gateway_core.specs.declared.id.CallId.{CallId}
 use Rattle.gateway_core.specs.declared.reply.Reply.{Reply}
 use Rattle.gateway_core.specs.Arrival.{Asks, arrival_of}
 use Rattle.gateway_core.specs.Call.{CallValue, is_out as has_out}
-use Rattle.gateway_core.specs.Core.{ConnValue, CoreValue, new_conn, first_call, is_waiting, conn_at, core_value, core_sees, back_on, CountedIn}
+use Rattle.gateway_core.specs.Core.{ConnValue, CoreValue, new_conn, first_call, is_waiting}
 use Rattle.gateway_core.specs.Occurrence.{Occurrence, Entry, Request, Refused}
 use Rattle.gateway_core.specs.Past.{Past, Asked, call, answers, began, started, is_out, decided, entries, now, is_drained, is_closed, marked}
 use Rattle.gateway_core.specs.Queue.{came, own_events, answers_in, replies}
+use Rattle.gateway_core.specs.Job.{JobValue}
+use Rattle.gateway_core.specs.Starts.{jobs}
 
 -- what is kept of the call that the first request began
 pub record CallStands (c : CallValue) (past : Past) : Type 0 where
@@ -53,10 +51,12 @@ pub record ConnStands (conn : ConnValue) (taken : List Reply) (past : Past) : Ty
 abbrev pub conn_of : CoreValue → ConnValue
 conn_of core = option_map_or (λ conn. conn) core.conn new_conn
 
--- what the core stands for: what has occurred, newest first, where these replies were taken; of a broken connection nothing is said
-pub record StandsFor (core : CoreValue) (taken : List Reply) (occurred : List Occurrence) : Type 0 where
+-- what the core stands for: what has occurred, newest first, where these replies and these jobs were taken; of a broken connection
+-- nothing is said
+pub record StandsFor (core : CoreValue) (taken : List Reply) (handed : List JobValue) (occurred : List Occurrence) : Type 0 where
   pub unbroken : (conn_of core).broken ≡ false
   pub conn_stands : ConnStands (conn_of core) taken (marked occurred)
+  pub jobs_are : handed ++ core.jobs ≡ jobs (marked occurred)
 
 -- what occurs where a stream ends so: its refusal, or nothing
 abbrev pub refusal_of : Reading → List Occurrence → List Occurrence
@@ -72,16 +72,8 @@ occurred_by plans false [] reading occurred = refusal_of reading occurred
 occurred_by plans false (q ∷ more) reading occurred = Entry 0 (Request q (arrival_of plans q)) ∷ occurred
 
 -- the core has read the text, with these requests given before, and stands for what occurs by it
-abbrev pub StandsAfter : List PlanRecord → List ℕ → List HttpRequest → ConnValue → CoreValue → List Reply → List Occurrence → Type 0
-StandsAfter plans text given old core taken occurred =
-    (more : List HttpRequest) × HasRead (conn_of core).reader text (given ++ more)
-    × StandsFor core taken (occurred_by plans old.arrived more (conn_of core).reader.reading occurred)
+abbrev pub StandsAfter : List PlanRecord → List ℕ → List HttpRequest → ConnValue → CoreValue → List Reply → List JobValue → List Occurrence → Type 0
+StandsAfter plans text requests old core taken handed occurred =
+    (more : List HttpRequest) × HasRead (conn_of core).reader text (requests ++ more)
+    × StandsFor core taken handed (occurred_by plans old.arrived more (conn_of core).reader.reading occurred)
     × (is_waiting (conn_of core).reader.reading ≡ false)
-
--- what a result makes of the core: how it is seen, and what it changes
-abbrev pub ResultTaken : CoreValue → CoreValue → CallId → ℕ → Outcome → Seen → Type 0
-ResultTaken old new id branch outcome seen =
-    (seen ≡ core_sees id branch old) × (seen ≡ Unknown → new ≡ old)
-    × (seen ≡ Late → new ≡ core_value old.plans (option_map (back_on branch) old.conn) old.jobs)
-    × ((conn : ConnValue) (was : CallValue) → conn_at id.conn old ≡ Some conn → conn.call ≡ Some was → seen ≡ Counted
-    → CountedIn branch outcome conn was (conn_at id.conn new) old.jobs new.jobs)

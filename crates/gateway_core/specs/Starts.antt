@@ -1,10 +1,11 @@
 -- The branches that start, and the jobs that they give.
 use Rattle.std.specs.Prelude.{ℕ, ◌-◌, List, [], ◌∷◌, ◌++◌, map}
 use Rattle.std.specs.List.{range_with_len}
+use Rattle.std.specs.Option.{option_map_or}
 use Rattle.gateway_core.specs.declared.id.CallId.{CallId}
 use Rattle.gateway_core.specs.Job.{JobValue, job_of}
 use Rattle.gateway_core.specs.Occurrence.{Occurrence, Entry, Result}
-use Rattle.gateway_core.specs.Past.{Past, Mark, Asked, call_id, entries, started, mark_of, marked}
+use Rattle.gateway_core.specs.Past.{Past, Mark, call, call_id, entries, started, mark_of, marked}
 
 -- an occurrence, and the place of its event in the list of events
 abbrev pub Placed : Type 0
@@ -14,37 +15,39 @@ Placed = ℕ × Occurrence
 abbrev pub occurrences : List Placed → List Occurrence
 occurrences placed = map (λ o. o.1) placed
 
--- a branch of a call starts at the event of that place
-pub record Start : Type 0 where
-  pub place : ℕ
-  pub id : CallId
-  pub branch : ℕ
-
--- which branch starts, wherever
-abbrev pub branch_of : Start → CallId × ℕ
-branch_of s = (s.id, s.branch)
-
 -- the branches of a call that start at this occurrence, in declared order
 abbrev pub branches_started : CallId → Mark → Past → List ℕ
 branches_started id m past = range_with_len (started id past) (started id (m ∷ past) - started id past)
 
--- the call of which branches can start at this occurrence: that of the request that comes, or of the result
-abbrev pub starts_by : ℕ → Occurrence → Mark → Past → List Start
-starts_by place (Entry conn e) m past =
-    let id = call_id conn (entries conn past) in
-    map (λ i. record { place = place; id = id; branch = i }) (branches_started id m past)
-starts_by place (Result id i outcome) m past = map (λ j. record { place = place; id = id; branch = j }) (branches_started id m past)
-starts_by place _ m past = []
+-- their jobs: each has its branch's address and path, and its call's request
+abbrev pub jobs_started : CallId → Mark → Past → List JobValue
+jobs_started id m past = option_map_or (λ c. map (λ i. job_of id i c.plan c.request) (branches_started id m past)) (call id (m ∷ past)) []
 
--- the branches that start at this occurrence
-abbrev pub starts_at : Placed → Past → List Start
-starts_at o past = starts_by o.0 o.1 (mark_of past o.1) past
+-- the jobs that start at this occurrence; only branches of the call that a request begins, or that a result is of, can start
+abbrev pub jobs_by : Occurrence → Mark → Past → List JobValue
+jobs_by (Entry conn e) m past = jobs_started (call_id conn (entries conn past)) m past
+jobs_by (Result id i outcome) m past = jobs_started id m past
+jobs_by _ m past = []
+
+-- the jobs of all branches that have started by what occurred: in the order of what they started at, then of the branches
+abbrev pub jobs : Past → List JobValue
+jobs [] = []
+jobs (m ∷ past) = jobs past ++ jobs_by m.what m past
+
+-- a branch of a call starts at the event of that place, and gives that job
+pub record Start : Type 0 where
+  pub place : ℕ
+  pub job : JobValue
+
+abbrev pub start : ℕ → JobValue → Start
+start place job = record { place = place; job = job }
+
+abbrev pub job_started : Start → JobValue
+job_started s = s.job
 
 -- all branches that have started by what occurred, newest first: by event, then by request of the call, then by branch
 abbrev pub starts : List Placed → List Start
 starts [] = []
-starts (o ∷ placed) = starts placed ++ starts_at o (marked (occurrences placed))
-
--- the job of a start has its branch's address and path, and its request's body
-abbrev pub job_of_start : Asked → Start → JobValue
-job_of_start c s = job_of s.id s.branch c.plan c.request
+starts (o ∷ placed) =
+    let past = marked (occurrences placed) in
+    starts placed ++ map (start o.0) (jobs_by o.1 (mark_of past o.1) past)

@@ -1,6 +1,11 @@
-ghost use Rattle.std.specs.Prelude.{◌≡◌, ℕ, ◌<◌, ◌≤◌, ◌++◌, [], ◌↔◌, IfOk, OnOk, OnErr, IsSome, List, length, take, option_map, option_to_list, true, false, IsTrue};
+ghost use Rattle.std.specs.Prelude.{◌≡◌, ℕ, ◌<◌, ◌≤◌, ◌++◌, ◌∷◌, [], ◌↔◌, IfOk, OnOk, OnErr, IsSome, List, length, take, option_map, option_to_list, true, false, IsTrue};
 ghost use Rattle.gateway_core.specs.Core.{core_value, new_conn, conn_at, is_live, untaken_of, is_broken_conn, core_sees, call_at, outs, is_ended, back_on, with_untaken, ConnValue, CountedIn, BreaksTo, Feeds};
 ghost use Rattle.gateway_core.specs.Call.{CallValue};
+ghost use Rattle.gateway_core.specs.Job.{JobValue};
+ghost use Rattle.gateway_core.specs.Occurrence.{Occurrence};
+ghost use Rattle.gateway_core.specs.Past.{judged, marked};
+ghost use Rattle.gateway_core.specs.Stands.{StandsFor, StandsAfter};
+ghost use Rattle.gateway_core.specs.declared.reply.Reply.{Reply};
 ghost use Rattle.http_pieces.specs.Reader.{HasRead};
 ghost use Rattle.http_pieces.specs.Request.{HttpRequest};
 
@@ -36,7 +41,8 @@ impl Model for Core {
 impl Core {
     /// A gateway that serves these plans.
     pub fn new(alloc: Global, plans: Plans) -> Result<Core, AllocError>
-        ensures { IfOk result (λ core. core ≡ core_value plans None []) }
+        ensures empty { IfOk result (λ core. core ≡ core_value plans None []) }
+        ensures stands { IfOk result (λ core. StandsFor core [] [] []) }
     {
         Ok(Core {
             alloc,
@@ -51,6 +57,8 @@ impl Core {
         ensures opened { IfOk result (λ conn. (conn ≡ 0) × (self.new ≡ core_value self.old.plans (Some new_conn) self.old.jobs)) }
         ensures full { (result ≡ Err OpenError.Full) ↔ IsSome self.old.conn }
         ensures unchanged { OnErr result (self.new ≡ self.old) }
+        ensures stands { (taken : List Reply) (handed : List JobValue) (occurred : List Occurrence) → StandsFor self.old taken handed occurred
+            → OnOk result (StandsFor self.new taken handed (Occurrence.Opening ∷ occurred)) }
     {
         if self.connection.is_some() {
             return Err(OpenError::Full);
@@ -72,23 +80,11 @@ impl Core {
             → IfOk result (λ n. Feeds self.old.plans (stream ++ take n bytes.now) given was (conn_at conn self.new) self.old.jobs self.new.jobs) }
         ensures broken { result ≡ Err StepFault.Memory → BreaksTo (conn_at conn self.old) (conn_at conn self.new) self.old.jobs self.new.jobs }
         ensures unbroken { OnOk result (is_live conn self.new ≡ true) }
+        ensures stands { (was : ConnValue) (stream : List ℕ) (given : List HttpRequest) (taken : List Reply) (handed : List JobValue) (occurred : List Occurrence)
+            → conn_at conn self.old ≡ Some was → HasRead was.reader stream given → StandsFor self.old taken handed occurred
+            → IfOk result (λ n. StandsAfter self.old.plans (stream ++ take n bytes.now) given was self.new taken handed occurred) }
     {
-        if conn.number() != 0 {
-            return Err(StepFault::Gone);
-        }
-        let Some(connection) = self.connection.as_mut() else {
-            return Err(StepFault::Gone);
-        };
-        if connection.broken {
-            return Err(StepFault::Gone);
-        }
-        match connection.feed(self.alloc, &self.plans, &mut self.jobs, bytes) {
-            Ok(taken) => Ok(taken),
-            Err(AllocError) => {
-                connection.broken = true;
-                Err(StepFault::Memory)
-            }
-        }
+        self.feed_live(conn, bytes)
     }
 
     /// Takes the result of a branch. After `Counted` or `Late` the branch is no longer out.
@@ -102,24 +98,12 @@ impl Core {
         ensures plans { self.new.plans ≡ self.old.plans }
         ensures broke { IsTrue result.broke → (result.seen ≡ Seen.Counted)
             × BreaksTo (conn_at call.conn self.old) (conn_at call.conn self.new) self.old.jobs self.new.jobs }
+        ensures judged { (taken : List Reply) (handed : List JobValue) (occurred : List Occurrence) → StandsFor self.old taken handed occurred
+            → result.seen ≡ judged call branch (marked occurred) }
+        ensures stands { (taken : List Reply) (handed : List JobValue) (occurred : List Occurrence) → StandsFor self.old taken handed occurred
+            → result.broke ≡ false → StandsFor self.new taken handed (Occurrence.Result call branch outcome ∷ occurred) }
     {
-        let unknown = Took {
-            seen: Seen::Unknown,
-            broke: false,
-        };
-        if call.conn.number() != 0 {
-            return unknown;
-        }
-        match self.connection.as_mut() {
-            Some(connection) => connection.take_result(
-                self.alloc,
-                call.request,
-                branch,
-                outcome,
-                &mut self.jobs,
-            ),
-            None => unknown,
-        }
+        self.see_result(call, branch, outcome)
     }
 
     /// Gives the next job, in order of start.
@@ -127,6 +111,8 @@ impl Core {
         ensures first { self.old.jobs ≡ option_to_list result ++ self.new.jobs }
         ensures none { result ≡ None → self.old.jobs ≡ [] }
         ensures rest { self.new ≡ core_value self.old.plans self.old.conn self.new.jobs }
+        ensures stands { (taken : List Reply) (handed : List JobValue) (occurred : List Occurrence) → StandsFor self.old taken handed occurred
+            → StandsFor self.new taken (handed ++ option_to_list result) occurred }
     {
         self.jobs.pop_front()
     }
@@ -136,6 +122,8 @@ impl Core {
         ensures first { untaken_of conn self.old ≡ option_to_list result ++ untaken_of conn self.new }
         ensures none { result ≡ None → untaken_of conn self.old ≡ [] }
         ensures rest { self.old ≡ core_value self.new.plans (option_map (with_untaken (option_to_list result)) self.new.conn) self.new.jobs }
+        ensures stands { (taken : List Reply) (handed : List JobValue) (occurred : List Occurrence) → StandsFor self.old taken handed occurred
+            → StandsFor self.new (taken ++ option_to_list result) handed occurred }
     {
         if conn.number() != 0 {
             return None;
@@ -196,6 +184,68 @@ impl Core {
         match &self.connection {
             Some(connection) => connection.branches_out(call.request),
             None => 0,
+        }
+    }
+
+    /// Takes bytes of the connection's stream, where it is open and not broken.
+    fn feed_live(&mut self, conn: ConnId, bytes: &[u8]) -> Result<usize, StepFault>
+        ensures within { IfOk result (λ n. n ≤ length bytes.now) }
+        ensures moves { 0 < length bytes.now → IfOk result (λ n. 0 < n) }
+        ensures gone { (result ≡ Err StepFault.Gone) ↔ (is_live conn self.old ≡ false) }
+        ensures unchanged { result ≡ Err StepFault.Gone → self.new ≡ self.old }
+        ensures plans { self.new.plans ≡ self.old.plans }
+        ensures feeds { (was : ConnValue) (stream : List ℕ) (given : List HttpRequest)
+            → conn_at conn self.old ≡ Some was → HasRead was.reader stream given
+            → IfOk result (λ n. Feeds self.old.plans (stream ++ take n bytes.now) given was (conn_at conn self.new) self.old.jobs self.new.jobs) }
+        ensures broken { result ≡ Err StepFault.Memory → BreaksTo (conn_at conn self.old) (conn_at conn self.new) self.old.jobs self.new.jobs }
+        ensures unbroken { OnOk result (is_live conn self.new ≡ true) }
+    {
+        if conn.number() != 0 {
+            return Err(StepFault::Gone);
+        }
+        let Some(connection) = self.connection.as_mut() else {
+            return Err(StepFault::Gone);
+        };
+        if connection.broken {
+            return Err(StepFault::Gone);
+        }
+        match connection.feed(self.alloc, &self.plans, &mut self.jobs, bytes) {
+            Ok(taken) => Ok(taken),
+            Err(AllocError) => {
+                connection.broken = true;
+                Err(StepFault::Memory)
+            }
+        }
+    }
+
+    /// Takes the result of a branch, if the branch is out.
+    fn see_result(&mut self, call: CallId, branch: u32, outcome: Outcome) -> Took
+        ensures seen { result.seen ≡ core_sees call branch self.old }
+        ensures unknown { result.seen ≡ Seen.Unknown → self.new ≡ self.old }
+        ensures counted { (conn : ConnValue) (was : CallValue) → conn_at call.conn self.old ≡ Some conn → conn.call ≡ Some was
+            → result.seen ≡ Seen.Counted → result.broke ≡ false
+            → CountedIn branch outcome conn was (conn_at call.conn self.new) self.old.jobs self.new.jobs }
+        ensures late { result.seen ≡ Seen.Late → self.new ≡ core_value self.old.plans (option_map (back_on branch) self.old.conn) self.old.jobs }
+        ensures plans { self.new.plans ≡ self.old.plans }
+        ensures broke { IsTrue result.broke → (result.seen ≡ Seen.Counted)
+            × BreaksTo (conn_at call.conn self.old) (conn_at call.conn self.new) self.old.jobs self.new.jobs }
+    {
+        let unknown = Took {
+            seen: Seen::Unknown,
+            broke: false,
+        };
+        if call.conn.number() != 0 {
+            return unknown;
+        }
+        match self.connection.as_mut() {
+            Some(connection) => connection.take_result(
+                self.alloc,
+                call.request,
+                branch,
+                outcome,
+                &mut self.jobs,
+            ),
+            None => unknown,
         }
     }
 }

@@ -1,5 +1,5 @@
 //! The worked rows: what the definitions give for them. The functions do nothing.
-ghost use Rattle.std.specs.Prelude.{◌≡◌, ℕ, ◌∷◌, [], ◌++◌, map, codes, true, false, None, Some};
+ghost use Rattle.std.specs.Prelude.{◌≡◌, ℕ, ◌∷◌, [], ◌++◌, map, replicate, codes, true, false, None, Some};
 ghost use Rattle.std.specs.List.{range_with_len};
 ghost use Rattle.connect_codec.specs.Reply.{bare_reply};
 ghost use Rattle.gateway_core.specs.Call.{reply_of};
@@ -7,16 +7,17 @@ ghost use Rattle.error_document.specs.declared.code.Code.{Code};
 ghost use Rattle.gateway_core.specs.declared.fault.Seen.{Seen};
 ghost use Rattle.http_pieces.specs.declared.refusal.Refusal.{Refusal};
 ghost use Rattle.gateway_core.specs.Occurrence.{Opening, HangUp, Moment, Drain, Closing};
-ghost use Rattle.gateway_core.specs.Past.{call_id, judged, past_of};
+ghost use Rattle.gateway_core.specs.Past.{Answered, Expired, HungUp, call_id, judged, marked, past_of};
 ghost use Rattle.gateway_core.specs.Queue.{replies};
-ghost use Rattle.gateway_core.specs.Rows.{row_starts, start_of, ping, quote, asks, gets, refuses, answers, fails, succeeded, failed};
+ghost use Rattle.gateway_core.specs.Record.{is_lawful, is_decided};
+ghost use Rattle.gateway_core.specs.Rows.{row_starts, starts_then, is_lawful_row, quote_record, ping, quote, asks, gets, after_gets, refuses, answers, fails, succeeded, failed};
 
 /// One call, answered.
 fn ping_answered()
     ensures replies { replies 0 (past_of (Opening ∷ asks ping None 0 ∷ answers 0 0 (codes "{\"ok\":true}") ∷ []))
         ≡ succeeded (codes "{\"pong\":{\"ok\":true}}") ∷ [] }
     ensures starts { row_starts (Opening ∷ asks ping None 0 ∷ answers 0 0 (codes "{\"ok\":true}") ∷ [])
-        ≡ start_of 1 0 0 ∷ [] }
+        ≡ starts_then ping 1 0 0 ∷ [] }
 {}
 
 /// The backend is lost.
@@ -30,7 +31,7 @@ fn quote_joined()
     ensures replies { replies 0 (past_of (Opening ∷ asks quote None 0 ∷ answers 0 1 (codes "2") ∷ answers 0 0 (codes "1") ∷ answers 0 2 (codes "3") ∷ []))
         ≡ succeeded (codes "{\"flight\":1,\"hotel\":2,\"car\":3}") ∷ [] }
     ensures starts { row_starts (Opening ∷ asks quote None 0 ∷ answers 0 1 (codes "2") ∷ answers 0 0 (codes "1") ∷ answers 0 2 (codes "3") ∷ [])
-        ≡ start_of 1 0 0 ∷ start_of 1 0 1 ∷ start_of 2 0 2 ∷ [] }
+        ≡ starts_then quote 1 0 0 ∷ starts_then quote 1 0 1 ∷ starts_then quote 2 0 2 ∷ [] }
 {}
 
 /// The first failure decides, and the third branch never starts.
@@ -38,7 +39,7 @@ fn quote_branch_fails()
     ensures replies { replies 0 (past_of (Opening ∷ asks quote None 0 ∷ fails 0 1 Code.ResourceExhausted (codes "sold out") ∷ answers 0 0 (codes "1") ∷ []))
         ≡ failed Code.ResourceExhausted (codes "hotel: sold out") ∷ [] }
     ensures starts { row_starts (Opening ∷ asks quote None 0 ∷ fails 0 1 Code.ResourceExhausted (codes "sold out") ∷ answers 0 0 (codes "1") ∷ [])
-        ≡ start_of 1 0 0 ∷ start_of 1 0 1 ∷ [] }
+        ≡ starts_then quote 1 0 0 ∷ starts_then quote 1 0 1 ∷ [] }
 {}
 
 /// The request's timeout is reached at 1100, not at 1099.
@@ -137,6 +138,53 @@ fn judged_and_refused()
         ≡ succeeded (codes "{\"pong\":1}") ∷ reply_of (bare_reply 405 false) false ∷ reply_of (bare_reply 400 true) true ∷ [] }
     ensures waiting { replies 0 (past_of (Opening ∷ asks ping None 0 ∷ gets 1 ∷ refuses Refusal.BadHost ∷ []))
         ≡ [] }
+{}
+
+/// The hundredth request is the connection's last, whatever it is.
+fn hundred_requests()
+    ensures replies { replies 0 (marked (after_gets 100)) ≡ replicate 99 (reply_of (bare_reply 405 false) false) ++ reply_of (bare_reply 405 true) true ∷ [] }
+{}
+
+/// A new connection has another number: a result for the old one's call is late, and nothing is queued for the new one.
+fn stale_connection()
+    ensures late { judged (call_id 0 0) 0 (past_of (Opening ∷ asks ping None 0 ∷ Closing 0 ∷ Opening ∷ []))
+        ≡ Seen.Late }
+    ensures unknown { judged (call_id 0 0) 0 (past_of (Opening ∷ asks ping None 0 ∷ Closing 0 ∷ Opening ∷ answers 0 0 (codes "1") ∷ []))
+        ≡ Seen.Unknown }
+    ensures replies { replies 1 (past_of (Opening ∷ asks ping None 0 ∷ Closing 0 ∷ Opening ∷ answers 0 0 (codes "1") ∷ answers 0 0 (codes "1") ∷ []))
+        ≡ [] }
+{}
+
+/// A flood of stale and strange results changes nothing; the drain decides.
+fn flood()
+    ensures late { judged (call_id 0 0) 0 (past_of (Opening ∷ asks quote None 0 ∷ answers 0 1 (codes "2") ∷ answers 0 1 (codes "9") ∷ answers 7 0 (codes "9") ∷ Drain ∷ []))
+        ≡ Seen.Late }
+    ensures late_too { judged (call_id 0 0) 2 (past_of (Opening ∷ asks quote None 0 ∷ answers 0 1 (codes "2") ∷ answers 0 1 (codes "9") ∷ answers 7 0 (codes "9") ∷ Drain ∷ answers 0 0 (codes "1") ∷ []))
+        ≡ Seen.Late }
+    ensures unknown { judged (call_id 0 0) 0 (past_of (Opening ∷ asks quote None 0 ∷ answers 0 1 (codes "2") ∷ answers 0 1 (codes "9") ∷ answers 7 0 (codes "9") ∷ Drain ∷ answers 0 0 (codes "1") ∷ answers 0 2 (codes "3") ∷ []))
+        ≡ Seen.Unknown }
+    ensures replies { replies 0 (past_of (Opening ∷ asks quote None 0 ∷ answers 0 1 (codes "2") ∷ answers 0 1 (codes "9") ∷ answers 7 0 (codes "9") ∷ Drain ∷ answers 0 0 (codes "1") ∷ answers 0 2 (codes "3") ∷ answers 0 0 (codes "1") ∷ []))
+        ≡ failed Code.Unavailable (codes "gateway is draining") ∷ [] }
+{}
+
+/// The records of decided calls are lawful and decided.
+fn lawful_records()
+    ensures joined { is_lawful_row (Opening ∷ asks quote None 0 ∷ answers 0 1 (codes "2") ∷ answers 0 0 (codes "1") ∷ answers 0 2 (codes "3") ∷ []) ≡ true }
+    ensures failed { is_lawful_row (Opening ∷ asks quote None 0 ∷ answers 0 1 (codes "2") ∷ fails 0 0 Code.Unavailable (codes "busy") ∷ answers 0 2 (codes "3") ∷ []) ≡ true }
+    ensures expired { is_lawful_row (Opening ∷ Moment 1000 ∷ asks quote (Some 100) 0 ∷ Moment 1100 ∷ []) ≡ true }
+    ensures at_start { is_lawful_row (Opening ∷ asks quote (Some 0) 0 ∷ []) ≡ true }
+    ensures drained { is_lawful_row (Opening ∷ Drain ∷ asks quote (Some 0) 0 ∷ []) ≡ true }
+    ensures hung_up { is_lawful_row (Opening ∷ asks ping None 0 ∷ HangUp 0 ∷ []) ≡ true }
+{}
+
+/// What no call comes to is no lawful record.
+fn unlawful_records()
+    ensures twice { is_lawful (quote_record (Answered 0 (codes "1") ∷ Answered 0 (codes "1") ∷ [])) ≡ false }
+    ensures not_started { is_lawful (quote_record (Answered 2 (codes "3") ∷ [])) ≡ false }
+    ensures early { is_lawful (quote_record (Expired 4999 ∷ [])) ≡ false }
+    ensures behind_the_end { is_lawful (quote_record (HungUp ∷ Answered 0 (codes "1") ∷ [])) ≡ false }
+    ensures late_at_start { is_lawful (record (quote_record (HungUp ∷ [])) { deadline = Some 0 }) ≡ false }
+    ensures undecided { is_decided (quote_record (Answered 0 (codes "1") ∷ Answered 1 (codes "2") ∷ [])) ≡ false }
 {}
 
 /// A closed connection's call is never decided.

@@ -1,23 +1,24 @@
 -- However the input is cut: a piece may come as two.
 use Rattle.std.proofs.Common.{◌≡◌, ℕ, suc, ◌<◌, ◌≤◌, Bool, true, false, List, [], ◌∷◌, ◌++◌, map, length, refl, sym, ap, ◌∙◌, subst, arith, append_assoc, ⊎_elim}
-use Rattle.std.specs.Prelude.{MatchBool, ◌&&◌, ◌||◌, not, nat_lt, ◌==◌, if◌then◌else◌}
+use Rattle.std.specs.Prelude.{MatchBool, ◌&&◌, not, nat_lt, ◌==◌, if◌then◌else◌}
 use Rattle.std.proofs.lemmas.Bool.{cond_both, cases_Bool, ltb-true, ltb-false, eq-eqb}
 use Rattle.std.proofs.lemmas.List.{append_cancel_left, append-nil, map-append}
 use Rattle.http_pieces.specs.Request.{HttpRequest}
 use Rattle.http_pieces.specs.Requests.{Ending, Open, Broken, Closed, Requests}
 use Rattle.http_pieces.proofs.RequestsLemmas.{IsFinal, requests_unique, requests_stay}
 use Rattle.call_plan.specs.Plan.{PlanRecord}
-use Rattle.gateway_core.specs.Occurrence.{Occurrence, Opening as Opens, Entering, Entry, HangUp as HangsUp, Moment as Passes, Result, Drain as Drains, Closing as Closes, Request}
+use Rattle.gateway_core.specs.Occurrence.{Occurrence, Entering, Entry, Request}
 use Rattle.gateway_core.specs.Arrival.{arrival_of}
 use Rattle.gateway_run.proofs.EventLemmas.{at_unique}
-use Rattle.gateway_core.specs.Starts.{Placed, Start, occurrences, branch_of, branches_started, starts_by, starts_at, starts}
-use Rattle.gateway_core.specs.declared.id.CallId.{CallId}
-use Rattle.gateway_core.specs.Past.{Mark, Past, call_id, entries, mark_of, marked}
+use Rattle.gateway_core.specs.Job.{JobValue}
+use Rattle.gateway_core.specs.Starts.{Placed, start, occurrences, job_started, jobs_by, jobs, starts}
+use Rattle.gateway_core.specs.Past.{Past, mark_of, marked}
 use Rattle.gateway_run.specs.Events.{GatewayEvent, Opening, Piece, HangUp, Moment, BranchResult, Drain, Closing, Before, succeeds, connections, is_closing_of, is_open, hung_up, listens, stream, piece_of, Gains, requests_gained, refusal_gained, OccursAt, Occurs, onto, IsShifted}
+use Rattle.gateway_core.proofs.Cases.{or_false, and_true, and_false}
 
 -- ---- connections
 
-connections_grow : (opened : List ℕ) (e : GatewayEvent) (es : Before) → connections opened es ≤ connections opened (e ∷ es)
+pub connections_grow : (opened : List ℕ) (e : GatewayEvent) (es : Before) → connections opened es ≤ connections opened (e ∷ es)
 connections_grow opened Opening es =
     cond_both (succeeds opened (length es)) (suc (connections opened es)) (connections opened es) (λ n. connections opened es ≤ n) (λ _. omega arith) (λ _. omega arith)
 connections_grow opened (Piece c bytes) es = omega arith
@@ -27,7 +28,7 @@ connections_grow opened (BranchResult c k i o) es = omega arith
 connections_grow opened Drain es = omega arith
 connections_grow opened (Closing c) es = omega arith
 
-open_known : (opened : List ℕ) (c : ℕ) (es : Before) → is_open opened c es ≡ true → c < connections opened es
+pub open_known : (opened : List ℕ) (c : ℕ) (es : Before) → is_open opened c es ≡ true → c < connections opened es
 open_known opened c [] e = absurd (cc)
 open_known opened c (x ∷ es) e =
     ⊎_elim (λ (lt : nat_lt c (connections opened es) ≡ true).
@@ -35,18 +36,6 @@ open_known opened c (x ∷ es) e =
     omega (arith, l, connections_grow opened x es))
     (λ (ge : nat_lt c (connections opened es) ≡ false). ltb-true c (connections opened (x ∷ es)) (rw ge at e))
     (cases_Bool (nat_lt c (connections opened es)))
-
-and_true : (b : Bool) → (b && true) ≡ b
-and_true true = refl
-and_true false = refl
-
-and_false : (b : Bool) → (b && false) ≡ false
-and_false true = refl
-and_false false = refl
-
-or_false : (b : Bool) → (b || false) ≡ b
-or_false true = refl
-or_false false = refl
 
 -- a piece opens, closes and hangs up nothing
 open_piece : (opened : List ℕ) (c conn : ℕ) (bytes : List ℕ) (es : Before) → is_open opened c (Piece conn bytes ∷ es) ≡ is_open opened c es
@@ -74,7 +63,7 @@ pub record IsSame (opened shifted : List ℕ) (es fs : Before) : Type 0 where
   pub hung_is : (c : ℕ) → hung_up shifted c fs ≡ hung_up opened c es
   pub stream_is : (c : ℕ) → stream shifted c fs ≡ stream opened c es
 
-listens_same : (opened shifted : List ℕ) (es fs : Before) (c : ℕ) → IsSame opened shifted es fs → listens shifted c fs ≡ listens opened c es
+pub listens_same : (opened shifted : List ℕ) (es fs : Before) (c : ℕ) → IsSame opened shifted es fs → listens shifted c fs ≡ listens opened c es
 listens_same opened shifted es fs c h = rw (h.open_is c, h.hung_is c) refl
 
 connections_next : (opened shifted : List ℕ) (e : GatewayEvent) (es fs : Before) → connections shifted fs ≡ connections opened es
@@ -88,7 +77,7 @@ connections_next opened shifted Drain es fs h s = h
 connections_next opened shifted (Closing c) es fs h s = h
 
 -- one more event, the same for both
-same_next : (opened shifted : List ℕ) (e : GatewayEvent) (es fs : Before) → IsSame opened shifted es fs
+pub same_next : (opened shifted : List ℕ) (e : GatewayEvent) (es fs : Before) → IsSame opened shifted es fs
     → succeeds shifted (length fs) ≡ succeeds opened (length es) → IsSame opened shifted (e ∷ es) (e ∷ fs)
 same_next opened shifted e es fs h s = record {
   connections_are = connections_next opened shifted e es fs h.connections_are s;
@@ -102,7 +91,7 @@ same_next opened shifted e es fs h s = record {
 }
 
 -- the events before the piece
-same_before : (opened shifted : List ℕ) (n : ℕ) (es : Before) → length es ≤ n → IsShifted n opened shifted → IsSame opened shifted es es
+pub same_before : (opened shifted : List ℕ) (n : ℕ) (es : Before) → length es ≤ n → IsShifted n opened shifted → IsSame opened shifted es es
 same_before opened shifted n [] le h = record { connections_are = refl; open_is = λ c. refl; hung_is = λ c. refl; stream_is = λ c. refl }
 same_before opened shifted n (e ∷ es) le h =
     same_next opened shifted e es es (same_before opened shifted n es (omega (arith, le)) h) (h.before (length es) (omega (arith, le)))
@@ -193,7 +182,7 @@ gains_both plans s p q x y z g h w =
 -- ---- occurrences
 
 -- occurrences in their order, onto those before, newest first
-back : List Occurrence → List Occurrence → List Occurrence
+pub back : List Occurrence → List Occurrence → List Occurrence
 back [] past = past
 back (o ∷ os) past = back os (o ∷ past)
 
@@ -202,13 +191,13 @@ unfolding back
 back-append [] ys past = refl
 back-append (x ∷ xs) ys past = back-append xs ys (x ∷ past)
 
-occurrences_onto : (place : ℕ) (os : List Occurrence) (past : List Placed) → occurrences (onto place os past) ≡ back os (occurrences past)
+pub occurrences_onto : (place : ℕ) (os : List Occurrence) (past : List Placed) → occurrences (onto place os past) ≡ back os (occurrences past)
 unfolding back
 occurrences_onto place [] past = refl
 occurrences_onto place (o ∷ os) past = occurrences_onto place os ((place, o) ∷ past)
 
 -- an event brings the same after lists that come to the same
-at_same : (plans : List PlanRecord) (opened shifted : List ℕ) (e : GatewayEvent) (es fs : Before) (os : List Occurrence) → IsSame opened shifted es fs
+pub at_same : (plans : List PlanRecord) (opened shifted : List ℕ) (e : GatewayEvent) (es fs : Before) (os : List Occurrence) → IsSame opened shifted es fs
     → succeeds shifted (length fs) ≡ succeeds opened (length es) → OccursAt plans shifted e fs os → OccursAt plans opened e es os
 at_same plans opened shifted Opening es fs os h s x = rw s at x
 at_same plans opened shifted (Piece conn bytes) es fs os h s x = rw (listens_same opened shifted es fs conn h, h.stream_is conn) at x
@@ -287,33 +276,18 @@ any_cut plans opened shifted (e ∷ later) before conn p q a b h x y =
 
 -- ---- and the same starts, but for places
 
-abbrev start_at : ℕ → CallId → ℕ → Start
-start_at place id i = record { place = place; id = id; branch = i }
-
-without_place : (place : ℕ) (id : CallId) (xs : List ℕ)
-    → map branch_of (map (λ i. start_at place id i) xs) ≡ map (λ i. (id, i)) xs
-without_place place id [] = refl
-without_place place id (x ∷ xs) = ap (λ ys. (id, x) ∷ ys) (without_place place id xs)
-
-by_place : (place other : ℕ) (o : Occurrence) (m : Mark) (past : Past) → map branch_of (starts_by place o m past) ≡ map branch_of (starts_by other o m past)
-by_place place other (Entry conn e) m past =
-    let id : CallId = call_id conn (entries conn past) in
-    without_place place id (branches_started id m past) ∙ sym (without_place other id (branches_started id m past))
-by_place place other (Result id i outcome) m past =
-    without_place place id (branches_started id m past) ∙ sym (without_place other id (branches_started id m past))
-by_place place other Opens m past = refl
-by_place place other (HangsUp c) m past = refl
-by_place place other (Passes t) m past = refl
-by_place place other Drains m past = refl
-by_place place other (Closes c) m past = refl
+-- the jobs of the starts are those of what occurred
+jobs_of_starts : (placed : List Placed) → map job_started (starts placed) ≡ jobs (marked (occurrences placed))
+jobs_of_starts [] = refl
+jobs_of_starts (o ∷ placed) =
+    let past : Past = marked (occurrences placed) in
+    let new : List JobValue = jobs_by o.1 (mark_of past o.1) past in
+    map-append job_started (starts placed) (map (start o.0) new) ∙ rw (jobs_of_starts placed) (ap (λ js. jobs past ++ js) (without_place o.0 new))
+  where
+    without_place : (place : ℕ) (js : List JobValue) → map job_started (map (start place) js) ≡ js
+    without_place place [] = refl
+    without_place place (j ∷ js) = ap (λ rest. j ∷ rest) (without_place place js)
 
 -- the same branches start, whatever the places
-pub same_starts : (a b : List Placed) → occurrences a ≡ occurrences b → map branch_of (starts a) ≡ map branch_of (starts b)
-same_starts [] [] e = refl
-same_starts [] (y ∷ b) e = absurd (cc)
-same_starts (x ∷ a) [] e = absurd (cc)
-same_starts (x ∷ a) (y ∷ b) e =
-    let what : x.1 ≡ y.1 = cc in
-    let tails : occurrences a ≡ occurrences b = cc in
-    rw (map-append branch_of (starts a) (starts_at x (marked (occurrences a))), map-append branch_of (starts b) (starts_at y (marked (occurrences b))), same_starts a b tails, tails, what)
-    (ap (λ ss. map branch_of (starts b) ++ ss) (by_place x.0 y.0 y.1 (mark_of (marked (occurrences b)) y.1) (marked (occurrences b))))
+pub same_starts : (a b : List Placed) → occurrences a ≡ occurrences b → map job_started (starts a) ≡ map job_started (starts b)
+same_starts a b e = jobs_of_starts a ∙ ap (λ os. jobs (marked os)) e ∙ sym (jobs_of_starts b)

@@ -16,10 +16,10 @@ use Rattle.http_pieces.proofs.RequestsLemmas.{requests_unique, requests_stay}
 use Rattle.call_plan.specs.Plan.{PlanRecord}
 use Rattle.gateway_core.specs.declared.reply.Reply.{Reply}
 use Rattle.gateway_core.specs.Arrival.{arrival_of}
-use Rattle.gateway_core.specs.Core.{ConnValue, CoreValue, is_waiting, is_live, is_unbroken, conn_at, Feeds}
+use Rattle.gateway_core.specs.Core.{ConnValue, CoreValue, is_waiting, is_live, is_unbroken, conn_at}
+use Rattle.gateway_core.specs.Job.{JobValue}
 use Rattle.gateway_core.specs.Occurrence.{Occurrence, Entering, Entry, Request, Refused}
 use Rattle.gateway_core.specs.Past.{entries, marked}
-use Rattle.gateway_core.proofs.CoreLemmas.{fed_core}
 use Rattle.gateway_core.specs.Stands.{StandsFor, StandsAfter, conn_of, occurred_by, refusal_of}
 
 -- a connection has arrived where something came on it
@@ -50,71 +50,71 @@ refused_stays a b text more given new r h g settled a_is =
         absurd (let clash : Closed ≡ Broken r = (requests_unique 0 (text ++ more) (given ++ new) given Closed (Broken r) there later).1 in cc)
 
 -- what has come on the connection, by what occurred
-entries_of : (core : CoreValue) (taken : List Reply) (occurred : List Occurrence) → StandsFor core taken occurred
+entries_of : (core : CoreValue) (taken : List Reply) (handed : List JobValue) (occurred : List Occurrence) → StandsFor core taken handed occurred
     → entries 0 (marked occurred) ≡ (if (conn_of core).arrived then 1 else 0)
-entries_of core taken occurred h = h.conn_stands.entries_are
+entries_of core taken handed occurred h = h.conn_stands.entries_are
 
 one_entry : (x : Entering) (occurred : List Occurrence) → entries 0 (marked occurred) ≡ 0 → entries 0 (marked (Entry 0 x ∷ occurred)) ≡ 1
 one_entry x occurred e = rw e refl
 
 -- bytes that come in two parts: what occurs by the first, and then by the second, is what occurs by both
-occurs_both : (plans : List PlanRecord) (old : ConnValue) (mid new : CoreValue) (taken : List Reply) (occurred : List Occurrence) (text more : List ℕ) (given first second : List HttpRequest) (b : Bool)
+occurs_both : (plans : List PlanRecord) (old : ConnValue) (mid new : CoreValue) (taken : List Reply) (handed : List JobValue) (occurred : List Occurrence) (text more : List ℕ) (given first second : List HttpRequest) (b : Bool)
     → old.arrived ≡ b → entries 0 (marked occurred) ≡ (if old.arrived then 1 else 0)
     → HasRead (conn_of mid).reader text (given ++ first) → is_waiting (conn_of mid).reader.reading ≡ false
     → HasRead (conn_of new).reader (text ++ more) ((given ++ first) ++ second) → is_waiting (conn_of new).reader.reading ≡ false
-    → StandsFor mid taken (occurred_by plans b first (conn_of mid).reader.reading occurred)
+    → StandsFor mid taken handed (occurred_by plans b first (conn_of mid).reader.reading occurred)
     → occurred_by plans (conn_of mid).arrived second (conn_of new).reader.reading (occurred_by plans b first (conn_of mid).reader.reading occurred)
     ≡ occurred_by plans b (first ++ second) (conn_of new).reader.reading occurred
-occurs_both plans old mid new taken occurred text more given first second true b_is entries_are h settled g done stands =
-    let here : (conn_of mid).arrived ≡ true = has_arrived (conn_of mid).arrived (entries 0 (marked occurred)) (entries_of mid taken occurred stands) (entries_are ∙ rw b_is refl) in
+occurs_both plans old mid new taken handed occurred text more given first second true b_is entries_are h settled g done stands =
+    let here : (conn_of mid).arrived ≡ true = has_arrived (conn_of mid).arrived (entries 0 (marked occurred)) (entries_of mid taken handed occurred stands) (entries_are ∙ rw b_is refl) in
     rw here refl
-occurs_both plans old mid new taken occurred text more given (q ∷ first) second false b_is entries_are h settled g done stands =
+occurs_both plans old mid new taken handed occurred text more given (q ∷ first) second false b_is entries_are h settled g done stands =
     let none : entries 0 (marked occurred) ≡ 0 = entries_are ∙ rw b_is refl in
     let x : Entering = Request q (arrival_of plans q) in
     let here : (conn_of mid).arrived ≡ true =
-    has_arrived (conn_of mid).arrived (entries 0 (marked (Entry 0 x ∷ occurred))) (entries_of mid taken (Entry 0 x ∷ occurred) stands) (one_entry x occurred none) in
+    has_arrived (conn_of mid).arrived (entries 0 (marked (Entry 0 x ∷ occurred))) (entries_of mid taken handed (Entry 0 x ∷ occurred) stands) (one_entry x occurred none) in
     rw here refl
-occurs_both plans old mid new taken occurred text more given [] second false b_is entries_are h settled g done stands =
+occurs_both plans old mid new taken handed occurred text more given [] second false b_is entries_are h settled g done stands =
     by_mid (conn_of mid).reader.reading refl stands
   where
     none : entries 0 (marked occurred) ≡ 0
     none = entries_are ∙ rw b_is refl
 
-    quiet : StandsFor mid taken occurred
+    quiet : StandsFor mid taken handed occurred
         → occurred_by plans (conn_of mid).arrived second (conn_of new).reader.reading occurred ≡ occurred_by plans false second (conn_of new).reader.reading occurred
     quiet s =
-        let fresh : (conn_of mid).arrived ≡ false = not_arrived (conn_of mid).arrived (entries 0 (marked occurred)) (entries_of mid taken occurred s) none in
+        let fresh : (conn_of mid).arrived ≡ false = not_arrived (conn_of mid).arrived (entries 0 (marked occurred)) (entries_of mid taken handed occurred s) none in
         rw fresh refl
 
-    by_mid : (x : Reading) → (conn_of mid).reader.reading ≡ x → StandsFor mid taken (refusal_of x occurred)
+    by_mid : (x : Reading) → (conn_of mid).reader.reading ≡ x → StandsFor mid taken handed (refusal_of x occurred)
         → occurred_by plans (conn_of mid).arrived second (conn_of new).reader.reading (refusal_of x occurred) ≡ occurred_by plans false second (conn_of new).reader.reading occurred
     by_mid (Partial left) x_is s = quiet s
     by_mid (Waiting q) x_is s = quiet s
     by_mid (Stopped r) x_is s =
         let stays = refused_stays (conn_of mid).reader (conn_of new).reader text more (given ++ []) second r h g done x_is in
         let here : (conn_of mid).arrived ≡ true =
-        has_arrived (conn_of mid).arrived (entries 0 (marked (Entry 0 (Refused r) ∷ occurred))) (entries_of mid taken (Entry 0 (Refused r) ∷ occurred) s) (one_entry (Refused r) occurred none) in
+        has_arrived (conn_of mid).arrived (entries 0 (marked (Entry 0 (Refused r) ∷ occurred))) (entries_of mid taken handed (Entry 0 (Refused r) ∷ occurred) s) (one_entry (Refused r) occurred none) in
         rw (here, stays.0, stays.1) refl
     by_mid Done x_is s = quiet s
 
 -- two parts of a piece
-pub after_both : (plans : List PlanRecord) (old : ConnValue) (mid new : CoreValue) (taken : List Reply) (occurred : List Occurrence) (text more : List ℕ) (given : List HttpRequest)
+pub after_both : (plans : List PlanRecord) (old : ConnValue) (mid new : CoreValue) (taken : List Reply) (handed : List JobValue) (occurred : List Occurrence) (text more : List ℕ) (given : List HttpRequest)
     → entries 0 (marked occurred) ≡ (if old.arrived then 1 else 0)
-    → (a : StandsAfter plans text given old mid taken occurred)
-    → StandsAfter plans (text ++ more) (given ++ a.0) (conn_of mid) new taken (occurred_by plans old.arrived a.0 (conn_of mid).reader.reading occurred)
-    → StandsAfter plans (text ++ more) given old new taken occurred
-after_both plans old mid new taken occurred text more given entries_are a b =
-    let same = occurs_both plans old mid new taken occurred text more given a.0 b.0 old.arrived refl entries_are a.1 a.3 b.1 b.3 a.2 in
-    (a.0 ++ b.0, rw (← append_assoc given a.0 b.0) b.1, subst (λ os. StandsFor new taken os) same b.2, b.3)
+    → (a : StandsAfter plans text given old mid taken handed occurred)
+    → StandsAfter plans (text ++ more) (given ++ a.0) (conn_of mid) new taken handed (occurred_by plans old.arrived a.0 (conn_of mid).reader.reading occurred)
+    → StandsAfter plans (text ++ more) given old new taken handed occurred
+after_both plans old mid new taken handed occurred text more given entries_are a b =
+    let same = occurs_both plans old mid new taken handed occurred text more given a.0 b.0 old.arrived refl entries_are a.1 a.3 b.1 b.3 a.2 in
+    (a.0 ++ b.0, rw (← append_assoc given a.0 b.0) b.1, subst (λ os. StandsFor new taken handed os) same b.2, b.3)
 
 -- ---- the loop
 
 -- what the core stands for where these bytes were delivered
 abbrev pub Delivers : CoreValue → CoreValue → ℕ → List ℕ → Type 0
 Delivers initial core conn bytes =
-    (was : ConnValue) (stream : List ℕ) (given : List HttpRequest) (taken : List Reply) (occurred : List Occurrence)
-    → conn_at conn initial ≡ Some was → StandsFor initial taken occurred → HasRead was.reader stream given
-    → StandsAfter initial.plans (stream ++ bytes) given was core taken occurred
+    (was : ConnValue) (stream : List ℕ) (given : List HttpRequest) (taken : List Reply) (handed : List JobValue) (occurred : List Occurrence)
+    → conn_at conn initial ≡ Some was → HasRead was.reader stream given → StandsFor initial taken handed occurred
+    → StandsAfter initial.plans (stream ++ bytes) given was core taken handed occurred
 
 -- the first bytes of a piece were delivered, and this is the rest
 pub record IsDelivered (initial core : CoreValue) (conn : ℕ) (piece rest : List ℕ) : Type 0 where
@@ -138,35 +138,25 @@ live_there number core live =
     by_conn None o_is e = absurd (cc)
     by_conn (Some c) o_is e = rw o_is refl
 
--- the first bytes of a piece
-pub first_bytes : (initial new : CoreValue) (conn : ℕ) (bytes : List ℕ)
-    → ((was : ConnValue) (stream : List ℕ) (given : List HttpRequest) → conn_at conn initial ≡ Some was → HasRead was.reader stream given
-    → Feeds initial.plans (stream ++ bytes) given was (conn_at conn new) initial.jobs new.jobs)
-    → is_live conn new ≡ true → Delivers initial new conn bytes
-first_bytes initial new conn bytes feeds live = λ was stream given taken occurred there h reads.
-    fed_core initial new conn (stream ++ bytes) initial.plans taken occurred was given (conn_at conn new) there h refl live (feeds was stream given there reads)
-
 conn_same : (core : CoreValue) (number : ℕ) (was : ConnValue) → conn_at number core ≡ Some was → conn_of core ≡ was
 conn_same core number was e =
     cond_both (number == 0) core.conn None (λ o. o ≡ Some was → conn_of core ≡ was) (λ _ x. rw x refl) (λ _ x. absurd (cc)) e
 
 -- more bytes of it
-pub more_bytes : (initial mid new : CoreValue) (conn : ℕ) (bytes more : List ℕ) → Delivers initial mid conn bytes → is_live conn mid ≡ true → mid.plans ≡ initial.plans
-    → ((was : ConnValue) (stream : List ℕ) (given : List HttpRequest) → conn_at conn mid ≡ Some was → HasRead was.reader stream given
-    → Feeds mid.plans (stream ++ more) given was (conn_at conn new) mid.jobs new.jobs)
-    → is_live conn new ≡ true → Delivers initial new conn (bytes ++ more)
-more_bytes initial mid new conn bytes more before live plans_are feeds live_new = λ was stream given taken occurred there h reads.
-    let a : StandsAfter initial.plans (stream ++ bytes) given was mid taken occurred = before was stream given taken occurred there h reads in
+more_bytes : (initial mid new : CoreValue) (conn : ℕ) (bytes more : List ℕ) → Delivers initial mid conn bytes → is_live conn mid ≡ true → mid.plans ≡ initial.plans
+    → Delivers mid new conn more → Delivers initial new conn (bytes ++ more)
+more_bytes initial mid new conn bytes more first live plans_are second = λ was stream given taken handed occurred there reads h.
+    let a : StandsAfter initial.plans (stream ++ bytes) given was mid taken handed occurred = first was stream given taken handed occurred there reads h in
     let here : conn_at conn mid ≡ Some (conn_of mid) = live_there conn mid live in
-    let fed : Feeds initial.plans ((stream ++ bytes) ++ more) (given ++ a.0) (conn_of mid) (conn_at conn new) mid.jobs new.jobs =
-    subst (λ p. Feeds p ((stream ++ bytes) ++ more) (given ++ a.0) (conn_of mid) (conn_at conn new) mid.jobs new.jobs) plans_are
-    (feeds (conn_of mid) (stream ++ bytes) (given ++ a.0) here a.1) in
-    let b = fed_core mid new conn ((stream ++ bytes) ++ more) initial.plans taken
-    (occurred_by initial.plans was.arrived a.0 (conn_of mid).reader.reading occurred) (conn_of mid) (given ++ a.0) (conn_at conn new) here a.2 refl live_new fed in
+    let b : StandsAfter initial.plans ((stream ++ bytes) ++ more) (given ++ a.0) (conn_of mid) new taken handed
+    (occurred_by initial.plans was.arrived a.0 (conn_of mid).reader.reading occurred) =
+    subst (λ p. StandsAfter p ((stream ++ bytes) ++ more) (given ++ a.0) (conn_of mid) new taken handed
+    (occurred_by initial.plans was.arrived a.0 (conn_of mid).reader.reading occurred)) plans_are
+    (second (conn_of mid) (stream ++ bytes) (given ++ a.0) taken handed (occurred_by initial.plans was.arrived a.0 (conn_of mid).reader.reading occurred) here a.1 a.2) in
     let entries_are : entries 0 (marked occurred) ≡ (if was.arrived then 1 else 0) =
-    entries_of initial taken occurred h ∙ ap (λ (c : ConnValue). if c.arrived then 1 else 0) (conn_same initial conn was there) in
-    subst (λ t. StandsAfter initial.plans t given was new taken occurred) (append_assoc stream bytes more)
-    (after_both initial.plans was mid new taken occurred (stream ++ bytes) more given entries_are a b)
+    entries_of initial taken handed occurred h ∙ ap (λ (c : ConnValue). if c.arrived then 1 else 0) (conn_same initial conn was there) in
+    subst (λ t. StandsAfter initial.plans t given was new taken handed occurred) (append_assoc stream bytes more)
+    (after_both initial.plans was mid new taken handed occurred (stream ++ bytes) more given entries_are a b)
 
 live_of : (b : Bool) → (b ≡ false → ⊥) → b ≡ true
 live_of true h = refl
@@ -199,29 +189,24 @@ drop_drop (suc n) m (x ∷ xs) =
 
 -- what was taken of the rest
 pub delivered : (initial core new : CoreValue) (conn : ℕ) (piece rest : List ℕ) (n : ℕ) → Delivery initial core conn piece rest
-    → ((was : ConnValue) (stream : List ℕ) (given : List HttpRequest) → conn_at conn core ≡ Some was → HasRead was.reader stream given
-    → Feeds core.plans (stream ++ take n rest) given was (conn_at conn new) core.jobs new.jobs)
-    → new.plans ≡ core.plans → is_live conn initial ≡ true → is_live conn new ≡ true
+    → Delivers core new conn (take n rest) → new.plans ≡ core.plans → is_live conn initial ≡ true → is_live conn new ≡ true
     → IsDelivered initial new conn piece (drop n rest)
-delivered initial core new conn piece rest n (not_yet same rest_is) feeds plans_are live_first live = record {
+delivered initial core new conn piece rest n (not_yet same rest_is) stands plans_are live_first live = record {
   count = n;
   rest_is = ap (drop n) rest_is;
   live_first = live_first;
   live = live;
   plans_are = plans_are ∙ ap (λ (c : CoreValue). c.plans) same;
-  stands = subst (λ b. Delivers initial new conn (take n b)) rest_is
-      (first_bytes initial new conn (take n rest)
-      (subst (λ (c : CoreValue). (was : ConnValue) (stream : List ℕ) (given : List HttpRequest) → conn_at conn c ≡ Some was → HasRead was.reader stream given
-      → Feeds c.plans (stream ++ take n rest) given was (conn_at conn new) c.jobs new.jobs) same feeds) live);
+  stands = subst (λ b. Delivers initial new conn (take n b)) rest_is (subst (λ c. Delivers c new conn (take n rest)) same stands);
 }
-delivered initial core new conn piece rest n (so_far d) feeds plans_are live_first live = record {
+delivered initial core new conn piece rest n (so_far d) stands plans_are live_first live = record {
   count = d.count + n;
   rest_is = ap (drop n) d.rest_is ∙ drop_drop d.count n piece;
   live_first = live_first;
   live = live;
   plans_are = plans_are ∙ d.plans_are;
   stands = subst (λ b. Delivers initial new conn b) (ap (λ r. take d.count piece ++ take n r) d.rest_is ∙ sym (take-add d.count n piece))
-      (more_bytes initial core new conn (take d.count piece) (take n rest) d.stands d.live d.plans_are feeds live);
+      (more_bytes initial core new conn (take d.count piece) (take n rest) d.stands d.live d.plans_are stands);
 }
 
 -- all of the rest, as a slice of it says

@@ -4,12 +4,13 @@ use Rattle.std.specs.Prelude.{MatchBool}
 use Rattle.std.proofs.lemmas.List.{append_cancel_left, map-append}
 use Rattle.http_pieces.proofs.RequestsLemmas.{requests_unique}
 use Rattle.call_plan.specs.Plan.{PlanRecord}
-use Rattle.gateway_core.specs.Occurrence.{Occurrence, Entering, Entry}
+use Rattle.gateway_core.specs.Occurrence.{Occurrence, Opening as Opens, Entering, Entry, HangUp as HangsUp, Closing as Closes}
 use Rattle.gateway_core.specs.Past.{Past, mark_of, marked}
 use Rattle.gateway_core.specs.Starts.{Placed, occurrences}
 use Rattle.gateway_core.specs.Queue.{queued, IsPrefixOf}
 use Rattle.gateway_core.proofs.PastLemmas.{nothing_later}
-use Rattle.gateway_run.specs.Events.{GatewayEvent, Opening, Piece, HangUp, Moment, BranchResult, Drain, Closing, Before, Gains, OccursAt, Occurs, onto, listens, stream}
+use Rattle.gateway_run.specs.Events.{GatewayEvent, Opening, Piece, HangUp, Moment, BranchResult, Drain, Closing, Before, Gains, OccursAt, Occurs, has_no_effect, once, onto, is_open, listens, stream, succeeds}
+use Rattle.gateway_core.proofs.Cases.{not_so}
 
 gains_unique : (plans : List PlanRecord) (text longer : List ℕ) (a b : List Entering) → Gains plans text longer a → Gains plans text longer b → a ≡ b
 gains_unique plans text longer a b g h =
@@ -84,3 +85,23 @@ queued_later plans opened later events a b conn h g =
     ap (λ x. marked (occurrences x)) r.2.1 ∙ ap marked (map-append (λ (o : Placed). o.1) r.2.0 r.0) ∙ ms.1 in
     subst (λ p. IsPrefixOf (queued conn (marked (occurrences a))) (queued conn p)) (sym b_is)
     (subst (λ x. IsPrefixOf (queued conn (marked (occurrences x))) (queued conn (ms.0 ++ marked (occurrences r.0)))) (sym same) (nothing_later conn ms.0 (marked (occurrences r.0))))
+
+-- ---- events of no effect
+
+nothing_at : (plans : List PlanRecord) (opened : List ℕ) (e : GatewayEvent) (before : Before) (os : List Occurrence) → has_no_effect opened e before ≡ true
+    → OccursAt plans opened e before os → os ≡ []
+nothing_at plans opened Opening before os none h = h ∙ ap (λ b. once b Opens) (not_so (succeeds opened (length before)) none)
+nothing_at plans opened (Piece conn bytes) before os none h =
+    let P : Type 0 = (gained : List Entering) × Gains plans (stream opened conn before) (stream opened conn before ++ bytes) gained × (os ≡ map (Entry conn) gained) in
+    subst (λ b. MatchBool b P (os ≡ [])) (not_so (listens opened conn before) none) h
+nothing_at plans opened (HangUp conn) before os none h = h ∙ ap (λ b. once b (HangsUp conn)) (not_so (listens opened conn before) none)
+nothing_at plans opened (Moment m) before os none h = absurd (cc)
+nothing_at plans opened (BranchResult conn request branch outcome) before os none h = absurd (cc)
+nothing_at plans opened Drain before os none h = absurd (cc)
+nothing_at plans opened (Closing conn) before os none h = h ∙ ap (λ b. once b (Closes conn)) (not_so (is_open opened conn before) none)
+
+pub nothing_occurs : (plans : List PlanRecord) (opened : List ℕ) (e : GatewayEvent) (before : Before) (a b : List Placed) → has_no_effect opened e before ≡ true
+    → Occurs plans opened before a → Occurs plans opened (e ∷ before) b → b ≡ a
+nothing_occurs plans opened e before a b none h g =
+    let empty : g.2.0 ≡ [] = nothing_at plans opened e before g.2.0 none g.2.1 in
+    g.2.2 ∙ ap (λ os. onto (length before) os g.0) empty ∙ occurs_unique plans opened before g.0 a g.1 h

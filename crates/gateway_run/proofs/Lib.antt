@@ -4,3 +4,5 @@ pub mod RunLemmas
 pub mod Scripts
 pub mod CutLemmas
 pub mod DeliverLemmas
+pub mod StepLemmas
+pub mod WholeLemmas

@@ -1,5 +1,5 @@
 -- The events of a run, and what occurs by them: the bytes of each connection's stream are cut into requests.
-use Rattle.std.specs.Prelude.{◌≡◌, ℕ, suc, ◌<◌, Bool, true, false, ◌&&◌, ◌||◌, not, if◌then◌else◌, ◌==◌, nat_lt, List, [], ◌∷◌, ◌++◌, map, length, MatchBool}
+use Rattle.std.specs.Prelude.{◌≡◌, ℕ, suc, ◌<◌, ⊤, Bool, true, false, ◌&&◌, ◌||◌, not, if◌then◌else◌, ◌==◌, nat_lt, List, [], ◌∷◌, ◌++◌, map, length, MatchBool}
 use Rattle.std.specs.List.{list_any}
 use Rattle.http_pieces.specs.Request.{HttpRequest}
 use Rattle.http_pieces.specs.Requests.{Ending, Open, Broken, Closed, Requests}
@@ -8,7 +8,7 @@ use Rattle.call_plan.specs.Plan.{PlanRecord}
 use Rattle.gateway_core.specs.Arrival.{arrival_of}
 use Rattle.gateway_core.specs.Occurrence.{Occurrence, Entering, Request, Refused, Entry}
 use Rattle.gateway_core.specs.Occurrence as occurs
-use Rattle.gateway_core.specs.Past.{call_id}
+use Rattle.gateway_core.specs.Past.{call_id, count_below}
 use Rattle.gateway_core.specs.Starts.{Placed}
 
 -- what may happen to a gateway; a connection is named by its number, a call by its connection and the number of its request
@@ -48,6 +48,33 @@ is_open opened conn (e ∷ before) =
     if nat_lt conn (connections opened before)
     then is_open opened conn before && not (is_closing_of conn e)
     else nat_lt conn (connections opened (e ∷ before))
+
+-- how many connections are open
+abbrev pub open_connections : List ℕ → Before → ℕ
+open_connections opened before = count_below (connections opened before) (λ c. is_open opened c before)
+
+-- so many connections may be open at once (this project's choice)
+abbrev pub most_open : ℕ
+most_open = 64
+
+-- the event at that place is an opening, before which fewer connections were open than may be
+pub record OpensAt (opened : List ℕ) (events : Before) (place : ℕ) : Type 0 where
+  pub later : Before
+  pub before : Before
+  pub event_is : events ≡ later ++ Opening ∷ before
+  pub place_is : length before ≡ place
+  pub few : open_connections opened before < most_open
+
+-- each is greater than the one before it
+abbrev pub IsRising : List ℕ → Type 0
+IsRising [] = ⊤
+IsRising (p ∷ []) = ⊤
+IsRising (p ∷ q ∷ places) = (p < q) × IsRising (q ∷ places)
+
+-- these are the places of the openings that succeeded, of which entry number c is connection c
+pub record IsOpened (opened : List ℕ) (events : Before) : Type 0 where
+  pub rising : IsRising opened
+  pub openings : (place : ℕ) → succeeds opened place ≡ true → OpensAt opened events place
 
 abbrev pub is_hang_up_of : ℕ → GatewayEvent → Bool
 is_hang_up_of conn (HangUp c) = c == conn
@@ -117,6 +144,15 @@ OccursAt plans opened (Moment m) before os = os ≡ occurs.Moment m ∷ []
 OccursAt plans opened (BranchResult conn request branch outcome) before os = os ≡ occurs.Result (call_id conn request) branch outcome ∷ []
 OccursAt plans opened Drain before os = os ≡ occurs.Drain ∷ []
 OccursAt plans opened (Closing conn) before os = os ≡ once (is_open opened conn before) (occurs.Closing conn)
+
+-- the event has no effect: it names a connection that is not open, is a piece or a hang-up after the connection's first hang-up, or an
+-- opening that does not succeed
+abbrev pub has_no_effect : List ℕ → GatewayEvent → Before → Bool
+has_no_effect opened Opening before = not (succeeds opened (length before))
+has_no_effect opened (Piece conn bytes) before = not (listens opened conn before)
+has_no_effect opened (HangUp conn) before = not (listens opened conn before)
+has_no_effect opened (Closing conn) before = not (is_open opened conn before)
+has_no_effect opened e before = false
 
 -- occurrences in their order at an event of that place, onto those before, newest first
 abbrev pub onto : ℕ → List Occurrence → List Placed → List Placed

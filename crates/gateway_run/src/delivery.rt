@@ -1,5 +1,6 @@
 ghost use Rattle.std.specs.Prelude.{◌≡◌, ℕ, ◌↔◌, ◌++◌, OnOk, Some, List, true, false};
 ghost use Rattle.gateway_core.specs.Core.{ConnValue, is_live, conn_at, is_broken_conn};
+ghost use Rattle.gateway_core.specs.Job.{JobValue};
 ghost use Rattle.gateway_core.specs.Occurrence.{Occurrence};
 ghost use Rattle.gateway_core.specs.Stands.{StandsFor, StandsAfter};
 ghost use Rattle.gateway_core.specs.declared.reply.Reply.{Reply};
@@ -20,9 +21,9 @@ pub fn deliver(core: &mut Core, conn: ConnId, piece: &[u8]) -> Result<(), StepFa
     ensures plans { core.new.plans ≡ core.old.plans }
 
     // The core stands for what occurs by the piece.
-    ensures stands { (was : ConnValue) (stream : List ℕ) (given : List HttpRequest) (taken : List Reply) (occurred : List Occurrence)
-        → conn_at conn core.old ≡ Some was → StandsFor core.old taken occurred → HasRead was.reader stream given
-        → OnOk result (StandsAfter core.old.plans (stream ++ piece.now) given was core.new taken occurred) }
+    ensures stands { (was : ConnValue) (stream : List ℕ) (given : List HttpRequest) (taken : List Reply) (handed : List JobValue) (occurred : List Occurrence)
+        → conn_at conn core.old ≡ Some was → HasRead was.reader stream given → StandsFor core.old taken handed occurred
+        → OnOk result (StandsAfter core.old.plans (stream ++ piece.now) given was core.new taken handed occurred) }
 {
     let mut rest = piece;
     loop {

@@ -1,4 +1,14 @@
-ghost use Rattle.std.specs.Prelude.{◌≡◌};
+ghost use Rattle.std.specs.Prelude.{◌≡◌, ℕ, ◌↔◌, ◌∷◌, ◌||◌, List, length, true, false, is_some, if◌then◌else◌};
+ghost use Rattle.connect_codec.specs.declared.answer.Outcome.{Outcome};
+ghost use Rattle.gateway_core.specs.Occurrence.{Occurrence};
+ghost use Rattle.gateway_core.specs.Past.{call_id};
+ghost use Rattle.gateway_core.specs.declared.reply.Reply.{Reply};
+ghost use Rattle.gateway_core.specs.Core.{is_live, core_sees, is_broken_conn};
+ghost use Rattle.gateway_core.specs.Job.{JobValue};
+ghost use Rattle.gateway_core.specs.Starts.{Placed};
+ghost use Rattle.gateway_run.specs.Events.{Before, onto};
+ghost use Rattle.gateway_run.specs.Stands.{StandsForEvents, opened_by, tells_piece};
+ghost use Rattle.gateway_run.specs.Today.{gateway_event, is_opening};
 
 use crate::delivery::deliver;
 use crate::event::Event;
@@ -20,7 +30,26 @@ pub enum Stepped {
 }
 
 /// Makes the step of one event.
-pub fn step(core: &mut Core, event: Event) -> Stepped {
+pub fn step(core: &mut Core, event: Event) -> Stepped
+    // A connection is opened where none was before.
+    ensures opening { event ≡ Event.Opening
+        → result ≡ (if is_some core.old.conn then Stepped.NotOpened OpenError.Full else Stepped.Opened 0) }
+    ensures piece { (conn : ℕ) (bytes : List ℕ) → event ≡ Event.Piece conn bytes
+        → (result ≡ Stepped.Fault StepFault.Gone) ↔ (is_live conn core.old ≡ false) }
+    ensures taken { (conn : ℕ) (bytes : List ℕ) → event ≡ Event.Piece conn bytes → tells_piece result ≡ true }
+    ensures memory { result ≡ Stepped.Fault StepFault.Memory → is_broken_conn core.new.conn ≡ true }
+    ensures saw { (conn request branch : ℕ) (outcome : Outcome) → event ≡ Event.BranchResult conn request branch outcome
+        → (took : Took) × (result ≡ Stepped.Saw took) × (took.seen ≡ core_sees (call_id conn request) branch core.old) }
+    ensures alone { (conn : ℕ) → result ≡ Stepped.Opened conn → event ≡ Event.Opening }
+    ensures plans { core.new.plans ≡ core.old.plans }
+    ensures connection { is_some core.new.conn ≡ (is_some core.old.conn || is_opening (gateway_event event)) }
+    ensures stays_broken { is_broken_conn core.old.conn ≡ true → is_broken_conn core.new.conn ≡ true }
+
+    // The core stands for the events with this one added, and for what occurs by it, if its connection did not break.
+    ensures stands { (taken : List Reply) (handed : List JobValue) (opened : List ℕ) (events : Before) (occurred : List Placed)
+        → StandsForEvents core.old taken handed opened events occurred → is_broken_conn core.new.conn ≡ false
+        → (os : List Occurrence) × StandsForEvents core.new taken handed (opened_by result (length events) opened) (gateway_event event ∷ events) (onto (length events) os occurred) }
+{
     match event {
         Event::Opening => match core.open_conn() {
             Ok(conn) => Stepped::Opened(conn),

@@ -19,7 +19,7 @@ returns-then-is_empty-clause-stands c =
     let live = live_at c.args.core.now c.loop-taken.core c.args.conn c.args.piece.now c.loop-taken.rest.now c.feed.result c.in_ok-taken.taken c.loop-taken.invariant
     c.in_ok-taken.was c.feed.ensures.gone in
     let d = delivered c.args.core.now c.loop-taken.core c.feed.new.self c.args.conn c.args.piece.now c.loop-taken.rest.now c.in_ok-taken.taken c.loop-taken.invariant
-    c.in_ok-taken.ensures.feeds c.feed.ensures.plans live c.in_ok-taken.ensures.unbroken in
+    c.in_ok-taken.ensures.stands c.feed.ensures.plans live c.in_ok-taken.ensures.unbroken in
     whole c.args.core.now c.feed.new.self c.args.conn c.args.piece.now _ d (empty_rest c.in_ok-taken.taken c.loop-taken.rest.now c.if-is_empty.ensures)
 
 pub loop-taken-preserved : goal.loop-taken-preserved
@@ -27,5 +27,5 @@ loop-taken-preserved c =
     let live = live_at c.args.core.now c.loop-taken.core c.args.conn c.args.piece.now c.loop-taken.rest.now c.feed.result c.in_ok-taken.taken c.loop-taken.invariant
     c.in_ok-taken.was c.feed.ensures.gone in
     let d = delivered c.args.core.now c.loop-taken.core c.feed.new.self c.args.conn c.args.piece.now c.loop-taken.rest.now c.in_ok-taken.taken c.loop-taken.invariant
-    c.in_ok-taken.ensures.feeds c.feed.ensures.plans live c.in_ok-taken.ensures.unbroken in
+    c.in_ok-taken.ensures.stands c.feed.ensures.plans live c.in_ok-taken.ensures.unbroken in
     rw (all_rest c.in_ok-taken.taken c.loop-taken.rest.now) (so_far d)
