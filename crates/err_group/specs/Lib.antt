@@ -1,0 +1,4 @@
+pub mod GroupState
+pub mod Group
+pub mod Fates
+pub mod Rows
