@@ -1,0 +1,4 @@
+pub mod Hooks
+pub mod Stands
+pub mod Whole
+pub mod Rows

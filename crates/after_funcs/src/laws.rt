@@ -1,0 +1,27 @@
+//! What the definitions come to, as facts on every list of operations. The functions do nothing.
+ghost use Rattle.std.specs.Prelude.{◌≡◌, ◌+◌, ◌++◌, ◌∷◌, List, Contains, count_by, AllPairs, ◌<◌, nat_lt, if◌then◌else◌};
+ghost use Rattle.after_funcs.specs.Hooks.{Operation, Stop, is_named, is_waiting, waiting, due, registered};
+ghost use Rattle.after_funcs.specs.Whole.{called, stopped, became_due, HasWaitedSince};
+ghost use Rattle.after_funcs.specs.declared.id.AfterId.{AfterId as Id};
+ghost use Rattle.after_funcs.specs.declared.registration.Registration.{Registration as Registered};
+
+/// A hook waits from its registration until a fire of its context or its stop.
+pub fn waiting_law<H>()
+    ensures since { (past : List (Operation H)) (r : Registered H) → Contains (waiting past) r → HasWaitedSince r past }
+    ensures only { (past : List (Operation H)) (r : Registered H) → HasWaitedSince r past → Contains (waiting past) r }
+{}
+
+/// Each hook that was registered has one place: it waits, is due, was called, or was stopped. So it is called once or
+/// dropped uncalled, never both, and no two hooks have one number.
+pub fn once_law<H>()
+    ensures { (past : List (Operation H)) (id : Id) →
+        count_by (is_named id) (waiting past) + count_by (is_named id) (due past) + count_by (is_named id) (called past) + count_by (is_named id) (stopped past)
+        ≡ (if nat_lt id (registered past) then 1 else 0) }
+{}
+
+/// Hooks are called in the order in which they became due. Those that became due by one fire stand in the order of
+/// registration, as the hooks that wait do.
+pub fn order_law<H>()
+    ensures called { (past : List (Operation H)) → called past ++ due past ≡ became_due past }
+    ensures registered { (past : List (Operation H)) → AllPairs (λ r s. r.id < s.id) (waiting past) }
+{}

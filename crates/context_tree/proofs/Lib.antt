@@ -1,0 +1,5 @@
+pub mod Lineage
+pub mod Walking
+pub mod Marking
+pub mod Standing
+pub mod LawLemmas

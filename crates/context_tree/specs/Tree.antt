@@ -1,0 +1,130 @@
+-- What a tree stands for.
+use Rattle.std.specs.Prelude.{◌≡◌, ℕ, ◌^◌, not, nat_le, ◌&&◌, ◌==◌, Bool, true, false, is_some, is_none, if◌then◌else◌, List, [], ◌∷◌, slice_index_or, Option, Some, None, option_map, option_and_then}
+use Rattle.std.specs.List.{list_any}
+use Rattle.std.specs.Option.{option_map_or}
+use Rattle.context_tree.specs.declared.error.CtxError.{CtxError}
+use Rattle.context_tree.specs.declared.error.CtxError.TheVariants.{Unknown, Exhausted, Memory}
+use Rattle.context_tree.specs.declared.node.Kind.{Kind}
+use Rattle.context_tree.specs.declared.node.Ender.{Ender}
+use Rattle.context_tree.specs.declared.node.Ender.TheVariants.{ByCancel, ByMoment}
+use Rattle.context_tree.specs.declared.node.Ending.{Ending}
+use Rattle.context_tree.specs.declared.node.Node.{Node}
+use Rattle.context_tree.specs.Context.{Id, same, TreeOp, Makes, Cancels, Advances, HandsOut, Releases, Ended, makes, held, parent_of, can_cancel, chain, ends, deadline, ending}
+
+-- what contracts see of a tree: the slots, the contexts that are not ended, and how many were made
+pub record TreeValue (C V : Type 0) : Type 0 where
+  pub slots : List (Option (Node C V))
+  pub live : List Id
+  pub made : ℕ
+
+-- The error of a refused call is this fault, or want of memory where there is no fault.
+abbrev pub IsFault : Option CtxError → CtxError → Type 0
+IsFault None e = e ≡ Memory
+IsFault (Some fault) e = e ≡ fault
+
+-- one of these
+abbrev pub is_among : Id → List Id → Bool
+is_among x ids = list_any (same x) ids
+
+module _ {C : Type 0} where
+  -- the error and the cause
+  abbrev pub told : Ended C → Ending C
+  told e = record { error = e.error; cause = e.cause }
+
+module _ {C V : Type 0} where
+  -- the node, if it has that number
+  abbrev pub numbered : ℕ → Option (Node C V) → Option (Node C V)
+  numbered n None = None
+  numbered n (Some node) = if node.number == n then Some node else None
+
+  -- the node of an id
+  abbrev pub node_at : List (Option (Node C V)) → Id → Option (Node C V)
+  node_at slots x = numbered x.0 (slice_index_or slots x.1 None)
+
+  -- the ending of an id's node
+  abbrev pub ending_in : List (Option (Node C V)) → Id → Option (Ending C)
+  ending_in slots x = option_and_then (λ n. n.ending) (node_at slots x)
+
+  -- the id's node has no ending
+  abbrev pub is_live : List (Option (Node C V)) → Id → Bool
+  is_live slots x = is_none (ending_in slots x)
+
+  -- the deadline of an id's node
+  abbrev pub deadline_in : List (Option (Node C V)) → Id → Option ℕ
+  deadline_in slots x = option_and_then (λ n. n.deadline) (node_at slots x)
+
+  -- the node of a context that is held
+  abbrev pub context : Id → List (TreeOp C V) → Option (Node C V)
+  context x past =
+      option_map
+      (λ kind. record { number = x.0; kind = kind; ending = option_map told (ending x past); deadline = deadline x past })
+      (held x past)
+
+  -- the parent, if there is one, is held
+  abbrev pub ParentHeld : Option Id → List (TreeOp C V) → Type 0
+  ParentHeld None past = Unit {0}
+  ParentHeld (Some p) past = (kind : Kind C V) × (held p past ≡ Some kind)
+
+  -- contexts are numbered by creation, each is derived from one that is held, and none is released before those that are
+  -- derived from it
+  abbrev pub IsLawful : List (TreeOp C V) → Type 0
+  IsLawful [] = Unit {0}
+  IsLawful (Makes id kind now ∷ past) = (id.0 ≡ makes past) × ParentHeld (parent_of kind) past × IsLawful past
+  IsLawful (Cancels id cause ∷ past) = IsLawful past
+  IsLawful (Advances now ∷ past) = IsLawful past
+  IsLawful (HandsOut id ∷ past) = IsLawful past
+  IsLawful (Releases id ∷ past) = ((x : Id) (kind : Kind C V) → held x past ≡ Some kind → parent_of kind ≡ Some id → ⊥) × IsLawful past
+
+  -- each is known as it was made and not released since
+  pub record Keeps (slots : List (Option (Node C V))) (past : List (TreeOp C V)) : Type 0 where
+    pub lawful : IsLawful past
+    pub kinds_are : (x : Id) → option_map (λ n. n.kind) (node_at slots x) ≡ held x past
+
+  -- The tree stands for the operations, newest first.
+  pub record StandsFor (t : TreeValue C V) (past : List (TreeOp C V)) : Type 0 where
+    pub lawful : IsLawful past
+    pub made_is : t.made ≡ makes past
+    pub nodes_are : (x : Id) → node_at t.slots x ≡ context x past
+    pub live_are : (x : Id) → is_among x t.live ≡ (is_some (held x past) && is_none (ending x past))
+
+  -- the context is held, as the slots keep it
+  pub record IsKept (slots : List (Option (Node C V))) (x : Id) : Type 0 where
+    pub past : List (TreeOp C V)
+    pub keeps : Keeps slots past
+    pub kind : Kind C V
+    pub is_held : held x past ≡ Some kind
+
+  -- the operation that ends contexts in this way
+  abbrev pub op_of : Ender C → TreeOp C V
+  op_of (ByCancel target cause) = Cancels target cause
+  op_of (ByMoment now) = Advances now
+
+  -- the node with that ending
+  abbrev pub with_ending : Option (Ended C) → Node C V → Node C V
+  with_ending e n = record n { ending = option_map told e }
+
+  -- each of these contexts has the ending that its chain gives it at this operation, and no other changes
+  pub record Marked (old new : List (Option (Node C V))) (ids : List Id) (op : TreeOp C V) : Type 0 where
+    pub others : (x : Id) → is_among x ids ≡ false → node_at new x ≡ node_at old x
+    pub marked : (past : List (TreeOp C V)) (turn : ℕ) → Keeps old past → (x : Id) → is_among x ids ≡ true
+        → node_at new x ≡ option_map (with_ending (ends turn (chain x past) op)) (node_at old x)
+
+  -- some operations lead to it
+  abbrev pub IsReached : TreeValue C V → Type 0
+  IsReached t = (past : List (TreeOp C V)) × StandsFor t past
+
+  -- ---- what the calls answer
+
+  -- why no context is made from this parent, but for want of memory
+  abbrev pub make_fault : Option Id → List (TreeOp C V) → Option CtxError
+  make_fault parent past =
+      if not (option_map_or (λ p. is_some (held p past)) parent true) then Some Unknown
+      else (if nat_le (2 ^ 62) (makes past) then Some Exhausted else None)
+
+  -- the answer of a context that is held; nothing for another
+  abbrev pub if_held : {A : Type 0} → Id → List (TreeOp C V) → A → Option A
+  if_held x past a = option_map (λ kind. a) (held x past)
+
+  -- a cancel ends the context: it is held, can be cancelled and is not ended
+  abbrev pub is_ended_by_cancel : Id → List (TreeOp C V) → Bool
+  is_ended_by_cancel x past = option_map_or can_cancel (held x past) false && is_none (ending x past)

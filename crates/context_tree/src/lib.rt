@@ -1,0 +1,20 @@
+//! Derived contexts as Go's package `context` has them, over moments that the caller hands in, in milliseconds.
+//!
+//! A `Tree` keeps the contexts. One is derived from another, and is ended by its own cancel or deadline or by those of
+//! the contexts that it derives from, whichever comes first.
+#![tactic(auto)]
+
+mod error;
+mod id;
+mod laws;
+mod node;
+#[cfg(test)]
+mod tests;
+mod tree;
+mod walk;
+
+pub use error::{Cause, CtxErr, CtxError, Unknown};
+pub use id::CtxId;
+pub use laws::{child_law, deadline_law, first_end_law};
+pub use node::Kind;
+pub use tree::Tree;

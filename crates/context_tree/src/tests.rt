@@ -1,0 +1,96 @@
+use super::*;
+use std::test::Fail;
+
+#[test]
+fn contexts(rt: HostRuntime) -> Result<(), Fail> {
+    let mut tree: Tree<u32, &str> = Tree::new(rt.alloc());
+    let b = tree.background()?;
+    let p = tree.with_deadline(b, 100, 0, Some(7))?;
+    let c = tree.with_deadline(p, 200, 0, None)?;
+    assert_eq!(rt; tree.deadline(c), Ok(Some(100)));
+    let d = tree.with_cancel(c)?;
+    let w = tree.without_cancel(d)?;
+    assert_eq!(rt; tree.cancel(d, Some(9)), true);
+    assert_eq!(rt; tree.cancel(d, Some(9)), false);
+    tree.advance(100);
+    assert_eq!(rt; tree.err(c), Ok(Some(CtxErr::DeadlineExceeded)));
+    assert_eq!(rt; tree.cause(c), Ok(Some(Cause::Given(7))));
+    assert_eq!(rt; tree.cause(d), Ok(Some(Cause::Given(9))));
+    assert_eq!(rt; tree.err(w), Ok(None));
+    let e = tree.with_deadline(b, 5, 5, None)?;
+    assert_eq!(rt;
+        tree.cause(e),
+        Ok(Some(Cause::Plain(CtxErr::DeadlineExceeded)))
+    );
+    let v = tree.with_value(b, 1, "r").map_err(|refused| refused.1)?;
+    let u = tree.with_cancel(v)?;
+    assert_eq!(rt; tree.value(u, 1), Ok(Some(&"r")));
+    assert_eq!(rt; tree.value(u, 2), Ok(None));
+    Ok(())
+}
+
+// Go `context`: the first cause wins (`WithCancelCause`), and a child has its parent's.
+#[test]
+fn first_cause_wins(rt: HostRuntime) -> Result<(), Fail> {
+    let mut tree: Tree<u32, u8> = Tree::new(rt.alloc());
+    let b = tree.background()?;
+    let p = tree.with_cancel(b)?;
+    let c = tree.with_cancel(p)?;
+    assert_eq!(rt; tree.cancel(b, Some(1)), false);
+    assert_eq!(rt; tree.cancel(p, Some(2)), true);
+    assert_eq!(rt; tree.cancel(p, Some(3)), false);
+    assert_eq!(rt; tree.cancel(c, Some(4)), false);
+    assert_eq!(rt; tree.cause(c), Ok(Some(Cause::Given(2))));
+    let late = tree.with_deadline(p, 9, 0, Some(5))?;
+    assert_eq!(rt; tree.err(late), Ok(Some(CtxErr::Canceled)));
+    assert_eq!(rt; tree.cause(late), Ok(Some(Cause::Given(2))));
+    assert_eq!(rt; tree.cause(b), Ok(None));
+    Ok(())
+}
+
+// Go `context`: a deadline is never later than the parent's (`WithDeadline`), and of equal ones the earlier made counts.
+#[test]
+fn deadlines(rt: HostRuntime) -> Result<(), Fail> {
+    let mut tree: Tree<u32, u8> = Tree::new(rt.alloc());
+    let b = tree.background()?;
+    assert_eq!(rt; tree.deadline(b), Ok(None));
+    let p = tree.with_deadline(b, 10, 0, Some(1))?;
+    let later = tree.with_deadline(p, 20, 0, Some(2))?;
+    let equal = tree.with_deadline(p, 10, 0, Some(3))?;
+    let sooner = tree.with_deadline(p, 5, 0, None)?;
+    assert_eq!(rt; tree.deadline(later), Ok(Some(10)));
+    assert_eq!(rt; tree.deadline(sooner), Ok(Some(5)));
+    tree.advance(9);
+    assert_eq!(rt; tree.err(p), Ok(None));
+    assert_eq!(rt;
+        tree.cause(sooner),
+        Ok(Some(Cause::Plain(CtxErr::DeadlineExceeded)))
+    );
+    tree.advance(30);
+    assert_eq!(rt; tree.cause(later), Ok(Some(Cause::Given(1))));
+    assert_eq!(rt; tree.cause(equal), Ok(Some(Cause::Given(1))));
+    Ok(())
+}
+
+// Go `context`: `WithoutCancel` keeps the values and nothing else.
+#[test]
+fn values_and_without_cancel(rt: HostRuntime) -> Result<(), Fail> {
+    let mut tree: Tree<u32, u8> = Tree::new(rt.alloc());
+    let b = tree.background()?;
+    let v = tree.with_value(b, 1, 11).map_err(|refused| refused.1)?;
+    let d = tree.with_deadline(v, 10, 0, None)?;
+    let c = tree.with_cancel(d)?;
+    let w = tree.without_cancel(c)?;
+    let x = tree.with_value(w, 2, 22).map_err(|refused| refused.1)?;
+    assert_eq!(rt; tree.cancel(c, None), true);
+    assert_eq!(rt; tree.err(w), Ok(None));
+    assert_eq!(rt; tree.deadline(x), Ok(None));
+    assert_eq!(rt; tree.cancel(x, None), false);
+    assert_eq!(rt; tree.cancel(w, None), false);
+    assert_eq!(rt; tree.value(x, 1), Ok(Some(&11)));
+    assert_eq!(rt; tree.value(x, 2), Ok(Some(&22)));
+    assert_eq!(rt; tree.value(c, 2), Ok(None));
+    let late = tree.with_cancel(w)?;
+    assert_eq!(rt; tree.err(late), Ok(None));
+    Ok(())
+}

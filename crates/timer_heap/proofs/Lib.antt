@@ -1,0 +1,2 @@
+mod Earliest
+pub mod FirstDue
