@@ -105,7 +105,7 @@ module _ {C V : Type 0} where
       (λ (none : ending p past ≡ None). or_some (ending x past) _ (ends_child past x p kind lawful is f (length past) (Advances now) (rw none at end)))
       (λ (some : (e : Ended C) × (ending p past ≡ Some e)). or_first (ending x past) _ (child_ends past x p kind lawful is f (rw some.1 refl)))
       (option_cases (ending p past))
-  child_ends (HandsOut id ∷ past) x p kind lawful is f end = child_ends past x p kind lawful is f end
+  child_ends (HandsOut id ∷ past) x p kind lawful is f end = child_ends past x p kind lawful.1 is f end
   child_ends (Releases id ∷ past) x p kind lawful is f end = ⊎_elim
       (λ (yes' : same id x ≡ true). let bad : None ≡ Some kind = rw yes' at is in cc)
       (λ (no' : same id x ≡ false). child_ends past x p kind lawful.1 (rw no' at is) f end)

@@ -1,5 +1,10 @@
 pub mod Lineage
 pub mod Walking
 pub mod Marking
+pub mod Ordering
 pub mod Standing
+pub mod Queueing
+pub mod Passing
+pub mod Timing
+pub mod Whole
 pub mod LawLemmas

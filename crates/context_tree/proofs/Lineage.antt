@@ -41,7 +41,7 @@ module _ {C V : Type 0} where
       (cases_Bool (same id x))
   held_low (Cancels id cause ∷ past) lawful x kind is = held_low past lawful x kind is
   held_low (Advances now ∷ past) lawful x kind is = held_low past lawful x kind is
-  held_low (HandsOut id ∷ past) lawful x kind is = held_low past lawful x kind is
+  held_low (HandsOut id ∷ past) lawful x kind is = held_low past lawful.1 x kind is
   held_low (Releases id ∷ past) lawful x kind is = ⊎_elim
       (λ (yes' : same id x ≡ true). let bad : None ≡ Some kind = rw yes' at is in cc)
       (λ (no' : same id x ≡ false). held_low past lawful.1 x kind (rw no' at is))
@@ -101,7 +101,7 @@ module _ {C V : Type 0} where
       (cases_Bool (same id x))
   born (Cancels id cause ∷ past) lawful x kind is = let old = born past lawful x kind is in record { line_is = old.line_is; chain_is = old.chain_is; parent_low = old.parent_low; parent_held = old.parent_held }
   born (Advances now ∷ past) lawful x kind is = let old = born past lawful x kind is in record { line_is = old.line_is; chain_is = old.chain_is; parent_low = old.parent_low; parent_held = old.parent_held }
-  born (HandsOut id ∷ past) lawful x kind is = let old = born past lawful x kind is in record { line_is = old.line_is; chain_is = old.chain_is; parent_low = old.parent_low; parent_held = old.parent_held }
+  born (HandsOut id ∷ past) lawful x kind is = let old = born past lawful.1 x kind is in record { line_is = old.line_is; chain_is = old.chain_is; parent_low = old.parent_low; parent_held = old.parent_held }
   born (Releases id ∷ past) lawful x kind is = ⊎_elim
       (λ (yes' : same id x ≡ true). let bad : None ≡ Some kind = rw yes' at is in cc)
       (λ (no' : same id x ≡ false).

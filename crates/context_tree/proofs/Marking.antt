@@ -1,7 +1,7 @@
 -- Contexts are given their endings one by one.
 use Rattle.std.proofs.Common.{◌≡◌, ◌≢◌, refl, sym, ap, ◌∙◌, arith, rules, ℕ, zero, suc, ◌<◌, ◌≤◌, List, [], ◌∷◌, ◌++◌, length, Option, Some, None, Bool, true, false, ⊎_elim, option_map, slice_index_or, slice_set}
 use Rattle.std.specs.Prelude.{◌||◌, ◌==◌, if◌then◌else◌}
-use Rattle.std.proofs.lemmas.Bool.{cases_Bool, cases_lt}
+use Rattle.std.proofs.lemmas.Bool.{cases_Bool, cases_lt, eq-eqb}
 use Rattle.std.proofs.lemmas.List.{get_or-set_same, get_or-set_other}
 use Rattle.std.proofs.lemmas.List.Folds.{list_any-append}
 use Rattle.context_tree.specs.declared.node.Ending.{Ending}
@@ -52,6 +52,10 @@ module _ {C V : Type 0} where
       (λ (lt : i < length slots). lt)
       (λ (le : length slots ≤ i). let bad : None ≡ Some n = rw (past_end slots i le) at is in cc)
       (cases_lt i (length slots))
+
+  -- the node in a slot is that of the id with its number
+  pub node_in_slot : (slots : List (Option (Node C V))) (k : ℕ) (n : Node C V) → slice_index_or slots k None ≡ Some n → node_at slots (n.number, k) ≡ Some n
+  node_in_slot slots k n is = rw (is, eq-eqb n.number n.number refl) refl
 
   -- a node of the same number is put in the slot of an id
   pub node-set : (slots : List (Option (Node C V))) (id : Id) (n m : Node C V) → node_at slots id ≡ Some n → m.number ≡ n.number → (x : Id)

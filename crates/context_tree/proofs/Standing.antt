@@ -1,4 +1,4 @@
--- What a tree stands for after each call.
+-- What a tree knows of the contexts after each call.
 use Rattle.std.proofs.Common.{◌≡◌, ◌≢◌, refl, sym, ap, subst, ◌∙◌, arith, rules, ℕ, ◌+◌, ◌^◌, ◌<◌, List, [], ◌∷◌, ◌++◌, length, Option, Some, None, Bool, true, false, ⊎_elim, option_map, slice_index_or}
 use Rattle.std.specs.Prelude.{◌&&◌, ◌||◌, ◌==◌, if◌then◌else◌, is_some, is_none, filter, option_and_then}
 use Rattle.std.specs.Option.{option_or, option_map_or}
@@ -12,53 +12,33 @@ use Rattle.context_tree.specs.declared.node.Node.{Node}
 use Rattle.context_tree.specs.declared.node.Ender.{Ender}
 use Rattle.context_tree.specs.declared.node.Ender.TheVariants.{ByCancel, ByMoment}
 use Rattle.context_tree.specs.Context.{Id, same, TreeOp, Makes, Ended, makes, held, chain, parent_of, follows, ends, ending, deadline, inherited, expiry, own_due, own_deadline, sooner, least}
-use Rattle.context_tree.specs.Tree.{TreeValue, node_at, ending_in, deadline_in, is_live, told, context, is_among, with_ending, op_of, IsLawful, ParentHeld, Keeps, IsKept, Marked, StandsFor, make_fault}
+use Rattle.context_tree.specs.Tree.{TreeValue, EachBefore, node_at, ending_in, deadline_in, is_live, told, context, is_among, with_ending, op_of, IsLawful, ParentHeld, Keeps, IsKept, Marked, KnowsContexts, StandsFor, make_fault}
 use Rattle.context_tree.proofs.Lineage.{held_low, same_true, same_refl, option_cases}
 use Rattle.context_tree.proofs.Marking.{among_push}
+use Rattle.context_tree.proofs.Ordering.{among_filter, each-append, each-filter, or_none}
 
-and_left : (a b : Bool) → (a && b) ≡ true → a ≡ true
+pub and_left : (a b : Bool) → (a && b) ≡ true → a ≡ true
 and_left true b is = refl
 and_left false b is = cc
 
-is_some_of : {A : Type 0} (o : Option A) → is_some o ≡ true → (a : A) × (o ≡ Some a)
+pub is_some_of : {A : Type 0} (o : Option A) → is_some o ≡ true → (a : A) × (o ≡ Some a)
 is_some_of None is = cc
 is_some_of (Some a) is = (a, refl)
 
-among_filter : (p : Id → Bool) (x : Id) (ids : List Id) → is_among x (filter p ids) ≡ (is_among x ids && p x)
-among_filter p x [] = refl
-among_filter p x (y ∷ ys) = ⊎_elim
-    (λ (e : same x y ≡ true). let xy : x ≡ y = same_true x y e in ⊎_elim
-    (λ (k : p y ≡ true). rw (k, e) (rw (xy, k) refl))
-    (λ (k : p y ≡ false). rw (k, among_filter p x ys, e) (rw (xy, k) (no_and (is_among y ys))))
-    (cases_Bool (p y)))
-    (λ (e : same x y ≡ false). ⊎_elim
-    (λ (k : p y ≡ true). rw (k, e) (among_filter p x ys))
-    (λ (k : p y ≡ false). rw (k, e) (among_filter p x ys))
-    (cases_Bool (p y)))
-    (cases_Bool (same x y))
-  where
-    no_and : (b : Bool) → (b && false) ≡ false
-    no_and true = refl
-    no_and false = refl
-
 eqb_true : (a b : ℕ) → (a == b) ≡ true → a ≡ b
 eqb_true a b is = grind (arith, rules)
-
-or_none : (b : Bool) → (b || false) ≡ b
-or_none true = refl
-or_none false = refl
 
 or_true : (b : Bool) → (b || true) ≡ true
 or_true true = refl
 or_true false = refl
 
-same_false_sym : (a b : Id) → same a b ≡ false → same b a ≡ false
+pub same_false_sym : (a b : Id) → same a b ≡ false → same b a ≡ false
 same_false_sym a b is = ⊎_elim
     (λ (yes' : same b a ≡ true). let e : b ≡ a = same_true b a yes' in let bad : same a b ≡ true = rw e (same_refl a) in let no' : true ≡ false = sym bad ∙ is in cc)
     (λ (no' : same b a ≡ false). no')
     (cases_Bool (same b a))
 
-among_end : (x id : Id) (ids : List Id) (b : Bool) → same x id ≡ b → is_among x (ids ++ id ∷ []) ≡ (is_among x ids || b)
+pub among_end : (x id : Id) (ids : List Id) (b : Bool) → same x id ≡ b → is_among x (ids ++ id ∷ []) ≡ (is_among x ids || b)
 among_end x id ids b is = among_push x id ids ∙ rw is (ap (λ r. is_among x ids || r) (or_none b))
 
 abbrev live_after : {C : Type 0} → Option (Ending C) → List Id → Id → List Id
@@ -79,20 +59,21 @@ module _ {C V : Type 0} where
   kind_of_context None f is = refl
   kind_of_context (Some k) f is = ap Some (is k)
 
-  pub keeps_of : (t : TreeValue C V) (past : List (TreeOp C V)) → StandsFor t past → Keeps t.slots past
+  keeps_of : (t : TreeValue C V) (past : List (TreeOp C V)) → KnowsContexts t past → Keeps t.slots past
   keeps_of t past s = record {
     lawful = s.lawful;
     kinds_are = λ x. ap (option_map (λ n. n.kind)) (s.nodes_are x) ∙ kind_of_context (held x past) _ (λ k. refl);
   }
 
   pub live_kept : (t : TreeValue C V) (past : List (TreeOp C V)) → StandsFor t past → (x : Id) → is_among x t.live ≡ true → IsKept t.slots x
-  live_kept t past s x is =
+  live_kept t past stands x is =
+      let s = stands.contexts in
       let h = is_some_of (held x past) (and_left _ (is_none (ending x past)) (sym (s.live_are x) ∙ is)) in
       record { past = past; keeps = keeps_of t past s; kind = h.0; is_held = h.1 }
 
   pub node_kept : (t : TreeValue C V) (past : List (TreeOp C V)) → StandsFor t past → (x : Id) (n : Node C V) → node_at t.slots x ≡ Some n → IsKept t.slots x
-  node_kept t past s x n is =
-      record { past = past; keeps = keeps_of t past s; kind = n.kind; is_held = let k = keeps_of t past s in sym (k.kinds_are x) ∙ rw is refl }
+  node_kept t past stands x n is =
+      let k = keeps_of t past stands.contexts in record { past = past; keeps = k; kind = n.kind; is_held = sym (k.kinds_are x) ∙ rw is refl }
 
   -- ---- operations that end contexts
 
@@ -145,9 +126,9 @@ module _ {C V : Type 0} where
   not_live (Some k) (Some a) e is = refl
 
   -- the contexts that the operation ends are marked, and the others stay live
-  pub ended_stands : (t u : TreeValue C V) (past : List (TreeOp C V)) (e : Ender C) → StandsFor t past → (ids : List Id) → ids ≡ t.live → Marked t.slots u.slots ids (op_of e) → u.live ≡ filter (is_live u.slots) t.live → u.made ≡ t.made
-      → StandsFor u (op_of e ∷ past)
-  ended_stands t u past e s ids ids_are marked_ids live_is made_is =
+  pub ended_known : (t u : TreeValue C V) (past : List (TreeOp C V)) (e : Ender C) → KnowsContexts t past → (ids : List Id) → ids ≡ t.live → Marked t.slots u.slots ids (op_of e) → u.live ≡ filter (is_live u.slots) t.live → u.made ≡ t.made
+      → KnowsContexts u (op_of e ∷ past)
+  ended_known t u past e s ids ids_are marked_ids live_is made_is =
       let m : Marked t.slots u.slots t.live (op_of e) = subst (λ l. Marked t.slots u.slots l (op_of e)) ids_are marked_ids in
       let nodes : (x : Id) → node_at u.slots x ≡ context x (op_of e ∷ past) = λ x. ⊎_elim
       (λ (yes' : is_among x t.live ≡ true).
@@ -170,6 +151,7 @@ module _ {C V : Type 0} where
             rw (yes', here) (ap is_none (ap (option_and_then (λ n. n.ending)) (nodes x) ∙ ending_of_node (held x (op_of e ∷ past)) x (ending x (op_of e ∷ past)) (deadline x (op_of e ∷ past)) here) ∙ told_none (ending x (op_of e ∷ past))))
             (λ (no' : is_among x t.live ≡ false). rw (no', held_op e x past, ending_op e x past) (sym (not_live (held x past) (ending x past) (ends (length past) (chain x past) (op_of e)) (sym (s.live_are x) ∙ no'))))
             (cases_Bool (is_among x t.live)));
+        live_rise = rw live_is (each-filter _ (is_live u.slots) t.live s.live_rise);
       }
 
   -- ---- new trees and new contexts
@@ -177,11 +159,11 @@ module _ {C V : Type 0} where
   no_slot : (x : Id) → node_at {C = C} {V = V} [] x ≡ None
   no_slot x = refl
 
-  pub new_stands : StandsFor {C = C} {V = V} (record { slots = []; live = []; made = 0 }) []
-  new_stands = record { lawful = tt; made_is = refl; nodes_are = λ x. refl; live_are = λ x. refl }
+  pub new_known : KnowsContexts {C = C} {V = V} (record { slots = []; live = []; done = []; timers = record { entries = []; sets = 0 }; made = 0 }) []
+  new_known = record { lawful = tt; made_is = refl; nodes_are = λ x. refl; live_are = λ x. refl; live_rise = tt }
 
   -- the ending and the deadline of a node that is there are those of its context
-  ending_there : (t : TreeValue C V) (past : List (TreeOp C V)) → StandsFor t past → (o : Option Id) → ParentHeld o past
+  ending_there : (t : TreeValue C V) (past : List (TreeOp C V)) → KnowsContexts t past → (o : Option Id) → ParentHeld o past
       → option_and_then (λ p. ending_in t.slots p) o ≡ option_map told (option_and_then (λ p. ending p past) o)
   ending_there t past s None held_is = refl
   ending_there t past s (Some p) held_is =
@@ -191,7 +173,7 @@ module _ {C V : Type 0} where
   deadline_of_node None x e d is = cc
   deadline_of_node (Some k) x e d is = refl
 
-  deadline_there : (t : TreeValue C V) (past : List (TreeOp C V)) → StandsFor t past → (o : Option Id) → ParentHeld o past
+  deadline_there : (t : TreeValue C V) (past : List (TreeOp C V)) → KnowsContexts t past → (o : Option Id) → ParentHeld o past
       → option_and_then (λ p. deadline_in t.slots p) o ≡ least (option_map_or (λ p. chain p past) o [])
   deadline_there t past s None held_is = refl
   deadline_there t past s (Some p) held_is =
@@ -223,15 +205,15 @@ module _ {C V : Type 0} where
       rw (differ, others x.1 other) refl)
       (cases_Bool (id.1 == x.1))
 
-  pub made_stands : (t u : TreeValue C V) (past : List (TreeOp C V)) (id : Id) (kind : Kind C V) (now : ℕ) (e : Option (Ending C)) (d : Option ℕ)
-      → StandsFor t past → ParentHeld (parent_of kind) past → id.0 ≡ t.made
+  pub made_known : (t u : TreeValue C V) (past : List (TreeOp C V)) (id : Id) (kind : Kind C V) (now : ℕ) (e : Option (Ending C)) (d : Option ℕ)
+      → KnowsContexts t past → ParentHeld (parent_of kind) past → id.0 ≡ t.made
       → slice_index_or t.slots id.1 None ≡ None → slice_index_or u.slots id.1 None ≡ Some (record { number = id.0; kind = kind; ending = e; deadline = d })
       → ((k : ℕ) → k ≢ id.1 → slice_index_or u.slots k None ≡ slice_index_or t.slots k None)
       → e ≡ option_or (option_and_then (λ p. ending_in t.slots p) (follows kind)) (option_map (λ x. told (expiry 0 x)) (own_due now (id, kind)))
       → d ≡ sooner (own_deadline kind) (option_and_then (λ p. deadline_in t.slots p) (follows kind))
       → u.live ≡ (if is_none e then t.live ++ id ∷ [] else t.live) → u.made ≡ t.made + 1
-      → StandsFor u (Makes id kind now ∷ past)
-  made_stands t u past id kind now e d s parent number vacant put others e_is d_is live_is made_is =
+      → KnowsContexts u (Makes id kind now ∷ past)
+  made_known t u past id kind now e d s parent number vacant put others e_is d_is live_is made_is =
       let n : Node C V = record { number = id.0; kind = kind; ending = e; deadline = d } in
       let ended = option_or (option_map (inherited (length past) id) (option_and_then (λ p. ending p past) (follows kind))) (option_map (expiry (length past)) (own_due now (id, kind))) in
       let e_told : e ≡ option_map told ended =
@@ -249,32 +231,41 @@ module _ {C V : Type 0} where
             rw (← same_id, same_refl id, live_is) (new_live t past s id e ended number e_told))
             (λ (no' : same id x ≡ false). rw (no', live_is) (old_live e t.live id x no' ∙ s.live_are x))
             (cases_Bool (same id x));
+        live_rise = rw live_is (rise t past s id e number);
       }
     where
+      rise : (t : TreeValue C V) (past : List (TreeOp C V)) → KnowsContexts t past → (id : Id) (e : Option (Ending C)) → id.0 ≡ t.made → EachBefore (λ x y. x.0 < y.0) (live_after e t.live id)
+      rise t past s id (Some e) number = s.live_rise
+      rise t past s id None number = each-append _ t.live (id ∷ []) s.live_rise (λ y is. cc, tt) (λ x y xin yin.
+          let h = is_some_of (held x past) (and_left _ (is_none (ending x past)) (sym (s.live_are x) ∙ xin)) in
+          let low : x.0 < makes past = held_low past s.lawful x h.0 h.1 in
+          let here : y ≡ id = same_true y id (sym (or_none (same y id)) ∙ yin) in
+          rw here (omega (arith, low, number, s.made_is)))
+
       old_live : (e : Option (Ending C)) (ids : List Id) (id x : Id) → same id x ≡ false → is_among x (live_after e ids id) ≡ is_among x ids
       old_live None ids id x is = among_end x id ids false (same_false_sym id x is) ∙ or_none (is_among x ids)
       old_live (Some e) ids id x is = refl
 
-      not_yet : (t : TreeValue C V) (past : List (TreeOp C V)) → StandsFor t past → (id : Id) → id.0 ≡ t.made → is_among id t.live ≡ false
+      not_yet : (t : TreeValue C V) (past : List (TreeOp C V)) → KnowsContexts t past → (id : Id) → id.0 ≡ t.made → is_among id t.live ≡ false
       not_yet t past s id number = ⊎_elim
           (λ (none : held id past ≡ None). s.live_are id ∙ rw none refl)
           (λ (some : (k : Kind C V) × (held id past ≡ Some k)). let low : id.0 < makes past = held_low past s.lawful id some.0 some.1 in absurd (omega (arith, low, number, s.made_is)))
           (option_cases (held id past))
 
-      new_live : (t : TreeValue C V) (past : List (TreeOp C V)) → StandsFor t past → (id : Id) (e : Option (Ending C)) (ended : Option (Ended C)) → id.0 ≡ t.made → e ≡ option_map told ended → is_among id (live_after e t.live id) ≡ is_none ended
+      new_live : (t : TreeValue C V) (past : List (TreeOp C V)) → KnowsContexts t past → (id : Id) (e : Option (Ending C)) (ended : Option (Ended C)) → id.0 ≡ t.made → e ≡ option_map told ended → is_among id (live_after e t.live id) ≡ is_none ended
       new_live t past s id None None number is = among_end id id t.live true (same_refl id) ∙ or_true (is_among id t.live)
       new_live t past s id None (Some x) number is = cc
       new_live t past s id (Some e) None number is = cc
       new_live t past s id (Some e) (Some x) number is = not_yet t past s id number
 
-  known_held : (t : TreeValue C V) (past : List (TreeOp C V)) → StandsFor t past → (p : Id) → is_some (node_at t.slots p) ≡ is_some (held p past)
+  known_held : (t : TreeValue C V) (past : List (TreeOp C V)) → KnowsContexts t past → (p : Id) → is_some (node_at t.slots p) ≡ is_some (held p past)
   known_held t past s p = ap is_some (s.nodes_are p) ∙ some_map (held p past)
     where
       some_map : (o : Option (Kind C V)) → is_some (option_map (node_of p (ending p past) (deadline p past)) o) ≡ is_some o
       some_map None = refl
       some_map (Some k) = refl
 
-  pub known_parent : (t : TreeValue C V) (past : List (TreeOp C V)) → StandsFor t past → (o : Option Id) → option_map_or (λ p. is_some (node_at t.slots p)) o true ≡ option_map_or (λ p. is_some (held p past)) o true
+  pub known_parent : (t : TreeValue C V) (past : List (TreeOp C V)) → KnowsContexts t past → (o : Option Id) → option_map_or (λ p. is_some (node_at t.slots p)) o true ≡ option_map_or (λ p. is_some (held p past)) o true
   known_parent t past s None = refl
   known_parent t past s (Some p) = known_held t past s p
 
@@ -286,16 +277,16 @@ module _ {C V : Type 0} where
   no_fault past o known few = rw (known, lt-leb (2 ^ 62) (makes past) few) refl
 
   -- The slab made room, and then the node was put in its vacant slot.
-  pub put_stands : (t u : TreeValue C V) (past : List (TreeOp C V)) → StandsFor t past → (roomy put : Slab (Node C V)) (slot key : ℕ) (live : List Id) (kind : Kind C V) (now : ℕ) (e : Option (Ending C)) (d : Option ℕ)
+  pub put_known : (t u : TreeValue C V) (past : List (TreeOp C V)) → KnowsContexts t past → (roomy put : Slab (Node C V)) (slot key : ℕ) (live : List Id) (kind : Kind C V) (now : ℕ) (e : Option (Ending C)) (d : Option ℕ)
       → roomy.slots ≡ t.slots → live ≡ t.live → key ≡ slot → get roomy slot ≡ None
       → Updates roomy put key (Some (record { number = t.made; kind = kind; ending = e; deadline = d }))
       → ParentHeld (parent_of kind) past
       → e ≡ option_or (option_and_then (λ p. ending_in roomy.slots p) (follows kind)) (option_map (λ x. told (expiry 0 x)) (own_due now ((t.made, slot), kind)))
       → d ≡ sooner (own_deadline kind) (option_and_then (λ p. deadline_in roomy.slots p) (follows kind))
       → u.slots ≡ put.slots → u.live ≡ (if is_none e then live ++ (t.made, slot) ∷ [] else live) → u.made ≡ t.made + 1
-      → StandsFor u (Makes (t.made, slot) kind now ∷ past)
-  put_stands t u past s roomy put slot key live kind now e d slots_are live_is key_is vacant updates parent e_is d_is put_is added made_is =
-      made_stands (record { slots = roomy.slots; live = live; made = t.made }) u past (t.made, slot) kind now e d (rw (slots_are, live_is) s) parent refl vacant
+      → KnowsContexts u (Makes (t.made, slot) kind now ∷ past)
+  put_known t u past s roomy put slot key live kind now e d slots_are live_is key_is vacant updates parent e_is d_is put_is added made_is =
+      made_known (record { slots = roomy.slots; live = live; done = t.done; timers = t.timers; made = t.made }) u past (t.made, slot) kind now e d (rw (slots_are, live_is) s) parent refl vacant
       (rw (put_is, ← key_is) updates.changed)
       (λ k other. rw put_is (updates.others k (rw key_is other)))
       e_is d_is added made_is

@@ -1,5 +1,5 @@
 -- Contexts over the list of operations, newest first (Go package `context`). Times are milliseconds.
-use Rattle.std.specs.Prelude.{ℕ, ◌+◌, min, Bool, true, false, ◌&&◌, ◌||◌, not, ◌==◌, nat_le, nat_lt, if◌then◌else◌, is_some, List, [], ◌∷◌, length, Option, Some, None, option_map, option_and_then}
+use Rattle.std.specs.Prelude.{ℕ, ◌+◌, min, Bool, true, false, ◌&&◌, ◌||◌, not, ◌==◌, nat_le, nat_lt, if◌then◌else◌, is_some, ◌≡◌, List, [], ◌∷◌, length, Option, Some, None, option_map, option_and_then}
 use Rattle.std.specs.List.{list_any}
 use Rattle.std.specs.Option.{option_or, option_map_or}
 use Rattle.context_tree.specs.declared.error.CtxErr.{CtxErr}
@@ -219,3 +219,17 @@ module _ {C V : Type 0} where
   -- an ended context that is neither released nor handed out
   abbrev pub is_waiting : Id → List (TreeOp C V) → Bool
   is_waiting x past = is_some (held x past) && is_some (ending x past) && not (handed x past)
+
+  -- It waits, and no other that waits precedes it.
+  pub record IsFirstDone (x : Id) (past : List (TreeOp C V)) : Type 0 where
+    pub waits : is_waiting x past ≡ true
+    pub first : (y : Id) → is_waiting y past ≡ true → precedes y x (ending y past) (ending x past) ≡ false
+
+  -- ---- releases
+
+  -- a context that is held derives from it
+  pub record HasChild (x : Id) (past : List (TreeOp C V)) : Type 0 where
+    pub child : Id
+    pub kind : Kind C V
+    pub is_held : held child past ≡ Some kind
+    pub derives : parent_of kind ≡ Some x

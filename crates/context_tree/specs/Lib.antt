@@ -1,2 +1,3 @@
 pub mod Context
+pub mod Timed
 pub mod Tree

@@ -1,7 +1,9 @@
 -- What a tree stands for.
-use Rattle.std.specs.Prelude.{◌≡◌, ℕ, ◌^◌, not, nat_le, ◌&&◌, ◌==◌, Bool, true, false, is_some, is_none, if◌then◌else◌, List, [], ◌∷◌, slice_index_or, Option, Some, None, option_map, option_and_then}
+use Rattle.std.specs.Prelude.{◌≡◌, ◌<◌, ℕ, ◌^◌, not, nat_le, ◌&&◌, ◌==◌, Bool, true, false, is_some, is_none, if◌then◌else◌, List, [], ◌∷◌, slice_index_or, Option, Some, None, option_map, option_and_then}
 use Rattle.std.specs.List.{list_any}
 use Rattle.std.specs.Option.{option_map_or}
+use Rattle.timer_heap.specs.Timers.{Timing}
+use Rattle.context_tree.specs.Timed.{Timed}
 use Rattle.context_tree.specs.declared.error.CtxError.{CtxError}
 use Rattle.context_tree.specs.declared.error.CtxError.TheVariants.{Unknown, Exhausted, Memory}
 use Rattle.context_tree.specs.declared.node.Kind.{Kind}
@@ -9,12 +11,15 @@ use Rattle.context_tree.specs.declared.node.Ender.{Ender}
 use Rattle.context_tree.specs.declared.node.Ender.TheVariants.{ByCancel, ByMoment}
 use Rattle.context_tree.specs.declared.node.Ending.{Ending}
 use Rattle.context_tree.specs.declared.node.Node.{Node}
-use Rattle.context_tree.specs.Context.{Id, same, TreeOp, Makes, Cancels, Advances, HandsOut, Releases, Ended, makes, held, parent_of, can_cancel, chain, ends, deadline, ending}
+use Rattle.context_tree.specs.Context.{Id, same, TreeOp, Makes, Cancels, Advances, HandsOut, Releases, Ended, makes, held, parent_of, can_cancel, chain, ends, deadline, ending, is_waiting, precedes}
 
--- what contracts see of a tree: the slots, the contexts that are not ended, and how many were made
+-- what contracts see of a tree: the slots, the contexts that are not ended, those that are ended and wait to be handed out,
+-- the timers, and how many were made
 pub record TreeValue (C V : Type 0) : Type 0 where
   pub slots : List (Option (Node C V))
   pub live : List Id
+  pub done : List Id
+  pub timers : Timing
   pub made : ℕ
 
 -- The error of a refused call is this fault, or want of memory where there is no fault.
@@ -25,6 +30,11 @@ IsFault (Some fault) e = e ≡ fault
 -- one of these
 abbrev pub is_among : Id → List Id → Bool
 is_among x ids = list_any (same x) ids
+
+-- each of these stands in the relation to each that comes later
+abbrev pub EachBefore : (Id → Id → Type 0) → List Id → Type 0
+EachBefore R [] = Unit {0}
+EachBefore R (x ∷ xs) = ((y : Id) → is_among y xs ≡ true → R x y) × EachBefore R xs
 
 module _ {C : Type 0} where
   -- the error and the cause
@@ -65,14 +75,14 @@ module _ {C V : Type 0} where
   ParentHeld None past = Unit {0}
   ParentHeld (Some p) past = (kind : Kind C V) × (held p past ≡ Some kind)
 
-  -- contexts are numbered by creation, each is derived from one that is held, and none is released before those that are
-  -- derived from it
+  -- contexts are numbered by creation, each is derived from one that is held, those are handed out that wait for it, and
+  -- none is released before those that are derived from it
   abbrev pub IsLawful : List (TreeOp C V) → Type 0
   IsLawful [] = Unit {0}
   IsLawful (Makes id kind now ∷ past) = (id.0 ≡ makes past) × ParentHeld (parent_of kind) past × IsLawful past
   IsLawful (Cancels id cause ∷ past) = IsLawful past
   IsLawful (Advances now ∷ past) = IsLawful past
-  IsLawful (HandsOut id ∷ past) = IsLawful past
+  IsLawful (HandsOut id ∷ past) = (is_waiting id past ≡ true) × IsLawful past
   IsLawful (Releases id ∷ past) = ((x : Id) (kind : Kind C V) → held x past ≡ Some kind → parent_of kind ≡ Some id → ⊥) × IsLawful past
 
   -- each is known as it was made and not released since
@@ -80,12 +90,28 @@ module _ {C V : Type 0} where
     pub lawful : IsLawful past
     pub kinds_are : (x : Id) → option_map (λ n. n.kind) (node_at slots x) ≡ held x past
 
-  -- The tree stands for the operations, newest first.
-  pub record StandsFor (t : TreeValue C V) (past : List (TreeOp C V)) : Type 0 where
+  -- each context that is held is known, and those that are not ended stand by creation
+  pub record KnowsContexts (t : TreeValue C V) (past : List (TreeOp C V)) : Type 0 where
     pub lawful : IsLawful past
     pub made_is : t.made ≡ makes past
     pub nodes_are : (x : Id) → node_at t.slots x ≡ context x past
     pub live_are : (x : Id) → is_among x t.live ≡ (is_some (held x past) && is_none (ending x past))
+    pub live_rise : EachBefore (λ x y. x.0 < y.0) t.live
+
+  -- two contexts, of which the second does not precede the first
+  abbrev pub ComesFirst : List (TreeOp C V) → Id → Id → Type 0
+  ComesFirst past x y = (same x y ≡ false) × (precedes y x (ending y past) (ending x past) ≡ false)
+
+  -- those are queued that wait to be handed out, each once and in the order of their endings
+  pub record QueuesDone (done : List Id) (past : List (TreeOp C V)) : Type 0 where
+    pub are_waiting : (x : Id) → is_among x done ≡ is_waiting x past
+    pub in_order : EachBefore (ComesFirst past) done
+
+  -- The tree stands for the operations, newest first.
+  pub record StandsFor (t : TreeValue C V) (past : List (TreeOp C V)) : Type 0 where
+    pub contexts : KnowsContexts t past
+    pub queue : QueuesDone t.done past
+    pub timers : Timed t.timers past
 
   -- the context is held, as the slots keep it
   pub record IsKept (slots : List (Option (Node C V))) (x : Id) : Type 0 where
@@ -93,6 +119,13 @@ module _ {C V : Type 0} where
     pub keeps : Keeps slots past
     pub kind : Kind C V
     pub is_held : held x past ≡ Some kind
+
+  -- the node of some id derives from it
+  pub record IsParent (slots : List (Option (Node C V))) (x : Id) : Type 0 where
+    pub child : Id
+    pub node : Node C V
+    pub node_is : node_at slots child ≡ Some node
+    pub derives : parent_of node.kind ≡ Some x
 
   -- the operation that ends contexts in this way
   abbrev pub op_of : Ender C → TreeOp C V
@@ -102,6 +135,10 @@ module _ {C V : Type 0} where
   -- the node with that ending
   abbrev pub with_ending : Option (Ended C) → Node C V → Node C V
   with_ending e n = record n { ending = option_map told e }
+
+  -- a context of that number is among these, and ended
+  abbrev pub is_gone : List (Option (Node C V)) → List Id → ℕ → Bool
+  is_gone slots ids n = list_any (λ x. x.0 == n && not (is_live slots x)) ids
 
   -- each of these contexts has the ending that its chain gives it at this operation, and no other changes
   pub record Marked (old new : List (Option (Node C V))) (ids : List Id) (op : TreeOp C V) : Type 0 where

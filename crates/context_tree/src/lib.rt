@@ -4,10 +4,12 @@
 //! the contexts that it derives from, whichever comes first.
 #![tactic(auto)]
 
+mod ended;
 mod error;
 mod id;
 mod laws;
 mod node;
+mod released;
 #[cfg(test)]
 mod tests;
 mod tree;
@@ -17,4 +19,5 @@ pub use error::{Cause, CtxErr, CtxError, Unknown};
 pub use id::CtxId;
 pub use laws::{child_law, deadline_law, first_end_law};
 pub use node::Kind;
+pub use released::Released;
 pub use tree::Tree;

@@ -17,6 +17,13 @@ fn contexts(rt: HostRuntime) -> Result<(), Fail> {
     assert_eq!(rt; tree.cause(c), Ok(Some(Cause::Given(7))));
     assert_eq!(rt; tree.cause(d), Ok(Some(Cause::Given(9))));
     assert_eq!(rt; tree.err(w), Ok(None));
+    assert_eq!(rt; tree.next_done(), Some(d));
+    assert_eq!(rt; tree.next_done(), Some(p));
+    assert_eq!(rt; tree.next_done(), Some(c));
+    assert_eq!(rt; tree.next_done(), None);
+    assert_eq!(rt; tree.release(p), Released::HasChildren);
+    assert_eq!(rt; tree.release(w), Released::Gone);
+    assert_eq!(rt; tree.err(w), Err(Unknown));
     let e = tree.with_deadline(b, 5, 5, None)?;
     assert_eq!(rt;
         tree.cause(e),
@@ -26,6 +33,28 @@ fn contexts(rt: HostRuntime) -> Result<(), Fail> {
     let u = tree.with_cancel(v)?;
     assert_eq!(rt; tree.value(u, 1), Ok(Some(&"r")));
     assert_eq!(rt; tree.value(u, 2), Ok(None));
+    Ok(())
+}
+
+// A slot that was released is used again, and the old id stays unknown. One that is released is not handed out.
+#[test]
+fn released(rt: HostRuntime) -> Result<(), Fail> {
+    let mut tree: Tree<u32, u8> = Tree::new(rt.alloc());
+    let b = tree.background()?;
+    let p = tree.with_cancel(b)?;
+    let c = tree.with_deadline(p, 5, 0, None)?;
+    assert_eq!(rt; tree.cancel(p, None), true);
+    assert_eq!(rt; tree.release(c), Released::Gone);
+    assert_eq!(rt; tree.release(c), Released::Unknown);
+    let new = tree.with_cancel(b)?;
+    assert_eq!(rt; new == c, false);
+    assert_eq!(rt; tree.err(c), Err(Unknown));
+    assert_eq!(rt; tree.cancel(c, None), false);
+    assert_eq!(rt; tree.with_cancel(c), Err(CtxError::Unknown));
+    assert_eq!(rt; tree.err(new), Ok(None));
+    assert_eq!(rt; tree.next_done(), Some(p));
+    assert_eq!(rt; tree.release(p), Released::Gone);
+    assert_eq!(rt; tree.next_done(), None);
     Ok(())
 }
 
@@ -66,6 +95,9 @@ fn deadlines(rt: HostRuntime) -> Result<(), Fail> {
         tree.cause(sooner),
         Ok(Some(Cause::Plain(CtxErr::DeadlineExceeded)))
     );
+    let past = tree.with_deadline(b, 5, 9, Some(4))?;
+    assert_eq!(rt; tree.err(past), Ok(Some(CtxErr::DeadlineExceeded)));
+    assert_eq!(rt; tree.cause(past), Ok(Some(Cause::Given(4))));
     tree.advance(30);
     assert_eq!(rt; tree.cause(later), Ok(Some(Cause::Given(1))));
     assert_eq!(rt; tree.cause(equal), Ok(Some(Cause::Given(1))));
@@ -92,5 +124,8 @@ fn values_and_without_cancel(rt: HostRuntime) -> Result<(), Fail> {
     assert_eq!(rt; tree.value(c, 2), Ok(None));
     let late = tree.with_cancel(w)?;
     assert_eq!(rt; tree.err(late), Ok(None));
+    let apart = tree.without_cancel(c)?;
+    assert_eq!(rt; tree.err(apart), Ok(None));
+    assert_eq!(rt; tree.cause(c), Ok(Some(Cause::Plain(CtxErr::Canceled))));
     Ok(())
 }

@@ -1,17 +1,21 @@
-ghost use Rattle.std.specs.Prelude.{◌≡◌, ◌∷◌, [], List, true, false, Some, None, IfOk, IfErr, OnOk, OnErr, option_map, option_copied};
+ghost use Rattle.std.specs.Prelude.{◌≡◌, ◌∷◌, [], List, true, false, Some, None, IfOk, IfErr, IfSome, IfNone, OnOk, OnErr, is_some, option_map, option_copied, ◌↔◌};
 ghost use Rattle.std.specs.Result.{result_ok};
+ghost use Rattle.timer_heap.specs.Timers.{popped};
 ghost use Rattle.context_tree.specs.declared.node.Kind.{Kind};
 ghost use Rattle.context_tree.specs.declared.node.Kind.TheVariants.{Background, Cancel, Deadline, Value, WithoutCancel};
-ghost use Rattle.context_tree.specs.Context.{TreeOp, Makes, Cancels, Advances, parent_of, ending, deadline, value};
+ghost use Rattle.context_tree.specs.Context.{Id, TreeOp, Makes, Cancels, Advances, HandsOut, Releases, HasChild, IsFirstDone, held, is_waiting, parent_of, ending, deadline, value};
 ghost use Rattle.context_tree.specs.Tree.{StandsFor, IsFault, op_of, make_fault, if_held, is_ended_by_cancel};
 
 use crate::error::{Cause, CtxErr, CtxError, Unknown};
 use crate::id::CtxId;
 use crate::node::{Ender, Kind, Node};
-use crate::walk;
+use crate::released::Released;
+use crate::{ended, walk};
 use slab::Slab;
 use std::alloc::Global;
+use std::collections::VecDeque;
 use std::marker::Model;
+use timer_heap::Timers;
 
 const MOST_CONTEXTS: u64 = 1 << 62;
 
@@ -23,17 +27,27 @@ pub struct Tree<C, V> {
     nodes: Slab<Node<C, V>>,
     // the contexts that are not ended, by creation
     live: Vec<CtxId>,
+    // those that are ended and wait to be handed out, in the order of their endings; it has room for all that are live
+    done: VecDeque<CtxId>,
+    // when those that are live end by themselves, each under its number
+    timers: Timers,
     made: u64,
 }
 
 impl<C, V> Model for Tree<C, V> {
+    ghost use Rattle.std.specs.Prelude.{◌≤◌, ◌+◌};
+    ghost use Rattle.std.specs.Vec.{vec_len};
+    ghost use Rattle.std.specs.VecDeque.{deque_len, deque_capacity};
     ghost use Rattle.context_tree.specs.Tree.{TreeValue, IsReached};
 
     ghost Value = { TreeValue C V };
 
-    ghost view = { λ t. record { slots = t.nodes.slots; live = t.live.items; made = t.made } };
+    ghost view = { λ t. record { slots = t.nodes.slots; live = t.live.items; done = t.done.items; timers = t.timers; made = t.made } };
 
-    ghost invariant = { λ t. IsReached (record { slots = t.nodes.slots; live = t.live.items; made = t.made }) };
+    ghost invariant = { λ t. record {
+      reached : IsReached (record { slots = t.nodes.slots; live = t.live.items; done = t.done.items; timers = t.timers; made = t.made });
+      room : deque_len t.done + vec_len t.live ≤ deque_capacity t.done;
+    } };
 }
 
 impl<C: Copy, V: Drop> Tree<C, V> {
@@ -44,6 +58,8 @@ impl<C: Copy, V: Drop> Tree<C, V> {
         Tree {
             nodes: Slab::new(alloc),
             live: Vec::new(alloc),
+            done: VecDeque::new(alloc),
+            timers: Timers::new(alloc),
             made: 0,
         }
     }
@@ -122,7 +138,10 @@ impl<C: Copy, V: Drop> Tree<C, V> {
         if self.made >= MOST_CONTEXTS {
             return Err((kind, CtxError::Exhausted));
         }
-        if self.nodes.reserve(1).is_err() || self.live.reserve(1).is_err() {
+        if self.nodes.reserve(1).is_err()
+            || self.live.reserve(1).is_err()
+            || self.done.reserve(self.live.len() + 1).is_err()
+        {
             return Err((kind, CtxError::Memory));
         }
         let id = CtxId {
@@ -131,13 +150,17 @@ impl<C: Copy, V: Drop> Tree<C, V> {
         };
         let ending = walk::ending_of_new(&self.nodes, id, &kind, now);
         let deadline = walk::deadline_of_new(&self.nodes, &kind);
+        let time = ended::time_of_new(&kind, ending);
+        if ended::set_timer(&mut self.timers, time, self.made).is_err() {
+            return Err((kind, CtxError::Memory));
+        }
         self.nodes.insert_reserved(Node {
             number: self.made,
             kind,
             ending,
             deadline,
         });
-        walk::add_live(&mut self.live, id, ending);
+        ended::add_new(&mut self.live, &mut self.done, id, ending);
         self.made += 1;
         Ok(id)
     }
@@ -162,14 +185,59 @@ impl<C: Copy, V: Drop> Tree<C, V> {
     pub fn advance(&mut self, now: u64)
         ensures { (past : List (TreeOp C V)) → StandsFor self.old past → StandsFor self.new (Advances now ∷ past) }
     {
-        self.end(&Ender::ByMoment(now));
+        if self.is_due(now) {
+            self.end(&Ender::ByMoment(now));
+        }
+    }
+
+    // Whether some context ends by itself at this moment.
+    fn is_due(&self, now: u64) -> bool
+        ensures { result ≡ is_some (popped now self.now.timers.entries) }
+    {
+        match self.timers.next() {
+            Some(at) => at <= now,
+            None => false,
+        }
     }
 
     fn end(&mut self, ender: &Ender<C>)
         ensures { (past : List (TreeOp C V)) → StandsFor self.old past → StandsFor self.new (op_of ender.now ∷ past) }
     {
         walk::mark(&mut self.nodes, &self.live, ender);
-        walk::keep_live(&self.nodes, &mut self.live);
+        ended::add_done(&self.nodes, &self.live, &mut self.done);
+        ended::stop_timers(&self.nodes, &self.live, &mut self.timers);
+        ended::keep_live(&self.nodes, &mut self.live);
+    }
+
+    /// Hands out a context that is ended and not released, each once: one that an earlier operation ended before one that a
+    /// later one ended, and, of those that one operation ended, the one whose cancel or deadline it was before the others.
+    pub fn next_done(&mut self) -> Option<CtxId>
+        ensures first { IfSome result (λ id. (past : List (TreeOp C V)) → StandsFor self.old past → IsFirstDone id past) }
+        ensures handed { IfSome result (λ id. (past : List (TreeOp C V)) → StandsFor self.old past → StandsFor self.new (HandsOut id ∷ past)) }
+        ensures none { IfNone result ((past : List (TreeOp C V)) → StandsFor self.old past → (x : Id) → is_waiting x past ≡ false) }
+        ensures unchanged { IfNone result (self.new ≡ self.old) }
+    {
+        self.done.pop_front()
+    }
+
+    /// Lets go of a context, unless one that is held derives from it. Its id is unknown from then on.
+    pub fn release(&mut self, id: CtxId) -> Released
+        ensures unknown { (past : List (TreeOp C V)) → StandsFor self.old past → (result ≡ Released.Unknown) ↔ (held id past ≡ None) }
+        ensures has_children { result ≡ Released.HasChildren → (past : List (TreeOp C V)) → StandsFor self.old past → HasChild id past }
+        ensures gone { result ≡ Released.Gone → (past : List (TreeOp C V)) → StandsFor self.old past → StandsFor self.new (Releases id ∷ past) }
+        ensures unchanged { (result ≡ Released.Gone → ⊥) → self.new ≡ self.old }
+    {
+        if walk::node(&self.nodes, id).is_none() {
+            return Released::Unknown;
+        }
+        if walk::has_children(&self.nodes, id) {
+            return Released::HasChildren;
+        }
+        let _ = self.nodes.try_remove(id.slot);
+        self.timers.stop(id.number);
+        self.live.retain(|other| *other != id);
+        self.done.retain(|other| *other != id);
+        Released::Gone
     }
 
     /// Why the context was ended, if it is ended (Go `context`, `Context.Err`).

@@ -1,8 +1,8 @@
-ghost use Rattle.std.specs.Prelude.{◌≡◌, List, IsTrue, true, false, ℕ, option_map, option_and_then, nat_le, ◌&&◌, ◌<◌, ◌++◌, ◌∷◌, [], filter, is_some, is_none, if◌then◌else◌};
+ghost use Rattle.std.specs.Prelude.{◌≡◌, List, IsTrue, true, false, ℕ, option_map, option_and_then, nat_le, ◌&&◌, is_some, Some, ◌↔◌};
 ghost use Rattle.std.specs.Option.{option_copied, option_or, option_map_or};
-ghost use Rattle.context_tree.specs.Context.{Id, same, can_cancel, TreeOp, line, chain, nearest, has_cancel, first_due, first_of, ends, follows, own_due, own_deadline, sooner, expiry};
-ghost use Rattle.context_tree.specs.Tree.{node_at, ending_in, deadline_in, told, Keeps, IsKept, Marked, is_among, is_live, op_of};
-ghost use Rattle.std.specs.Vec.{vec_len, vec_capacity};
+ghost use Rattle.context_tree.specs.Context.{Id, same, can_cancel, TreeOp, line, chain, nearest, has_cancel, first_due, first_of, ends, follows, own_due, own_deadline, sooner, expiry, parent_of};
+ghost use Rattle.context_tree.specs.declared.node.Node.{Node};
+ghost use Rattle.context_tree.specs.Tree.{node_at, ending_in, deadline_in, told, Keeps, IsKept, Marked, is_among, op_of, IsParent};
 
 use crate::error::CtxErr;
 use crate::id::CtxId;
@@ -26,16 +26,6 @@ pub(crate) fn knows_parent<C, V>(nodes: &Slab<Node<C, V>>, parent: Option<CtxId>
     match parent {
         Some(parent) => node(nodes, parent).is_some(),
         None => true,
-    }
-}
-
-/// Adds a new context to the live ones, unless it is ended from the start.
-pub(crate) fn add_live<C: Copy>(live: &mut Vec<CtxId>, id: CtxId, ending: Option<Ending<C>>)
-    requires { vec_len live.old < vec_capacity live.old }
-    ensures { live.new.items ≡ (if is_none ending then live.old.items ++ id ∷ [] else live.old.items) }
-{
-    if ending.is_none() {
-        live.push_reserved(id);
     }
 }
 
@@ -167,7 +157,7 @@ pub(crate) fn deadline_of_new<C: Copy, V>(
 }
 
 /// The ending of that context.
-fn ending_at<C: Copy, V>(nodes: &Slab<Node<C, V>>, id: CtxId) -> Option<Ending<C>>
+pub(crate) fn ending_at<C: Copy, V>(nodes: &Slab<Node<C, V>>, id: CtxId) -> Option<Ending<C>>
     ensures { result ≡ ending_in nodes.now.slots id }
 {
     node(nodes, id)?.ending
@@ -191,9 +181,21 @@ pub(crate) fn mark<C: Copy, V>(nodes: &mut Slab<Node<C, V>>, live: &[CtxId], end
     }
 }
 
-/// Leaves the contexts that are not ended.
-pub(crate) fn keep_live<C: Copy, V>(nodes: &Slab<Node<C, V>>, live: &mut Vec<CtxId>)
-    ensures { live.new.items ≡ filter (is_live nodes.now.slots) live.old.items }
+/// Whether some context derives from this one.
+pub(crate) fn has_children<C, V>(nodes: &Slab<Node<C, V>>, id: CtxId) -> bool
+    ensures some { result ≡ true → IsParent nodes.now.slots id }
+    ensures none { result ≡ false → (child : Id) (node : Node C V) → node_at nodes.now.slots child ≡ Some node → parent_of node.kind ≡ Some id → ⊥ }
 {
-    live.retain(|id| ending_at(nodes, *id).is_none());
+    for entry in nodes.iter() {
+        if derives_from(entry.1, id) {
+            return true;
+        }
+    }
+    false
+}
+
+fn derives_from<C, V>(node: &Node<C, V>, id: CtxId) -> bool
+    ensures { (result ≡ true) ↔ (parent_of node.now.kind ≡ Some id) }
+{
+    node.kind.parent() == Some(id)
 }

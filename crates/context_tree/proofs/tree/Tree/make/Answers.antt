@@ -1,30 +1,40 @@
-use Rattle.std.proofs.Common.{◌∙◌, refl, sym, ap, subst}
+use Rattle.std.proofs.Common.{◌∙◌, refl, sym, ap, subst, arith}
 use Rattle.context_tree.specs.Context.{parent_of}
+use Rattle.context_tree.specs.Timed.{with_timer}
 use Rattle.context_tree.specs.Tree.{StandsFor}
-use Rattle.context_tree.proofs.Standing.{put_stands, known_parent, parent_held, no_fault}
+use Rattle.context_tree.proofs.Standing.{known_parent, parent_held, no_fault}
+use Rattle.context_tree.proofs.Whole.{put_stands, unless_err}
 use Rattle.context_tree.proofs.tree.Tree.make.Goals as goal
 
 pub invariant_of-self-2 : goal.invariant_of-self-2
 invariant_of-self-2 g c =
-    let past = c.self.invariant.0 in
-    let s = c.self.invariant.1 in
-    let known = sym (known_parent _ past s (parent_of c.args.kind)) ∙ rw (← c.parent.ensures) (sym c.knows_parent.ensures ∙ c.if-not-knows_parent.false) in (
-      _,
-      put_stands _ _ past s c.reserve.new.self c.insert_reserved.new.self c.vacant_key.result c.insert_reserved.result c.reserve-else-is_err.new.self.items c.args.kind c.args.now
-          c.ending_of_new-ending.result c.deadline_of_new-deadline.result
-          (ap (λ x. x.slots) c.reserve.ensures.rest_kept) c.reserve-else-is_err.ensures.items
-          (c.insert_reserved.ensures.key ∙ sym c.vacant_key.ensures.value) c.vacant_key.ensures.vacant c.insert_reserved.ensures.updates
-          (parent_held past (parent_of c.args.kind) known) c.ending_of_new-ending.ensures c.deadline_of_new-deadline.ensures refl c.add_live.ensures refl,
-    )
+    let past = c.self.invariant.reached.0 in
+    let s = c.self.invariant.reached.1 in
+    let known = sym (known_parent _ past s.contexts (parent_of c.args.kind)) ∙ rw (← c.parent.ensures) (sym c.knows_parent.ensures ∙ c.if-not-knows_parent.false) in
+    let timed = unless_err c.set_timer.result _ c.set_timer.ensures.set (sym c.is_err-2.ensures.value ∙ c.if-is_err-4.false) ∙ ap (λ time. with_timer time c.self.inside.made c.self.inside.timers) c.time_of_new-time.ensures in
+    let roomy = unless_err c.reserve-else-is_err-2.result _ c.reserve-else-is_err-2.ensures.ok (sym c.is_err-else-is_err-2.ensures.value ∙ c.if-is_err-3.false) in
+    let added = c.add_new.ensures.len in
+    record {
+      reached = (
+        _,
+        put_stands _ _ past s c.reserve.new.self c.insert_reserved.new.self c.vacant_key.result c.insert_reserved.result c.reserve-else-is_err.new.self.items c.reserve-else-is_err-2.new.self.items c.args.kind c.args.now
+            c.ending_of_new-ending.result c.deadline_of_new-deadline.result
+            (ap (λ x. x.slots) c.reserve.ensures.rest_kept) c.reserve-else-is_err.ensures.items c.reserve-else-is_err-2.ensures.items
+            (c.insert_reserved.ensures.key ∙ sym c.vacant_key.ensures.value) c.vacant_key.ensures.vacant c.insert_reserved.ensures.updates
+            (parent_held past (parent_of c.args.kind) known) c.ending_of_new-ending.ensures c.deadline_of_new-deadline.ensures refl c.add_new.ensures.live c.add_new.ensures.done refl timed,
+      );
+      room = rw c.add_new.ensures.capacity (omega (arith, roomy, added, c.len.ensures));
+    }
 
 pub returns-clause-made : goal.returns-clause-made
 returns-clause-made g c = λ past stood.
     let s = subst (λ t. StandsFor t past) (sym c.self.view_is) stood in
-    let known = sym (known_parent _ past s (parent_of c.args.kind)) ∙ rw (← c.parent.ensures) (sym c.knows_parent.ensures ∙ c.if-not-knows_parent.false) in (
-      no_fault past (parent_of c.args.kind) known (rw (← s.made_is) c.if-self-ge-MOST_CONTEXTS.false),
-      put_stands _ _ past s c.reserve.new.self c.insert_reserved.new.self c.vacant_key.result c.insert_reserved.result c.reserve-else-is_err.new.self.items c.args.kind c.args.now
+    let known = sym (known_parent _ past s.contexts (parent_of c.args.kind)) ∙ rw (← c.parent.ensures) (sym c.knows_parent.ensures ∙ c.if-not-knows_parent.false) in
+    let timed = unless_err c.set_timer.result _ c.set_timer.ensures.set (sym c.is_err-2.ensures.value ∙ c.if-is_err-4.false) ∙ ap (λ time. with_timer time c.self.inside.made c.self.inside.timers) c.time_of_new-time.ensures in (
+      no_fault past (parent_of c.args.kind) known (rw (← s.contexts.made_is) c.if-self-ge-MOST_CONTEXTS.false),
+      put_stands _ _ past s c.reserve.new.self c.insert_reserved.new.self c.vacant_key.result c.insert_reserved.result c.reserve-else-is_err.new.self.items c.reserve-else-is_err-2.new.self.items c.args.kind c.args.now
           c.ending_of_new-ending.result c.deadline_of_new-deadline.result
-          (ap (λ x. x.slots) c.reserve.ensures.rest_kept) c.reserve-else-is_err.ensures.items
+          (ap (λ x. x.slots) c.reserve.ensures.rest_kept) c.reserve-else-is_err.ensures.items c.reserve-else-is_err-2.ensures.items
           (c.insert_reserved.ensures.key ∙ sym c.vacant_key.ensures.value) c.vacant_key.ensures.vacant c.insert_reserved.ensures.updates
-          (parent_held past (parent_of c.args.kind) known) c.ending_of_new-ending.ensures c.deadline_of_new-deadline.ensures refl c.add_live.ensures refl,
+          (parent_held past (parent_of c.args.kind) known) c.ending_of_new-ending.ensures c.deadline_of_new-deadline.ensures refl c.add_new.ensures.live c.add_new.ensures.done refl timed,
     )
