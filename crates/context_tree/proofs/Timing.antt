@@ -6,7 +6,7 @@ use Rattle.std.proofs.lemmas.Bool.{cases_Bool, lt-leb, and_parts, or_cases, or_l
 use Rattle.std.proofs.lemmas.List.Elements.{All-head, All-tail}
 use Rattle.std.proofs.lemmas.List.Folds.{list_any-append}
 use Rattle.timer_heap.specs.declared.timers.Entry.{Entry}
-use Rattle.timer_heap.specs.Timers.{Timing, is_set, without, earliest, popped, next_time}
+use Rattle.timer_heap.specs.Timers.{Timing, without, popped}
 use Rattle.timer_heap.proofs.FirstDue.{popped_none}
 use Rattle.context_tree.specs.declared.node.Kind.{Kind}
 use Rattle.context_tree.specs.declared.node.Kind.TheVariants.{Background, Cancel, Deadline, Value, WithoutCancel}
@@ -67,14 +67,6 @@ entry_added at m es e = list_any-append (is_entry at m) es (e ∷ []) ∙ ap (λ
     or_none true = refl
     or_none false = refl
 
--- an id that is set has a time
-pub set_has : (m : ℕ) (es : List Entry) → is_set m es ≡ true → (at : ℕ) × (has_entry at m es ≡ true)
-set_has m [] is = cc
-set_has m (e ∷ es) is = ⊎_elim
-    (λ (hit : (e.id == m) ≡ true). (e.at, or_left (is_entry e.at m e) (has_entry e.at m es) (rw (eq-eqb e.at e.at refl) hit)))
-    (λ (rest : is_set m es ≡ true). let more = set_has m es rest in (more.0, or_right _ _ more.1))
-    (or_cases (e.id == m) (is_set m es) is)
-
 -- each of these is later than the moment, and so is the time of a timer that waits
 entry_later : (now at m : ℕ) (es : List Entry) → All (λ e. now < e.at) es → has_entry at m es ≡ true → now < at
 entry_later now at m [] later is = cc
@@ -84,21 +76,6 @@ entry_later now at m (e ∷ es) later is = ⊎_elim
     let above : now < e.at = All-head (λ (d : Entry). now < d.at) e es later in omega (arith, time, above))
     (λ (rest : has_entry at m es ≡ true). entry_later now at m es (All-tail (λ (d : Entry). now < d.at) e es later) rest)
     (or_cases (is_entry at m e) (has_entry at m es) is)
-
--- nothing is due where no timer waits
-pub no_timer : (now : ℕ) (es : List Entry) → next_time es ≡ None → popped now es ≡ None
-no_timer now [] is = refl
-no_timer now (e ∷ es) is = cc
-
--- nothing is due where the next time is later
-pub next_later : (now at : ℕ) (es : List Entry) → next_time es ≡ Some at → now < at → popped now es ≡ None
-next_later now at es is later = ⊎_elim
-    (λ (none : earliest es ≡ None). rw none refl)
-    (λ (some : (e : Entry) × (earliest es ≡ Some e)).
-    let time : some.0.at ≡ at = some_same _ _ (rw some.1 at is) in
-    let above : now < some.0.at = omega (arith, later, time) in
-    rw (some.1, lt-leb _ _ above) refl)
-    (option_cases (earliest es))
 
 -- ---- the entries and the contexts
 
@@ -145,18 +122,6 @@ module _ {C V : Type 0} where
   one_number (Advances now ∷ past) x y k l lawful hx hy e = one_number past x y k l lawful hx hy e
   one_number (HandsOut id ∷ past) x y k l lawful hx hy e = one_number past x y k l lawful.1 hx hy e
   one_number (Releases id ∷ past) x y k l lawful hx hy e = one_number past x y k l lawful.1 (still_held id x past k hx).1 (still_held id y past l hy).1 e
-
-  -- a number that no context has yet has no timer
-  pub not_set : (t : Timing) (past : List (TreeOp C V)) → IsLawful past → Timed t past → is_set (makes past) t.entries ≡ false
-  not_set t past lawful timed = ⊎_elim
-      (λ (yes' : is_set (makes past) t.entries ≡ true).
-      let found = set_has (makes past) t.entries yes' in
-      let it = timed.are_set found.0 (makes past) found.1 in
-      let low : it.context.0 < makes past = held_low past lawful it.context it.kind it.is_held in
-      let number : it.context.0 ≡ makes past = it.number_is in
-      absurd (omega (arith, low, number)))
-      (λ (no' : is_set (makes past) t.entries ≡ false). no')
-      (cases_Bool (is_set (makes past) t.entries))
 
   -- an empty tree has no timers
   pub new_timed : Timed {C = C} {V = V} (record { entries = []; sets = 0 }) []
