@@ -9,5 +9,6 @@ pub mod StandsLemmas
 pub mod ConnLemmas
 pub mod ArriveLemmas
 pub mod JobLemmas
+pub mod UnknownLemmas
 pub mod CoreLemmas
 pub mod RowLemmas

@@ -59,7 +59,7 @@ answers_same id m past q = rw q.no_answer refl
 pub started_same : (id : CallId) (m : Mark) (past : Past) → Quiet id m past → started id (m ∷ past) ≡ started id past
 started_same id m past q = rw (began_same id m past q, call_same id m past q, answers_same id m past q) refl
 
-decided_same : (id : CallId) (m : Mark) (past : Past) → Quiet id m past → decided id (m ∷ past) ≡ decided id past
+pub decided_same : (id : CallId) (m : Mark) (past : Past) → Quiet id m past → decided id (m ∷ past) ≡ decided id past
 decided_same id m past q = rw q.no_event (or_none (decided id past))
 
 own_same : (id : CallId) (m : Mark) (past : Past) → Quiet id m past → own_events id (m ∷ past) ≡ own_events id past

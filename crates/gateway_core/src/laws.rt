@@ -1,5 +1,5 @@
 //! What the definitions come to, as facts on everything that may occur. The functions do nothing.
-ghost use Rattle.std.specs.Prelude.{◌≡◌, ℕ, true, ◌<◌, ◌≤◌, ◌++◌, ◌∷◌, Some, None, Option, option_map, option_to_list, [], List, length};
+ghost use Rattle.std.specs.Prelude.{◌≡◌, ℕ, true, ◌<◌, ◌≤◌, ◌++◌, ◌∷◌, Some, None, Option, option_map, option_to_list, replicate, [], List, length};
 ghost use Rattle.gateway_core.specs.declared.id.CallId.{CallId};
 ghost use Rattle.gateway_core.specs.Occurrence.{Occurrence, Opening, Result};
 ghost use Rattle.gateway_core.specs.Past.{Mark, Past, Asked, CallEvent, call, decided, entries, is_out, judged, outs, mark_of, marked, past_of};
@@ -27,6 +27,14 @@ pub fn uncounted_law()
         → replies conn (mark_of past (Result id branch outcome) ∷ past) ≡ replies conn past }
     ensures nothing_starts { (id : CallId) (branch : ℕ) (outcome : Outcome) (past : Past) → (judged id branch past ≡ Seen.Counted → ⊥)
         → jobs (mark_of past (Result id branch outcome) ∷ past) ≡ jobs past }
+{}
+
+/// Results of a branch that is not out change nothing, however many they are.
+pub fn unknown_law()
+    ensures judged_stays { (id : CallId) (branch : ℕ) (outcome : Outcome) (occurred : List Occurrence) → judged id branch (marked occurred) ≡ Seen.Unknown
+        → (n : ℕ) (other : CallId) (i : ℕ) → judged other i (marked (replicate n (Result id branch outcome) ++ occurred)) ≡ judged other i (marked occurred) }
+    ensures replies_stay { (id : CallId) (branch : ℕ) (outcome : Outcome) (occurred : List Occurrence) → judged id branch (marked occurred) ≡ Seen.Unknown
+        → (n conn : ℕ) → replies conn (marked (replicate n (Result id branch outcome) ++ occurred)) ≡ replies conn (marked occurred) }
 {}
 
 /// No call has more branches out than its plan's limit.
