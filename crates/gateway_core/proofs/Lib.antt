@@ -11,4 +11,6 @@ pub mod ArriveLemmas
 pub mod JobLemmas
 pub mod UnknownLemmas
 pub mod CoreLemmas
+pub mod OnLiterals
+pub mod StreamLemmas
 pub mod RowLemmas

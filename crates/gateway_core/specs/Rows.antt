@@ -1,21 +1,28 @@
 -- Worked rows: what occurs in each.
-use Rattle.std.specs.Prelude.{ℕ, zero, suc, Bool, false, ◌&&◌, option_and_then, List, [], ◌∷◌, reverse, codes, Option, None, Some}
+use Rattle.std.specs.Prelude.{ℕ, zero, suc, Bool, false, ◌&&◌, option_and_then, List, [], ◌∷◌, ◌++◌, replicate, reverse, length, codes, Option, None, Some}
 use Rattle.std.specs.List.{enumerate_from}
+use Rattle.error_document.specs.Documents.{error_text}
 use Rattle.error_document.specs.declared.code.Code.{Code}
 use Rattle.error_document.specs.declared.document.RpcError.{RpcError}
+use Rattle.http_pieces.specs.declared.reply.HttpReply.{HttpReply}
 use Rattle.http_pieces.specs.declared.refusal.Refusal.{Refusal}
-use Rattle.http_pieces.specs.declared.version.Version.TheVariants.{V11}
+use Rattle.http_pieces.specs.declared.version.Version.{Version}
+use Rattle.http_pieces.specs.declared.version.Version.TheVariants.{V10, V11}
+use Rattle.http_pieces.specs.Fields.{NamedValue}
 use Rattle.http_pieces.specs.Request.{HttpRequest}
 use Rattle.connect_codec.specs.Reply.{success_reply, error_reply}
+use Rattle.connect_codec.specs.Message.{message_bytes}
+use Rattle.connect_codec.specs.Outcome.{outcome_of}
+use Rattle.connect_codec.specs.declared.answer.Outcome.{Outcome}
 use Rattle.connect_codec.specs.declared.answer.Outcome.TheVariants.{Answer, Fail}
 use Rattle.connect_codec.specs.declared.verdict.Verdict.TheVariants.{Bare}
 use Rattle.call_plan.specs.Plan.{PlanRecord}
-use Rattle.gateway_core.specs.Arrival.{Judged, Asks}
+use Rattle.gateway_core.specs.Arrival.{Arrival, Judged, Asks, arrival_of}
 use Rattle.gateway_core.specs.declared.reply.Reply.{Reply}
 use Rattle.gateway_core.specs.Call.{reply_of}
 use Rattle.gateway_core.specs.Occurrence.{Occurrence, Opening, Entry, Result, Request, Refused}
 use Rattle.gateway_core.specs.Past.{CallEvent, call_id, past_of}
-use Rattle.gateway_core.specs.Queue.{CallRecord, ReplyEntry, Calling, entry}
+use Rattle.gateway_core.specs.Queue.{CallRecord, ReplyEntry, Calling, entry, queued}
 use Rattle.gateway_core.specs.Record.{is_lawful, is_decided}
 use Rattle.std.specs.Option.{option_map_or}
 use Rattle.gateway_core.specs.Job.{job_of}
@@ -46,7 +53,7 @@ quote = record {
       ∷ record { name = codes "car"; address = codes "127.0.0.1:9004"; path = codes "/acme.v1.Car/Find" } ∷ [];
 }
 
--- ---- what occurs on connection 0
+-- ---- requests
 
 -- request number k, for that path
 abbrev pub request_for : List ℕ → ℕ → HttpRequest
@@ -59,6 +66,72 @@ request_for path k = record {
   number = k;
 }
 
+-- request number k is no call: its method is not `POST`
+abbrev pub get_request : ℕ → HttpRequest
+get_request k = record (request_for ping.path k) { method = codes "GET"; fields = (codes "Host", codes "g") ∷ []; body = [] }
+
+-- the first request, for Ping, with these fields behind `Host` and this body
+abbrev pub ping_with : List NamedValue → List ℕ → HttpRequest
+ping_with fields body = record (request_for ping.path 0) { fields = (codes "Host", codes "g") ∷ fields; body = body }
+
+-- the same with that content type
+abbrev pub ping_of_type : List ℕ → HttpRequest
+ping_of_type value = ping_with ((codes "Content-Type", value) ∷ (codes "Content-Length", codes "2") ∷ []) (codes "{}")
+
+-- the same with one more field
+abbrev pub ping_adding : List ℕ → List ℕ → HttpRequest
+ping_adding name value =
+    ping_with ((name, value) ∷ (codes "Content-Type", codes "application/json") ∷ (codes "Content-Length", codes "2") ∷ []) (codes "{}")
+
+-- the same with that length and that body
+abbrev pub ping_of_length : List ℕ → List ℕ → HttpRequest
+ping_of_length size body = ping_with ((codes "Content-Type", codes "application/json") ∷ (codes "Content-Length", size) ∷ []) body
+
+-- the same with no body
+abbrev pub ping_empty : HttpRequest
+ping_empty = ping_of_length (codes "0") []
+
+-- the same with so many more fields
+abbrev pub ping_crowded : ℕ → HttpRequest
+ping_crowded n =
+    ping_with (replicate n (codes "X-A", codes "b") ++ (codes "Content-Type", codes "application/json") ∷ (codes "Content-Length", codes "2") ∷ []) (codes "{}")
+
+-- the same with one more field, of so many bytes
+abbrev pub ping_filled : ℕ → HttpRequest
+ping_filled n = ping_adding (codes "X-A") (replicate n 97)
+
+-- the same, asking for the close of its connection
+abbrev pub ping_closing : HttpRequest
+ping_closing = ping_adding (codes "Connection") (codes "close")
+
+-- the same in HTTP/1.0, with no `Host`
+abbrev pub ping_old : HttpRequest
+ping_old = record (request_for ping.path 0) {
+  version = V10;
+  fields = (codes "Content-Type", codes "application/json") ∷ (codes "Content-Length", codes "2") ∷ [];
+}
+
+-- the same in HTTP/1.1, with no `Host`
+abbrev pub ping_hostless : HttpRequest
+ping_hostless = record ping_old { version = V11 }
+
+-- ---- their bytes
+
+-- how a request line ends
+abbrev pub version_text : Version → List ℕ
+version_text V10 = codes " HTTP/1.0"
+version_text V11 = codes " HTTP/1.1"
+
+-- the bytes of a request's head
+abbrev pub head_text : HttpRequest → List ℕ
+head_text q = message_bytes (q.method ++ codes " " ++ q.target ++ version_text q.version) q.fields []
+
+-- the bytes of a request
+abbrev pub text_of : HttpRequest → List ℕ
+text_of q = head_text q ++ q.body
+
+-- ---- what occurs on connection 0
+
 -- the branch of that request's call on connection 0 starts at that place
 abbrev pub starts_then : PlanRecord → ℕ → ℕ → ℕ → Start
 starts_then plan place request branch = start place (job_of (call_id 0 request) branch plan (request_for plan.path request))
@@ -67,10 +140,15 @@ starts_then plan place request branch = start place (job_of (call_id 0 request) 
 abbrev pub asks : PlanRecord → Option ℕ → ℕ → Occurrence
 asks plan timeout k = Entry 0 (Request (request_for plan.path k) (Asks plan timeout))
 
--- request number k is no call: its method is not `POST`
-abbrev pub get_request : ℕ → HttpRequest
-get_request k = record (request_for (codes "/acme.v1.Ping/Ping") k) { method = codes "GET" }
+-- what a request comes to, where Ping and Quote are the plans
+abbrev pub arrives : HttpRequest → Arrival
+arrives q = arrival_of (ping ∷ quote ∷ []) q
 
+-- the request comes, where they are
+abbrev pub comes : HttpRequest → Occurrence
+comes q = Entry 0 (Request q (arrives q))
+
+-- request number k comes, and is no call
 abbrev pub gets : ℕ → Occurrence
 gets k = Entry 0 (Request (get_request k) (Judged (Bare 405)))
 
@@ -95,6 +173,31 @@ error code message = record { code = code; message = message }
 abbrev pub fails : ℕ → ℕ → Code → List ℕ → Occurrence
 fails k i code message = Result (call_id 0 k) i (Fail (error code message))
 
+-- a backend's reply
+abbrev pub backend_reply : ℕ → List ℕ → List ℕ → HttpReply
+backend_reply status type body = record { status = status; content_type = Some type; body = body }
+
+-- what a backend's reply with a body of JSON is to its call
+abbrev pub outcome_at : ℕ → List ℕ → Outcome
+outcome_at status body = outcome_of (Some (backend_reply status (codes "application/json") body))
+
+-- the first call's one branch ends so
+abbrev pub ends : Outcome → Occurrence
+ends outcome = Result (call_id 0 0) 0 outcome
+
+-- the first request is for Ping, and its branch ends so
+abbrev pub pinged : Outcome → List Occurrence
+pinged outcome = Opening ∷ asks ping None 0 ∷ ends outcome ∷ []
+
+-- Quote is asked for and its second branch answers, newest first
+abbrev pub hotel_answered : List Occurrence
+hotel_answered = answers 0 1 (codes "2") ∷ asks quote None 0 ∷ Opening ∷ []
+
+-- after that so many results of the same branch, and then so many of a call of connection 7, newest first
+abbrev pub flooded : ℕ → ℕ → List Occurrence
+flooded strangers repeats =
+    replicate strangers (Result (call_id 7 0) 0 (Answer (codes "9"))) ++ (replicate repeats (answers 0 1 (codes "9")) ++ hotel_answered)
+
 -- ---- the replies, none of them a connection's last
 
 abbrev pub succeeded : List ℕ → Reply
@@ -102,6 +205,14 @@ succeeded body = reply_of (success_reply body false) false
 
 abbrev pub failed : Code → List ℕ → Reply
 failed code message = reply_of (error_reply (error code message) false) false
+
+-- the text of an error
+abbrev pub document : Code → List ℕ → List ℕ
+document code message = error_text (error code message)
+
+-- how many bytes are queued for connection 0
+abbrev pub bytes_queued : List Occurrence → ℕ
+bytes_queued os = length (queued 0 (past_of os))
 
 -- ---- records
 

@@ -12,6 +12,10 @@ pub mod laws;
 mod reply;
 #[cfg(test)]
 mod rows;
+#[cfg(test)]
+mod rows_replies;
+#[cfg(test)]
+mod rows_streams;
 
 pub use fault::{OpenError, Seen, StepFault, Took};
 pub use gateway::Core;

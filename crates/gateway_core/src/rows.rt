@@ -1,16 +1,16 @@
 //! The worked rows: what the definitions give for them. The functions do nothing.
-ghost use Rattle.std.specs.Prelude.{◌≡◌, ℕ, ◌∷◌, [], ◌++◌, map, replicate, codes, true, false, None, Some};
+ghost use Rattle.std.specs.Prelude.{◌≡◌, ℕ, ◌∷◌, [], ◌++◌, map, length, replicate, codes, true, false, None, Some};
 ghost use Rattle.std.specs.List.{range_with_len};
-ghost use Rattle.connect_codec.specs.Reply.{bare_reply};
+ghost use Rattle.connect_codec.specs.Reply.{bare_reply, success_reply};
 ghost use Rattle.gateway_core.specs.Call.{reply_of};
 ghost use Rattle.error_document.specs.declared.code.Code.{Code};
 ghost use Rattle.gateway_core.specs.declared.fault.Seen.{Seen};
 ghost use Rattle.http_pieces.specs.declared.refusal.Refusal.{Refusal};
 ghost use Rattle.gateway_core.specs.Occurrence.{Opening, HangUp, Moment, Drain, Closing};
 ghost use Rattle.gateway_core.specs.Past.{Answered, Expired, HungUp, call_id, judged, marked, past_of};
-ghost use Rattle.gateway_core.specs.Queue.{replies};
+ghost use Rattle.gateway_core.specs.Queue.{replies, queued};
 ghost use Rattle.gateway_core.specs.Record.{is_lawful, is_decided};
-ghost use Rattle.gateway_core.specs.Rows.{row_starts, starts_then, is_lawful_row, quote_record, ping, quote, asks, gets, after_gets, refuses, answers, fails, succeeded, failed};
+ghost use Rattle.gateway_core.specs.Rows.{row_starts, starts_then, is_lawful_row, quote_record, ping, quote, asks, gets, after_gets, refuses, answers, fails, succeeded, failed, document, bytes_queued, flooded};
 
 /// One call, answered.
 fn ping_answered()
@@ -18,12 +18,18 @@ fn ping_answered()
         ≡ succeeded (codes "{\"pong\":{\"ok\":true}}") ∷ [] }
     ensures starts { row_starts (Opening ∷ asks ping None 0 ∷ answers 0 0 (codes "{\"ok\":true}") ∷ [])
         ≡ starts_then ping 1 0 0 ∷ [] }
+    ensures body { length (codes "{\"pong\":{\"ok\":true}}") ≡ 20 }
+    ensures reply { success_reply (codes "{\"pong\":{\"ok\":true}}") false ≡ codes "HTTP/1.1 200 OK\r\nContent-Type: application/json\r\nContent-Length: 20\r\n\r\n{\"pong\":{\"ok\":true}}" }
+    ensures bytes { bytes_queued (Opening ∷ asks ping None 0 ∷ answers 0 0 (codes "{\"ok\":true}") ∷ []) ≡ 91 }
 {}
 
 /// The backend is lost.
 fn ping_lost()
     ensures replies { replies 0 (past_of (Opening ∷ asks ping None 0 ∷ fails 0 0 Code.Unavailable (codes "backend unreachable") ∷ []))
         ≡ failed Code.Unavailable (codes "pong: backend unreachable") ∷ [] }
+    ensures body { document Code.Unavailable (codes "pong: backend unreachable") ≡ codes "{\"code\":\"unavailable\",\"message\":\"pong: backend unreachable\"}" }
+    ensures body_bytes { length (document Code.Unavailable (codes "pong: backend unreachable")) ≡ 60 }
+    ensures bytes { bytes_queued (Opening ∷ asks ping None 0 ∷ fails 0 0 Code.Unavailable (codes "backend unreachable") ∷ []) ≡ 148 }
 {}
 
 /// The answers are joined in declared order; the third branch starts at the first answer.
@@ -32,6 +38,8 @@ fn quote_joined()
         ≡ succeeded (codes "{\"flight\":1,\"hotel\":2,\"car\":3}") ∷ [] }
     ensures starts { row_starts (Opening ∷ asks quote None 0 ∷ answers 0 1 (codes "2") ∷ answers 0 0 (codes "1") ∷ answers 0 2 (codes "3") ∷ [])
         ≡ starts_then quote 1 0 0 ∷ starts_then quote 1 0 1 ∷ starts_then quote 2 0 2 ∷ [] }
+    ensures body { length (codes "{\"flight\":1,\"hotel\":2,\"car\":3}") ≡ 30 }
+    ensures bytes { bytes_queued (Opening ∷ asks quote None 0 ∷ answers 0 1 (codes "2") ∷ answers 0 0 (codes "1") ∷ answers 0 2 (codes "3") ∷ []) ≡ 101 }
 {}
 
 /// The first failure decides, and the third branch never starts.
@@ -40,6 +48,9 @@ fn quote_branch_fails()
         ≡ failed Code.ResourceExhausted (codes "hotel: sold out") ∷ [] }
     ensures starts { row_starts (Opening ∷ asks quote None 0 ∷ fails 0 1 Code.ResourceExhausted (codes "sold out") ∷ answers 0 0 (codes "1") ∷ [])
         ≡ starts_then quote 1 0 0 ∷ starts_then quote 1 0 1 ∷ [] }
+    ensures body { document Code.ResourceExhausted (codes "hotel: sold out") ≡ codes "{\"code\":\"resource_exhausted\",\"message\":\"hotel: sold out\"}" }
+    ensures body_bytes { length (document Code.ResourceExhausted (codes "hotel: sold out")) ≡ 57 }
+    ensures bytes { bytes_queued (Opening ∷ asks quote None 0 ∷ fails 0 1 Code.ResourceExhausted (codes "sold out") ∷ answers 0 0 (codes "1") ∷ []) ≡ 143 }
 {}
 
 /// The request's timeout is reached at 1100, not at 1099.
@@ -48,6 +59,9 @@ fn header_deadline()
         ≡ [] }
     ensures replies { replies 0 (past_of (Opening ∷ Moment 1000 ∷ asks quote (Some 100) 0 ∷ Moment 1099 ∷ Moment 1100 ∷ []))
         ≡ failed Code.DeadlineExceeded (codes "context deadline exceeded") ∷ [] }
+    ensures body { document Code.DeadlineExceeded (codes "context deadline exceeded") ≡ codes "{\"code\":\"deadline_exceeded\",\"message\":\"context deadline exceeded\"}" }
+    ensures body_bytes { length (document Code.DeadlineExceeded (codes "context deadline exceeded")) ≡ 66 }
+    ensures bytes { bytes_queued (Opening ∷ Moment 1000 ∷ asks quote (Some 100) 0 ∷ Moment 1099 ∷ Moment 1100 ∷ []) ≡ 150 }
 {}
 
 /// The plan's timeout is the smaller one.
@@ -68,6 +82,10 @@ fn zero_timeout_and_drained()
         ≡ failed Code.Unavailable (codes "gateway is draining") ∷ [] }
     ensures drained_starts { row_starts (Opening ∷ Drain ∷ asks quote None 0 ∷ [])
         ≡ [] }
+    ensures bytes { bytes_queued (Opening ∷ asks quote (Some 0) 0 ∷ []) ≡ 150 }
+    ensures drained_body { document Code.Unavailable (codes "gateway is draining") ≡ codes "{\"code\":\"unavailable\",\"message\":\"gateway is draining\"}" }
+    ensures drained_body_bytes { length (document Code.Unavailable (codes "gateway is draining")) ≡ 54 }
+    ensures drained_bytes { bytes_queued (Opening ∷ Drain ∷ asks quote None 0 ∷ []) ≡ 142 }
 {}
 
 /// Results of branches that are not out are not counted.
@@ -86,12 +104,18 @@ fn stray_results()
         ≡ Seen.Unknown }
     ensures replies { replies 0 (past_of (Opening ∷ asks quote None 0 ∷ answers 0 2 (codes "3") ∷ answers 0 1 (codes "2") ∷ answers 0 1 (codes "9") ∷ fails 0 0 Code.Unavailable (codes "HTTP status 503") ∷ answers 0 2 (codes "3") ∷ answers 0 2 (codes "3") ∷ []))
         ≡ failed Code.Unavailable (codes "flight: HTTP status 503") ∷ [] }
+    ensures body { document Code.Unavailable (codes "flight: HTTP status 503") ≡ codes "{\"code\":\"unavailable\",\"message\":\"flight: HTTP status 503\"}" }
+    ensures body_bytes { length (document Code.Unavailable (codes "flight: HTTP status 503")) ≡ 58 }
+    ensures bytes { bytes_queued (Opening ∷ asks quote None 0 ∷ answers 0 2 (codes "3") ∷ answers 0 1 (codes "2") ∷ answers 0 1 (codes "9") ∷ fails 0 0 Code.Unavailable (codes "HTTP status 503") ∷ answers 0 2 (codes "3") ∷ answers 0 2 (codes "3") ∷ []) ≡ 146 }
 {}
 
 /// The peer hangs up.
 fn hang_up()
     ensures replies { replies 0 (past_of (Opening ∷ asks ping None 0 ∷ HangUp 0 ∷ []))
         ≡ failed Code.Canceled (codes "context canceled") ∷ [] }
+    ensures body { document Code.Canceled (codes "context canceled") ≡ codes "{\"code\":\"canceled\",\"message\":\"context canceled\"}" }
+    ensures body_bytes { length (document Code.Canceled (codes "context canceled")) ≡ 48 }
+    ensures bytes { bytes_queued (Opening ∷ asks ping None 0 ∷ HangUp 0 ∷ []) ≡ 138 }
 {}
 
 /// The greatest moment counts, not the newest.
@@ -130,6 +154,9 @@ fn crowded()
         ≡ [] }
     ensures replies { replies 0 (past_of (Opening ∷ map (asks ping None) (range_with_len 0 9) ++ answers 0 0 (codes "1") ∷ answers 1 0 (codes "1") ∷ answers 2 0 (codes "1") ∷ answers 3 0 (codes "1") ∷ answers 4 0 (codes "1") ∷ answers 5 0 (codes "1") ∷ answers 6 0 (codes "1") ∷ answers 7 0 (codes "1") ∷ []))
         ≡ succeeded (codes "{\"pong\":1}") ∷ succeeded (codes "{\"pong\":1}") ∷ succeeded (codes "{\"pong\":1}") ∷ succeeded (codes "{\"pong\":1}") ∷ succeeded (codes "{\"pong\":1}") ∷ succeeded (codes "{\"pong\":1}") ∷ succeeded (codes "{\"pong\":1}") ∷ succeeded (codes "{\"pong\":1}") ∷ failed Code.ResourceExhausted (codes "more than 8 calls in flight") ∷ [] }
+    ensures body { document Code.ResourceExhausted (codes "more than 8 calls in flight") ≡ codes "{\"code\":\"resource_exhausted\",\"message\":\"more than 8 calls in flight\"}" }
+    ensures body_bytes { length (document Code.ResourceExhausted (codes "more than 8 calls in flight")) ≡ 69 }
+    ensures bytes { bytes_queued (Opening ∷ map (asks ping None) (range_with_len 0 9) ++ answers 0 0 (codes "1") ∷ answers 1 0 (codes "1") ∷ answers 2 0 (codes "1") ∷ answers 3 0 (codes "1") ∷ answers 4 0 (codes "1") ∷ answers 5 0 (codes "1") ∷ answers 6 0 (codes "1") ∷ answers 7 0 (codes "1") ∷ []) ≡ 803 }
 {}
 
 /// A request that is no call, and a refusal, are answered at once and in their order.
@@ -143,6 +170,7 @@ fn judged_and_refused()
 /// The hundredth request is the connection's last, whatever it is.
 fn hundred_requests()
     ensures replies { replies 0 (marked (after_gets 100)) ≡ replicate 99 (reply_of (bare_reply 405 false) false) ++ reply_of (bare_reply 405 true) true ∷ [] }
+    ensures bytes { length (queued 0 (marked (after_gets 100))) ≡ 6719 }
 {}
 
 /// A new connection has another number: a result for the old one's call is late, and nothing is queued for the new one.
@@ -165,6 +193,14 @@ fn flood()
         ≡ Seen.Unknown }
     ensures replies { replies 0 (past_of (Opening ∷ asks quote None 0 ∷ answers 0 1 (codes "2") ∷ answers 0 1 (codes "9") ∷ answers 7 0 (codes "9") ∷ Drain ∷ answers 0 0 (codes "1") ∷ answers 0 2 (codes "3") ∷ answers 0 0 (codes "1") ∷ []))
         ≡ failed Code.Unavailable (codes "gateway is draining") ∷ [] }
+{}
+
+/// However many results come of a branch that answered, or of a call of another connection, the first call goes on as before.
+fn floods()
+    ensures again { (strangers repeats : ℕ) → judged (call_id 0 0) 1 (marked (flooded strangers repeats)) ≡ Seen.Unknown }
+    ensures strange { (strangers repeats : ℕ) → judged (call_id 7 0) 0 (marked (flooded strangers repeats)) ≡ Seen.Unknown }
+    ensures goes_on { (strangers repeats : ℕ) → judged (call_id 0 0) 0 (marked (flooded strangers repeats)) ≡ Seen.Counted }
+    ensures replies { (strangers repeats : ℕ) → replies 0 (marked (flooded strangers repeats)) ≡ [] }
 {}
 
 /// The records of decided calls are lawful and decided.
