@@ -1,4 +1,5 @@
 pub mod Cases
+pub mod KeepLemmas
 pub mod ArrivalLemmas
 pub mod CountLemmas
 pub mod LimitLemmas

@@ -45,6 +45,10 @@ new_call id plan request =
 abbrev pub due_of : CallValue → ℕ
 due_of c = min (length c.plan.branches) (c.plan.limit + c.answered)
 
+-- by its answers so far the call is not decided, and no branch is to start
+abbrev pub waits_on : CallValue → Bool
+waits_on c = nat_lt c.answered (length c.plan.branches) && nat_le (due_of c) c.started
+
 -- that branch starts, behind those before it
 abbrev pub start_of : ℕ → CallValue → CallValue
 start_of i c = record c { started = i + 1; out = slice_set c.out i true }

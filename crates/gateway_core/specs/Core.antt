@@ -1,5 +1,5 @@
 -- The gateway's state, as its callers see it.
-use Rattle.std.specs.Prelude.{◌≡◌, ℕ, Bool, true, false, not, ◌&&◌, ◌||◌, ◌==◌, if◌then◌else◌, List, [], ◌∷◌, ◌++◌, length, count_by, nat_lt, Option, None, Some, option_map, MatchBool}
+use Rattle.std.specs.Prelude.{◌≡◌, ℕ, ◌≤◌, Bool, true, false, not, ◌&&◌, ◌||◌, ◌==◌, if◌then◌else◌, List, [], ◌∷◌, ◌++◌, length, count_by, nat_lt, Option, None, Some, option_map, MatchBool}
 use Rattle.call_plan.specs.Plan.{PlanRecord}
 use Rattle.http_pieces.specs.Request.{HttpRequest, closes}
 use Rattle.http_pieces.specs.declared.state.State.{State}
@@ -140,6 +140,22 @@ abbrev pub CountedIn : ℕ → Outcome → ConnValue → CallValue → Option Co
 CountedIn branch outcome old was None jobs after = ⊥
 CountedIn branch outcome old was (Some new) jobs after =
     CountsTo branch outcome (record old { call = Some (back branch was) }) (back branch was) new jobs after
+
+-- Memory was refused as an outcome of a branch counted: of the branches that are due the first may have started, and nothing was decided.
+abbrev pub StopsIn : ℕ → Outcome → ConnValue → CallValue → ConnValue → List JobValue → List JobValue → Type 0
+StopsIn branch (Fail error) old call new jobs after = (new ≡ old) × (after ≡ jobs)
+StopsIn branch (Answer body) old call new jobs after =
+    let answered = answered_by branch body call in
+    MatchBool (nat_lt answered.answered (length call.plan.branches))
+    ((later : CallValue) × (new ≡ record old { call = Some later }) × ((to : ℕ) × (to ≤ due_of answered) × HasStarted to answered later jobs after))
+    ((new ≡ record old { call = Some answered }) × (after ≡ jobs))
+
+-- the connection that this breaks; the branch is no longer out
+abbrev pub BrokenIn : ℕ → Outcome → ConnValue → CallValue → Option ConnValue → List JobValue → List JobValue → Type 0
+BrokenIn branch outcome old was None jobs after = ⊥
+BrokenIn branch outcome old was (Some new) jobs after =
+    (stopped : ConnValue) × StopsIn branch outcome (record old { call = Some (back branch was) }) (back branch was) stopped jobs after
+    × (new ≡ record stopped { broken = true })
 
 -- a branch of the connection's call is no longer out
 abbrev pub back_on : ℕ → ConnValue → ConnValue

@@ -1,4 +1,4 @@
-ghost use Rattle.std.specs.Prelude.{◌≡◌, ℕ, ◌<◌, ◌≤◌, ◌++◌, ◌∷◌, [], IfOk, OnOk, OnErr, length, replicate, count_by, not, nat_lt};
+ghost use Rattle.std.specs.Prelude.{◌≡◌, ℕ, ◌<◌, ◌≤◌, ◌++◌, ◌∷◌, [], IfOk, IsOk, OnOk, OnErr, length, replicate, count_by, not, nat_lt};
 ghost use Rattle.std.specs.Arc.{arc_value};
 ghost use Rattle.gateway_core.specs.Call.{new_call, is_out, call_sees, branch_error, due_of, start_of, back, answered_by, success_of, failure_of, decided_of, HasStarted};
 ghost use Rattle.gateway_core.specs.Job.{job_of, branch_at};
@@ -73,6 +73,7 @@ impl Call {
     pub(crate) fn start_due(&mut self, jobs: &mut VecDeque<Job>) -> Result<(), AllocError>
         ensures ok { OnOk result (HasStarted (due_of self.old) self.old self.new jobs.old.items jobs.new.items) }
         ensures err { OnErr result ((to : ℕ) × (to ≤ due_of self.old) × HasStarted to self.old self.new jobs.old.items jobs.new.items) }
+        ensures none { due_of self.old ≤ self.old.started → IsOk result }
     {
         let due = self.due();
         for index in self.started..due {

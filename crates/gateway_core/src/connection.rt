@@ -1,12 +1,13 @@
-ghost use Rattle.std.specs.Prelude.{◌≡◌, ℕ, ◌<◌, ◌≤◌, ◌++◌, ◌∷◌, [], ◌==◌, Some, None, IfOk, OnOk, OnErr, IsTrue, List, length, take, true, false, if◌then◌else◌};
+ghost use Rattle.std.specs.Prelude.{◌≡◌, ℕ, ◌<◌, ◌≤◌, ◌++◌, ◌∷◌, [], ◌==◌, Ok, Some, None, IfOk, IsOk, OnOk, OnErr, IsTrue, List, length, take, true, false, if◌then◌else◌};
 ghost use Rattle.connect_codec.specs.Reply.{bare_reply, is_bare_status};
+ghost use Rattle.connect_codec.specs.declared.answer.Outcome.{Outcome};
 ghost use Rattle.gateway_core.specs.Arrival.{refusal_reply, arrival_of};
 ghost use Rattle.gateway_core.specs.Past.{is_due, smaller};
-ghost use Rattle.gateway_core.specs.Queue.{expired_reply};
-ghost use Rattle.gateway_core.specs.Call.{CallValue, new_call, reply_of};
-ghost use Rattle.gateway_core.specs.Core.{new_conn, first_call, is_ended, sees, outs, back_on, refused_by, CountsTo, CountedIn, IsBroken, ArrivesAs, GoesOn, Feeds};
+ghost use Rattle.gateway_core.specs.Queue.{expired_reply, IsPrefixOf};
+ghost use Rattle.gateway_core.specs.Call.{CallValue, answered_by, back, new_call, reply_of, waits_on};
+ghost use Rattle.gateway_core.specs.Core.{new_conn, first_call, is_ended, sees, outs, back_on, refused_by, CountsTo, CountedIn, StopsIn, BrokenIn, IsBroken, ArrivesAs, GoesOn, Feeds};
 ghost use Rattle.gateway_core.specs.Job.{JobValue};
-ghost use Rattle.http_pieces.specs.Reader.{HasRead};
+ghost use Rattle.http_pieces.specs.Reader.{HasRead, is_over};
 ghost use Rattle.http_pieces.specs.Request.{HttpRequest};
 ghost use Rattle.std.specs.Arc.{arc_value};
 
@@ -75,6 +76,13 @@ impl Connection {
             → IfOk result (λ n. Feeds plans.now (stream ++ take n bytes.now) given self.old (Some self.new) jobs.old.items jobs.new.items) }
         ensures kept { OnOk result (self.new.broken ≡ self.old.broken) }
         ensures err { OnErr result ((self.new.replies ≡ self.old.replies) × ((started : List JobValue) × (jobs.new.items ≡ jobs.old.items ++ started))) }
+        ensures keeps_replies { IsPrefixOf self.old.replies self.new.replies }
+        ensures keeps_jobs { IsPrefixOf jobs.old.items jobs.new.items }
+
+        // Behind the first request only the reader can want memory, and behind the stream's end nothing does.
+        ensures behind { self.old.arrived ≡ true → OnErr result ((self.new ≡ self.old) × (jobs.new.items ≡ jobs.old.items)) }
+        ensures over { self.old.arrived ≡ true → is_over self.old.reader.reading ≡ true
+            → (result ≡ Ok (length bytes.now)) × (self.new ≡ self.old) × (jobs.new.items ≡ jobs.old.items) }
     {
         let taken = self.reader.push(bytes)?;
         match self.reader.state() {
@@ -142,6 +150,10 @@ impl Connection {
         ensures counted { (was : CallValue) → self.old.call ≡ Some was → result.seen ≡ Seen.Counted → result.broke ≡ false
             → CountedIn branch outcome self.old was (Some self.new) jobs.old.items jobs.new.items }
         ensures broke { IsTrue result.broke → (result.seen ≡ Seen.Counted) × IsBroken self.old self.new jobs.old.items jobs.new.items }
+        ensures stops { (was : CallValue) → self.old.call ≡ Some was → IsTrue result.broke
+            → BrokenIn branch outcome self.old was (Some self.new) jobs.old.items jobs.new.items }
+        ensures waits { (was : CallValue) (body : List ℕ) → self.old.call ≡ Some was → outcome ≡ Outcome.Answer body
+            → waits_on (answered_by branch body (back branch was)) ≡ true → result.broke ≡ false }
     {
         let seen = self.sees(request, branch);
         match seen {
@@ -180,6 +192,10 @@ impl Connection {
     ) -> Result<(), AllocError>
         ensures counts { (call : CallValue) → self.old.call ≡ Some call
             → OnOk result (CountsTo branch outcome self.old call self.new jobs.old.items jobs.new.items) }
+        ensures stops { (call : CallValue) → self.old.call ≡ Some call
+            → OnErr result (StopsIn branch outcome self.old call self.new jobs.old.items jobs.new.items) }
+        ensures waits { (call : CallValue) (body : List ℕ) → self.old.call ≡ Some call → outcome ≡ Outcome.Answer body
+            → waits_on (answered_by branch body call) ≡ true → IsOk result }
         ensures err { OnErr result ((self.new.replies ≡ self.old.replies) × ((started : List JobValue) × (jobs.new.items ≡ jobs.old.items ++ started))) }
     {
         let Some(call) = self.call.as_mut() else {
@@ -203,6 +219,7 @@ impl Connection {
     /// The stream is refused: this is the last reply.
     fn refuse(&mut self, alloc: Global, refusal: Refusal) -> Result<(), AllocError>
         ensures ok { OnOk result (self.new ≡ refused_by refusal self.old) }
+        ensures behind { self.old.arrived ≡ true → IsOk result }
         ensures err { OnErr result (self.new.replies ≡ self.old.replies) }
     {
         if self.arrived {
@@ -225,6 +242,7 @@ impl Connection {
         ensures arrives { self.old.arrived ≡ false
             → OnOk result (ArrivesAs request self.old self.new jobs.old.items jobs.new.items (arrival_of plans.now request)) }
         ensures dropped { self.old.arrived ≡ true → (self.new ≡ self.old) × (jobs.new.items ≡ jobs.old.items) }
+        ensures behind { self.old.arrived ≡ true → IsOk result }
         ensures err { OnErr result ((self.new.replies ≡ self.old.replies) × ((started : List JobValue) × (jobs.new.items ≡ jobs.old.items ++ started))) }
     {
         if self.arrived {

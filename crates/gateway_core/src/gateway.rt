@@ -1,12 +1,14 @@
 ghost use Rattle.std.specs.Prelude.{◌≡◌, ℕ, ◌<◌, ◌≤◌, ◌++◌, ◌∷◌, [], ◌↔◌, IfOk, OnOk, OnErr, IsSome, List, length, take, option_map, option_to_list, true, false, IsTrue};
-ghost use Rattle.gateway_core.specs.Core.{core_value, new_conn, conn_at, is_live, untaken_of, is_broken_conn, core_sees, call_at, outs, is_ended, back_on, with_untaken, ConnValue, CountedIn, BreaksTo, Feeds};
-ghost use Rattle.gateway_core.specs.Call.{CallValue};
+ghost use Rattle.connect_codec.specs.declared.answer.Outcome.{Outcome};
+ghost use Rattle.gateway_core.specs.Core.{core_value, new_conn, conn_at, is_live, untaken_of, is_broken_conn, core_sees, call_at, outs, is_ended, back_on, with_untaken, ConnValue, CountedIn, BrokenIn, BreaksTo, Feeds};
+ghost use Rattle.gateway_core.specs.Call.{CallValue, answered_by, back, waits_on};
 ghost use Rattle.gateway_core.specs.Job.{JobValue};
 ghost use Rattle.gateway_core.specs.Occurrence.{Occurrence};
 ghost use Rattle.gateway_core.specs.Past.{judged, marked};
+ghost use Rattle.gateway_core.specs.Queue.{IsPrefixOf};
 ghost use Rattle.gateway_core.specs.Stands.{StandsFor, StandsAfter};
 ghost use Rattle.gateway_core.specs.declared.reply.Reply.{Reply};
-ghost use Rattle.http_pieces.specs.Reader.{HasRead};
+ghost use Rattle.http_pieces.specs.Reader.{HasRead, is_over};
 ghost use Rattle.http_pieces.specs.Request.{HttpRequest};
 
 use crate::connection::Connection;
@@ -80,6 +82,15 @@ impl Core {
             → IfOk result (λ n. Feeds self.old.plans (stream ++ take n bytes.now) given was (conn_at conn self.new) self.old.jobs self.new.jobs) }
         ensures broken { result ≡ Err StepFault.Memory → BreaksTo (conn_at conn self.old) (conn_at conn self.new) self.old.jobs self.new.jobs }
         ensures unbroken { OnOk result (is_live conn self.new ≡ true) }
+        ensures keeps_replies { IsPrefixOf (untaken_of conn self.old) (untaken_of conn self.new) }
+        ensures keeps_jobs { IsPrefixOf self.old.jobs self.new.jobs }
+
+        // Behind the first request only the reader can want memory, and behind the stream's end nothing does.
+        ensures behind { (was : ConnValue) → conn_at conn self.old ≡ Some was → was.arrived ≡ true → result ≡ Err StepFault.Memory
+            → self.new ≡ core_value self.old.plans (Some (record was { broken = true })) self.old.jobs }
+        ensures over { (was : ConnValue) → conn_at conn self.old ≡ Some was → was.broken ≡ false → was.arrived ≡ true → is_over was.reader.reading ≡ true
+            → (result ≡ Ok (length bytes.now)) × (self.new ≡ self.old) }
+
         ensures stands { (was : ConnValue) (stream : List ℕ) (given : List HttpRequest) (taken : List Reply) (handed : List JobValue) (occurred : List Occurrence)
             → conn_at conn self.old ≡ Some was → HasRead was.reader stream given → StandsFor self.old taken handed occurred
             → IfOk result (λ n. StandsAfter self.old.plans (stream ++ take n bytes.now) given was self.new taken handed occurred) }
@@ -98,6 +109,13 @@ impl Core {
         ensures plans { self.new.plans ≡ self.old.plans }
         ensures broke { IsTrue result.broke → (result.seen ≡ Seen.Counted)
             × BreaksTo (conn_at call.conn self.old) (conn_at call.conn self.new) self.old.jobs self.new.jobs }
+        ensures stops { (conn : ConnValue) (was : CallValue) → conn_at call.conn self.old ≡ Some conn → conn.call ≡ Some was → IsTrue result.broke
+            → BrokenIn branch outcome conn was (conn_at call.conn self.new) self.old.jobs self.new.jobs }
+
+        // An answer after which its call waits on takes no memory.
+        ensures waits { (conn : ConnValue) (was : CallValue) (body : List ℕ) → conn_at call.conn self.old ≡ Some conn → conn.call ≡ Some was
+            → outcome ≡ Outcome.Answer body → waits_on (answered_by branch body (back branch was)) ≡ true → result.broke ≡ false }
+
         ensures judged { (taken : List Reply) (handed : List JobValue) (occurred : List Occurrence) → StandsFor self.old taken handed occurred
             → result.seen ≡ judged call branch (marked occurred) }
         ensures stands { (taken : List Reply) (handed : List JobValue) (occurred : List Occurrence) → StandsFor self.old taken handed occurred
@@ -199,6 +217,14 @@ impl Core {
             → IfOk result (λ n. Feeds self.old.plans (stream ++ take n bytes.now) given was (conn_at conn self.new) self.old.jobs self.new.jobs) }
         ensures broken { result ≡ Err StepFault.Memory → BreaksTo (conn_at conn self.old) (conn_at conn self.new) self.old.jobs self.new.jobs }
         ensures unbroken { OnOk result (is_live conn self.new ≡ true) }
+        ensures keeps_replies { IsPrefixOf (untaken_of conn self.old) (untaken_of conn self.new) }
+        ensures keeps_jobs { IsPrefixOf self.old.jobs self.new.jobs }
+
+        // Behind the first request only the reader can want memory, and behind the stream's end nothing does.
+        ensures behind { (was : ConnValue) → conn_at conn self.old ≡ Some was → was.arrived ≡ true → result ≡ Err StepFault.Memory
+            → self.new ≡ core_value self.old.plans (Some (record was { broken = true })) self.old.jobs }
+        ensures over { (was : ConnValue) → conn_at conn self.old ≡ Some was → was.broken ≡ false → was.arrived ≡ true → is_over was.reader.reading ≡ true
+            → (result ≡ Ok (length bytes.now)) × (self.new ≡ self.old) }
     {
         if conn.number() != 0 {
             return Err(StepFault::Gone);
@@ -229,6 +255,12 @@ impl Core {
         ensures plans { self.new.plans ≡ self.old.plans }
         ensures broke { IsTrue result.broke → (result.seen ≡ Seen.Counted)
             × BreaksTo (conn_at call.conn self.old) (conn_at call.conn self.new) self.old.jobs self.new.jobs }
+        ensures stops { (conn : ConnValue) (was : CallValue) → conn_at call.conn self.old ≡ Some conn → conn.call ≡ Some was → IsTrue result.broke
+            → BrokenIn branch outcome conn was (conn_at call.conn self.new) self.old.jobs self.new.jobs }
+
+        // An answer after which its call waits on takes no memory.
+        ensures waits { (conn : ConnValue) (was : CallValue) (body : List ℕ) → conn_at call.conn self.old ≡ Some conn → conn.call ≡ Some was
+            → outcome ≡ Outcome.Answer body → waits_on (answered_by branch body (back branch was)) ≡ true → result.broke ≡ false }
     {
         let unknown = Took {
             seen: Seen::Unknown,

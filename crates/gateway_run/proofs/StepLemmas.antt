@@ -1,6 +1,6 @@
 -- One event more: what the core stands for then.
 use Rattle.std.proofs.Common.{◌≡◌, ℕ, suc, ◌<◌, ◌≤◌, Bool, true, false, List, [], ◌∷◌, ◌++◌, Option, None, Some, Result, Ok, Err, map, length, refl, sym, ap, ◌∙◌, subst, arith, ⊎_elim}
-use Rattle.std.specs.Prelude.{is_some, IsSome, IsTrue, option_map, ◌↔◌, ◌&&◌, ◌||◌, ◌==◌, nat_lt, if◌then◌else◌}
+use Rattle.std.specs.Prelude.{is_some, IsSome, IsTrue, option_map, ◌↔◌, ◌&&◌, ◌||◌, ◌==◌, nat_lt, not, if◌then◌else◌}
 use Rattle.std.proofs.lemmas.Bool.{cond_both, cases_Bool, cases_eq, eq-eqb, ne_eqb, eqb-true, ltb-false}
 use Rattle.std.proofs.lemmas.List.{append-nil}
 use Rattle.http_pieces.specs.Request.{HttpRequest}
@@ -14,8 +14,8 @@ use Rattle.gateway_core.specs.declared.reply.Reply.{Reply}
 use Rattle.gateway_core.specs.Arrival.{arrival_of}
 use Rattle.std.specs.Option.{option_map_or}
 use Rattle.std.specs.Result.{OnOk}
-use Rattle.gateway_core.specs.Core.{ConnValue, CoreValue, core_value, conn_at, core_sees, sees, call_of, back_on, CountedIn, BreaksTo, GoesOn, IsDecidedBy, is_live, is_unbroken, is_broken_conn, is_waiting, new_conn}
-use Rattle.gateway_core.specs.Call.{CallValue, back, answered_by, success_of}
+use Rattle.gateway_core.specs.Core.{ConnValue, CoreValue, core_value, replies_of, conn_at, core_sees, sees, call_of, back_on, CountedIn, BreaksTo, GoesOn, IsDecidedBy, is_live, is_unbroken, is_broken_conn, is_waiting, new_conn}
+use Rattle.gateway_core.specs.Call.{CallValue, is_out, back, answered_by, success_of}
 use Rattle.gateway_core.specs.declared.id.CallId.{CallId}
 use Rattle.gateway_core.specs.declared.fault.Took.{Took}
 use Rattle.gateway_core.specs.declared.fault.Seen.{Seen}
@@ -34,7 +34,9 @@ use Rattle.gateway_run.specs.Today.{first_only}
 use Rattle.gateway_run.specs.Stands.{StandsForEvents}
 use Rattle.gateway_run.proofs.DeliverLemmas.{Delivers}
 use Rattle.gateway_run.proofs.CutLemmas.{IsSame, same_next, at_same, open_known}
+use Rattle.gateway_core.specs.Queue.{IsPrefixOf}
 use Rattle.gateway_core.proofs.CoreLemmas.{conn_there}
+use Rattle.gateway_core.proofs.KeepLemmas.{same_begins, counted_keeps}
 use Rattle.gateway_core.proofs.Cases.{or_true, or_false, and_true, and_false, either_way}
 
 -- ---- one opening more
@@ -397,6 +399,10 @@ piece_event old new conn bytes live live_new plans_are delivers taken handed ope
     let a = delivers (conn_of old) (stream opened 0 events) h.given taken handed (occurrences (first_only occurred)) (rw was.0 (there_is old was.1)) h.reads h.stands in
     rw was.0 (taken_piece old new taken handed opened bytes events occurred was.1 now.1 plans_are h a)
 
+-- the core's connection is broken where that of some number is
+broken_there : (number : ℕ) (core : CoreValue) → is_broken_conn (conn_at number core) ≡ true → is_broken_conn core.conn ≡ true
+broken_there number core e = cond_both (number == 0) core.conn None (λ o. is_broken_conn o ≡ true → is_broken_conn core.conn ≡ true) (λ _ x. x) (λ _ x. absurd (cc)) e
+
 -- a piece, by what came of delivering it
 pub delivered_event : {T : Type 0} (r : Result T StepFault) (old new : CoreValue) (conn : ℕ) (bytes : List ℕ)
     → (r ≡ Err Gone) ↔ (is_live conn old ≡ false) → (r ≡ Err Gone → new ≡ old) → (r ≡ Err Memory → is_broken_conn (conn_at conn new) ≡ true)
@@ -417,10 +423,7 @@ delivered_event (Err Gone) old new conn bytes gone unchanged breaks live plans_a
     let same : new ≡ old = unchanged refl in
     rw same (stray_piece old taken handed opened conn bytes events occurred (gone.0 refl) (rw same at fine) h)
 delivered_event (Err Memory) old new conn bytes gone unchanged breaks live plans_are stands taken handed opened events occurred h fine =
-    absurd (let bad : is_broken_conn new.conn ≡ true = is_broken conn new (breaks refl) in let clash : true ≡ false = sym bad ∙ fine in cc)
-  where
-    is_broken : (c : ℕ) (core : CoreValue) → is_broken_conn (conn_at c core) ≡ true → is_broken_conn core.conn ≡ true
-    is_broken c core e = cond_both (c == 0) core.conn None (λ o. is_broken_conn o ≡ true → is_broken_conn core.conn ≡ true) (λ _ x. x) (λ _ x. absurd (cc)) e
+    absurd (let bad : is_broken_conn new.conn ≡ true = broken_there conn new (breaks refl) in let clash : true ≡ false = sym bad ∙ fine in cc)
 
 -- ---- a result
 
@@ -433,18 +436,20 @@ pub record Results (old new : CoreValue) (id : CallId) (branch : ℕ) (outcome :
   pub late : took.seen ≡ Late → new ≡ core_value old.plans (option_map (back_on branch) old.conn) old.jobs
   pub broke : IsTrue took.broke → (took.seen ≡ Counted) × BreaksTo (conn_at id.conn old) (conn_at id.conn new) old.jobs new.jobs
 
--- the connection is there as it was, and stands where it did in its stream
+-- the connection is there as it was, as broken as it was, and stands where it did in its stream
 pub record Keeps (old new : Option ConnValue) : Type 0 where
   pub there : is_some new ≡ is_some old
+  pub broken : is_broken_conn new ≡ is_broken_conn old
   pub reader : (c d : ConnValue) → old ≡ Some c → new ≡ Some d → (d.reader ≡ c.reader) × (d.arrived ≡ c.arrived)
 
 keeps_same : (o : Option ConnValue) → Keeps o o
-keeps_same o = record { there = refl; reader = λ c d a b. (let same : c ≡ d = (let both : Some c ≡ Some d = sym a ∙ b in cc) in rw same (refl, refl)) }
+keeps_same o = record { there = refl; broken = refl; reader = λ c d a b. (let same : c ≡ d = (let both : Some c ≡ Some d = sym a ∙ b in cc) in rw same (refl, refl)) }
 
 keeps_back : (branch : ℕ) (o : Option ConnValue) → Keeps o (option_map (back_on branch) o)
 keeps_back branch None = keeps_same None
 keeps_back branch (Some x) = record {
   there = refl;
+  broken = refl;
   reader = λ c d a b.
       let first : x ≡ c = cc in
       let second : back_on branch x ≡ d = cc in
@@ -469,17 +474,18 @@ counted_call old id branch seen =
     by_conn None o_is e = absurd (cc)
     by_conn (Some conn) o_is e = by_call conn conn.call o_is refl e
 
--- a counted result moves nothing in the stream
+-- a counted result moves nothing in the stream, and breaks nothing
 counted_reader : (branch : ℕ) (outcome : Outcome) (conn new : ConnValue) (c : CallValue) (jobs after : List JobValue)
-    → CountedIn branch outcome conn c (Some new) jobs after → (new.reader ≡ conn.reader) × (new.arrived ≡ conn.arrived)
-counted_reader branch (Fail error) conn new c jobs after step = (ap (λ (x : ConnValue). x.reader) step.0, ap (λ (x : ConnValue). x.arrived) step.0)
+    → CountedIn branch outcome conn c (Some new) jobs after → (new.reader ≡ conn.reader) × (new.arrived ≡ conn.arrived) × (new.broken ≡ conn.broken)
+counted_reader branch (Fail error) conn new c jobs after step =
+    (ap (λ (x : ConnValue). x.reader) step.0, ap (λ (x : ConnValue). x.arrived) step.0, ap (λ (x : ConnValue). x.broken) step.0)
 counted_reader branch (Answer body) conn new c jobs after step =
     let d : CallValue = answered_by branch body (back branch c) in
     let on : ConnValue = record conn { call = Some (back branch c) } in
     either_way (nat_lt d.answered (length c.plan.branches)) (GoesOn d on new jobs after) (IsDecidedBy (success_of d) d on new jobs after)
-    ((new.reader ≡ conn.reader) × (new.arrived ≡ conn.arrived))
-    (λ _ g. (ap (λ (x : ConnValue). x.reader) g.1, ap (λ (x : ConnValue). x.arrived) g.1))
-    (λ _ g. (ap (λ (x : ConnValue). x.reader) g.0, ap (λ (x : ConnValue). x.arrived) g.0)) step
+    ((new.reader ≡ conn.reader) × (new.arrived ≡ conn.arrived) × (new.broken ≡ conn.broken))
+    (λ _ g. (ap (λ (x : ConnValue). x.reader) g.1, ap (λ (x : ConnValue). x.arrived) g.1, ap (λ (x : ConnValue). x.broken) g.1))
+    (λ _ g. (ap (λ (x : ConnValue). x.reader) g.0, ap (λ (x : ConnValue). x.arrived) g.0, ap (λ (x : ConnValue). x.broken) g.0)) step
 
 keeps_counted : (old new : CoreValue) (number branch : ℕ) (outcome : Outcome) (conn : ConnValue) (c : CallValue) (o : Option ConnValue) → conn_at number old ≡ Some conn
     → conn_at number new ≡ o → CountedIn branch outcome conn c o old.jobs new.jobs → Keeps old.conn new.conn
@@ -487,12 +493,14 @@ keeps_counted old new number branch outcome conn c None there o_is step = absurd
 keeps_counted old new number branch outcome conn c (Some n) there o_is step =
     let was : old.conn ≡ Some conn = conn_there old number conn there in
     let now : new.conn ≡ Some n = conn_there new number n o_is in
+    let still = counted_reader branch outcome conn n c old.jobs new.jobs step in
     record {
       there = rw (was, now) refl;
+      broken = rw (was, now) still.2;
       reader = λ x y a b.
           let first : conn ≡ x = (let both : Some conn ≡ Some x = sym was ∙ a in cc) in
           let second : n ≡ y = (let both : Some n ≡ Some y = sym now ∙ b in cc) in
-          rw (← first, ← second) (counted_reader branch outcome conn n c old.jobs new.jobs step);
+          rw (← first, ← second) (still.0, still.1);
     }
 
 broke_there : (old new : CoreValue) (number : ℕ) (o n : Option ConnValue) (jobs after : List JobValue) → conn_at number old ≡ o → conn_at number new ≡ n
@@ -506,6 +514,18 @@ broken_some : (o : Option ConnValue) → is_broken_conn o ≡ true → is_some o
 broken_some None e = absurd (cc)
 broken_some (Some c) e = refl
 
+-- a result that breaks no connection leaves it there as it was, where it stood
+keeps_unbroken : (old new : CoreValue) (id : CallId) (branch : ℕ) (outcome : Outcome) (took : Took) → Results old new id branch outcome took
+    → took.broke ≡ false → Keeps old.conn new.conn
+keeps_unbroken old new id branch outcome took r good = by_seen took.seen refl
+  where
+    by_seen : (s : Seen) → took.seen ≡ s → Keeps old.conn new.conn
+    by_seen Unknown is = rw (r.unknown is) (keeps_same old.conn)
+    by_seen Late is = rw (r.late is) (keeps_back branch old.conn)
+    by_seen Counted is =
+        let c = counted_call old id branch (sym r.sees ∙ is) in
+        keeps_counted old new id.conn branch outcome c.0 c.1.0 (conn_at id.conn new) c.1.1 refl (r.counted c.0 c.1.0 c.1.1 c.1.2 is good)
+
 -- whatever came of the result: the connection is there as it was, and if it is not broken, stands where it did
 pub result_keeps : (old new : CoreValue) (id : CallId) (branch : ℕ) (outcome : Outcome) (took : Took) → Results old new id branch outcome took
     → (is_some new.conn ≡ is_some old.conn) × (is_broken_conn new.conn ≡ false → (took.broke ≡ false) × Keeps old.conn new.conn)
@@ -514,15 +534,104 @@ result_keeps old new id branch outcome took r =
     let b = r.broke bad in
     let there = broke_there old new id.conn (conn_at id.conn old) (conn_at id.conn new) old.jobs new.jobs refl refl b.1 in
     (broken_some new.conn there.1 ∙ sym there.0, λ fine. absurd (let clash : true ≡ false = sym there.1 ∙ fine in cc)))
-    (λ (good : took.broke ≡ false). let k = keeps good took.seen refl in (k.there, λ fine. (good, k)))
+    (λ (good : took.broke ≡ false). let k = keeps_unbroken old new id branch outcome took r good in (k.there, λ fine. (good, k)))
     (cases_Bool took.broke)
+
+-- ---- what tells that a connection broke
+
+-- a connection broke where it was unbroken before and is broken now
+abbrev Breaks : Bool → Bool → Bool → Type 0
+Breaks told was now = told ≡ (not was && now)
+
+breaks_none : (was now : Bool) → now ≡ was → Breaks false was now
+breaks_none true true e = refl
+breaks_none false false e = refl
+breaks_none true false e = absurd (cc)
+breaks_none false true e = absurd (cc)
+
+-- a counted result came to an unbroken connection
+counted_unbroken : (o : Option CallValue) (was : Bool) (branch : ℕ) → sees o was branch ≡ Counted → was ≡ false
+counted_unbroken None was branch e = absurd (cc)
+counted_unbroken (Some c) false branch e = refl
+counted_unbroken (Some c) true branch e = absurd (uncounted (is_out c branch) c.decided e)
   where
-    keeps : took.broke ≡ false → (s : Seen) → took.seen ≡ s → Keeps old.conn new.conn
-    keeps good Unknown is = rw (r.unknown is) (keeps_same old.conn)
-    keeps good Late is = rw (r.late is) (keeps_back branch old.conn)
-    keeps good Counted is =
-        let c = counted_call old id branch (sym r.sees ∙ is) in
-        keeps_counted old new id.conn branch outcome c.0 c.1.0 (conn_at id.conn new) c.1.1 refl (r.counted c.0 c.1.0 c.1.1 c.1.2 is good)
+    uncounted : (out decided : Bool) → (if out then (if decided || true then Late else Counted) else Unknown) ≡ Counted → ⊥
+    uncounted true true x = cc
+    uncounted true false x = cc
+    uncounted false decided x = cc
+
+counted_whole : (old : CoreValue) (id : CallId) (branch : ℕ) → core_sees id branch old ≡ Counted → is_broken_conn old.conn ≡ false
+counted_whole old id branch seen =
+    let c = counted_call old id branch seen in
+    ap is_broken_conn (conn_there old id.conn c.0 c.1.1 ∙ sym c.1.1)
+    ∙ counted_unbroken (if id.request == 0 then call_of (conn_at id.conn old) else None) (is_broken_conn (conn_at id.conn old)) branch seen
+
+-- a result's answer tells exactly where its connection broke
+pub result_breaks : (old new : CoreValue) (id : CallId) (branch : ℕ) (outcome : Outcome) (took : Took) → Results old new id branch outcome took
+    → Breaks took.broke (is_broken_conn old.conn) (is_broken_conn new.conn)
+result_breaks old new id branch outcome took r =
+    ⊎_elim (λ (bad : took.broke ≡ true).
+    let b = r.broke bad in
+    let was : is_broken_conn old.conn ≡ false = counted_whole old id branch (sym r.sees ∙ b.0) in
+    let now : is_broken_conn new.conn ≡ true = (broke_there old new id.conn (conn_at id.conn old) (conn_at id.conn new) old.jobs new.jobs refl refl b.1).1 in
+    rw (bad, was, now) refl)
+    (λ (good : took.broke ≡ false). rw good (breaks_none (is_broken_conn old.conn) (is_broken_conn new.conn) (keeps_unbroken old new id branch outcome took r good).broken))
+    (cases_Bool took.broke)
+
+-- ---- what waits stays
+
+-- what a result leaves of what waits, and where its connection was broken before
+pub record Waits (old new : CoreValue) : Type 0 where
+  pub replies : IsPrefixOf (replies_of old.conn) (replies_of new.conn)
+  pub jobs : IsPrefixOf old.jobs new.jobs
+  pub queues_no_more : is_broken_conn old.conn ≡ true → replies_of new.conn ≡ replies_of old.conn
+  pub starts_no_more : is_broken_conn old.conn ≡ true → new.jobs ≡ old.jobs
+
+same_waits : (old new : CoreValue) → replies_of new.conn ≡ replies_of old.conn → new.jobs ≡ old.jobs → Waits old new
+same_waits old new replies_are jobs_are = record {
+  replies = same_begins (replies_of old.conn) (replies_of new.conn) replies_are;
+  jobs = same_begins old.jobs new.jobs jobs_are;
+  queues_no_more = λ bad. replies_are;
+  starts_no_more = λ bad. jobs_are;
+}
+
+back_replies : (branch : ℕ) (o : Option ConnValue) → replies_of (option_map (back_on branch) o) ≡ replies_of o
+back_replies branch None = refl
+back_replies branch (Some c) = refl
+
+pub result_waits : (old new : CoreValue) (id : CallId) (branch : ℕ) (outcome : Outcome) (took : Took) → Results old new id branch outcome took → Waits old new
+result_waits old new id branch outcome took r = by_seen took.seen refl
+  where
+    counted : (conn : ConnValue) (was : CallValue) (n : Option ConnValue) → conn_at id.conn old ≡ Some conn → conn_at id.conn new ≡ n → CountedIn branch outcome conn was n old.jobs new.jobs
+        → IsPrefixOf (replies_of old.conn) (replies_of new.conn) × IsPrefixOf old.jobs new.jobs
+    counted conn was None there n_is step = absurd step
+    counted conn was (Some now) there n_is step =
+        rw (conn_there old id.conn conn there, conn_there new id.conn now n_is) (counted_keeps branch outcome conn now was old.jobs new.jobs step)
+
+    broke : (o n : Option ConnValue) → conn_at id.conn old ≡ o → conn_at id.conn new ≡ n → BreaksTo o n old.jobs new.jobs
+        → IsPrefixOf (replies_of old.conn) (replies_of new.conn) × IsPrefixOf old.jobs new.jobs
+    broke None n o_is n_is h = absurd h
+    broke (Some conn) None o_is n_is h = absurd h
+    broke (Some conn) (Some now) o_is n_is h =
+        rw (conn_there old id.conn conn o_is, conn_there new id.conn now n_is) (same_begins conn.replies now.replies h.replies, h.jobs_are)
+
+    by_seen : (s : Seen) → took.seen ≡ s → Waits old new
+    by_seen Unknown is = same_waits old new (ap (λ (c : CoreValue). replies_of c.conn) (r.unknown is)) (ap (λ (c : CoreValue). c.jobs) (r.unknown is))
+    by_seen Late is = same_waits old new (ap (λ (c : CoreValue). replies_of c.conn) (r.late is) ∙ back_replies branch old.conn) (ap (λ (c : CoreValue). c.jobs) (r.late is))
+    by_seen Counted is =
+        let seen = sym r.sees ∙ is in
+        let c = counted_call old id branch seen in
+        let whole = counted_whole old id branch seen in
+        let kept =
+        ⊎_elim (λ (bad : took.broke ≡ true). broke (conn_at id.conn old) (conn_at id.conn new) refl refl (r.broke bad).1)
+        (λ (good : took.broke ≡ false). counted c.0 c.1.0 (conn_at id.conn new) c.1.1 refl (r.counted c.0 c.1.0 c.1.1 c.1.2 is good))
+        (cases_Bool took.broke) in
+        record {
+          replies = kept.0;
+          jobs = kept.1;
+          queues_no_more = λ bad. absurd (let clash : true ≡ false = sym bad ∙ whole in cc);
+          starts_no_more = λ bad. absurd (let clash : true ≡ false = sym bad ∙ whole in cc);
+        }
 
 pub result_event : (old new : CoreValue) (id : CallId) (branch : ℕ) (outcome : Outcome) (took : Took) → Results old new id branch outcome took → new.plans ≡ old.plans
     → ((taken : List Reply) (handed : List JobValue) (past : List Occurrence) → StandsFor old taken handed past → took.broke ≡ false

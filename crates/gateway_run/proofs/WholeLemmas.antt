@@ -1,5 +1,5 @@
 -- A whole run: the loop over the events, and what it leaves.
-use Rattle.std.proofs.Common.{◌≡◌, ℕ, ◌+◌, ◌<◌, ◌≤◌, Bool, true, false, List, [], ◌∷◌, ◌++◌, Option, None, Some, map, length, reverse, refl, sym, ap, ◌∙◌, subst, arith, append_assoc, ⊎_elim}
+use Rattle.std.proofs.Common.{◌≡◌, ℕ, zero, suc, ◌+◌, ◌<◌, ◌≤◌, Bool, true, false, List, [], ◌∷◌, ◌++◌, Option, None, Some, map, length, reverse, refl, sym, ap, ◌∙◌, subst, arith, append_assoc, ⊎_elim}
 use Rattle.std.specs.Prelude.{min, is_some, ◌||◌, ◌==◌, if◌then◌else◌, filter, option_to_list}
 use Rattle.std.specs.List.{range_with_len}
 use Rattle.std.specs.Option.{option_or}
@@ -23,7 +23,7 @@ use Rattle.gateway_run.specs.declared.event.Event.TheVariants as taken
 use Rattle.gateway_run.specs.declared.outcome.Start.{Start}
 use Rattle.gateway_run.specs.declared.stepping.Stepped.{Stepped}
 use Rattle.gateway_run.specs.declared.stepping.Stepped.TheVariants.{Done, Opened, NotOpened, Saw, Fault}
-use Rattle.gateway_run.specs.Events.{GatewayEvent, Opening, Piece, HangUp, Moment, BranchResult, Drain, Closing, Before, IsOpened, OpensAt, Occurs, connections, open_connections, onto}
+use Rattle.gateway_run.specs.Events.{GatewayEvent, Opening, Piece, HangUp, Moment, BranchResult, Drain, Closing, Before, IsOpened, IsRising, OpensAt, Occurs, connections, open_connections, onto}
 use Rattle.gateway_run.specs.Run.{HasRun, is_listed, joined, newest_first, queues, start_at, starts_of}
 use Rattle.gateway_run.specs.Stands.{StandsForEvents, opened_by}
 use Rattle.gateway_run.specs.Today.{gateway_event, is_opening, first_opening, first_only, is_behind}
@@ -283,6 +283,19 @@ broken_next p n first items new before new_is =
     (λ (fine : p n ≡ false).
     rw fine (before ∙ ap (λ xs. first ++ xs) (sym (more ∙ ap (λ b. filter p (range_with_len 0 n) ++ (if b then n ∷ [] else [])) fine ∙ append-nil (filter p (range_with_len 0 n))))))
     (cases_Bool (p n))
+
+-- some of the numbers from k on, behind one that is lower
+rising_behind : (p : ℕ → Bool) (low k n : ℕ) → low < k → IsRising (low ∷ filter p (range_with_len k n))
+rising_behind p low k zero lt = tt
+rising_behind p low k (suc n) lt =
+    cond_both (p k) (k ∷ filter p (range_with_len (k + 1) n)) (filter p (range_with_len (k + 1) n)) (λ xs. IsRising (low ∷ xs))
+    (λ _. (lt, rising_behind p k (k + 1) n (omega arith))) (λ _. rising_behind p low (k + 1) n (omega (arith, lt)))
+
+pub filter_rising : (p : ℕ → Bool) (k n : ℕ) → IsRising (filter p (range_with_len k n))
+filter_rising p k zero = tt
+filter_rising p k (suc n) =
+    cond_both (p k) (k ∷ filter p (range_with_len (k + 1) n)) (filter p (range_with_len (k + 1) n)) IsRising
+    (λ _. rising_behind p k (k + 1) n (omega arith)) (λ _. filter_rising p (k + 1) n)
 
 pub as_new : (core : CoreValue) (plans : List PlanRecord) → core ≡ core_value plans None [] → core ≡ core_value core.plans None []
 as_new core plans e = e ∙ ap (λ p. core_value p None []) (sym (ap (λ (c : CoreValue). c.plans) e))

@@ -8,6 +8,7 @@ use Rattle.gateway_core.specs.Core.{CoreValue, is_waiting}
 use Rattle.gateway_core.specs.Job.{JobValue}
 use Rattle.gateway_core.specs.Stands.{StandsFor, conn_of}
 use Rattle.gateway_core.specs.Starts.{Placed, occurrences}
+use Rattle.gateway_core.specs.declared.fault.StepFault.TheVariants.{Gone, Memory}
 use Rattle.gateway_run.specs.declared.stepping.Stepped.{Stepped}
 use Rattle.gateway_run.specs.declared.stepping.Stepped.TheVariants.{Done, Opened, NotOpened, Saw, Fault}
 use Rattle.gateway_run.specs.Events.{Before, Occurs, connections, is_open, hung_up, stream, succeeds}
@@ -35,6 +36,15 @@ tells_piece (Opened conn) = false
 tells_piece (NotOpened error) = false
 tells_piece (Saw took) = false
 tells_piece (Fault fault) = true
+
+-- the answer tells that the connection broke in the step, for want of memory
+abbrev pub tells_break : Stepped → Bool
+tells_break Done = false
+tells_break (Opened conn) = false
+tells_break (NotOpened error) = false
+tells_break (Saw took) = took.broke
+tells_break (Fault Gone) = false
+tells_break (Fault Memory) = true
 
 -- the places of the openings that succeeded, after an event at that place that came to this
 abbrev pub opened_by : Stepped → ℕ → List ℕ → List ℕ

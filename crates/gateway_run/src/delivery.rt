@@ -1,10 +1,11 @@
-ghost use Rattle.std.specs.Prelude.{◌≡◌, ℕ, ◌↔◌, ◌++◌, OnOk, Some, List, true, false};
-ghost use Rattle.gateway_core.specs.Core.{ConnValue, is_live, conn_at, is_broken_conn};
+ghost use Rattle.std.specs.Prelude.{◌≡◌, ℕ, ◌↔◌, ◌++◌, OnOk, IsOk, Some, List, true, false};
+ghost use Rattle.gateway_core.specs.Core.{ConnValue, is_live, conn_at, untaken_of, is_broken_conn};
 ghost use Rattle.gateway_core.specs.Job.{JobValue};
 ghost use Rattle.gateway_core.specs.Occurrence.{Occurrence};
+ghost use Rattle.gateway_core.specs.Queue.{IsPrefixOf};
 ghost use Rattle.gateway_core.specs.Stands.{StandsFor, StandsAfter};
 ghost use Rattle.gateway_core.specs.declared.reply.Reply.{Reply};
-ghost use Rattle.http_pieces.specs.Reader.{HasRead};
+ghost use Rattle.http_pieces.specs.Reader.{HasRead, is_over};
 ghost use Rattle.http_pieces.specs.Request.{HttpRequest};
 
 use gateway_core::{ConnId, Core, StepFault};
@@ -19,6 +20,10 @@ pub fn deliver(core: &mut Core, conn: ConnId, piece: &[u8]) -> Result<(), StepFa
     ensures broken { result ≡ Err StepFault.Memory → is_broken_conn (conn_at conn core.new) ≡ true }
     ensures unbroken { OnOk result (is_live conn core.new ≡ true) }
     ensures plans { core.new.plans ≡ core.old.plans }
+    ensures keeps_replies { IsPrefixOf (untaken_of conn core.old) (untaken_of conn core.new) }
+    ensures keeps_jobs { IsPrefixOf core.old.jobs core.new.jobs }
+    ensures over { (was : ConnValue) → conn_at conn core.old ≡ Some was → was.broken ≡ false → was.arrived ≡ true → is_over was.reader.reading ≡ true
+        → IsOk result × (core.new ≡ core.old) }
 
     // The core stands for what occurs by the piece.
     ensures stands { (was : ConnValue) (stream : List ℕ) (given : List HttpRequest) (taken : List Reply) (handed : List JobValue) (occurred : List Occurrence)

@@ -2,7 +2,7 @@ ghost use Rattle.std.specs.Prelude.{◌≡◌, ℕ, ◌<◌, ◌++◌, [], false
 ghost use Rattle.std.specs.List.{range_with_len};
 ghost use Rattle.gateway_core.specs.Core.{conn_at, core_value, is_broken_conn, untaken_of};
 ghost use Rattle.gateway_core.specs.Starts.{Placed};
-ghost use Rattle.gateway_run.specs.Events.{IsOpened, Occurs};
+ghost use Rattle.gateway_run.specs.Events.{IsOpened, IsRising, Occurs};
 ghost use Rattle.gateway_run.specs.Run.{HasRun, is_listed, joined, newest_first, queues, start_at, starts_of};
 ghost use Rattle.gateway_run.specs.Today.{first_only, first_opening};
 
@@ -31,6 +31,7 @@ pub fn run(alloc: Global, plans: Plans, events: Vec<Event>) -> Result<Run, RunEr
         → is_listed 0 run.broken.items ≡ false → run.starts.items ≡ starts_of (first_only occurred)) }
     ensures one_each { IfOk result (λ run. length run.queued.items ≡ length run.opened.items) }
     ensures broken { IfOk result (λ run. (conn : ℕ) → is_listed conn run.broken.items ≡ true → conn < length run.opened.items) }
+    ensures rising { IfOk result (λ run. IsRising run.broken.items) }
 {
     let mut core = Core::new(alloc, plans)?;
     let mut opened = Vec::new(alloc);

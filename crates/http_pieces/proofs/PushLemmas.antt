@@ -1,6 +1,6 @@
 -- What a push does to a reader of requests.
-use Rattle.std.proofs.Common.{◌≡◌, ℕ, ◌<◌, ◌⊎◌, inl, inr, List, ◌++◌, length, take, sym, ap, subst, ◌∙◌, arith, append-nil, Result}
-use Rattle.std.specs.Result.{IfOk}
+use Rattle.std.proofs.Common.{◌≡◌, ℕ, ◌<◌, ◌⊎◌, inl, inr, List, ◌++◌, length, take, sym, ap, subst, ◌∙◌, arith, append-nil, Result, Ok, Err, false, true}
+use Rattle.std.specs.Result.{IfOk, IsOk}
 use Rattle.std.proofs.lemmas.Result.{IfOk-weaker}
 use Rattle.http_pieces.specs.declared.refusal.Refusal.{Refusal}
 use Rattle.http_pieces.specs.declared.head.Head.{Head}
@@ -8,9 +8,10 @@ use Rattle.http_pieces.specs.declared.phase.Phase.{Phase}
 use Rattle.http_pieces.specs.declared.phase.Phase.TheVariants as phase
 use Rattle.http_pieces.specs.Cut.{Complete, IsCut}
 use Rattle.http_pieces.specs.Form.{Advances, Pushes}
+use Rattle.http_pieces.specs.Form as form
 use Rattle.http_pieces.specs.Head.{request_kind}
 use Rattle.http_pieces.specs.Request.{HttpRequest}
-use Rattle.http_pieces.specs.Reader.{Partial, Waiting, ReaderValue, reader_value, HasRead, IsShortest}
+use Rattle.http_pieces.specs.Reader.{Partial, Waiting, ReaderValue, reader_value, HasRead, IsShortest, is_over}
 use Rattle.http_pieces.specs.Layout.{request_of, request_form, request_single, reading_of}
 use Rattle.http_pieces.proofs.PhaseLemmas.{advance_shortest}
 use Rattle.http_pieces.proofs.ReaderLemmas.{read_on, read_refusal, read_request, read_stopped, read_done}
@@ -78,3 +79,23 @@ module _ (k : ℕ) (before piece after : List ℕ) (self : ReaderValue) (was new
       by_phase n (phase.Complete head body) e a = inr (request_of before head body k, e)
       by_phase n (phase.Refused r) e a = inl (omega (arith, a.0, some))
       by_phase n phase.Ended e a = inl (omega (arith, a.0, some))
+
+  pub push_over : {E : Type 0} (r : Result ℕ E) → IfOk r (Pushes request_form before was piece after new) → (form.is_over was ≡ true → IsOk r) → is_over self.reading ≡ true
+      → (r ≡ Ok (length piece)) × (reader_value k (reading_of after new k) ≡ self)
+  push_over (Err e) p fine over = absurd (let clash : false ≡ true = fine (same_over was (sym (ap is_over reading_is) ∙ over)) in cc)
+    where
+      same_over : (w : Phase Head Refusal) → is_over (reading_of before w k) ≡ true → form.is_over w ≡ true
+      same_over phase.More o = o
+      same_over (phase.Complete head body) o = o
+      same_over (phase.Refused r) o = o
+      same_over phase.Ended o = o
+  push_over (Ok n) p fine over =
+      let x = by_phase was p (sym (ap is_over reading_is) ∙ over) in
+      (ap Ok x.0, ap (reader_value k) x.1 ∙ view)
+    where
+      by_phase : (w : Phase Head Refusal) → Pushes request_form before w piece after new n → is_over (reading_of before w k) ≡ true
+          → (n ≡ length piece) × (reading_of after new k ≡ reading_of before w k)
+      by_phase phase.More a o = absurd (cc)
+      by_phase (phase.Complete head body) a o = absurd (cc)
+      by_phase (phase.Refused r) a o = (a.0, stays k before piece after n (phase.Refused r) new a.1 a.2)
+      by_phase phase.Ended a o = (a.0, stays k before piece after n phase.Ended new a.1 a.2)

@@ -1,5 +1,5 @@
 -- How messages of a kind lie in the bytes of their stream, and what a piece adds to them.
-use Rattle.std.specs.Prelude.{◌≡◌, ℕ, ◌<◌, ◌≤◌, List, [], ◌++◌, length, take, drop, Result, Ok, Err}
+use Rattle.std.specs.Prelude.{◌≡◌, ℕ, ◌<◌, ◌≤◌, Bool, true, false, List, [], ◌++◌, length, take, drop, Result, Ok, Err}
 use Rattle.http_pieces.specs.declared.cut.Cut.{Cut}
 use Rattle.http_pieces.specs.declared.cut.Cut.TheVariants as found
 use Rattle.http_pieces.specs.declared.cut.Layout.{Layout}
@@ -53,6 +53,13 @@ IsPhaseSound form bytes phase.More = (k : ℕ) → IsCut (form.kind k) bytes Inc
 IsPhaseSound form bytes (phase.Complete head body) = form.IsIn bytes head × (body ≤ length bytes)
 IsPhaseSound form bytes (phase.Refused r) = Unit {0}
 IsPhaseSound form bytes phase.Ended = Unit {0}
+
+-- nothing more is read in this phase
+abbrev pub is_over : {R H : Type 0} → Phase H R → Bool
+is_over phase.More = false
+is_over (phase.Complete head body) = false
+is_over (phase.Refused r) = true
+is_over phase.Ended = true
 
 -- from bytes that are no whole message, a piece leads to these, n bytes of it are taken, and this came of it
 abbrev pub AdvancesTo : {R H V : Type 0} → Form R H V → List ℕ → List ℕ → List ℕ → ℕ → Phase H R → Type 0

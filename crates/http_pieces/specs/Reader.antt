@@ -1,5 +1,5 @@
 -- A reader of requests, and what it has read.
-use Rattle.std.specs.Prelude.{◌≡◌, ℕ, ◌<◌, if◌then◌else◌, List, [], ◌∷◌, ◌++◌, length, take}
+use Rattle.std.specs.Prelude.{◌≡◌, ℕ, ◌<◌, Bool, true, false, if◌then◌else◌, List, [], ◌∷◌, ◌++◌, length, take}
 use Rattle.http_pieces.specs.declared.refusal.Refusal.{Refusal}
 use Rattle.http_pieces.specs.declared.state.State.{State}
 use Rattle.http_pieces.specs.declared.state.State.TheVariants as state
@@ -28,6 +28,13 @@ state_of (Partial left) = state.More
 state_of (Waiting q) = state.Complete
 state_of (Stopped r) = state.Refused r
 state_of Done = state.Ended
+
+-- nothing more is read of the stream
+abbrev pub is_over : Reading → Bool
+is_over (Partial left) = false
+is_over (Waiting q) = false
+is_over (Stopped r) = true
+is_over Done = true
 
 -- once this request is taken
 abbrev pub after_request : HttpRequest → Reading

@@ -1,6 +1,6 @@
-ghost use Rattle.std.specs.Prelude.{◌≡◌, ◌≤◌, ℕ, length, drop, IfOk, OnErr};
+ghost use Rattle.std.specs.Prelude.{◌≡◌, ◌≤◌, ℕ, length, drop, IfOk, IsOk, OnErr, true};
 ghost use Rattle.http_pieces.specs.Cut.{IsCut, Incomplete};
-ghost use Rattle.http_pieces.specs.Form.{Advances, IsPhaseSound, Pushes};
+ghost use Rattle.http_pieces.specs.Form.{Advances, IsPhaseSound, Pushes, is_over};
 
 use crate::cut::{Cut, cut_message};
 use crate::message::Message;
@@ -27,6 +27,7 @@ pub(crate) fn push_into<M: Message>(
     requires { IsPhaseSound M.form bytes.old.items phase.old }
     ensures ok { IfOk result (Pushes M.form bytes.old.items phase.old piece.now bytes.new.items phase.new) }
     ensures err { OnErr result ((bytes.new.items ≡ bytes.old.items) × (phase.new ≡ phase.old)) }
+    ensures over { is_over phase.old ≡ true → IsOk result }
 {
     match phase {
         Phase::More => {

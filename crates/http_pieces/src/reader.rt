@@ -1,5 +1,5 @@
-ghost use Rattle.std.specs.Prelude.{◌≡◌, ◌<◌, ◌≤◌, ◌++◌, ◌∷◌, [], ℕ, List, length, take, IfOk, IfSome, OnErr, Some, IfNone, MatchOption, ◌⊎◌, ◌+◌};
-ghost use Rattle.http_pieces.specs.Reader.{HasRead, IsShortest, state_of, after_request, reader_value, Partial, Waiting};
+ghost use Rattle.std.specs.Prelude.{◌≡◌, ◌<◌, ◌≤◌, ◌++◌, ◌∷◌, [], ℕ, List, length, take, IfOk, IfSome, OnErr, Ok, Some, IfNone, true, MatchOption, ◌⊎◌, ◌+◌};
+ghost use Rattle.http_pieces.specs.Reader.{HasRead, IsShortest, is_over, state_of, after_request, reader_value, Partial, Waiting};
 ghost use Rattle.http_pieces.specs.Request.{HttpRequest};
 
 use crate::head::{Head, Requests};
@@ -62,6 +62,9 @@ impl Reader {
             → IfOk result (λ n. (0 < n) ⊎ ((q : HttpRequest) × (self.old.reading ≡ Waiting q))) }
         ensures waits { (q : HttpRequest) → self.old.reading ≡ Waiting q → IfOk result (λ n. (n ≡ 0) × (self.new ≡ self.old)) }
         ensures err { OnErr result (self.new ≡ self.old) }
+
+        // Of a stream that is over it takes all, which needs no memory.
+        ensures over { is_over self.old.reading ≡ true → (result ≡ Ok (length piece.now)) × (self.new ≡ self.old) }
     {
         push_into::<Requests>(&mut self.bytes, &mut self.phase, piece)
     }

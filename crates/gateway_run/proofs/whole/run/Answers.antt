@@ -6,7 +6,7 @@ use Rattle.gateway_core.specs.Starts.{Placed}
 use Rattle.gateway_run.specs.Events.{Occurs}
 use Rattle.gateway_run.specs.Run.{HasRun, is_listed, joined, newest_first, queues, starts_of}
 use Rattle.gateway_run.specs.Today.{first_only}
-use Rattle.gateway_run.proofs.WholeLemmas.{as_new, of_plans, run_opened, run_result, run_queues}
+use Rattle.gateway_run.proofs.WholeLemmas.{as_new, of_plans, run_opened, run_result, run_queues, filter_rising}
 use Rattle.gateway_run.proofs.whole.run.Goals as goal
 
 -- how far the run was when all events were taken
@@ -20,6 +20,14 @@ pub returns-clause-opened : goal.returns-clause-opened
 returns-clause-opened c =
     run_opened c.args.plans c.take_events.new.core c.take_events.new.opened.items c.take_events.new.starts.items (newest_first c.args.events.items) (has_run c)
 
+-- which connections are listed as broken
+broken_is : (c : goal.After-drop-core-inside-10)
+    → c.take_queues.new.broken.items ≡ filter (λ conn. is_broken_conn (conn_at conn c.take_events.new.core)) (range_with_len 0 (length c.take_events.new.opened.items))
+broken_is c =
+    c.in_ok-take_queues.ensures.broken
+    ∙ ap (λ xs. xs ++ filter (λ conn. is_broken_conn (conn_at conn c.take_events.new.core)) (range_with_len 0 c.len.result)) c.new-broken.ensures.items
+    ∙ ap (λ n. filter (λ conn. is_broken_conn (conn_at conn c.take_events.new.core)) (range_with_len 0 n)) (c.len.ensures ∙ c.take_events.new.opened.ok.0)
+
 -- what it came to, where the connection is not broken
 result : (c : goal.After-drop-core-inside-10) → is_listed 0 c.take_queues.new.broken.items ≡ false
     → (occurred : List Placed) × Occurs c.args.plans c.take_events.new.opened.items (newest_first c.args.events.items) occurred
@@ -27,9 +35,7 @@ result : (c : goal.After-drop-core-inside-10) → is_listed 0 c.take_queues.new.
 result c =
     run_result c.args.plans c.take_events.new.core c.take_events.new.opened.items c.take_events.new.starts.items (newest_first c.args.events.items) c.take_queues.new.broken.items c.take_queues.new.queued.items
     (has_run c)
-    (c.in_ok-take_queues.ensures.broken
-    ∙ ap (λ xs. xs ++ filter (λ conn. is_broken_conn (conn_at conn c.take_events.new.core)) (range_with_len 0 c.len.result)) c.new-broken.ensures.items
-    ∙ ap (λ n. filter (λ conn. is_broken_conn (conn_at conn c.take_events.new.core)) (range_with_len 0 n)) (c.len.ensures ∙ c.take_events.new.opened.ok.0))
+    (broken_is c)
     (c.in_ok-take_queues.ensures.queued
     ∙ ap (λ xs. xs ++ map (λ conn. joined (untaken_of conn c.take_events.new.core)) (range_with_len 0 c.len.result)) c.new-queued.ensures.items
     ∙ ap (λ n. map (λ conn. joined (untaken_of conn c.take_events.new.core)) (range_with_len 0 n)) (c.len.ensures ∙ c.take_events.new.opened.ok.0))
@@ -44,3 +50,6 @@ returns-clause-queued c = λ occurred o fine.
 pub returns-clause-starts : goal.returns-clause-starts
 returns-clause-starts c = λ occurred o fine.
     (run_queues c.args.plans c.take_events.new.opened.items c.take_events.new.starts.items (newest_first c.args.events.items) c.take_queues.new.queued.items (result c fine) occurred o).1
+
+pub returns-clause-rising : goal.returns-clause-rising
+returns-clause-rising c = rw (broken_is c) (filter_rising (λ conn. is_broken_conn (conn_at conn c.take_events.new.core)) 0 (length c.take_events.new.opened.items))

@@ -1,4 +1,4 @@
-use Rattle.http_pieces.proofs.PushLemmas.{push_reads, push_shortest, push_moves}
+use Rattle.http_pieces.proofs.PushLemmas.{push_reads, push_shortest, push_moves, push_over}
 use Rattle.http_pieces.proofs.reader.Reader.push.Goals as goal
 
 pub returns-clause-reads : goal.returns-clause-reads
@@ -15,3 +15,8 @@ pub returns-clause-moves : goal.returns-clause-moves
 returns-clause-moves c =
     push_moves c.self.inside.taken c.self.inside.bytes.items c.args.piece.now c.push_into.new.bytes.items c.args.self.now c.self.inside.phase c.push_into.new.phase c.self.view_is
     c.push_into.result c.push_into.ensures.ok
+
+pub returns-clause-over : goal.returns-clause-over
+returns-clause-over c =
+    push_over c.self.inside.taken c.self.inside.bytes.items c.args.piece.now c.push_into.new.bytes.items c.args.self.now c.self.inside.phase c.push_into.new.phase c.self.view_is
+    c.push_into.result c.push_into.ensures.ok c.push_into.ensures.over
