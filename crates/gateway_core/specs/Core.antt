@@ -1,5 +1,5 @@
 -- The gateway's state, as its callers see it.
-use Rattle.std.specs.Prelude.{◌≡◌, ℕ, ◌≤◌, Bool, true, false, not, ◌&&◌, ◌||◌, ◌==◌, if◌then◌else◌, List, [], ◌∷◌, ◌++◌, length, count_by, nat_lt, Option, None, Some, option_map, MatchBool}
+use Rattle.std.specs.Prelude.{◌≡◌, ◌⊎◌, ℕ, ◌≤◌, Bool, true, false, not, ◌&&◌, ◌||◌, ◌==◌, if◌then◌else◌, List, [], ◌∷◌, ◌++◌, length, count_by, nat_lt, Option, None, Some, option_map, MatchBool}
 use Rattle.call_plan.specs.Plan.{PlanRecord}
 use Rattle.http_pieces.specs.Request.{HttpRequest, closes}
 use Rattle.http_pieces.specs.declared.state.State.{State}
@@ -149,6 +149,12 @@ StopsIn branch (Answer body) old call new jobs after =
     MatchBool (nat_lt answered.answered (length call.plan.branches))
     ((later : CallValue) × (new ≡ record old { call = Some later }) × ((to : ℕ) × (to ≤ due_of answered) × HasStarted to answered later jobs after))
     ((new ≡ record old { call = Some answered }) × (after ≡ jobs))
+
+-- Memory was refused as a call began: it did not begin, or it did and the first of its branches have started.
+abbrev pub BeginsShort : CallValue → ConnValue → ConnValue → List JobValue → List JobValue → Type 0
+BeginsShort first old new jobs after =
+    ((new ≡ old) × (after ≡ jobs))
+    ⊎ ((later : CallValue) × (new ≡ record old { call = Some later }) × ((to : ℕ) × (to ≤ due_of first) × HasStarted to first later jobs after))
 
 -- the connection that this breaks; the branch is no longer out
 abbrev pub BrokenIn : ℕ → Outcome → ConnValue → CallValue → Option ConnValue → List JobValue → List JobValue → Type 0

@@ -5,7 +5,7 @@ ghost use Rattle.gateway_core.specs.Arrival.{refusal_reply, arrival_of};
 ghost use Rattle.gateway_core.specs.Past.{is_due, smaller};
 ghost use Rattle.gateway_core.specs.Queue.{expired_reply, IsPrefixOf};
 ghost use Rattle.gateway_core.specs.Call.{CallValue, answered_by, back, new_call, reply_of, waits_on};
-ghost use Rattle.gateway_core.specs.Core.{new_conn, first_call, is_ended, sees, outs, back_on, refused_by, CountsTo, CountedIn, StopsIn, BrokenIn, IsBroken, ArrivesAs, GoesOn, Feeds};
+ghost use Rattle.gateway_core.specs.Core.{new_conn, first_call, is_ended, sees, outs, back_on, refused_by, CountsTo, CountedIn, StopsIn, BeginsShort, BrokenIn, IsBroken, ArrivesAs, GoesOn, Feeds};
 ghost use Rattle.gateway_core.specs.Job.{JobValue};
 ghost use Rattle.http_pieces.specs.Reader.{HasRead, is_over};
 ghost use Rattle.http_pieces.specs.Request.{HttpRequest};
@@ -282,7 +282,7 @@ impl Connection {
         Ok(())
     }
 
-    /// The request begins a call of the plan.
+    /// The request begins a call of the plan. Where memory is refused, it is kept with the branches that have started.
     fn begin(
         &mut self,
         alloc: Global,
@@ -291,6 +291,7 @@ impl Connection {
         jobs: &mut VecDeque<Job>,
     ) -> Result<(), AllocError>
         ensures begins { OnOk result (GoesOn (new_call first_call (arc_value plan) request) self.old self.new jobs.old.items jobs.new.items) }
+        ensures short { OnErr result (BeginsShort (new_call first_call (arc_value plan) request) self.old self.new jobs.old.items jobs.new.items) }
         ensures err { OnErr result ((self.new.replies ≡ self.old.replies) × ((started : List JobValue) × (jobs.new.items ≡ jobs.old.items ++ started))) }
     {
         let id = CallId {
@@ -298,9 +299,9 @@ impl Connection {
             request: 0,
         };
         let mut call = Call::new(alloc, id, plan, request)?;
-        call.start_due(jobs)?;
+        let started = call.start_due(jobs);
         self.call = Some(call);
-        Ok(())
+        started
     }
 }
 
