@@ -17,51 +17,15 @@ use Rattle.gateway_core.specs.Call.{CallValue, HasStarted, new_call, due_of}
 use Rattle.gateway_core.specs.Core.{ConnValue, new_conn, first_call, ArrivesAs, GoesOn, refused_by}
 use Rattle.gateway_core.specs.Job.{JobValue}
 use Rattle.gateway_core.specs.Occurrence.{Occurrence, Entry, Entering, Request, Refused}
-use Rattle.gateway_core.specs.Past.{Mark, Past, Asked, Expired, call, entries, entering_on, entering_now, asked_now, asked_by, began, answers, started, is_drained, is_closed, is_due, smaller, own_event, event_by, ends_at_arrival, decided, now, mark_of, marked, crowds}
-use Rattle.gateway_core.specs.Queue.{came, own_events, answers_in, expired_reply, replies}
+use Rattle.gateway_core.specs.declared.event.CallEvent.TheVariants.{Expired}
+use Rattle.gateway_core.specs.Past.{Mark, Past, Asked, call, entries, entering_on, entering_now, asked_now, asked_by, asked_of, began, answers, started, is_drained, is_closed, is_due, smaller, own_event, event_by, ends_at_arrival, decided, now, mark_of, marked, crowds}
+use Rattle.gateway_core.specs.CallRecord.{answers_in}
+use Rattle.gateway_core.specs.Queue.{came, own_events, expired_reply, replies}
 use Rattle.gateway_core.specs.Stands.{CallStands, MayStand, ConnStands}
 use Rattle.gateway_core.proofs.LimitLemmas.{unanswered}
 use Rattle.gateway_core.proofs.StandsLemmas.{replies_one, replies_none, replies_undecided}
+use Rattle.gateway_core.proofs.Unborn.{unborn}
 use Rattle.gateway_core.proofs.Cases.{either_way}
-
--- ---- before a request of that number has come
-
--- nothing of a request is there before it comes
-pub record Unborn (id : CallId) (past : Past) : Type 0 where
-  pub no_call : call id past ≡ None
-  pub not_begun : began id past ≡ false
-  pub not_came : came id past ≡ None
-  pub no_events : own_events id past ≡ []
-  pub undecided : decided id past ≡ None
-
-no_entering_by : (id : CallId) (m : Mark) (past : Past) (o : Option Entering) → entering_on id.conn m.what ≡ o
-    → (if is_some o then suc (entries id.conn past) else entries id.conn past) ≤ id.request → (if entries id.conn past == id.request then o else None) ≡ None
-no_entering_by id m past None o_is le = cond_both (entries id.conn past == id.request) None None (λ x. x ≡ None) (λ _. refl) (λ _. refl)
-no_entering_by id m past (Some e) o_is le = rw (ne_eqb (entries id.conn past) id.request (λ same. omega (arith, le, same))) refl
-
-entries_less : (id : CallId) (m : Mark) (past : Past) → entries id.conn (m ∷ past) ≤ id.request → entries id.conn past ≤ id.request
-entries_less id m past le =
-    cond_both (is_some (entering_on id.conn m.what)) (suc (entries id.conn past)) (entries id.conn past) (λ n. n ≤ id.request → entries id.conn past ≤ id.request)
-    (λ _ l. omega (arith, l)) (λ _ l. l) le
-
-pub unborn : (id : CallId) (past : Past) → entries id.conn past ≤ id.request → Unborn id past
-unborn id [] le = record { no_call = refl; not_begun = refl; not_came = refl; no_events = refl; undecided = refl }
-unborn id (m ∷ past) le =
-    let u = unborn id past (entries_less id m past le) in
-    let none : entering_now id m past ≡ None = no_entering_by id m past (entering_on id.conn m.what) refl le in
-    let unasked : asked_now id m past ≡ None =
-    cond_both m.crowded None (option_and_then (asked_by (now past)) (entering_now id m past)) (λ o. o ≡ None) (λ _. refl) (λ _. rw none refl) in
-    let no_event : own_event id m past ≡ None =
-    cond_both (is_closed id.conn past) None
-    (option_map_or (λ c. event_by id c m.what m.counted past) (call id past) (option_and_then (ends_at_arrival past) (asked_now id m past))) (λ o. o ≡ None)
-    (λ _. refl) (λ _. rw (u.no_call, unasked) refl) in
-    record {
-      no_call = rw (u.no_call, unasked) refl;
-      not_begun = rw (u.not_begun, unasked) refl;
-      not_came = rw (u.not_came, none) refl;
-      no_events = rw (u.undecided, no_event, u.no_events) refl;
-      undecided = rw (u.undecided, no_event) refl;
-    }
 
 -- ---- the first to come
 
@@ -78,7 +42,7 @@ pub record First (os : List Occurrence) : Type 0 where
 not_crowded : (x : Entering) (past : Past) → entries 0 past ≡ 0 → crowds (Entry 0 x) past ≡ false
 not_crowded (Refused r) past e = refl
 not_crowded (Request q (Judged v)) past e = refl
-not_crowded (Request q (Asks plan timeout)) past e = rw e refl
+not_crowded (Request q (Asks plan timeout rid)) past e = rw e refl
 
 entering_is : (x : Entering) (past : Past) → entries 0 past ≡ 0 → entering_now first_call (comes past x) past ≡ Some x
 entering_is x past e = rw e refl
@@ -160,19 +124,19 @@ due_zero : (timeout : Option ℕ) → is_due 0 (option_map (λ t. 0 + t) timeout
 due_zero None = refl
 due_zero (Some t) = rw (zero-add t) refl
 
-ends_is : (os : List Occurrence) (q : HttpRequest) (plan : PlanRecord) (timeout : Option ℕ) → First os
-    → option_and_then (ends_at_arrival (marked os)) (asked_by (now (marked os)) (Request q (Asks plan timeout)))
+ends_is : (os : List Occurrence) (q : HttpRequest) (plan : PlanRecord) (timeout : Option ℕ) (rid : Option (List ℕ)) → First os
+    → option_and_then (ends_at_arrival (marked os)) (asked_by (now (marked os)) (Request q (Asks plan timeout rid)))
     ≡ (if is_due 0 (smaller timeout plan.timeout) then Some (Expired 0) else None)
-ends_is os q plan timeout f = rw (f.undrained, f.now_is, due_zero (smaller timeout plan.timeout)) refl
+ends_is os q plan timeout rid f = rw (f.undrained, f.now_is, due_zero (smaller timeout plan.timeout)) refl
 
 -- the call is over as it arrives
-expired_first : (conn : ConnValue) (taken : List Reply) (os : List Occurrence) (q : HttpRequest) (plan : PlanRecord) (timeout : Option ℕ)
+expired_first : (conn : ConnValue) (taken : List Reply) (os : List Occurrence) (q : HttpRequest) (plan : PlanRecord) (timeout : Option ℕ) (rid : Option (List ℕ))
     → ConnStands conn taken (marked os) → First os → is_due 0 (smaller timeout plan.timeout) ≡ true
-    → ConnStands (record conn { arrived = true; replies = conn.replies ++ expired_reply (closes q) ∷ [] }) taken (comes (marked os) (Request q (Asks plan timeout)) ∷ marked os)
-expired_first conn taken os q plan timeout h f due =
-    let x : Entering = Request q (Asks plan timeout) in
+    → ConnStands (record conn { arrived = true; replies = conn.replies ++ expired_reply (closes q) ∷ [] }) taken (comes (marked os) (Request q (Asks plan timeout rid)) ∷ marked os)
+expired_first conn taken os q plan timeout rid h f due =
+    let x : Entering = Request q (Asks plan timeout rid) in
     let u = unborn first_call (marked os) (omega (arith, f.none)) in
-    let own : own_event first_call (comes (marked os) x) (marked os) ≡ Some (Expired 0) = own_now x os f ∙ ends_is os q plan timeout f ∙ rw due refl in
+    let own : own_event first_call (comes (marked os) x) (marked os) ≡ Some (Expired 0) = own_now x os f ∙ ends_is os q plan timeout rid f ∙ rw due refl in
     let over : decided first_call (comes (marked os) x ∷ marked os) ≡ Some (Expired 0) = rw (own, u.undecided) refl in
     let events : own_events first_call (comes (marked os) x ∷ marked os) ≡ Expired 0 ∷ [] = rw (own, u.undecided, u.no_events) refl in
     answered_conn conn taken os x (expired_reply (closes q)) h f
@@ -191,18 +155,18 @@ no_answers : (a n : ℕ) → replicate n [] ≡ map (λ i. unwrap_or {T = List �
 no_answers a zero = refl
 no_answers a (suc n) = ap (λ xs. [] ∷ xs) (no_answers (a + 1) n)
 
-begun_stands : (os : List Occurrence) (q : HttpRequest) (plan : PlanRecord) (timeout : Option ℕ) (later : CallValue) (jobs after : List JobValue)
+begun_stands : (os : List Occurrence) (q : HttpRequest) (plan : PlanRecord) (timeout : Option ℕ) (rid : Option (List ℕ)) (later : CallValue) (jobs after : List JobValue)
     → First os → is_due 0 (smaller timeout plan.timeout) ≡ false
-    → HasStarted (due_of (new_call first_call plan q)) (new_call first_call plan q) later jobs after
-    → CallStands later (comes (marked os) (Request q (Asks plan timeout)) ∷ marked os)
-begun_stands os q plan timeout later jobs after f not_due s =
-    let x : Entering = Request q (Asks plan timeout) in
+    → HasStarted (due_of (new_call first_call (asked_of 0 q plan timeout rid))) (new_call first_call (asked_of 0 q plan timeout rid)) later jobs after
+    → CallStands later (comes (marked os) (Request q (Asks plan timeout rid)) ∷ marked os)
+begun_stands os q plan timeout rid later jobs after f not_due s =
+    let x : Entering = Request q (Asks plan timeout rid) in
     let past : Past = marked os in
     let next : Past = comes past x ∷ past in
     let u = unborn first_call past (omega (arith, f.none)) in
     let n : ℕ = length plan.branches in
-    let asked : Asked = record { plan = plan; request = q; start = now past; deadline = option_map (λ t. now past + t) (smaller timeout plan.timeout) } in
-    let own : own_event first_call (comes past x) past ≡ None = own_now x os f ∙ ends_is os q plan timeout f ∙ rw not_due refl in
+    let asked : Asked = asked_of (now past) q plan timeout rid in
+    let own : own_event first_call (comes past x) past ≡ None = own_now x os f ∙ ends_is os q plan timeout rid f ∙ rw not_due refl in
     let going : decided first_call next ≡ None = rw (own, u.undecided) refl in
     let events : own_events first_call next ≡ [] = rw (own, u.undecided, u.no_events) refl in
     let begun_is : began first_call next ≡ true = began_now x os f ∙ rw (f.undrained, f.now_is, due_zero (smaller timeout plan.timeout), not_due) refl in
@@ -217,8 +181,7 @@ begun_stands os q plan timeout later jobs after f not_due s =
       call_is = call_now x os f;
       began_is = begun_is;
       id_is = s.same.id;
-      plan_is = s.same.plan;
-      request_is = s.same.request;
+      asked_is = s.same.asked ∙ ap (λ t. asked_of t q plan timeout rid) (sym f.now_is);
       answered_is = s.same.answered ∙ sym answers_are;
       started_is = s.started ∙ sym started_now;
       out_is = λ k.
@@ -228,15 +191,15 @@ begun_stands os q plan timeout later jobs after f not_due s =
       few = λ none. omega (arith, answers_are);
     }
 
-begun_first : (conn : ConnValue) (taken : List Reply) (os : List Occurrence) (q : HttpRequest) (plan : PlanRecord) (timeout : Option ℕ) (later : CallValue) (jobs after : List JobValue)
+begun_first : (conn : ConnValue) (taken : List Reply) (os : List Occurrence) (q : HttpRequest) (plan : PlanRecord) (timeout : Option ℕ) (rid : Option (List ℕ)) (later : CallValue) (jobs after : List JobValue)
     → ConnStands conn taken (marked os) → First os → is_due 0 (smaller timeout plan.timeout) ≡ false
-    → HasStarted (due_of (new_call first_call plan q)) (new_call first_call plan q) later jobs after
-    → ConnStands (record conn { arrived = true; call = Some later }) taken (comes (marked os) (Request q (Asks plan timeout)) ∷ marked os)
-begun_first conn taken os q plan timeout later jobs after h f not_due s =
-    let x : Entering = Request q (Asks plan timeout) in
-    let stands = begun_stands os q plan timeout later jobs after f not_due s in
+    → HasStarted (due_of (new_call first_call (asked_of 0 q plan timeout rid))) (new_call first_call (asked_of 0 q plan timeout rid)) later jobs after
+    → ConnStands (record conn { arrived = true; call = Some later }) taken (comes (marked os) (Request q (Asks plan timeout rid)) ∷ marked os)
+begun_first conn taken os q plan timeout rid later jobs after h f not_due s =
+    let x : Entering = Request q (Asks plan timeout rid) in
+    let stands = begun_stands os q plan timeout rid later jobs after f not_due s in
     let u = unborn first_call (marked os) (omega (arith, f.none)) in
-    let own : own_event first_call (comes (marked os) x) (marked os) ≡ None = own_now x os f ∙ ends_is os q plan timeout f ∙ rw not_due refl in
+    let own : own_event first_call (comes (marked os) x) (marked os) ≡ None = own_now x os f ∙ ends_is os q plan timeout rid f ∙ rw not_due refl in
     let going : decided first_call (comes (marked os) x ∷ marked os) ≡ None = rw (own, u.undecided) refl in
     arrived conn _ taken os x h f refl stands
     (no_replies_yet conn taken os h f ∙ sym (replies_undecided later (comes (marked os) x ∷ marked os) stands going))
@@ -247,15 +210,15 @@ pub arrived_conn : (conn new : ConnValue) (taken : List Reply) (os : List Occurr
     → ConnStands new taken (comes (marked os) (Request q arrival) ∷ marked os)
 arrived_conn conn new taken os q jobs after (Judged v) h fresh step =
     subst (λ x. ConnStands x taken (comes (marked os) (Request q (Judged v)) ∷ marked os)) (sym step.0) (judged_first conn taken os q v h (first_of conn taken os h fresh))
-arrived_conn conn new taken os q jobs after (Asks plan timeout) h fresh step =
+arrived_conn conn new taken os q jobs after (Asks plan timeout rid) h fresh step =
     let f = first_of conn taken os h fresh in
-    let next : Past = comes (marked os) (Request q (Asks plan timeout)) ∷ marked os in
+    let next : Past = comes (marked os) (Request q (Asks plan timeout rid)) ∷ marked os in
     either_way (is_due 0 (smaller timeout plan.timeout))
     ((new ≡ record conn { arrived = true; replies = conn.replies ++ expired_reply (closes q) ∷ [] }) × (after ≡ jobs))
-    (GoesOn (new_call first_call plan q) (record conn { arrived = true }) new jobs after)
+    (GoesOn (new_call first_call (asked_of 0 q plan timeout rid)) (record conn { arrived = true }) new jobs after)
     (ConnStands new taken next)
-    (λ due g. subst (λ x. ConnStands x taken next) (sym g.0) (expired_first conn taken os q plan timeout h f due))
-    (λ not_due g. subst (λ x. ConnStands x taken next) (sym g.1) (begun_first conn taken os q plan timeout g.0 jobs after h f not_due g.2))
+    (λ due g. subst (λ x. ConnStands x taken next) (sym g.0) (expired_first conn taken os q plan timeout rid h f due))
+    (λ not_due g. subst (λ x. ConnStands x taken next) (sym g.1) (begun_first conn taken os q plan timeout rid g.0 jobs after h f not_due g.2))
     step
 
 -- the stream's refusal, where no request came

@@ -12,7 +12,8 @@ use Rattle.gateway_core.specs.Call.{CallValue, HasStarted, is_out as has_out, ba
 use Rattle.gateway_core.specs.Core.{ConnValue, first_call, CountedIn, back_on, GoesOn, IsDecidedBy}
 use Rattle.gateway_core.specs.Job.{JobValue}
 use Rattle.gateway_core.specs.Occurrence.{Occurrence, Opening, Result}
-use Rattle.gateway_core.specs.Past.{Mark, Past, Answered, Failed, call, is_out, is_call, is_open, decided, is_closed, asked_now, ends_at_arrival, mark_of, marked}
+use Rattle.gateway_core.specs.declared.event.CallEvent.TheVariants.{Answer as Answered, Failed}
+use Rattle.gateway_core.specs.Past.{Mark, Past, call, is_out, is_call, is_open, decided, is_closed, asked_now, ends_at_arrival, mark_of, marked}
 use Rattle.gateway_core.specs.Queue.{own_events, record_of, call_reply, replies}
 use Rattle.gateway_core.specs.Stands.{CallStands, MayStand, ConnStands}
 use Rattle.gateway_core.proofs.LimitLemmas.{same_call}
@@ -73,7 +74,7 @@ failed_conn conn taken os c i error h hc out undecided =
 -- the last answer
 last_conn : (conn : ConnValue) (taken : List Reply) (os : List Occurrence) (c : CallValue) (i : ℕ) (body : List ℕ) → ConnStands conn taken (marked os)
     → CallStands c (marked os) → has_out c i ≡ true → c.decided ≡ false
-    → nat_lt (answered_by i body (back i c)).answered (length c.plan.branches) ≡ false
+    → nat_lt (answered_by i body (back i c)).answered (length c.asked.plan.branches) ≡ false
     → ConnStands (record conn { call = Some (decided_of (answered_by i body (back i c))); replies = conn.replies ++ success_of (answered_by i body (back i c)) ∷ [] }) taken
     (result_of (marked os) i (Answer body) ∷ marked os)
 last_conn conn taken os c i body h hc out undecided finished =
@@ -87,14 +88,14 @@ last_conn conn taken os c i body h hc out undecided finished =
     let one : replies 0 next ≡ success_of d ∷ [] =
     replies_decided c i (Answer body) past hc (Answered i body) some
     ∙ ap (λ es. call_reply (record_of hc.asked es) ∷ []) own
-    ∙ ap (λ r. r ∷ []) (answered_reply hc.asked d i body (own_events first_call past) hc.plan_is hc.request_is (answers_then c i body past hc n)) in
+    ∙ ap (λ r. r ∷ []) (answered_reply hc.asked d i body (own_events first_call past) hc.asked_is (answers_then c i body past hc n)) in
     framed conn _ taken first_call i (Answer body) past h refl stands
     (one_more conn taken past next (success_of d) h (replies_undecided c past hc n.undecided) one)
 
 -- an answer that leaves others open
 going_conn : (conn : ConnValue) (taken : List Reply) (os : List Occurrence) (c later : CallValue) (i : ℕ) (body : List ℕ) (jobs after : List JobValue)
     → ConnStands conn taken (marked os) → CallStands c (marked os) → has_out c i ≡ true → c.decided ≡ false
-    → nat_lt (answered_by i body (back i c)).answered (length c.plan.branches) ≡ true
+    → nat_lt (answered_by i body (back i c)).answered (length c.asked.plan.branches) ≡ true
     → HasStarted (due_of (answered_by i body (back i c))) (answered_by i body (back i c)) later jobs after
     → ConnStands (record conn { call = Some later }) taken (result_of (marked os) i (Answer body) ∷ marked os)
 going_conn conn taken os c later i body jobs after h hc out undecided unfinished s =
@@ -116,7 +117,7 @@ counted_conn conn new taken os c i (Answer body) jobs after h call_is out undeci
     let past : Past = marked os in
     let d : CallValue = answered_by i body (back i c) in
     let on : ConnValue = record conn { call = Some (back i c) } in
-    either_way (nat_lt d.answered (length c.plan.branches)) (GoesOn d on new jobs after) (IsDecidedBy (success_of d) d on new jobs after)
+    either_way (nat_lt d.answered (length c.asked.plan.branches)) (GoesOn d on new jobs after) (IsDecidedBy (success_of d) d on new jobs after)
     (ConnStands new taken (result_of past i (Answer body) ∷ past))
     (λ unfinished g. subst (λ x. ConnStands x taken (result_of past i (Answer body) ∷ past)) (sym g.1)
     (going_conn conn taken os c g.0 i body jobs after h hc out undecided unfinished g.2))

@@ -19,11 +19,13 @@ use Rattle.gateway_core.specs.Call.{CallValue, is_out as has_out, back, answered
 use Rattle.gateway_core.specs.Core.{ConnValue, CoreValue, new_conn, conn_at, first_call, CountedIn, back_on, Feeds, FeedsTo, ArrivesAs, without_request, core_value, core_sees, is_live, is_unbroken, with_untaken, GoesOn, IsDecidedBy}
 use Rattle.gateway_core.specs.Job.{JobValue}
 use Rattle.gateway_core.specs.Occurrence.{Occurrence, Opening, Entry, Result as Ends, Request, Refused}
-use Rattle.gateway_core.specs.Past.{Past, CallEvent, is_out, is_call, is_open, began, decided, entries, judged, mark_of, marked}
+use Rattle.gateway_core.specs.declared.event.CallEvent.{CallEvent}
+use Rattle.gateway_core.specs.Past.{Past, is_out, is_call, is_open, began, decided, entries, judged, mark_of, marked}
 use Rattle.gateway_core.specs.Starts.{jobs as all_jobs}
 use Rattle.gateway_core.specs.Stands.{CallStands, MayStand, ConnStands, StandsFor, StandsAfter, conn_of, occurred_by, refusal_of}
 use Rattle.gateway_core.proofs.ConnLemmas.{counted_conn, late_conn, unknown_conn, opened_conn}
-use Rattle.gateway_core.proofs.ArriveLemmas.{arrived_conn, refused_conn, first_of, no_call_yet, unborn, new_stands}
+use Rattle.gateway_core.proofs.ArriveLemmas.{arrived_conn, refused_conn, first_of, no_call_yet, new_stands}
+use Rattle.gateway_core.proofs.Unborn.{unborn}
 use Rattle.gateway_core.proofs.JobLemmas.{same_jobs, more_jobs, uncounted_jobs, counted_jobs, refused_jobs, arrived_jobs}
 use Rattle.gateway_core.proofs.LimitLemmas.{same_call}
 use Rattle.gateway_core.proofs.StandsLemmas.{not_started}
@@ -243,7 +245,7 @@ counted_unbroken branch (Fail error) conn new c jobs after step = ap (λ (x : Co
 counted_unbroken branch (Answer body) conn new c jobs after step =
     let d : CallValue = answered_by branch body (back branch c) in
     let on : ConnValue = record conn { call = Some (back branch c) } in
-    either_way (nat_lt d.answered (length c.plan.branches)) (GoesOn d on new jobs after) (IsDecidedBy (success_of d) d on new jobs after) (new.broken ≡ conn.broken)
+    either_way (nat_lt d.answered (length c.asked.plan.branches)) (GoesOn d on new jobs after) (IsDecidedBy (success_of d) d on new jobs after) (new.broken ≡ conn.broken)
     (λ _ g. ap (λ (x : ConnValue). x.broken) g.1) (λ _ g. ap (λ (x : ConnValue). x.broken) g.0) step
 
 counted_core : (new : CoreValue) (branch : ℕ) (outcome : Outcome) (conn : ConnValue) (c : CallValue) (taken : List Reply) (handed : List JobValue) (occurred : List Occurrence) (jobs : List JobValue)

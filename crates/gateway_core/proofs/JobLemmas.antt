@@ -17,12 +17,14 @@ use Rattle.gateway_core.specs.Call.{CallValue, new_call, back, answered_by, succ
 use Rattle.gateway_core.specs.Core.{ConnValue, first_call, CountedIn, GoesOn, IsDecidedBy, ArrivesAs}
 use Rattle.gateway_core.specs.Job.{JobValue, job_of}
 use Rattle.gateway_core.specs.Occurrence.{Occurrence, Entering, Entry, Result, Request, Refused}
-use Rattle.gateway_core.specs.Past.{Mark, Past, Asked, asked_by, call, call_id, began, entries, is_open, is_out, is_due, judged, smaller, now, started, mark_of, marked}
-use Rattle.gateway_core.specs.Queue.{ReplyEntry, answer_of, entry, expired_reply, front, replies}
+use Rattle.gateway_core.specs.Past.{Mark, Past, Asked, asked_by, asked_of, call, call_id, began, entries, is_open, is_out, is_due, judged, smaller, now, started, mark_of, marked}
+use Rattle.gateway_core.specs.declared.entry.ReplyEntry.{ReplyEntry}
+use Rattle.gateway_core.specs.Queue.{answer_of, entry, expired_reply, front, replies}
 use Rattle.gateway_core.specs.Starts.{branches_started, jobs_started, jobs_by}
 use Rattle.gateway_core.specs.Starts.{jobs as all_jobs}
 use Rattle.gateway_core.specs.Stands.{CallStands, MayStand, ConnStands}
-use Rattle.gateway_core.proofs.ArriveLemmas.{First, comes, call_now, unborn}
+use Rattle.gateway_core.proofs.ArriveLemmas.{First, comes, call_now}
+use Rattle.gateway_core.proofs.Unborn.{unborn}
 use Rattle.gateway_core.proofs.StandsLemmas.{Quiet, entry_same, result_of, result_quiet, started_same}
 use Rattle.gateway_core.proofs.Cases.{either_way}
 
@@ -30,20 +32,19 @@ use Rattle.gateway_core.proofs.Cases.{either_way}
 none_start : (id : CallId) (m : Mark) (past : Past) → started id (m ∷ past) ≡ started id past → jobs_started id m past ≡ []
 none_start id m past same = by_call (call id (m ∷ past))
   where
-    by_call : (o : Option Asked) → option_map_or (λ c. map (λ i. job_of id i c.plan c.request) (branches_started id m past)) o [] ≡ []
+    by_call : (o : Option Asked) → option_map_or (λ c. map (λ i. job_of id i c (now past)) (branches_started id m past)) o [] ≡ []
     by_call None = refl
     by_call (Some c) =
         let none : started id (m ∷ past) - started id past ≡ 0 = omega (arith, same) in
-        ap (λ n. map (λ i. job_of id i c.plan c.request) (range_with_len (started id past) n)) none
+        ap (λ n. map (λ i. job_of id i c (now past)) (range_with_len (started id past) n)) none
 
 -- the jobs of the branches that start are those that the core makes
-some_start : (c d : CallValue) (m : Mark) (past : Past) → c.started ≡ started first_call past → c.id ≡ first_call → d.plan ≡ c.plan → d.request ≡ c.request
+some_start : (c d : CallValue) (m : Mark) (past : Past) → now past ≡ 0 → c.started ≡ started first_call past → c.id ≡ first_call → d.asked ≡ c.asked
     → CallStands d (m ∷ past) → jobs_started first_call m past ≡ jobs_to d.started c
-some_start c d m past started_is id_is plan request h =
-    let plan_is : h.asked.plan ≡ c.plan = sym h.plan_is ∙ plan in
-    let request_is : h.asked.request ≡ c.request = sym h.request_is ∙ request in
-    ap (λ o. option_map_or (λ (a : Asked). map (λ i. job_of first_call i a.plan a.request) (branches_started first_call m past)) o []) h.call_is
-    ∙ rw (plan_is, request_is, ← started_is, ← h.started_is, ← id_is) refl
+some_start c d m past now_is started_is id_is same h =
+    let asked_is : h.asked ≡ c.asked = sym h.asked_is ∙ same in
+    ap (λ o. option_map_or (λ (a : Asked). map (λ i. job_of first_call i a (now past)) (branches_started first_call m past)) o []) h.call_is
+    ∙ rw (asked_is, ← started_is, ← h.started_is, ← id_is, now_is) refl
 
 -- one occurrence more, at which these jobs start
 pub more_jobs : (m : Mark) (past : Past) (handed old new : List JobValue) → handed ++ old ≡ all_jobs past → new ≡ old ++ jobs_by m.what m past
@@ -84,12 +85,12 @@ counted_jobs conn new taken past c i (Answer body) jobs after h call_is n step =
     let d : CallValue = answered_by i body (back i c) in
     let on : ConnValue = record conn { call = Some (back i c) } in
     let hc = stands_call conn c taken past h call_is in
-    either_way (nat_lt d.answered (length c.plan.branches)) (GoesOn d on new jobs after) (IsDecidedBy (success_of d) d on new jobs after)
+    either_way (nat_lt d.answered (length c.asked.plan.branches)) (GoesOn d on new jobs after) (IsDecidedBy (success_of d) d on new jobs after)
     (after ≡ jobs ++ jobs_started first_call m past)
     (λ _ g.
     let hd = stands_call new g.0 taken (m ∷ past) n (ap (λ (x : ConnValue). x.call) g.1) in
     g.2.jobs_are ∙ ap (λ js. jobs ++ js)
-    (ap (λ k. jobs_to k d) (sym g.2.started) ∙ sym (some_start d g.0 m past hc.started_is (hc.id_is) g.2.same.plan g.2.same.request hd)))
+    (ap (λ k. jobs_to k d) (sym g.2.started) ∙ sym (some_start d g.0 m past h.now_is hc.started_is hc.id_is g.2.same.asked hd)))
     (λ _ g.
     let hd = stands_call new (decided_of d) taken (m ∷ past) n (ap (λ (x : ConnValue). x.call) g.0) in
     g.1 ∙ sym (append-nil jobs) ∙ ap (λ js. jobs ++ js) (sym (idle_jobs c (decided_of d) m past hc hd refl)))
@@ -103,7 +104,7 @@ none_yet os f = rw (unborn first_call (marked os) (omega (arith, f.none))).not_b
 -- what comes and is no call starts nothing
 uncalled_jobs : (os : List Occurrence) (x : Entering) → First os → asked_by (now (marked os)) x ≡ None → jobs_started first_call (comes (marked os) x) (marked os) ≡ []
 uncalled_jobs os x f none =
-    ap (λ o. option_map_or (λ (a : Asked). map (λ i. job_of first_call i a.plan a.request) (branches_started first_call (comes (marked os) x) (marked os))) o [])
+    ap (λ o. option_map_or (λ (a : Asked). map (λ i. job_of first_call i a (now (marked os))) (branches_started first_call (comes (marked os) x) (marked os))) o [])
     (call_now x os f ∙ none)
 
 -- the first to come is the first request
@@ -119,13 +120,13 @@ pub arrived_jobs : (conn new : ConnValue) (taken : List Reply) (os : List Occurr
     → after ≡ jobs ++ jobs_by (Entry 0 (Request q arrival)) (comes (marked os) (Request q arrival)) (marked os)
 arrived_jobs conn new taken os q jobs after (Judged v) f no_call n step =
     step.1 ∙ sym (append-nil jobs) ∙ ap (λ js. jobs ++ js) (sym (first_jobs os (Request q (Judged v)) f ∙ uncalled_jobs os (Request q (Judged v)) f refl))
-arrived_jobs conn new taken os q jobs after (Asks plan timeout) f no_call n step =
-    let x : Entering = Request q (Asks plan timeout) in
+arrived_jobs conn new taken os q jobs after (Asks plan timeout rid) f no_call n step =
+    let x : Entering = Request q (Asks plan timeout rid) in
     let m : Mark = comes (marked os) x in
     let past : Past = marked os in
     either_way (is_due 0 (smaller timeout plan.timeout))
     ((new ≡ record conn { arrived = true; replies = conn.replies ++ expired_reply (closes q) ∷ [] }) × (after ≡ jobs))
-    (GoesOn (new_call first_call plan q) (record conn { arrived = true }) new jobs after)
+    (GoesOn (new_call first_call (asked_of 0 q plan timeout rid)) (record conn { arrived = true }) new jobs after)
     (after ≡ jobs ++ jobs_by (Entry 0 x) m past)
     (λ _ g.
     let still : new.call ≡ None = ap (λ (c : ConnValue). c.call) g.0 ∙ no_call in
@@ -135,8 +136,8 @@ arrived_jobs conn new taken os q jobs after (Asks plan timeout) f no_call n step
     (λ _ g.
     let hd = stands_call new g.0 taken (m ∷ past) n (ap (λ (c : ConnValue). c.call) g.1) in
     g.2.jobs_are ∙ ap (λ js. jobs ++ js)
-    (ap (λ k. jobs_to k (new_call first_call plan q)) (sym g.2.started)
-    ∙ sym (first_jobs os x f ∙ some_start (new_call first_call plan q) g.0 m past (sym (none_yet os f)) refl g.2.same.plan g.2.same.request hd)))
+    (ap (λ k. jobs_to k (new_call first_call (asked_of 0 q plan timeout rid))) (sym g.2.started)
+    ∙ sym (first_jobs os x f ∙ some_start (new_call first_call (asked_of 0 q plan timeout rid)) g.0 m past f.now_is (sym (none_yet os f)) refl g.2.same.asked hd)))
     step
 
 -- ---- results that do not count

@@ -13,7 +13,7 @@ use Rattle.gateway_core.specs.declared.reply.Reply.{Reply}
 use Rattle.gateway_core.specs.Call.{CallValue, answered_by, back, failure_of, new_call, success_of}
 use Rattle.gateway_core.specs.Core.{ConnValue, ArrivesAs, CountedIn, GoesOn, IsDecidedBy, first_call, refused_by}
 use Rattle.gateway_core.specs.Job.{JobValue}
-use Rattle.gateway_core.specs.Past.{is_due, smaller}
+use Rattle.gateway_core.specs.Past.{asked_of, is_due, smaller}
 use Rattle.gateway_core.specs.Queue.{IsPrefixOf, expired_reply}
 use Rattle.gateway_core.proofs.Cases.{either_way}
 
@@ -27,10 +27,10 @@ LosesNothing old new jobs after = IsPrefixOf old.replies new.replies × IsPrefix
 arrival_keeps : (q : HttpRequest) (old new : ConnValue) (jobs after : List JobValue) (a : Arrival) → ArrivesAs q old new jobs after a → LosesNothing old new jobs after
 arrival_keeps q old new jobs after (Judged v) step =
     ((verdict_reply v (closes q) ∷ [], ap (λ (x : ConnValue). x.replies) step.0), same_begins jobs after step.1)
-arrival_keeps q old new jobs after (Asks plan timeout) step =
+arrival_keeps q old new jobs after (Asks plan timeout rid) step =
     either_way (is_due 0 (smaller timeout plan.timeout))
     ((new ≡ record old { arrived = true; replies = old.replies ++ expired_reply (closes q) ∷ [] }) × (after ≡ jobs))
-    (GoesOn (new_call first_call plan q) (record old { arrived = true }) new jobs after)
+    (GoesOn (new_call first_call (asked_of 0 q plan timeout rid)) (record old { arrived = true }) new jobs after)
     (LosesNothing old new jobs after)
     (λ _ s. ((expired_reply (closes q) ∷ [], ap (λ (x : ConnValue). x.replies) s.0), same_begins jobs after s.1))
     (λ _ g. (same_begins old.replies new.replies (ap (λ (x : ConnValue). x.replies) g.1), (_, g.2.jobs_are))) step
@@ -62,7 +62,7 @@ counted_keeps branch (Fail error) conn new c jobs after step = decided_keeps (fa
 counted_keeps branch (Answer body) conn new c jobs after step =
     let d : CallValue = answered_by branch body (back branch c) in
     let on : ConnValue = record conn { call = Some (back branch c) } in
-    either_way (nat_lt d.answered (length c.plan.branches)) (GoesOn d on new jobs after) (IsDecidedBy (success_of d) d on new jobs after) (LosesNothing conn new jobs after)
+    either_way (nat_lt d.answered (length c.asked.plan.branches)) (GoesOn d on new jobs after) (IsDecidedBy (success_of d) d on new jobs after) (LosesNothing conn new jobs after)
     (λ _ g. (same_begins conn.replies new.replies (ap (λ (x : ConnValue). x.replies) g.1), (_, g.2.jobs_are)))
     (λ _ g. ((success_of d ∷ [], ap (λ (x : ConnValue). x.replies) g.0), same_begins jobs after g.1)) step
 

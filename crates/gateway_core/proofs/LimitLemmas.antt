@@ -164,7 +164,7 @@ answer_out id past Drain e = absurd (cc)
 answer_out id past (Closing c) e = absurd (cc)
 
 -- before a call begins no answer of it counts
-unanswered_next : (id : CallId) (past : Past) (o : Occurrence) → began id past ≡ false → answers id past ≡ 0
+pub unanswered_next : (id : CallId) (past : Past) (o : Occurrence) → began id past ≡ false → answers id past ≡ 0
     → answers id (mark_of past o ∷ past) ≡ 0
 unanswered_next id past o unbegan none =
     cond_both (counts o past && is_answer_to id o) (suc (answers id past)) (answers id past) (λ n. n ≡ 0)

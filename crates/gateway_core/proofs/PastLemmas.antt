@@ -10,8 +10,11 @@ use Rattle.std.proofs.lemmas.Bool.{cond_both}
 use Rattle.gateway_core.specs.declared.id.CallId.{CallId}
 use Rattle.gateway_core.specs.Arrival.{Judged, Asks}
 use Rattle.gateway_core.specs.Occurrence.{Entering, Request, Refused}
-use Rattle.gateway_core.specs.Past.{Mark, Past, Asked, CallEvent, call, call_id, decided, entries, entering_on}
-use Rattle.gateway_core.specs.Queue.{ReplyEntry, Calling, came, own_events, record_of, call_entry, entry_by, entry, front, queued_entries, replies, queued, answer_of, IsPrefixOf}
+use Rattle.gateway_core.specs.declared.event.CallEvent.{CallEvent}
+use Rattle.gateway_core.specs.Past.{Mark, Past, Asked, call, call_id, decided, entries, entering_on}
+use Rattle.gateway_core.specs.declared.entry.ReplyEntry.{ReplyEntry}
+use Rattle.gateway_core.specs.declared.entry.ReplyEntry.TheVariants.{Call as Calling}
+use Rattle.gateway_core.specs.Queue.{came, own_events, record_of, call_entry, entry_by, entry, front, queued_entries, replies, queued, answer_of, IsPrefixOf}
 
 pub call_stays : (id : CallId) (m : Mark) (past : Past) (c : Asked) → call id past ≡ Some c → call id (m ∷ past) ≡ Some c
 call_stays id m past c e = rw e refl
@@ -33,8 +36,8 @@ entry_of : (id : CallId) (m : Mark) (past : Past) (x : ReplyEntry) (o : Option (
 entry_of id m past x None o_is e = absurd (cc)
 entry_of id m past x (Some (Refused r, crowded)) o_is e = rw o_is e
 entry_of id m past x (Some (Request q (Judged v), crowded)) o_is e = rw o_is e
-entry_of id m past x (Some (Request q (Asks plan timeout), true)) o_is e = rw o_is e
-entry_of id m past x (Some (Request q (Asks plan timeout), false)) o_is e =
+entry_of id m past x (Some (Request q (Asks plan timeout rid), true)) o_is e = rw o_is e
+entry_of id m past x (Some (Request q (Asks plan timeout rid), false)) o_is e =
     rw o_is (call_entry_of id m past x (decided id past) (call id past) refl refl e)
 
 -- what a request is answered by stays

@@ -6,7 +6,8 @@ use Rattle.std.proofs.lemmas.Bool.{cases_Bool, cases_lt, ltb-true, ltb-false, lt
 use Rattle.std.proofs.lemmas.List.{append-nil, reverse-append, reverse-reverse, take-append-drop, take-append-le, take-take, take_all, length_push}
 use Rattle.gateway_core.specs.declared.id.CallId.{CallId}
 use Rattle.gateway_core.specs.Occurrence.{Occurrence}
-use Rattle.gateway_core.specs.Past.{CallEvent, past_of, mark_of, deciding, decided, started, is_out, is_result_of}
+use Rattle.gateway_core.specs.declared.event.CallEvent.{CallEvent}
+use Rattle.gateway_core.specs.Past.{past_of, mark_of, deciding, decided, started, is_out, is_result_of}
 use Rattle.gateway_core.specs.Finished.{before, deciding_at, IsDecidedAt, IsOutSince}
 use Rattle.gateway_core.proofs.LimitLemmas.{started_grows}
 
@@ -22,25 +23,25 @@ by_push P base more (e ∷ es) = rw (reverse-append (e ∷ []) es) (more (revers
 pub push_induction : (P : List Occurrence → Type 0) → P [] → ((xs : List Occurrence) (e : Occurrence) → P xs → P (xs ++ e ∷ [])) → (xs : List Occurrence) → P xs
 push_induction P base more xs = subst P (reverse-reverse xs) (by_push P base more (reverse xs))
 
-get_old : (xs : List Occurrence) (e : Occurrence) (u : ℕ) → u < length xs → slice_get (xs ++ e ∷ []) u ≡ slice_get xs u
+pub get_old : (xs : List Occurrence) (e : Occurrence) (u : ℕ) → u < length xs → slice_get (xs ++ e ∷ []) u ≡ slice_get xs u
 get_old [] e u lt = absurd (omega arith)
 get_old (x ∷ xs) e zero lt = refl
 get_old (x ∷ xs) e (suc u) lt = get_old xs e u (omega arith)
 
-get_last : (xs : List Occurrence) (e : Occurrence) → slice_get (xs ++ e ∷ []) (length xs) ≡ Some e
+pub get_last : (xs : List Occurrence) (e : Occurrence) → slice_get (xs ++ e ∷ []) (length xs) ≡ Some e
 get_last [] e = refl
 get_last (x ∷ xs) e = get_last xs e
 
-get_past : (xs : List Occurrence) (u : ℕ) → length xs ≤ u → slice_get xs u ≡ None
+pub get_past : (xs : List Occurrence) (u : ℕ) → length xs ≤ u → slice_get xs u ≡ None
 get_past [] u le = refl
 get_past (x ∷ xs) zero le = absurd (omega arith)
 get_past (x ∷ xs) (suc u) le = get_past xs u (omega arith)
 
 -- what stood before a place depends on the events before it alone
-before-old : (xs : List Occurrence) (e : Occurrence) (t : ℕ) → t ≤ length xs → before (xs ++ e ∷ []) t ≡ before xs t
+pub before-old : (xs : List Occurrence) (e : Occurrence) (t : ℕ) → t ≤ length xs → before (xs ++ e ∷ []) t ≡ before xs t
 before-old xs e t le = ap past_of (take-append-le t xs (e ∷ []) le)
 
-before-all : (xs : List Occurrence) → before xs (length xs) ≡ past_of xs
+pub before-all : (xs : List Occurrence) → before xs (length xs) ≡ past_of xs
 before-all xs = ap past_of (take_all (length xs) xs (omega arith))
 
 before-last : (xs : List Occurrence) (e : Occurrence) → before (xs ++ e ∷ []) (suc (length xs)) ≡ past_of (xs ++ e ∷ [])
@@ -125,7 +126,7 @@ started_later id xs (y ∷ ys) =
     let same : xs ++ y ∷ [] ++ ys ≡ xs ++ (y ∷ ys) = append_assoc xs (y ∷ []) ys in
     rw (← same) (omega (arith, one, rest))
 
-started_at : (id : CallId) (t u : ℕ) (xs : List Occurrence) → t ≤ u → started id (before xs t) ≤ started id (before xs u)
+pub started_at : (id : CallId) (t u : ℕ) (xs : List Occurrence) → t ≤ u → started id (before xs t) ≤ started id (before xs u)
 started_at id t u xs le =
     let split : take t xs ++ drop t (take u xs) ≡ take u xs = rw (← take-take t u xs le) (take-append-drop t (take u xs)) in
     rw (← split) (started_later id (take t xs) (drop t (take u xs)))
@@ -151,13 +152,13 @@ first_place : (id : CallId) (i : ℕ) (xs : List Occurrence) (e : Occurrence) (s
 first_place id i [] e s same lt from = absurd (let z : started id (past_of []) ≡ 0 = refl in omega arith)
 first_place id i (x ∷ xs) e s same lt from =
     let all : List Occurrence = x ∷ xs in
-    let low : started id (before (all ++ e ∷ []) (suc (length xs))) ≤ i = from.least (length xs) (omega arith) in
+    let low : started id (before (all ++ e ∷ []) (suc (length xs))) ≤ i = from.starts.least (length xs) (omega arith) in
     let is : started id (before (all ++ e ∷ []) (suc (length xs))) ≡ started id (past_of all) = started_old id all e (suc (length xs)) (omega arith) ∙ started_end id all in
     absurd (omega arith)
 
 out_law_of : (id : CallId) (i : ℕ) (xs : List Occurrence) → OutLaw id i xs
 out_law_of id i = push_induction (λ xs. OutLaw id i xs)
-    (record { since = λ e. cc; only = λ s h. let bad : s < 0 = h.within in absurd (omega arith) })
+    (record { since = λ e. cc; only = λ s h. let bad : s < 0 = h.starts.within in absurd (omega arith) })
     (λ xs e h. let ys : List Occurrence = xs ++ e ∷ [] in
     let n : length ys ≡ length xs + 1 = length_push xs e in
     ⊎_elim
@@ -168,12 +169,14 @@ out_law_of id i = push_induction (λ xs. OutLaw id i xs)
       since = λ out.
           let p = and_parts (is_out id i (past_of xs)) (not (is_result_of id i e)) (sym now_out ∙ out) in
           let from = h.since p.0 in
-          let w : from.0 < length xs = from.1.within in (
+          let w : from.0 < length xs = from.1.starts.within in (
             from.0,
             record {
-              within = omega arith;
-              here = rw (started_old id xs e (suc from.0) (omega arith)) from.1.here;
-              least = λ u l. rw (started_old id xs e (suc u) (omega arith)) (from.1.least u l);
+              starts = record {
+                within = omega arith;
+                here = rw (started_old id xs e (suc from.0) (omega arith)) from.1.starts.here;
+                least = λ u l. rw (started_old id xs e (suc u) (omega arith)) (from.1.starts.least u l);
+              };
               quiet = λ u l m. ⊎_elim (λ (old : u < length xs). rw (get_old xs e u old) (from.1.quiet u l old))
                   (λ (last : length xs ≤ u). let same : u ≡ length xs = omega arith in rw (same, get_last xs e) (not-true (is_result_of id i e) p.1))
                   (cases_lt u (length xs));
@@ -183,14 +186,16 @@ out_law_of id i = push_induction (λ xs. OutLaw id i xs)
           let before_last : s < length xs =
           ⊎_elim (λ (old : s < length xs). old)
           (λ (last : length xs ≤ s).
-          let w : s < length ys = from.within in
+          let w : s < length ys = from.starts.within in
           let same : s ≡ length xs = omega arith in
           first_place id i xs e s same lt from)
           (cases_lt s (length xs)) in
           let was : is_out id i (past_of xs) ≡ true = h.only s (record {
-            within = before_last;
-            here = rw (started_old id xs e (suc s) (omega arith)) at from.here;
-            least = λ u l. rw (started_old id xs e (suc u) (omega arith)) at (from.least u l);
+            starts = record {
+              within = before_last;
+              here = rw (started_old id xs e (suc s) (omega arith)) at from.starts.here;
+              least = λ u l. rw (started_old id xs e (suc u) (omega arith)) at (from.starts.least u l);
+            };
             quiet = λ u l m. rw (get_old xs e u m) at (from.quiet u l (omega arith));
           }) in
           let none : is_result_of id i e ≡ false = rw (get_last xs e) at (from.quiet (length xs) before_last (omega arith)) in
@@ -204,15 +209,17 @@ out_law_of id i = push_induction (λ xs. OutLaw id i xs)
           let lt : i < started id (past_of ys) = ltb-true i (started id (past_of ys)) (sym now_out ∙ out) in (
             length xs,
             record {
-              within = omega arith;
-              here = rw (started_now id xs e) lt;
-              least = λ u l. rw (started_old id xs e (suc u) (omega arith)) (omega (arith, started_at id (suc u) (length xs) xs (omega arith), started_end id xs));
+              starts = record {
+                within = omega arith;
+                here = rw (started_now id xs e) lt;
+                least = λ u l. rw (started_old id xs e (suc u) (omega arith)) (omega (arith, started_at id (suc u) (length xs) xs (omega arith), started_end id xs));
+              };
               quiet = λ u l m. absurd (omega arith);
             },
           );
       only = λ s from.
-          let up : started id (before ys (suc s)) ≤ started id (before ys (suc (length xs))) = started_at id (suc s) (suc (length xs)) ys (let w : s < length ys = from.within in omega arith) in
-          now_out ∙ lt-ltb i (started id (past_of ys)) (omega (arith, up, started_now id xs e, from.here));
+          let up : started id (before ys (suc s)) ≤ started id (before ys (suc (length xs))) = started_at id (suc s) (suc (length xs)) ys (let w : s < length ys = from.starts.within in omega arith) in
+          now_out ∙ lt-ltb i (started id (past_of ys)) (omega (arith, up, started_now id xs e, from.starts.here));
     })
     (cases_Bool (nat_lt i (started id (past_of xs)))))
 

@@ -7,11 +7,13 @@ use Rattle.http_pieces.specs.Request.{closes}
 use Rattle.connect_codec.specs.Reply.{bare_reply}
 use Rattle.connect_codec.specs.declared.verdict.Verdict.TheVariants.{Bare}
 use Rattle.gateway_core.specs.declared.reply.Reply.{Reply}
-use Rattle.gateway_core.specs.Call.{reply_of}
+use Rattle.gateway_core.specs.Reply.{reply_of}
 use Rattle.gateway_core.specs.Past.{Mark, Past, call_id, entries, mark_of, marked}
-use Rattle.gateway_core.specs.Queue.{ReplyEntry, Judging, answer_of, came, entry, front, queued_entries, replies}
+use Rattle.gateway_core.specs.declared.entry.ReplyEntry.{ReplyEntry}
+use Rattle.gateway_core.specs.declared.entry.ReplyEntry.TheVariants.{Judged as Judging}
+use Rattle.gateway_core.specs.Queue.{answer_of, came, entry, front, queued_entries, replies}
 use Rattle.gateway_core.specs.Rows.{get_request, gets, after_gets}
-use Rattle.gateway_core.proofs.ArriveLemmas.{unborn}
+use Rattle.gateway_core.proofs.Unborn.{unborn}
 use Rattle.gateway_core.proofs.PastLemmas.{entry_stays}
 
 -- one more that is there, where all before are there and stay

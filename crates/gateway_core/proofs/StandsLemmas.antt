@@ -16,8 +16,11 @@ use Rattle.gateway_core.specs.Job.{JobValue}
 use Rattle.call_plan.specs.Plan.{PlanRecord}
 use Rattle.gateway_core.specs.Core.{first_call}
 use Rattle.gateway_core.specs.Occurrence.{Occurrence, Result, Entering, Request, Refused}
-use Rattle.gateway_core.specs.Past.{Mark, Past, Asked, CallEvent, Answered, Failed, call, entries, entering_on, entering_now, asked_now, asked_by, began, answers, started, is_out, is_result_of, is_answer_to, is_call, is_closed, event_by, own_event, ends_at_arrival, decides, decided, now, mark_of, marked, of_branch, is_open, counts, branches, count_below}
-use Rattle.gateway_core.specs.Queue.{came, own_events, record_of, entry_by, entry, answer_of, answer_in, answer_of_branch, answers_in, call_reply, front, replies, last_event}
+use Rattle.gateway_core.specs.declared.event.CallEvent.{CallEvent}
+use Rattle.gateway_core.specs.declared.event.CallEvent.TheVariants.{Answer as Answered, Failed}
+use Rattle.gateway_core.specs.Past.{Mark, Past, Asked, call, entries, entering_on, entering_now, asked_now, asked_by, began, answers, started, is_out, is_result_of, is_answer_to, is_call, is_closed, event_by, own_event, ends_at_arrival, decides, decided, now, mark_of, marked, of_branch, is_open, counts, branches, count_below}
+use Rattle.gateway_core.specs.CallRecord.{answer_in, answer_of_branch, answers_in, last_event}
+use Rattle.gateway_core.specs.Queue.{came, own_events, record_of, entry_by, entry, answer_of, call_reply, front, replies}
 use Rattle.gateway_core.specs.Stands.{CallStands}
 use Rattle.gateway_core.proofs.LimitLemmas.{out_started, outs_limit, count_without}
 use Rattle.gateway_core.proofs.Cases.{or_false, and_true, and_false}
@@ -70,8 +73,8 @@ own_same id m past q =
 entry_by_same : (id : CallId) (m : Mark) (past : Past) → Quiet id m past → (x : Entering × Bool) → entry_by id (m ∷ past) x ≡ entry_by id past x
 entry_by_same id m past q (Refused r, crowded) = refl
 entry_by_same id m past q (Request r (Judged v), crowded) = refl
-entry_by_same id m past q (Request r (Asks plan timeout), true) = refl
-entry_by_same id m past q (Request r (Asks plan timeout), false) = rw (decided_same id m past q, call_same id m past q, own_same id m past q) refl
+entry_by_same id m past q (Request r (Asks plan timeout rid), true) = refl
+entry_by_same id m past q (Request r (Asks plan timeout rid), false) = rw (decided_same id m past q, call_same id m past q, own_same id m past q) refl
 
 then_same : {A B : Type 0} (f g : A → Option B) → ((a : A) → f a ≡ g a) → (o : Option A) → option_and_then f o ≡ option_and_then g o
 then_same f g h None = refl
@@ -160,8 +163,7 @@ quiet_stands c d m past q h d_is outs = record {
   call_is = call_same first_call m past q ∙ h.call_is;
   began_is = began_same first_call m past q ∙ h.began_is;
   id_is = ap (λ (x : CallValue). x.id) d_is ∙ h.id_is;
-  plan_is = ap (λ (x : CallValue). x.plan) d_is ∙ h.plan_is;
-  request_is = ap (λ (x : CallValue). x.request) d_is ∙ h.request_is;
+  asked_is = ap (λ (x : CallValue). x.asked) d_is ∙ h.asked_is;
   answered_is = ap (λ (x : CallValue). x.answered) d_is ∙ h.answered_is ∙ sym (answers_same first_call m past q);
   started_is = ap (λ (x : CallValue). x.started) d_is ∙ h.started_is ∙ sym (started_same first_call m past q);
   out_is = λ k. outs k ∙ ap (λ b. b && not (is_result_of first_call k m.what)) (h.out_is k)
@@ -297,8 +299,7 @@ failed_stands c i error past h n =
       call_is = call_kept i (Fail error) past ∙ h.call_is;
       began_is = began_kept i (Fail error) past ∙ h.began_is;
       id_is = h.id_is;
-      plan_is = h.plan_is;
-      request_is = h.request_is;
+      asked_is = h.asked_is;
       answered_is = h.answered_is ∙ sym same_answers;
       started_is = h.started_is ∙ sym same_started;
       out_is = λ k. back_out c i k ∙ ap (λ b. b && not (i == k)) (h.out_is k) ∙ sym (out_after first_call k m past same_started);
@@ -328,8 +329,8 @@ out_then i k to outcome past to_is =
     rw (ge, not_started first_call k past ge, le-leb (started first_call past) k (ltb-false k (started first_call past) ge), to_is) refl)
     (cases_Bool (nat_lt k (started first_call past)))
 
-size_of : (c : CallValue) (past : Past) (h : CallStands c past) → length c.plan.branches ≡ length h.asked.plan.branches
-size_of c past h = ap (λ (p : PlanRecord). length p.branches) h.plan_is
+size_of : (c : CallValue) (past : Past) (h : CallStands c past) → length c.asked.plan.branches ≡ length h.asked.plan.branches
+size_of c past h = ap (λ (a : Asked). length a.plan.branches) h.asked_is
 
 within_size : (c : CallValue) (i : ℕ) (outcome : Outcome) (past : Past) (h : CallStands c past) → Counting i outcome past h.asked → i < length h.asked.plan.branches
 within_size c i outcome past h n =
@@ -346,26 +347,26 @@ answers_then c i body past h n =
 
 -- fewer have answered than there are
 more_to_come : (c : CallValue) (i : ℕ) (body : List ℕ) (past : Past) (h : CallStands c past)
-    → nat_lt (answered_by i body (back i c)).answered (length c.plan.branches) ≡ true → answers first_call past + 1 < length h.asked.plan.branches
+    → nat_lt (answered_by i body (back i c)).answered (length c.asked.plan.branches) ≡ true → answers first_call past + 1 < length h.asked.plan.branches
 more_to_come c i body past h unfinished =
-    let least : min (c.answered + 1) (length c.plan.branches) < length c.plan.branches = ltb-true _ _ unfinished in
+    let least : min (c.answered + 1) (length c.asked.plan.branches) < length c.asked.plan.branches = ltb-true _ _ unfinished in
     omega (arith, least, size_of c past h, h.answered_is)
 
 pub open_still : (c : CallValue) (i : ℕ) (body : List ℕ) (past : Past) (h : CallStands c past) → Counting i (Answer body) past h.asked
-    → nat_lt (answered_by i body (back i c)).answered (length c.plan.branches) ≡ true → decided first_call (result_of past i (Answer body) ∷ past) ≡ None
+    → nat_lt (answered_by i body (back i c)).answered (length c.asked.plan.branches) ≡ true → decided first_call (result_of past i (Answer body) ∷ past) ≡ None
 open_still c i body past h n unfinished =
     decided_is i (Answer body) past h.asked n
     ∙ rw (ne_eqb (answers first_call past + 1) (length h.asked.plan.branches) (λ e. omega (arith, e, more_to_come c i body past h unfinished))) refl
 
 -- all have answered
 all_came : (c : CallValue) (i : ℕ) (body : List ℕ) (past : Past) (h : CallStands c past) → Counting i (Answer body) past h.asked
-    → nat_lt (answered_by i body (back i c)).answered (length c.plan.branches) ≡ false → answers first_call past + 1 ≡ length h.asked.plan.branches
+    → nat_lt (answered_by i body (back i c)).answered (length c.asked.plan.branches) ≡ false → answers first_call past + 1 ≡ length h.asked.plan.branches
 all_came c i body past h n finished =
-    let all : length c.plan.branches ≤ min (c.answered + 1) (length c.plan.branches) = ltb-false _ _ finished in
+    let all : length c.asked.plan.branches ≤ min (c.answered + 1) (length c.asked.plan.branches) = ltb-false _ _ finished in
     omega (arith, all, size_of c past h, h.answered_is, h.few n.undecided, within_size c i (Answer body) past h n)
 
 pub ended : (c : CallValue) (i : ℕ) (body : List ℕ) (os : List Occurrence) (h : CallStands c (marked os)) → Counting i (Answer body) (marked os) h.asked
-    → nat_lt (answered_by i body (back i c)).answered (length c.plan.branches) ≡ false
+    → nat_lt (answered_by i body (back i c)).answered (length c.asked.plan.branches) ≡ false
     → decided first_call (result_of (marked os) i (Answer body) ∷ marked os) ≡ Some (Answered i body)
 ended c i body os h n finished =
     decided_is i (Answer body) (marked os) h.asked n
@@ -373,17 +374,17 @@ ended c i body os h n finished =
 
 -- an answer that leaves others open: the branches that are due start
 pub going_stands : (c later : CallValue) (i : ℕ) (body : List ℕ) (past : Past) (jobs after : List JobValue) (h : CallStands c past) → Counting i (Answer body) past h.asked
-    → nat_lt (answered_by i body (back i c)).answered (length c.plan.branches) ≡ true
+    → nat_lt (answered_by i body (back i c)).answered (length c.asked.plan.branches) ≡ true
     → HasStarted (due_of (answered_by i body (back i c))) (answered_by i body (back i c)) later jobs after
     → CallStands later (result_of past i (Answer body) ∷ past)
 going_stands c later i body past jobs after h n unfinished s =
     let m : Mark = result_of past i (Answer body) in
     let size : ℕ = length h.asked.plan.branches in
     let a : ℕ = answers first_call past in
-    let size_is : length c.plan.branches ≡ size = size_of c past h in
+    let size_is : length c.asked.plan.branches ≡ size = size_of c past h in
     let more : a + 1 < size = more_to_come c i body past h unfinished in
     let answered_now : (answered_by i body (back i c)).answered ≡ suc a = omega (arith, more, size_is, h.answered_is) in
-    let due_is : due_of (answered_by i body (back i c)) ≡ min size (h.asked.plan.limit + suc a) = rw (answered_now, h.plan_is) refl in
+    let due_is : due_of (answered_by i body (back i c)) ≡ min size (h.asked.plan.limit + suc a) = rw (answered_now, h.asked_is) refl in
     record {
       asked = h.asked;
       timeout = h.timeout;
@@ -392,8 +393,7 @@ going_stands c later i body past jobs after h n unfinished s =
       call_is = call_kept i (Answer body) past ∙ h.call_is;
       began_is = began_kept i (Answer body) past ∙ h.began_is;
       id_is = s.same.id ∙ h.id_is;
-      plan_is = s.same.plan ∙ h.plan_is;
-      request_is = s.same.request ∙ h.request_is;
+      asked_is = s.same.asked ∙ h.asked_is;
       answered_is = s.same.answered ∙ answered_now ∙ sym (one_answer i body past h.asked n);
       started_is = s.started ∙ due_is ∙ sym (started_then i body past h.asked n h.began_is);
       out_is = λ k.
@@ -419,14 +419,14 @@ limit_some os asked i call_is lt out =
 
 -- the last answer
 pub last_stands : (c : CallValue) (i : ℕ) (body : List ℕ) (os : List Occurrence) (h : CallStands c (marked os)) → Counting i (Answer body) (marked os) h.asked
-    → nat_lt (answered_by i body (back i c)).answered (length c.plan.branches) ≡ false
+    → nat_lt (answered_by i body (back i c)).answered (length c.asked.plan.branches) ≡ false
     → CallStands (decided_of (answered_by i body (back i c))) (result_of (marked os) i (Answer body) ∷ marked os)
 last_stands c i body os h n finished =
     let past : Past = marked os in
     let m : Mark = result_of past i (Answer body) in
     let size : ℕ = length h.asked.plan.branches in
     let a : ℕ = answers first_call past in
-    let size_is : length c.plan.branches ≡ size = size_of c past h in
+    let size_is : length c.asked.plan.branches ≡ size = size_of c past h in
     let started_was : started first_call past ≡ min size (h.asked.plan.limit + a) = rw (h.began_is, h.call_is) refl in
     let last : a + 1 ≡ size = all_came c i body past h n finished in
     let answered_now : (answered_by i body (back i c)).answered ≡ suc a = omega (arith, last, size_is, h.answered_is) in
@@ -441,8 +441,7 @@ last_stands c i body os h n finished =
       call_is = call_kept i (Answer body) past ∙ h.call_is;
       began_is = began_kept i (Answer body) past ∙ h.began_is;
       id_is = h.id_is;
-      plan_is = h.plan_is;
-      request_is = h.request_is;
+      asked_is = h.asked_is;
       answered_is = answered_now ∙ sym (one_answer i body past h.asked n);
       started_is = h.started_is ∙ sym same_started;
       out_is = λ k. back_out c i k ∙ ap (λ b. b && not (i == k)) (h.out_is k) ∙ sym (out_after first_call k m past same_started);
@@ -467,10 +466,10 @@ replies_decided c i outcome past h e some =
 -- the reply of a call that failed is that of its record
 pub failed_reply : (c : CallValue) (i : ℕ) (error : RpcError) (past : Past) (h : CallStands c past) (es : List CallEvent)
     → call_reply (record_of h.asked (es ++ Failed i error ∷ [])) ≡ failure_of i error (back i c)
-failed_reply c i error past h es = rw (last_is es (Failed i error), ← h.plan_is, ← h.request_is) refl
+failed_reply c i error past h es = rw (last_is es (Failed i error), ← h.asked_is) refl
 
-pub answered_reply : (asked : Asked) (c : CallValue) (i : ℕ) (body : List ℕ) (es : List CallEvent) → c.plan ≡ asked.plan → c.request ≡ asked.request
+pub answered_reply : (asked : Asked) (c : CallValue) (i : ℕ) (body : List ℕ) (es : List CallEvent) → c.asked ≡ asked
     → c.answers ≡ answers_in (length asked.plan.branches) (es ++ Answered i body ∷ [])
     → call_reply (record_of asked (es ++ Answered i body ∷ [])) ≡ success_of c
-answered_reply asked c i body es plan_is request_is answers_are =
-    rw (last_is es (Answered i body), ← answers_are, ← plan_is, ← request_is) refl
+answered_reply asked c i body es asked_is answers_are =
+    rw (last_is es (Answered i body), ← answers_are, ← asked_is) refl

@@ -27,9 +27,9 @@ here_out b s i le = rw (le-leb s i le, lt-ltb i (i + 1) (omega arith)) (or_true 
 -- one more starts
 pub one_started : (i : ℕ) (old mid : CallValue) (jobs more : List JobValue)
     → HasStarted i old mid jobs more → i < length mid.out
-    → HasStarted (i + 1) old (start_of i mid) jobs (more ++ job_of mid.id i mid.plan mid.request ∷ [])
+    → HasStarted (i + 1) old (start_of i mid) jobs (more ++ job_of mid.id i mid.asked 0 ∷ [])
 one_started i old mid jobs more h lt = record {
-  same = record { id = h.same.id; plan = h.same.plan; request = h.same.request; answered = h.same.answered; answers = h.same.answers; decided = h.same.decided };
+  same = record { id = h.same.id; asked = h.same.asked; answered = h.same.answered; answers = h.same.answers; decided = h.same.decided };
   more = omega (arith, h.more);
   started = refl;
   places = length-set mid.out i true ∙ h.places;
@@ -39,16 +39,16 @@ one_started i old mid jobs more h lt = record {
       ∙ ap (λ b. is_out old j || (nat_le old.started j && b)) (sym (lt_more i j ne)))
       (cases_eq j i);
   jobs_are =
-      let f : ℕ → JobValue = λ j. job_of old.id j old.plan old.request in
+      let f : ℕ → JobValue = λ j. job_of old.id j old.asked 0 in
       let n : i + 1 - old.started ≡ (i - old.started) + 1 = omega (arith, h.more) in
-      rw (h.jobs_are, h.same.id, h.same.plan, h.same.request, n, map-range_with_len_more f old.started (i - old.started) i (omega (arith, h.more)))
+      rw (h.jobs_are, h.same.id, h.same.asked, n, map-range_with_len_more f old.started (i - old.started) i (omega (arith, h.more)))
       (append_assoc jobs (jobs_to i old) (f i ∷ []));
 }
 
 -- one more of those that are due
 pub one_due : (i due : ℕ) (old mid new : CallValue) (jobs more after : List JobValue)
     → IsCallSound old → HasStarted i old mid jobs more → i < due → due ≡ due_of old
-    → new ≡ start_of i mid → after ≡ more ++ job_of mid.id i mid.plan mid.request ∷ [] → HasStarted (i + 1) old new jobs after
+    → new ≡ start_of i mid → after ≡ more ++ job_of mid.id i mid.asked 0 ∷ [] → HasStarted (i + 1) old new jobs after
 one_due i due old mid new jobs more after sound h lt due_is new_is after_is =
     rw (new_is, after_is) (one_started i old mid jobs more h (omega (arith, lt, due_is, h.places, sound.out_is)))
 

@@ -13,21 +13,21 @@ use Rattle.connect_codec.specs.declared.verdict.Verdict.TheVariants.{Ask, Bare, 
 use Rattle.call_plan.specs.Plan.{PlanRecord}
 use Rattle.call_plan.specs.Plans.{plan_at}
 use Rattle.gateway_core.specs.declared.reply.Reply.{Reply}
-use Rattle.gateway_core.specs.Call.{reply_of}
+use Rattle.gateway_core.specs.Reply.{reply_of}
 
 -- what a request comes to
 pub data Arrival : Type 0 where
   -- it is no call, and is answered by its verdict
   Judged : Verdict → Arrival
-  -- it asks for a call of the plan, with the timeout in milliseconds that it names
-  Asks : PlanRecord → Option ℕ → Arrival
+  -- it asks for a call of the plan, with the timeout in milliseconds and the request id that it names
+  Asks : PlanRecord → Option ℕ → Option (List ℕ) → Arrival
 
 -- the plan that the request's path names
 abbrev pub plan_of : List PlanRecord → HttpRequest → Option PlanRecord
 plan_of plans q = option_and_then (λ path. plan_at path plans) (path_of q.target)
 
 abbrev pub arrival_by : Verdict → PlanRecord → Arrival
-arrival_by (Ask timeout id) plan = Asks plan timeout
+arrival_by (Ask timeout id) plan = Asks plan timeout id
 arrival_by (Bare status) plan = Judged (Bare status)
 arrival_by (Fail error) plan = Judged (Fail error)
 

@@ -15,7 +15,7 @@ use Rattle.gateway_core.specs.Call.{CallValue, is_out, new_call, back, due_of, a
 use Rattle.connect_codec.specs.declared.answer.Outcome.{Outcome}
 use Rattle.connect_codec.specs.declared.answer.Outcome.TheVariants.{Answer, Fail}
 use Rattle.gateway_core.specs.Job.{JobValue}
-use Rattle.gateway_core.specs.Past.{is_due, smaller}
+use Rattle.gateway_core.specs.Past.{asked_of, is_due, smaller}
 use Rattle.gateway_core.specs.Queue.{expired_reply}
 
 -- The connection: what it has read, whether its first request has arrived (or was refused), the call that it began if it
@@ -131,7 +131,7 @@ abbrev pub CountsTo : ℕ → Outcome → ConnValue → CallValue → ConnValue 
 CountsTo branch (Fail error) old call new jobs after = IsDecidedBy (failure_of branch error call) call old new jobs after
 CountsTo branch (Answer body) old call new jobs after =
     let answered = answered_by branch body call in
-    MatchBool (nat_lt answered.answered (length call.plan.branches))
+    MatchBool (nat_lt answered.answered (length call.asked.plan.branches))
     (GoesOn answered old new jobs after)
     (IsDecidedBy (success_of answered) answered old new jobs after)
 
@@ -146,7 +146,7 @@ abbrev pub StopsIn : ℕ → Outcome → ConnValue → CallValue → ConnValue �
 StopsIn branch (Fail error) old call new jobs after = (new ≡ old) × (after ≡ jobs)
 StopsIn branch (Answer body) old call new jobs after =
     let answered = answered_by branch body call in
-    MatchBool (nat_lt answered.answered (length call.plan.branches))
+    MatchBool (nat_lt answered.answered (length call.asked.plan.branches))
     ((later : CallValue) × (new ≡ record old { call = Some later }) × ((to : ℕ) × (to ≤ due_of answered) × HasStarted to answered later jobs after))
     ((new ≡ record old { call = Some answered }) × (after ≡ jobs))
 
@@ -186,10 +186,10 @@ first_call = record { conn = 0; request = 0 }
 abbrev pub ArrivesAs : HttpRequest → ConnValue → ConnValue → List JobValue → List JobValue → Arrival → Type 0
 ArrivesAs q old new jobs after (Judged v) =
     (new ≡ record old { arrived = true; replies = old.replies ++ verdict_reply v (closes q) ∷ [] }) × (after ≡ jobs)
-ArrivesAs q old new jobs after (Asks plan timeout) =
+ArrivesAs q old new jobs after (Asks plan timeout id) =
     MatchBool (is_due 0 (smaller timeout plan.timeout))
     ((new ≡ record old { arrived = true; replies = old.replies ++ expired_reply (closes q) ∷ [] }) × (after ≡ jobs))
-    (GoesOn (new_call first_call plan q) (record old { arrived = true }) new jobs after)
+    (GoesOn (new_call first_call (asked_of 0 q plan timeout id)) (record old { arrived = true }) new jobs after)
 
 -- the stream is refused: this is its last reply, where no request came before
 abbrev pub refused_by : Refusal → ConnValue → ConnValue

@@ -1,3 +1,7 @@
+pub mod Branch
+pub mod CallRecord
+pub mod Errors
+pub mod Reply
 pub mod Job
 pub mod Call
 pub mod Arrival
@@ -10,3 +14,11 @@ pub mod Starts
 pub mod Stands
 pub mod Rows
 pub mod Record
+pub mod Step
+pub mod LiveStands
+pub mod Begins
+pub mod Machine
+pub mod Standing
+pub mod Fate
+pub mod Fated
+pub mod Breaks

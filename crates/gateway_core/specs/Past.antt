@@ -6,6 +6,9 @@ use Rattle.http_pieces.specs.Request.{HttpRequest}
 use Rattle.connect_codec.specs.declared.answer.Outcome.{Outcome}
 use Rattle.connect_codec.specs.declared.answer.Outcome.TheVariants.{Answer, Fail}
 use Rattle.call_plan.specs.Plan.{PlanRecord}
+use Rattle.gateway_core.specs.declared.event.CallEvent.{CallEvent}
+use Rattle.gateway_core.specs.declared.event.CallEvent.TheVariants.{Failed, Expired, HungUp, Drained}
+use Rattle.gateway_core.specs.declared.event.CallEvent.TheVariants as event
 use Rattle.gateway_core.specs.declared.id.CallId.{CallId}
 use Rattle.gateway_core.specs.declared.fault.Seen.{Seen}
 use Rattle.gateway_core.specs.declared.fault.Seen.TheVariants.{Counted, Late, Unknown}
@@ -72,6 +75,8 @@ entering_now id m past = if entries id.conn past == id.request then entering_on 
 pub record Asked : Type 0 where
   pub plan : PlanRecord
   pub request : HttpRequest
+  -- the id that its request names, to be passed on (the field `X-Request-Id`)
+  pub request_id : Option (List ℕ)
   -- the moment of its arrival
   pub start : ℕ
   -- the moment at which it expires, if it ever does
@@ -83,17 +88,22 @@ smaller None t = t
 smaller (Some s) None = Some s
 smaller (Some s) (Some t) = Some (min s t)
 
--- the call that a request begins when it comes at this moment: its deadline is the smaller of the request's timeout and the
--- plan's after the moment (Connect protocol, `Connect-Timeout-Ms`; Go `context.WithDeadline`)
+-- the call of the plan that a request begins when it comes at this moment: its deadline is the smaller of the request's timeout and
+-- the plan's after the moment (Connect protocol, `Connect-Timeout-Ms`; Go `context.WithDeadline`)
+abbrev pub asked_of : ℕ → HttpRequest → PlanRecord → Option ℕ → Option (List ℕ) → Asked
+asked_of moment q plan timeout id = record {
+  plan = plan;
+  request = q;
+  request_id = id;
+  start = moment;
+  deadline = option_map (λ t. moment + t) (smaller timeout plan.timeout);
+}
+
+-- the call that comes at this moment, if what comes asks for one
 abbrev pub asked_by : ℕ → Entering → Option Asked
 asked_by moment (Refused r) = None
 asked_by moment (Request q (Judged v)) = None
-asked_by moment (Request q (Asks plan timeout)) = Some (record {
-  plan = plan;
-  request = q;
-  start = moment;
-  deadline = option_map (λ t. moment + t) (smaller timeout plan.timeout);
-})
+asked_by moment (Request q (Asks plan timeout id)) = Some (asked_of moment q plan timeout id)
 
 -- the call that this occurrence begins under that id, if it does
 abbrev pub asked_now : CallId → Mark → Past → Option Asked
@@ -111,15 +121,6 @@ is_due moment (Some deadline) = nat_le deadline moment
 
 -- ---- what happens to a call
 
--- an event of a call: an answer of a branch or its failure, the deadline with the moment that reached it, the hang-up of its
--- connection, or the drain
-pub data CallEvent : Type 0 where
-  Answered : ℕ → List ℕ → CallEvent
-  Failed : ℕ → RpcError → CallEvent
-  Expired : ℕ → CallEvent
-  HungUp : CallEvent
-  Drained : CallEvent
-
 -- what decides a call as it arrives: the drain, and else its deadline
 abbrev pub ends_at_arrival : Past → Asked → Option CallEvent
 ends_at_arrival past c = if is_drained past then Some Drained else (if is_due (now past) c.deadline then Some (Expired (now past)) else None)
@@ -128,7 +129,7 @@ abbrev pub is_call : CallId → CallId → Bool
 is_call a b = (a.conn == b.conn) && (a.request == b.request)
 
 abbrev pub of_branch : ℕ → Outcome → CallEvent
-of_branch i (Answer body) = Answered i body
+of_branch i (Answer body) = event.Answer i body
 of_branch i (Fail error) = Failed i error
 
 -- the event that this is of a call which arrived before and is undecided: a result that counted, the deadline reached, the
@@ -164,7 +165,7 @@ branches id past = option_map_or (λ c. length c.plan.branches) (call id past) 0
 
 -- each event decides its call, but for an answer that leaves others open (Go `errgroup.Wait`)
 abbrev pub decides : ℕ → ℕ → CallEvent → Bool
-decides answered n (Answered i body) = answered + 1 == n
+decides answered n (event.Answer i body) = answered + 1 == n
 decides answered n _ = true
 
 -- the event that decides the call at this occurrence, if nothing did before
@@ -242,7 +243,7 @@ most_calls = 8
 
 -- the occurrence is a request that asks for one call too many
 abbrev pub crowds : Occurrence → Past → Bool
-crowds (Entry conn (Request q (Asks plan timeout))) past = nat_le most_calls (undecided_calls conn past)
+crowds (Entry conn (Request q (Asks plan timeout id))) past = nat_le most_calls (undecided_calls conn past)
 crowds _ past = false
 
 -- an occurrence after that past

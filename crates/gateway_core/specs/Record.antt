@@ -1,13 +1,15 @@
 -- When the record of a call is lawful: its events can have come so.
 use Rattle.std.specs.Prelude.{ℕ, suc, ◌+◌, min, Bool, true, false, not, ◌&&◌, ◌||◌, ◌==◌, nat_lt, is_none, List, [], ◌∷◌, ◌++◌, length}
 use Rattle.std.specs.Option.{option_map_or}
-use Rattle.gateway_core.specs.Past.{CallEvent, Answered, Failed, Expired, HungUp, Drained, decides, is_due}
-use Rattle.gateway_core.specs.Queue.{CallRecord, answer_of_branch, last_event}
+use Rattle.gateway_core.specs.declared.event.CallEvent.{CallEvent}
+use Rattle.gateway_core.specs.declared.event.CallEvent.TheVariants.{Answer, Failed, Expired, HungUp, Drained}
+use Rattle.gateway_core.specs.CallRecord.{CallRecord, answer_of_branch, last_event}
+use Rattle.gateway_core.specs.Past.{decides, is_due}
 
 -- how many answers are among these events
 abbrev pub answers_among : List CallEvent → ℕ
 answers_among [] = 0
-answers_among (Answered i body ∷ events) = suc (answers_among events)
+answers_among (Answer i body ∷ events) = suc (answers_among events)
 answers_among (e ∷ events) = answers_among events
 
 -- how many branches of the call have started after these events
@@ -20,7 +22,7 @@ is_out_after r events i = nat_lt i (started_after r events) && is_none (answer_o
 
 -- the event can come behind those
 abbrev pub may_come : CallRecord → List CallEvent → CallEvent → Bool
-may_come r before (Answered i body) = is_out_after r before i
+may_come r before (Answer i body) = is_out_after r before i
 may_come r before (Failed i error) = is_out_after r before i
 may_come r before (Expired moment) = is_due moment r.deadline
 may_come r before HungUp = true
@@ -48,7 +50,7 @@ is_lawful r = may_follow r [] r.events && (not (is_due r.start r.deadline) || en
 
 -- an event after which so many answers are among the events, of which it is the last, decides the call
 abbrev pub is_ending : ℕ → ℕ → CallEvent → Bool
-is_ending answered n (Answered i body) = answered == n
+is_ending answered n (Answer i body) = answered == n
 is_ending answered n e = true
 
 -- the record is decided: its last event is none of its first answers

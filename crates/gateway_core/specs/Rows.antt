@@ -19,13 +19,17 @@ use Rattle.connect_codec.specs.declared.verdict.Verdict.TheVariants.{Bare}
 use Rattle.call_plan.specs.Plan.{PlanRecord}
 use Rattle.gateway_core.specs.Arrival.{Arrival, Judged, Asks, arrival_of}
 use Rattle.gateway_core.specs.declared.reply.Reply.{Reply}
-use Rattle.gateway_core.specs.Call.{reply_of}
+use Rattle.gateway_core.specs.Reply.{reply_of}
 use Rattle.gateway_core.specs.Occurrence.{Occurrence, Opening, Entry, Result, Request, Refused}
-use Rattle.gateway_core.specs.Past.{CallEvent, call_id, past_of}
-use Rattle.gateway_core.specs.Queue.{CallRecord, ReplyEntry, Calling, entry, queued}
+use Rattle.gateway_core.specs.declared.entry.ReplyEntry.{ReplyEntry}
+use Rattle.gateway_core.specs.declared.entry.ReplyEntry.TheVariants.{Call}
+use Rattle.gateway_core.specs.declared.event.CallEvent.{CallEvent}
+use Rattle.gateway_core.specs.CallRecord.{CallRecord}
+use Rattle.gateway_core.specs.Past.{call_id, past_of}
+use Rattle.gateway_core.specs.Queue.{entry, queued}
 use Rattle.gateway_core.specs.Record.{is_lawful, is_decided}
 use Rattle.std.specs.Option.{option_map_or}
-use Rattle.gateway_core.specs.Job.{job_of}
+use Rattle.gateway_core.specs.Job.{job_with}
 use Rattle.gateway_core.specs.Starts.{Start, start, starts}
 
 -- what starts, where each occurrence is an event of its own
@@ -130,15 +134,21 @@ head_text q = message_bytes (q.method ++ codes " " ++ q.target ++ version_text q
 abbrev pub text_of : HttpRequest → List ℕ
 text_of q = head_text q ++ q.body
 
+-- ---- what occurs on a connection
+
+-- request number k of that connection asks for a call of the plan, with that timeout and that request id
+abbrev pub asks_on : ℕ → PlanRecord → Option ℕ → Option (List ℕ) → ℕ → Occurrence
+asks_on conn plan timeout id k = Entry conn (Request (request_for plan.path k) (Asks plan timeout id))
+
 -- ---- what occurs on connection 0
 
--- the branch of that request's call on connection 0 starts at that place
+-- the branch of that request's call on connection 0 starts at that place, with all of its plan's time left
 abbrev pub starts_then : PlanRecord → ℕ → ℕ → ℕ → Start
-starts_then plan place request branch = start place (job_of (call_id 0 request) branch plan (request_for plan.path request))
+starts_then plan place request branch = start place (job_with (call_id 0 request) branch plan (request_for plan.path request) None plan.timeout)
 
 -- request number k asks for a call of the plan, with that timeout
 abbrev pub asks : PlanRecord → Option ℕ → ℕ → Occurrence
-asks plan timeout k = Entry 0 (Request (request_for plan.path k) (Asks plan timeout))
+asks plan timeout k = asks_on 0 plan timeout None k
 
 -- what a request comes to, where Ping and Quote are the plans
 abbrev pub arrives : HttpRequest → Arrival
@@ -218,7 +228,7 @@ bytes_queued os = length (queued 0 (past_of os))
 
 -- the record of the call that request 0 began, where it is decided
 abbrev pub called : ReplyEntry → Option CallRecord
-called (Calling r) = Some r
+called (Call r) = Some r
 called e = None
 
 abbrev pub record_in : List Occurrence → Option CallRecord

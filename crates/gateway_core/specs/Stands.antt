@@ -10,7 +10,8 @@ use Rattle.gateway_core.specs.Call.{CallValue, is_out as has_out}
 use Rattle.gateway_core.specs.Core.{ConnValue, CoreValue, new_conn, first_call, is_waiting}
 use Rattle.gateway_core.specs.Occurrence.{Occurrence, Entry, Request, Refused}
 use Rattle.gateway_core.specs.Past.{Past, Asked, call, answers, began, started, is_out, decided, entries, now, is_drained, is_closed, marked}
-use Rattle.gateway_core.specs.Queue.{came, own_events, answers_in, replies}
+use Rattle.gateway_core.specs.CallRecord.{answers_in}
+use Rattle.gateway_core.specs.Queue.{came, own_events, replies}
 use Rattle.gateway_core.specs.Job.{JobValue}
 use Rattle.gateway_core.specs.Starts.{jobs}
 
@@ -19,12 +20,11 @@ pub record CallStands (c : CallValue) (past : Past) : Type 0 where
   pub asked : Asked
   pub timeout : Option ℕ
   pub entries_are : entries 0 past ≡ 1
-  pub came_is : came first_call past ≡ Some (Request asked.request (Asks asked.plan timeout), false)
+  pub came_is : came first_call past ≡ Some (Request asked.request (Asks asked.plan timeout asked.request_id), false)
   pub call_is : call first_call past ≡ Some asked
   pub began_is : began first_call past ≡ true
   pub id_is : c.id ≡ first_call
-  pub plan_is : c.plan ≡ asked.plan
-  pub request_is : c.request ≡ asked.request
+  pub asked_is : c.asked ≡ asked
   pub answered_is : c.answered ≡ answers first_call past
   pub started_is : c.started ≡ started first_call past
   pub out_is : (i : ℕ) → has_out c i ≡ is_out first_call i past

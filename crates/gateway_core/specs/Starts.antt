@@ -5,7 +5,7 @@ use Rattle.std.specs.Option.{option_map_or}
 use Rattle.gateway_core.specs.declared.id.CallId.{CallId}
 use Rattle.gateway_core.specs.Job.{JobValue, job_of}
 use Rattle.gateway_core.specs.Occurrence.{Occurrence, Entry, Result}
-use Rattle.gateway_core.specs.Past.{Past, Mark, call, call_id, entries, started, mark_of, marked}
+use Rattle.gateway_core.specs.Past.{Past, Mark, call, call_id, entries, now, started, mark_of, marked}
 
 -- an occurrence, and the place of its event in the list of events
 abbrev pub Placed : Type 0
@@ -19,9 +19,9 @@ occurrences placed = map (λ o. o.1) placed
 abbrev pub branches_started : CallId → Mark → Past → List ℕ
 branches_started id m past = range_with_len (started id past) (started id (m ∷ past) - started id past)
 
--- their jobs: each has its branch's address and path, and its call's request
+-- their jobs, which start at the moment of this occurrence
 abbrev pub jobs_started : CallId → Mark → Past → List JobValue
-jobs_started id m past = option_map_or (λ c. map (λ i. job_of id i c.plan c.request) (branches_started id m past)) (call id (m ∷ past)) []
+jobs_started id m past = option_map_or (λ c. map (λ i. job_of id i c (now past)) (branches_started id m past)) (call id (m ∷ past)) []
 
 -- the jobs that start at this occurrence; only branches of the call that a request begins, or that a result is of, can start
 abbrev pub jobs_by : Occurrence → Mark → Past → List JobValue

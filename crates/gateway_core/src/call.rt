@@ -1,7 +1,10 @@
-ghost use Rattle.std.specs.Prelude.{◌≡◌, ℕ, ◌<◌, ◌≤◌, ◌++◌, ◌∷◌, [], IfOk, IsOk, OnOk, OnErr, length, replicate, count_by, not, nat_lt};
+ghost use Rattle.std.specs.Prelude.{◌≡◌, ℕ, ◌<◌, ◌≤◌, ◌++◌, ◌∷◌, [], IfOk, IsOk, OnOk, OnErr, option_map, length, replicate, count_by, not, nat_lt};
 ghost use Rattle.std.specs.Arc.{arc_value};
-ghost use Rattle.gateway_core.specs.Call.{new_call, is_out, call_sees, branch_error, due_of, start_of, back, answered_by, success_of, failure_of, decided_of, HasStarted};
-ghost use Rattle.gateway_core.specs.Job.{job_of, branch_at};
+ghost use Rattle.gateway_core.specs.Call.{new_call, is_out, call_sees, due_of, start_of, back, answered_by, success_of, failure_of, decided_of, HasStarted};
+ghost use Rattle.gateway_core.specs.Branch.{branch_at};
+ghost use Rattle.gateway_core.specs.Errors.{branch_error};
+ghost use Rattle.gateway_core.specs.Job.{job_of};
+ghost use Rattle.gateway_core.specs.Past.{asked_of, smaller};
 
 use crate::id::CallId;
 use crate::job::Job;
@@ -21,6 +24,9 @@ pub(crate) struct Call {
     id: CallId,
     plan: Arc<Plan>,
     request: Arc<Request>,
+    request_id: Option<Arc<Bytes>>,
+    /// The moment at which the call expires, in milliseconds, if it ever does.
+    deadline: Option<u64>,
     /// The branches below this number have started.
     started: usize,
     /// How many answers counted.
@@ -33,13 +39,14 @@ pub(crate) struct Call {
 
 impl Model for Call {
     ghost use Rattle.std.specs.Arc.{arc_value};
-    ghost use Rattle.gateway_core.specs.Call.{CallValue, call_value, IsCallSound};
+    ghost use Rattle.std.specs.Prelude.{option_map};
+    ghost use Rattle.gateway_core.specs.Call.{CallValue, asked_with, call_value, IsCallSound};
 
     ghost Value = { CallValue };
 
-    ghost view = { λ c. call_value c.id (arc_value c.plan) (arc_value c.request) c.started c.answered c.out.items c.answers.items c.decided };
+    ghost view = { λ c. call_value c.id (asked_with (arc_value c.plan) (arc_value c.request) (option_map arc_value c.request_id) c.deadline) c.started c.answered c.out.items c.answers.items c.decided };
 
-    ghost invariant = { λ c. IsCallSound (call_value c.id (arc_value c.plan) (arc_value c.request) c.started c.answered c.out.items c.answers.items c.decided) };
+    ghost invariant = { λ c. IsCallSound (call_value c.id (asked_with (arc_value c.plan) (arc_value c.request) (option_map arc_value c.request_id) c.deadline) c.started c.answered c.out.items c.answers.items c.decided) };
 }
 
 impl Call {
@@ -49,17 +56,23 @@ impl Call {
         id: CallId,
         plan: Arc<Plan>,
         request: Request,
+        timeout: Option<u64>,
+        request_id: Option<Bytes>,
     ) -> Result<Call, AllocError>
-        ensures { IfOk result (λ c. c ≡ new_call id (arc_value plan) request) }
+        ensures { IfOk result (λ c. c ≡ new_call id (asked_of 0 request (arc_value plan) timeout request_id)) }
     {
         let count = plan.branches().len();
         let out = vec![in alloc; false; count]?;
         let answers = empty_answers(alloc, count)?;
+        let deadline = least(timeout, plan.timeout());
         let request = Arc::new(alloc, request)?;
+        let request_id = shared(alloc, request_id)?;
         Ok(Call {
             id,
             plan,
             request,
+            request_id,
+            deadline,
             started: 0,
             answered: 0,
             out,
@@ -94,7 +107,7 @@ impl Call {
     fn start(&mut self, index: usize, jobs: &mut VecDeque<Job>) -> Result<(), AllocError>
         requires { index < due_of self.old }
         ensures ok { OnOk result (self.new ≡ start_of index self.old) }
-        ensures job { OnOk result (jobs.new.items ≡ jobs.old.items ++ job_of self.old.id index self.old.plan self.old.request ∷ []) }
+        ensures job { OnOk result (jobs.new.items ≡ jobs.old.items ++ job_of self.old.id index self.old.asked 0 ∷ []) }
         ensures err { OnErr result ((self.new ≡ self.old) × (jobs.new.items ≡ jobs.old.items)) }
     {
         jobs.push_back(Job {
@@ -102,10 +115,21 @@ impl Call {
             branch: index as u32,
             plan: Arc::try_clone(&self.plan)?,
             request: Arc::try_clone(&self.request)?,
+            request_id: self.shared_id()?,
+            remaining: self.deadline,
         })?;
         self.out[index] = true;
         self.started = index + 1;
         Ok(())
+    }
+
+    fn shared_id(&self) -> Result<Option<Arc<Bytes>>, AllocError>
+        ensures { IfOk result (λ id. option_map arc_value id ≡ self.now.asked.request_id) }
+    {
+        match &self.request_id {
+            Some(id) => Ok(Some(Arc::try_clone(id)?)),
+            None => Ok(None),
+        }
     }
 
     /// Whether the branch is out.
@@ -153,7 +177,7 @@ impl Call {
 
     /// Whether all branches have answered.
     pub(crate) fn is_answered(&self) -> bool
-        ensures { result ≡ not (nat_lt self.now.answered (length self.now.plan.branches)) }
+        ensures { result ≡ not (nat_lt self.now.answered (length self.now.asked.plan.branches)) }
     {
         self.answered >= self.plan.branches().len()
     }
@@ -184,7 +208,7 @@ impl Call {
     }
 
     fn branch_name(&self, branch: u32) -> &str
-        ensures { result.now ≡ (branch_at self.now.plan branch).name }
+        ensures { result.now ≡ (branch_at self.now.asked.plan branch).name }
     {
         match self.plan.branches().get(branch as usize) {
             Some(branch) => branch.name.as_str(),
@@ -197,6 +221,27 @@ impl Call {
         ensures { self.new ≡ decided_of self.old }
     {
         self.decided = true;
+    }
+}
+
+/// The smaller of two timeouts, of which either may be absent.
+fn least(asked: Option<u64>, plan: Option<u64>) -> Option<u64>
+    ensures { result ≡ smaller asked plan }
+{
+    match (asked, plan) {
+        (Some(asked), Some(plan)) => Some(asked.min(plan)),
+        (Some(timeout), None) | (None, Some(timeout)) => Some(timeout),
+        (None, None) => None,
+    }
+}
+
+/// The id, to be shared among the call's jobs.
+fn shared(alloc: Global, id: Option<Bytes>) -> Result<Option<Arc<Bytes>>, AllocError>
+    ensures { IfOk result (λ shared. option_map arc_value shared ≡ id) }
+{
+    match id {
+        Some(id) => Ok(Some(Arc::new(alloc, id)?)),
+        None => Ok(None),
     }
 }
 

@@ -2,9 +2,10 @@ ghost use Rattle.std.specs.Prelude.{◌≡◌, ℕ, ◌<◌, ◌≤◌, ◌++◌
 ghost use Rattle.connect_codec.specs.Reply.{bare_reply, is_bare_status};
 ghost use Rattle.connect_codec.specs.declared.answer.Outcome.{Outcome};
 ghost use Rattle.gateway_core.specs.Arrival.{refusal_reply, arrival_of};
-ghost use Rattle.gateway_core.specs.Past.{is_due, smaller};
+ghost use Rattle.gateway_core.specs.Past.{asked_of, is_due, smaller};
+ghost use Rattle.gateway_core.specs.Reply.{reply_of};
 ghost use Rattle.gateway_core.specs.Queue.{expired_reply, IsPrefixOf};
-ghost use Rattle.gateway_core.specs.Call.{CallValue, answered_by, back, new_call, reply_of, waits_on};
+ghost use Rattle.gateway_core.specs.Call.{CallValue, answered_by, back, new_call, waits_on};
 ghost use Rattle.gateway_core.specs.Core.{new_conn, first_call, is_ended, sees, outs, back_on, refused_by, CountsTo, CountedIn, StopsIn, BeginsShort, BrokenIn, IsBroken, ArrivesAs, GoesOn, Feeds};
 ghost use Rattle.gateway_core.specs.Job.{JobValue};
 ghost use Rattle.http_pieces.specs.Reader.{HasRead, is_over};
@@ -257,9 +258,15 @@ impl Connection {
         match judge(alloc, &request, plan.is_some())? {
             Verdict::Bare(status) => self.answer(bare_reply(alloc, status, last)?, last),
             Verdict::Fail(error) => self.answer(error_reply(alloc, &error, last)?, last),
-            Verdict::Ask { timeout, .. } => match plan {
+            Verdict::Ask {
+                timeout,
+                request_id,
+            } => match plan {
                 Some(plan) if is_over(timeout, plan.timeout()) => self.expire(alloc, last),
-                Some(plan) => self.begin(alloc, Arc::try_clone(plan)?, request, jobs),
+                Some(plan) => {
+                    let plan = Arc::try_clone(plan)?;
+                    self.begin(alloc, plan, request, timeout, request_id, jobs)
+                }
                 None => Ok(()),
             },
         }
@@ -288,17 +295,19 @@ impl Connection {
         alloc: Global,
         plan: Arc<Plan>,
         request: Request,
+        timeout: Option<u64>,
+        request_id: Option<Bytes>,
         jobs: &mut VecDeque<Job>,
     ) -> Result<(), AllocError>
-        ensures begins { OnOk result (GoesOn (new_call first_call (arc_value plan) request) self.old self.new jobs.old.items jobs.new.items) }
-        ensures short { OnErr result (BeginsShort (new_call first_call (arc_value plan) request) self.old self.new jobs.old.items jobs.new.items) }
+        ensures begins { OnOk result (GoesOn (new_call first_call (asked_of 0 request (arc_value plan) timeout request_id)) self.old self.new jobs.old.items jobs.new.items) }
+        ensures short { OnErr result (BeginsShort (new_call first_call (asked_of 0 request (arc_value plan) timeout request_id)) self.old self.new jobs.old.items jobs.new.items) }
         ensures err { OnErr result ((self.new.replies ≡ self.old.replies) × ((started : List JobValue) × (jobs.new.items ≡ jobs.old.items ++ started))) }
     {
         let id = CallId {
             conn: ConnId::of(0),
             request: 0,
         };
-        let mut call = Call::new(alloc, id, plan, request)?;
+        let mut call = Call::new(alloc, id, plan, request, timeout, request_id)?;
         let started = call.start_due(jobs);
         self.call = Some(call);
         started

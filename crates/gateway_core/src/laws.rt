@@ -1,18 +1,28 @@
 //! What the definitions come to, as facts on everything that may occur. The functions do nothing.
-ghost use Rattle.std.specs.Prelude.{◌≡◌, ℕ, true, ◌<◌, ◌≤◌, ◌++◌, ◌∷◌, Some, None, Option, option_map, option_to_list, replicate, [], List, length};
+ghost use Rattle.std.specs.Prelude.{◌≡◌, ◌⊎◌, slice_get, ℕ, true, ◌<◌, ◌≤◌, ◌++◌, ◌∷◌, Some, None, Option, option_map, option_to_list, replicate, [], List, length};
 ghost use Rattle.gateway_core.specs.declared.id.CallId.{CallId};
 ghost use Rattle.gateway_core.specs.Occurrence.{Occurrence, Opening, Result};
-ghost use Rattle.gateway_core.specs.Past.{Mark, Past, Asked, CallEvent, call, decided, entries, is_out, judged, outs, mark_of, marked, past_of};
-ghost use Rattle.gateway_core.specs.Finished.{IsDecidedAt, IsOutSince};
+ghost use Rattle.gateway_core.specs.declared.event.CallEvent.{CallEvent};
+ghost use Rattle.gateway_core.specs.Past.{Mark, Past, Asked, call, decided, entries, is_out, judged, outs, mark_of, marked, moment_of, now, past_of};
+ghost use Rattle.gateway_core.specs.Finished.{IsDecidedAt, IsOutSince, StartsAt, jobs_below};
 ghost use Rattle.connect_codec.specs.declared.answer.Outcome.{Outcome};
 ghost use Rattle.gateway_core.specs.Starts.{jobs};
 ghost use Rattle.gateway_core.specs.declared.fault.Seen.{Seen};
-ghost use Rattle.gateway_core.specs.Queue.{ReplyEntry, entry, replies, queued, IsPrefixOf};
+ghost use Rattle.gateway_core.specs.declared.entry.ReplyEntry.{ReplyEntry};
+ghost use Rattle.gateway_core.specs.CallRecord.{CallRecord};
+ghost use Rattle.gateway_core.specs.Record.{is_lawful, is_decided};
+ghost use Rattle.gateway_core.specs.Queue.{entry, replies, queued, IsPrefixOf};
 
 /// What a request is answered by stays, whatever comes later.
 pub fn entry_law()
     ensures decided_stays { (id : CallId) (m : Mark) (past : Past) (e : CallEvent) → decided id past ≡ Some e → decided id (m ∷ past) ≡ Some e }
     ensures entry_stays { (id : CallId) (m : Mark) (past : Past) (x : ReplyEntry) → entry id past ≡ Some x → entry id (m ∷ past) ≡ Some x }
+{}
+
+/// The record of each decided call is lawful, and decided.
+pub fn record_law()
+    ensures { (id : CallId) (occurred : List Occurrence) (r : CallRecord) → entry id (marked occurred) ≡ Some (ReplyEntry.Call r)
+        → (is_lawful r ≡ true) × (is_decided r ≡ true) }
 {}
 
 /// What was queued for a connection stays the beginning of what is queued, and each request has one reply at most.
@@ -40,6 +50,20 @@ pub fn unknown_law()
 /// No call has more branches out than its plan's limit.
 pub fn limit_law()
     ensures { (id : CallId) (occurred : List Occurrence) (c : Asked) → call id (marked occurred) ≡ Some c → outs id (marked occurred) ≤ c.plan.limit }
+{}
+
+/// The moment is the greatest that was handed in, cut at 2^62, or 0.
+pub fn moments_law()
+    ensures above { (occurred : List Occurrence) (t : ℕ) (o : Occurrence) → slice_get occurred t ≡ Some o → moment_of o ≤ now (past_of occurred) }
+    ensures one { (occurred : List Occurrence) → (now (past_of occurred) ≡ 0)
+        ⊎ ((t : ℕ) × (o : Occurrence) × (slice_get occurred t ≡ Some o) × (now (past_of occurred) ≡ moment_of o)) }
+{}
+
+/// A branch starts at the least place by which more than its number have started, and the jobs are those of the places in their order:
+/// at each place branches of one call start, one behind another.
+pub fn starts_law()
+    ensures at_place { (occurred : List Occurrence) (s : ℕ) (o : Occurrence) → slice_get occurred s ≡ Some o → StartsAt occurred s }
+    ensures in_order { (occurred : List Occurrence) → jobs (past_of occurred) ≡ jobs_below (length occurred) occurred }
 {}
 
 /// A call is decided by the event of the least place that decides it, in the finished list of what occurs.

@@ -8,7 +8,7 @@ ghost use Rattle.connect_codec.specs.declared.answer.Outcome.{Outcome};
 ghost use Rattle.connect_codec.specs.declared.verdict.Verdict.{Verdict};
 ghost use Rattle.error_document.specs.declared.code.Code.{Code};
 ghost use Rattle.gateway_core.specs.Arrival.{Arrival};
-ghost use Rattle.gateway_core.specs.Call.{reply_of};
+ghost use Rattle.gateway_core.specs.Reply.{reply_of};
 ghost use Rattle.gateway_core.specs.Occurrence.{Opening};
 ghost use Rattle.gateway_core.specs.Past.{past_of};
 ghost use Rattle.gateway_core.specs.Queue.{replies};
@@ -104,7 +104,7 @@ fn empty_body()
 fn another_plan()
     ensures request { Requests 0 (text_of (request_for quote.path 0)) (request_for quote.path 0 ∷ []) (Open []) }
     ensures verdict { verdict_of (request_for quote.path 0) true ≡ Verdict.Ask None None }
-    ensures arrival { arrives (request_for quote.path 0) ≡ Arrival.Asks quote None }
+    ensures arrival { arrives (request_for quote.path 0) ≡ Arrival.Asks quote None None }
     ensures replies { replies 0 (past_of (Opening ∷ comes (request_for quote.path 0) ∷ [])) ≡ [] }
 {}
 
@@ -112,7 +112,7 @@ fn another_plan()
 fn parameters_and_case()
     ensures request { Requests 0 (text_of (ping_of_type (codes "Application/JSON; charset=utf-8"))) (ping_of_type (codes "Application/JSON; charset=utf-8") ∷ []) (Open []) }
     ensures verdict { verdict_of (ping_of_type (codes "Application/JSON; charset=utf-8")) true ≡ Verdict.Ask None None }
-    ensures arrival { arrives (ping_of_type (codes "Application/JSON; charset=utf-8")) ≡ Arrival.Asks ping None }
+    ensures arrival { arrives (ping_of_type (codes "Application/JSON; charset=utf-8")) ≡ Arrival.Asks ping None None }
     ensures replies { replies 0 (past_of (Opening ∷ comes (ping_of_type (codes "Application/JSON; charset=utf-8")) ∷ [])) ≡ [] }
 {}
 
@@ -120,7 +120,7 @@ fn parameters_and_case()
 fn identity_content()
     ensures request { Requests 0 (text_of (ping_adding (codes "Content-Encoding") (codes "identity"))) (ping_adding (codes "Content-Encoding") (codes "identity") ∷ []) (Open []) }
     ensures verdict { verdict_of (ping_adding (codes "Content-Encoding") (codes "identity")) true ≡ Verdict.Ask None None }
-    ensures arrival { arrives (ping_adding (codes "Content-Encoding") (codes "identity")) ≡ Arrival.Asks ping None }
+    ensures arrival { arrives (ping_adding (codes "Content-Encoding") (codes "identity")) ≡ Arrival.Asks ping None None }
     ensures replies { replies 0 (past_of (Opening ∷ comes (ping_adding (codes "Content-Encoding") (codes "identity")) ∷ [])) ≡ [] }
 {}
 
@@ -128,7 +128,7 @@ fn identity_content()
 fn padded_timeout()
     ensures request { Requests 0 (text_of (ping_adding (codes "Connect-Timeout-Ms") (codes "0000000100"))) (ping_adding (codes "Connect-Timeout-Ms") (codes "0000000100") ∷ []) (Open []) }
     ensures verdict { verdict_of (ping_adding (codes "Connect-Timeout-Ms") (codes "0000000100")) true ≡ Verdict.Ask (Some 100) None }
-    ensures arrival { arrives (ping_adding (codes "Connect-Timeout-Ms") (codes "0000000100")) ≡ Arrival.Asks ping (Some 100) }
+    ensures arrival { arrives (ping_adding (codes "Connect-Timeout-Ms") (codes "0000000100")) ≡ Arrival.Asks ping (Some 100) None }
     ensures replies { replies 0 (past_of (Opening ∷ comes (ping_adding (codes "Connect-Timeout-Ms") (codes "0000000100")) ∷ [])) ≡ [] }
 {}
 

@@ -7,7 +7,7 @@ ghost use Rattle.connect_codec.specs.Reply.{bare_reply, error_reply, success_rep
 ghost use Rattle.connect_codec.specs.declared.verdict.Verdict.{Verdict};
 ghost use Rattle.error_document.specs.declared.code.Code.{Code};
 ghost use Rattle.gateway_core.specs.Arrival.{Arrival};
-ghost use Rattle.gateway_core.specs.Call.{reply_of};
+ghost use Rattle.gateway_core.specs.Reply.{reply_of};
 ghost use Rattle.gateway_core.specs.Occurrence.{Opening, HangUp};
 ghost use Rattle.gateway_core.specs.Past.{past_of};
 ghost use Rattle.gateway_core.specs.Queue.{replies};
@@ -28,7 +28,7 @@ fn closing_request()
     ensures text { text_of ping_closing
         ≡ codes "POST /acme.v1.Ping/Ping HTTP/1.1\r\nHost: g\r\nConnection: close\r\nContent-Type: application/json\r\nContent-Length: 2\r\n\r\n{}" }
     ensures requests { (more : List ℕ) → Requests 0 (text_of ping_closing ++ more) (ping_closing ∷ []) Closed }
-    ensures arrival { arrives ping_closing ≡ Arrival.Asks ping None }
+    ensures arrival { arrives ping_closing ≡ Arrival.Asks ping None None }
     ensures replies { replies 0 (past_of (Opening ∷ comes ping_closing ∷ answers 0 0 (codes "{\"ok\":true}") ∷ []))
         ≡ reply_of (success_reply (codes "{\"pong\":{\"ok\":true}}") true) true ∷ [] }
     ensures reply { success_reply (codes "{\"pong\":{\"ok\":true}}") true
@@ -41,7 +41,7 @@ fn old_request()
     ensures text { text_of ping_old
         ≡ codes "POST /acme.v1.Ping/Ping HTTP/1.0\r\nContent-Type: application/json\r\nContent-Length: 2\r\n\r\n{}" }
     ensures requests { (more : List ℕ) → Requests 0 (text_of ping_old ++ more) (ping_old ∷ []) Closed }
-    ensures arrival { arrives ping_old ≡ Arrival.Asks ping None }
+    ensures arrival { arrives ping_old ≡ Arrival.Asks ping None None }
     ensures replies { replies 0 (past_of (Opening ∷ comes ping_old ∷ answers 0 0 (codes "{\"ok\":true}") ∷ []))
         ≡ reply_of (success_reply (codes "{\"pong\":{\"ok\":true}}") true) true ∷ [] }
     ensures reply { success_reply (codes "{\"pong\":{\"ok\":true}}") true

@@ -482,7 +482,7 @@ counted_reader branch (Fail error) conn new c jobs after step =
 counted_reader branch (Answer body) conn new c jobs after step =
     let d : CallValue = answered_by branch body (back branch c) in
     let on : ConnValue = record conn { call = Some (back branch c) } in
-    either_way (nat_lt d.answered (length c.plan.branches)) (GoesOn d on new jobs after) (IsDecidedBy (success_of d) d on new jobs after)
+    either_way (nat_lt d.answered (length c.asked.plan.branches)) (GoesOn d on new jobs after) (IsDecidedBy (success_of d) d on new jobs after)
     ((new.reader ≡ conn.reader) × (new.arrived ≡ conn.arrived) × (new.broken ≡ conn.broken))
     (λ _ g. (ap (λ (x : ConnValue). x.reader) g.1, ap (λ (x : ConnValue). x.arrived) g.1, ap (λ (x : ConnValue). x.broken) g.1))
     (λ _ g. (ap (λ (x : ConnValue). x.reader) g.0, ap (λ (x : ConnValue). x.arrived) g.0, ap (λ (x : ConnValue). x.broken) g.0)) step

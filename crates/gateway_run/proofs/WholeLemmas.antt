@@ -297,6 +297,18 @@ filter_rising p k (suc n) =
     cond_both (p k) (k ∷ filter p (range_with_len (k + 1) n)) (filter p (range_with_len (k + 1) n)) IsRising
     (λ _. rising_behind p k (k + 1) n (omega arith)) (λ _. filter_rising p (k + 1) n)
 
+-- what is listed of some numbers is one of them
+pub listed_below : (p : ℕ → Bool) (k n c : ℕ) → is_listed c (filter p (range_with_len k n)) ≡ true → c < k + n
+listed_below p k zero c e = absurd (cc)
+listed_below p k (suc n) c e = by_first (p k) refl (λ h. let lt : c < (k + 1) + n = listed_below p (k + 1) n c h in omega arith)
+  where
+    by_first : (b : Bool) → p k ≡ b → (is_listed c (filter p (range_with_len (k + 1) n)) ≡ true → c < k + suc n) → c < k + suc n
+    by_first false b_is rest = rest (rw b_is at e)
+    by_first true b_is rest =
+        ⊎_elim (λ (here : (k == c) ≡ true). let same : k ≡ c = eqb-true k c here in omega arith)
+        (λ (other : (k == c) ≡ false). rest (let h : is_listed c (k ∷ filter p (range_with_len (k + 1) n)) ≡ true = rw b_is at e in rw other at h))
+        (cases_Bool (k == c))
+
 pub as_new : (core : CoreValue) (plans : List PlanRecord) → core ≡ core_value plans None [] → core ≡ core_value core.plans None []
 as_new core plans e = e ∙ ap (λ p. core_value p None []) (sym (ap (λ (c : CoreValue). c.plans) e))
 

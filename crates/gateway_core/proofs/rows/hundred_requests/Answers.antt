@@ -2,7 +2,7 @@ use Rattle.std.proofs.Common.{◌≡◌, refl, ap, ◌∙◌, ◌∷◌, [], ◌
 use Rattle.std.specs.List.{flat_map}
 use Rattle.http_pieces.specs.Fields.{same_without_case}
 use Rattle.connect_codec.specs.Reply.{bare_reply}
-use Rattle.gateway_core.specs.Call.{reply_of}
+use Rattle.gateway_core.specs.Reply.{reply_of}
 use Rattle.gateway_core.specs.Past.{marked}
 use Rattle.gateway_core.specs.Queue.{replies}
 use Rattle.gateway_core.specs.Rows.{after_gets}

@@ -1,0 +1,114 @@
+//! What an occurrence makes of the machine's value, and what the value then stands for. The functions do nothing.
+ghost use Rattle.std.specs.Prelude.{◌≡◌, ℕ, None, List, false, ◌∷◌, ◌==◌, ◌+◌, if◌then◌else◌, Option, Bool, Some, true, ◌++◌, [], map};
+ghost use Rattle.gateway_core.specs.declared.id.CallId.{CallId};
+ghost use Rattle.gateway_core.specs.Occurrence.{Occurrence, Entry, Entering};
+ghost use Rattle.gateway_core.specs.Past.{Past, entering_now, mark_of, marked, now, entries, is_closed, is_drained, crowds, call_id};
+ghost use Rattle.gateway_core.specs.Step.{CallState, step};
+ghost use Rattle.gateway_core.specs.Begins.{arrive};
+ghost use Rattle.gateway_core.specs.Machine.{MachineState, After, AfterEntry, is_entry, conn_at};
+ghost use Rattle.gateway_core.specs.declared.entry.ReplyEntry.{ReplyEntry};
+ghost use Rattle.gateway_core.specs.Job.{JobValue};
+ghost use Rattle.gateway_core.specs.LiveStands.{CallStands, Stepped};
+ghost use Rattle.gateway_core.specs.Queue.{front, queued_entries};
+ghost use Rattle.gateway_core.specs.Starts.{jobs, Placed, occurrences};
+ghost use Rattle.std.specs.List.{filter};
+ghost use Rattle.gateway_core.specs.Fate.{Fate, Unbroken, concerns, is_broken, lived, fates_after, fates_refused, jobs_fated};
+ghost use Rattle.gateway_core.specs.Fated.{CallFated, FatedStands};
+ghost use Rattle.gateway_core.specs.Breaks.{CallStays, is_stopped, AreConcerned, AfterBreaks, EntryBreaks, AfterRefusal, BrokeWith, BrokeAtEvent, judged_fated, seen_by, NothingOf, GivenUp, NoneLive, is_of};
+
+/// What an occurrence makes of a call that has come before.
+pub fn step_law()
+    ensures { (id : CallId) (o : Occurrence) (c : CallState) (past : Past) → entering_now id (mark_of past o) past ≡ None → CallStands id c past
+        → Stepped id (step (now past) id o c) (mark_of past o) past }
+{}
+
+/// What comes on a stream as the next request of its connection.
+pub fn arrive_law()
+    ensures { (id : CallId) (x : Entering) (os : List Occurrence) → entries id.conn (marked os) ≡ id.request → is_closed id.conn (marked os) ≡ false
+        → Stepped id (arrive (now (marked os)) (is_drained (marked os)) (crowds (Entry id.conn x) (marked os)) id x) (mark_of (marked os) (Entry id.conn x)) (marked os) }
+{}
+
+/// The machine after an occurrence at which nothing comes on a stream.
+pub fn after_law()
+    ensures { (o : Occurrence) (breaks : ℕ → Bool) (s t : MachineState) (fates : ℕ → Fate) (taken : ℕ → List ReplyEntry) (handed : List JobValue) (os : List Occurrence) → is_entry o ≡ false
+        → FatedStands s fates taken handed os → AreConcerned breaks fates o os → AfterBreaks breaks fates o s t
+        → FatedStands t (fates_after breaks o os fates) taken handed (o ∷ os) }
+{}
+
+/// The machine after something came on a stream.
+pub fn entry_law()
+    ensures { (c : ℕ) (x : Entering) (breaks : ℕ → Bool) (s t : MachineState) (fates : ℕ → Fate) (taken : ℕ → List ReplyEntry) (handed : List JobValue) (os : List Occurrence)
+        → (is_stopped breaks fates c ≡ false → is_closed c (marked os) ≡ false)
+        → FatedStands s fates taken handed os → AreConcerned breaks fates (Entry c x) os → EntryBreaks breaks fates c x s t
+        → FatedStands t (fates_after breaks (Entry c x) os fates) taken handed (Entry c x ∷ os) }
+{}
+
+/// The machine after memory was refused to a piece of a stream that brings no request.
+pub fn refusal_law()
+    ensures { (c : ℕ) (s t : MachineState) (fates : ℕ → Fate) (taken : ℕ → List ReplyEntry) (handed : List JobValue) (os : List Occurrence)
+        → is_broken (fates c) ≡ false → is_closed c (marked os) ≡ false
+        → FatedStands s fates taken handed os → AfterRefusal c s t → FatedStands t (fates_refused c os fates) taken handed os }
+{}
+
+/// What an occurrence makes of a call that can't be decided any more is nothing but its branch back.
+pub fn quiet_law()
+    ensures { (moment : ℕ) (id : CallId) (o : Occurrence) (c : CallState) → c.live ≡ None
+        → CallStays id o c (step moment id o c).call × ((step moment id o c).reply ≡ None) × ((step moment id o c).jobs ≡ []) }
+{}
+
+/// What is queued for a connection.
+pub fn queue_law()
+    ensures queue_is { (c : ℕ) (s : MachineState) (fates : ℕ → Fate) (taken : ℕ → List ReplyEntry) (handed : List JobValue) (os : List Occurrence)
+        → FatedStands s fates taken handed os → front (map Some (taken c) ++ (conn_at c s.conns).slots) ≡ queued_entries c (marked (lived (fates c) os)) }
+    ensures broke_is { (c : ℕ) (s : MachineState) (fates : ℕ → Fate) (taken : ℕ → List ReplyEntry) (handed : List JobValue) (os : List Occurrence)
+        → FatedStands s fates taken handed os → is_broken (fates c) ≡ true → BrokeWith c (front (map Some (taken c) ++ (conn_at c s.conns).slots)) os }
+{}
+
+/// The jobs of a connection's calls are those of the past that it stands for.
+pub fn jobs_law()
+    ensures { (c : ℕ) (s : MachineState) (fates : ℕ → Fate) (taken : ℕ → List ReplyEntry) (handed : List JobValue) (os : List Occurrence)
+        → FatedStands s fates taken handed os → filter (is_of c) (handed ++ s.jobs) ≡ filter (is_of c) (jobs (marked (lived (fates c) os))) }
+{}
+
+/// Where no connection broke, the jobs are all.
+pub fn unbroken_law()
+    ensures { (fates : ℕ → Fate) (os : List Occurrence) → ((c : ℕ) → fates c ≡ Unbroken) → jobs_fated fates os ≡ jobs (marked os) }
+{}
+
+/// Of an occurrence that does not concern a connection nothing follows for its calls: it can't break at it.
+pub fn unconcerned_law()
+    ensures { (c k : ℕ) (o : Occurrence) (call : CallState) (past : Past) → concerns c o past ≡ false → CallStands (call_id c k) call past
+        → NothingOf (call_id c k) o call (step (now past) (call_id c k) o call) }
+{}
+
+/// Where memory is refused, it is enough to give up the connection's calls first, and then to do what is done at any occurrence.
+pub fn given_up_law()
+    ensures { (o : Occurrence) (breaks : ℕ → Bool) (fates : ℕ → Fate) (s u t : MachineState) → is_entry o ≡ false
+        → NoneLive (λ c. is_broken (fates c)) s → GivenUp breaks s u → After o u t
+        → AfterBreaks breaks fates o s t × NoneLive (is_stopped breaks fates) t }
+{}
+
+/// A machine at which nothing has occurred.
+pub fn first_law()
+    ensures { FatedStands (record { moment = 0; drained = false; conns = []; calls = []; jobs = [] }) (λ c. Unbroken) (λ c. []) [] [] }
+{}
+
+/// A reply is taken, also of a broken connection.
+pub fn take_law()
+    ensures { (c : ℕ) (e : ReplyEntry) (rest : List (Option ReplyEntry)) (s t : MachineState) (fates : ℕ → Fate) (taken : ℕ → List ReplyEntry) (handed : List JobValue) (os : List Occurrence)
+        → FatedStands s fates taken handed os → (conn_at c s.conns).slots ≡ Some e ∷ rest
+        → t ≡ record s { conns = t.conns }
+        → ((d : ℕ) → conn_at d t.conns ≡ (if d == c then record { taken = (conn_at d s.conns).taken + 1; slots = rest; closed = (conn_at d s.conns).closed } else conn_at d s.conns))
+        → FatedStands t fates (λ d. if d == c then taken d ++ e ∷ [] else taken d) handed os }
+{}
+
+/// What a connection that broke has queued, by the places of events.
+pub fn event_law()
+    ensures { (c : ℕ) (queue : List ReplyEntry) (placed : List Placed) → BrokeWith c queue (occurrences placed) → BrokeAtEvent c queue placed }
+{}
+
+/// How a result is seen.
+pub fn seen_law()
+    ensures { (id : CallId) (i : ℕ) (c : CallState) (fate : Fate) (os : List Occurrence) → CallFated id c fate os → (is_broken fate ≡ true → c.live ≡ None)
+        → seen_by c i ≡ judged_fated id i fate os }
+{}
