@@ -8,3 +8,4 @@ pub mod Passing
 pub mod Timing
 pub mod Whole
 pub mod LawLemmas
+pub mod Framing

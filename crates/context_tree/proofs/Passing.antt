@@ -4,8 +4,7 @@ use Rattle.std.specs.Prelude.{◌&&◌, ◌||◌, ◌==◌, not, filter, is_some
 use Rattle.std.proofs.lemmas.Bool.{cases_Bool}
 use Rattle.std.proofs.lemmas.List.{length-take-le}
 use Rattle.std.proofs.lemmas.List.Folds.{list_any-append}
-use Rattle.timer_heap.specs.declared.timers.Entry.{Entry}
-use Rattle.timer_heap.specs.Timers.{Timing, without}
+use Rattle.timer_heap.specs.Timers.{Timer, Timing, without}
 use Rattle.context_tree.specs.declared.node.Ending.{Ending}
 use Rattle.context_tree.specs.declared.node.Node.{Node}
 use Rattle.context_tree.specs.Context.{Id}
@@ -55,7 +54,7 @@ module _ {C V : Type 0} where
   pub none_stopped : (slots : List (Option (Node C V))) (t : Timing) → t ≡ with_stopped slots [] t
   none_stopped slots t = ap (λ es. record t { entries = es }) (sym (all t.entries))
     where
-      all : (es : List Entry) → filter (λ e. not (is_gone slots [] e.id)) es ≡ es
+      all : (es : List Timer) → filter (λ e. not (is_gone slots [] e.id)) es ≡ es
       all [] = refl
       all (e ∷ es) = ap (λ l. e ∷ l) (all es)
 
@@ -77,12 +76,12 @@ module _ {C V : Type 0} where
   pub stop_step : (slots : List (Option (Node C V))) (ids : List Id) (x : Id) (t old : Timing) → t ≡ with_stopped slots ids old → is_live slots x ≡ false
       → record t { entries = without x.0 t.entries } ≡ with_stopped slots (ids ++ x ∷ []) old
   stop_step slots ids x t old is ended = rw is (ap (λ es. record old { entries = es }) (
-      filter_twice (λ (e : Entry). not (is_gone slots ids e.id)) (λ (e : Entry). not (e.id == x.0)) old.entries ∙ filter_ext _ _ old.entries same_left))
+      filter_twice (λ (e : Timer). not (is_gone slots ids e.id)) (λ (e : Timer). not (e.id == x.0)) old.entries ∙ filter_ext _ _ old.entries same_left))
     where
       swapped : (a b : ℕ) → (a == b) ≡ (b == a)
       swapped a b = grind (arith, rules)
 
-      same_left : (e : Entry) → (not (is_gone slots ids e.id) && not (e.id == x.0)) ≡ not (is_gone slots (ids ++ x ∷ []) e.id)
+      same_left : (e : Timer) → (not (is_gone slots ids e.id) && not (e.id == x.0)) ≡ not (is_gone slots (ids ++ x ∷ []) e.id)
       same_left e = sym (ap not (gone_more slots ids x e.id) ∙ not_or (is_gone slots ids e.id) _ ∙ ap (λ b. not (is_gone slots ids e.id) && not b) (rw ended (and_true (x.0 == e.id) ∙ swapped x.0 e.id)))
         where
           and_true : (b : Bool) → (b && true) ≡ b
@@ -94,7 +93,7 @@ module _ {C V : Type 0} where
       → t ≡ with_stopped slots (ids ++ x ∷ []) old
   pass_step slots ids x t old is live = is ∙ ap (λ es. record old { entries = es }) (filter_ext _ _ old.entries same_left)
     where
-      same_left : (e : Entry) → not (is_gone slots ids e.id) ≡ not (is_gone slots (ids ++ x ∷ []) e.id)
+      same_left : (e : Timer) → not (is_gone slots ids e.id) ≡ not (is_gone slots (ids ++ x ∷ []) e.id)
       same_left e = ap not (sym (gone_more slots ids x e.id ∙ ap (λ b. is_gone slots ids e.id || b) (rw live (and_false (x.0 == e.id))) ∙ or_none (is_gone slots ids e.id)))
         where
           and_false : (b : Bool) → (b && false) ≡ false

@@ -183,7 +183,7 @@ module _ {C V : Type 0} where
   ends_low past lawful x kind is turn (Releases id) e end = cc
 
   -- one that was handed out was made, and is ended
-  handed_ended : (past : List (TreeOp C V)) → IsLawful past → (x : Id) → handed x past ≡ true → (x.0 < makes past) × (is_some (ending x past) ≡ true)
+  pub handed_ended : (past : List (TreeOp C V)) → IsLawful past → (x : Id) → handed x past ≡ true → (x.0 < makes past) × (is_some (ending x past) ≡ true)
   handed_ended [] lawful x is = cc
   handed_ended (Makes id kind now ∷ past) lawful x is =
       let old = handed_ended past lawful.2 x is in
@@ -217,7 +217,7 @@ module _ {C V : Type 0} where
 
   -- ---- a context is made
 
-  not_handed : (past : List (TreeOp C V)) → IsLawful past → (x : Id) → (x.0 < makes past → ⊥) → handed x past ≡ false
+  pub not_handed : (past : List (TreeOp C V)) → IsLawful past → (x : Id) → (x.0 < makes past → ⊥) → handed x past ≡ false
   not_handed past lawful x high = ⊎_elim
       (λ (yes' : handed x past ≡ true). absurd (high (handed_ended past lawful x yes').0))
       (λ (no' : handed x past ≡ false). no')

@@ -5,8 +5,7 @@ use Rattle.std.specs.Option.{option_or, option_map_or}
 use Rattle.std.proofs.lemmas.Bool.{cases_Bool, lt-leb, and_parts, or_cases, or_left, or_right, eqb-true, eq-eqb, ne_eqb}
 use Rattle.std.proofs.lemmas.List.Elements.{All-head, All-tail}
 use Rattle.std.proofs.lemmas.List.Folds.{list_any-append}
-use Rattle.timer_heap.specs.declared.timers.Entry.{Entry}
-use Rattle.timer_heap.specs.Timers.{Timing, without, popped}
+use Rattle.timer_heap.specs.Timers.{Timer, Timing, without, popped}
 use Rattle.timer_heap.proofs.FirstDue.{popped_none}
 use Rattle.context_tree.specs.declared.node.Kind.{Kind}
 use Rattle.context_tree.specs.declared.node.Kind.TheVariants.{Background, Cancel, Deadline, Value, WithoutCancel}
@@ -30,7 +29,7 @@ not_both true true is = cc
 not_both false b is = cc
 
 -- the entry is that of this time and this id
-abbrev pub is_entry : ℕ → ℕ → Entry → Bool
+abbrev pub is_entry : ℕ → ℕ → Timer → Bool
 is_entry at id e = e.at == at && e.id == id
 
 and_false : (a : Bool) → (a && false) ≡ false
@@ -38,7 +37,7 @@ and_false true = refl
 and_false false = refl
 
 -- a filter by the ids takes out the timers of those ids
-pub filtered : (at m : ℕ) (es : List Entry) (gone : ℕ → Bool) → has_entry at m (filter (λ e. not (gone e.id)) es) ≡ (has_entry at m es && not (gone m))
+pub filtered : (at m : ℕ) (es : List Timer) (gone : ℕ → Bool) → has_entry at m (filter (λ e. not (gone e.id)) es) ≡ (has_entry at m es && not (gone m))
 filtered at m [] gone = refl
 filtered at m (e ∷ es) gone = ⊎_elim
     (λ (out : gone e.id ≡ true). rw out (filtered at m es gone ∙ ⊎_elim
@@ -56,11 +55,11 @@ filtered at m (e ∷ es) gone = ⊎_elim
     (cases_Bool (gone e.id))
 
 -- one that is stopped waits no longer, and the others do
-pub stopped : (at m n : ℕ) (es : List Entry) → has_entry at m (without n es) ≡ (has_entry at m es && not (m == n))
+pub stopped : (at m n : ℕ) (es : List Timer) → has_entry at m (without n es) ≡ (has_entry at m es && not (m == n))
 stopped at m n es = filtered at m es (λ k. k == n)
 
 -- one more is set
-pub entry_added : (at m : ℕ) (es : List Entry) (e : Entry) → has_entry at m (es ++ e ∷ []) ≡ (has_entry at m es || is_entry at m e)
+pub entry_added : (at m : ℕ) (es : List Timer) (e : Timer) → has_entry at m (es ++ e ∷ []) ≡ (has_entry at m es || is_entry at m e)
 entry_added at m es e = list_any-append (is_entry at m) es (e ∷ []) ∙ ap (λ b. has_entry at m es || b) (or_none (is_entry at m e))
   where
     or_none : (b : Bool) → (b || false) ≡ b
@@ -68,13 +67,13 @@ entry_added at m es e = list_any-append (is_entry at m) es (e ∷ []) ∙ ap (λ
     or_none false = refl
 
 -- each of these is later than the moment, and so is the time of a timer that waits
-entry_later : (now at m : ℕ) (es : List Entry) → All (λ e. now < e.at) es → has_entry at m es ≡ true → now < at
+entry_later : (now at m : ℕ) (es : List Timer) → All (λ e. now < e.at) es → has_entry at m es ≡ true → now < at
 entry_later now at m [] later is = cc
 entry_later now at m (e ∷ es) later is = ⊎_elim
     (λ (hit : is_entry at m e ≡ true).
     let time : e.at ≡ at = eqb-true e.at at (and_parts (e.at == at) (e.id == m) hit).0 in
-    let above : now < e.at = All-head (λ (d : Entry). now < d.at) e es later in omega (arith, time, above))
-    (λ (rest : has_entry at m es ≡ true). entry_later now at m es (All-tail (λ (d : Entry). now < d.at) e es later) rest)
+    let above : now < e.at = All-head (λ (d : Timer). now < d.at) e es later in omega (arith, time, above))
+    (λ (rest : has_entry at m es ≡ true). entry_later now at m es (All-tail (λ (d : Timer). now < d.at) e es later) rest)
     (or_cases (is_entry at m e) (has_entry at m es) is)
 
 -- ---- the entries and the contexts
@@ -161,7 +160,7 @@ module _ {C V : Type 0} where
       → own_deadline kind ≡ Some at → ending id (Makes id kind now ∷ past) ≡ None
       → Timed (record { entries = t.entries ++ record { at = at; id = id.0 } ∷ []; sets = t.sets + 1 }) (Makes id kind now ∷ past)
   make_timed t past id kind now at lawful timed own live =
-      let added : Entry = record { at = at; id = id.0 } in
+      let added : Timer = record { at = at; id = id.0 } in
       record {
         set_are = λ x k time is alive ends_at. entry_added time x.0 t.entries added ∙ ⊎_elim
             (λ (here : same id x ≡ true).

@@ -102,7 +102,7 @@ module _ {C V : Type 0} where
       (cases_Bool (y.0 == x.0))) ∙ sym no')
       (cases_Bool (not (is_live slots x)))
 
-  live_told : (u : TreeValue C V) (past : List (TreeOp C V)) (x : Id) → KnowsContexts u past → is_some (held x past) ≡ true → is_live u.slots x ≡ is_none (ending x past)
+  pub live_told : (u : TreeValue C V) (past : List (TreeOp C V)) (x : Id) → KnowsContexts u past → is_some (held x past) ≡ true → is_live u.slots x ≡ is_none (ending x past)
   live_told u past x s held_is =
       ap is_none (ap (option_and_then (λ (n : Node C V). n.ending)) (s.nodes_are x)) ∙ by_kind (held x past) held_is (ending x past)
     where

@@ -1,3 +1,4 @@
 pub mod Context
+pub mod Frames
 pub mod Timed
 pub mod Tree

@@ -1,13 +1,12 @@
 -- Which contexts have a timer.
 use Rattle.std.specs.Prelude.{◌≡◌, ℕ, ◌≤◌, Bool, true, ◌&&◌, ◌==◌, List, [], ◌∷◌, ◌++◌, ◌+◌, Option, Some, None}
 use Rattle.std.specs.List.{list_any}
-use Rattle.timer_heap.specs.declared.timers.Entry.{Entry}
-use Rattle.timer_heap.specs.Timers.{Timing}
+use Rattle.timer_heap.specs.Timers.{Timer, Timing}
 use Rattle.context_tree.specs.declared.node.Kind.{Kind}
 use Rattle.context_tree.specs.Context.{Id, TreeOp, makes, held, own_deadline, ending}
 
 -- a timer at that time and under that id waits
-abbrev pub has_entry : ℕ → ℕ → List Entry → Bool
+abbrev pub has_entry : ℕ → ℕ → List Timer → Bool
 has_entry at id entries = list_any (λ e. e.at == at && e.id == id) entries
 
 -- the timers with one more under that id, if a time is given

@@ -1,5 +1,5 @@
 -- What a tree stands for.
-use Rattle.std.specs.Prelude.{◌≡◌, ◌<◌, ℕ, ◌^◌, not, nat_le, ◌&&◌, ◌==◌, Bool, true, false, is_some, is_none, if◌then◌else◌, List, [], ◌∷◌, slice_index_or, Option, Some, None, option_map, option_and_then}
+use Rattle.std.specs.Prelude.{◌≡◌, ◌<◌, ℕ, ◌^◌, not, nat_le, ◌&&◌, ◌==◌, Bool, true, false, is_some, is_none, if◌then◌else◌, List, [], ◌∷◌, length, slice_index_or, Option, Some, None, option_map, option_and_then}
 use Rattle.std.specs.List.{list_any}
 use Rattle.std.specs.Option.{option_map_or}
 use Rattle.timer_heap.specs.Timers.{Timing}
@@ -165,3 +165,21 @@ module _ {C V : Type 0} where
   -- a cancel ends the context: it is held, can be cancelled and is not ended
   abbrev pub is_ended_by_cancel : Id → List (TreeOp C V) → Bool
   is_ended_by_cancel x past = option_map_or can_cancel (held x past) false && is_none (ending x past)
+
+  -- ---- what the calls do
+
+  -- the tree stands for all that it stood for
+  abbrev pub StandsAsBefore : TreeValue C V → TreeValue C V → Type 0
+  StandsAsBefore old new = (past : List (TreeOp C V)) → StandsFor old past → StandsFor new past
+
+  -- a context of that id was made in that way, at that moment where it is made with a deadline; nothing was against it
+  abbrev pub IsMade : TreeValue C V → TreeValue C V → Kind C V → ℕ → Id → Type 0
+  IsMade old new kind now id = (past : List (TreeOp C V)) → StandsFor old past → (make_fault (parent_of kind) past ≡ None) × StandsFor new (Makes id kind now ∷ past)
+
+  -- it was not made, for this error
+  abbrev pub IsRefused : TreeValue C V → Kind C V → CtxError → Type 0
+  IsRefused old kind e = (past : List (TreeOp C V)) → StandsFor old past → IsFault (make_fault (parent_of kind) past) e
+
+-- how many ended contexts are still to be handed out
+abbrev pub left_to_hand_out : {C V : Type 0} → TreeValue C V → ℕ
+left_to_hand_out t = length t.done

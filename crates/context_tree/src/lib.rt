@@ -7,7 +7,7 @@
 mod ended;
 mod error;
 mod id;
-mod laws;
+pub mod laws;
 mod node;
 mod released;
 #[cfg(test)]
@@ -17,7 +17,5 @@ mod walk;
 
 pub use error::{Cause, CtxErr, CtxError, Unknown};
 pub use id::CtxId;
-pub use laws::{child_law, deadline_law, first_end_law};
-pub use node::Kind;
 pub use released::Released;
 pub use tree::Tree;

@@ -7,7 +7,7 @@ use crate::id::CtxId;
 
 /// How a context was made.
 #[derive(Debug, Drop)]
-pub enum Kind<C, V> {
+pub(crate) enum Kind<C, V> {
     /// By `background`: it has no parent and is never ended.
     Background,
     /// By `with_cancel`.

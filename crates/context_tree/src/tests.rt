@@ -129,3 +129,43 @@ fn values_and_without_cancel(rt: HostRuntime) -> Result<(), Fail> {
     assert_eq!(rt; tree.cause(c), Ok(Some(Cause::Plain(CtxErr::Canceled))));
     Ok(())
 }
+
+// A hundred of each kind in one tree, of which a moment ends a hundred: none is refused while there is memory.
+#[test]
+fn a_hundred_of_each(rt: HostRuntime) -> Result<(), Fail> {
+    let mut tree: Tree<u32, u64> = Tree::new(rt.alloc());
+    let b = tree.background()?;
+    for n in 0..100 {
+        assert!(rt; tree.with_cancel(b).is_ok(), "{n}");
+        assert!(rt; tree.with_deadline(b, 100 + n, 100, None).is_ok(), "{n}");
+        assert!(rt; tree.with_value(b, 1, n).is_ok(), "{n}");
+        assert!(rt; tree.without_cancel(b).is_ok(), "{n}");
+    }
+    tree.advance(200);
+    for n in 0..100 {
+        assert!(rt; tree.next_done().is_some(), "{n}");
+    }
+    assert_eq!(rt; tree.next_done(), None);
+    Ok(())
+}
+
+// The words of Go's `Canceled` and `DeadlineExceeded`, and those of this crate's own errors.
+#[test]
+fn says_why(rt: HostRuntime) -> Result<(), Fail> {
+    let alloc = rt.alloc();
+    for (error, text) in [
+        (CtxErr::Canceled, "context canceled"),
+        (CtxErr::DeadlineExceeded, "context deadline exceeded"),
+    ] {
+        assert_eq!(rt; error.to_string(alloc)?.as_str(), text);
+    }
+    for (error, text) in [
+        (CtxError::Unknown, "unknown parent context"),
+        (CtxError::Exhausted, "too many contexts were made"),
+        (CtxError::Memory, "no memory"),
+    ] {
+        assert_eq!(rt; error.to_string(alloc)?.as_str(), text);
+    }
+    assert_eq!(rt; Unknown.to_string(alloc)?.as_str(), "unknown context");
+    Ok(())
+}

@@ -1,10 +1,10 @@
-ghost use Rattle.std.specs.Prelude.{◌≡◌, ◌∷◌, [], List, true, false, Some, None, IfOk, IfErr, IfSome, IfNone, OnOk, OnErr, is_some, option_map, option_copied, ◌↔◌};
+ghost use Rattle.std.specs.Prelude.{◌≡◌, ◌+◌, ◌∷◌, [], List, true, false, Some, None, IfOk, IfErr, IfSome, IfNone, OnOk, OnErr, is_some, option_map, option_copied, ◌↔◌};
 ghost use Rattle.std.specs.Result.{result_ok};
 ghost use Rattle.timer_heap.specs.Timers.{popped};
 ghost use Rattle.context_tree.specs.declared.node.Kind.{Kind};
 ghost use Rattle.context_tree.specs.declared.node.Kind.TheVariants.{Background, Cancel, Deadline, Value, WithoutCancel};
 ghost use Rattle.context_tree.specs.Context.{Id, TreeOp, Makes, Cancels, Advances, HandsOut, Releases, HasChild, IsFirstDone, held, is_waiting, parent_of, ending, deadline, value};
-ghost use Rattle.context_tree.specs.Tree.{StandsFor, IsFault, op_of, make_fault, if_held, is_ended_by_cancel};
+ghost use Rattle.context_tree.specs.Tree.{StandsFor, StandsAsBefore, IsMade, IsRefused, left_to_hand_out, op_of, if_held, is_ended_by_cancel};
 
 use crate::error::{Cause, CtxErr, CtxError, Unknown};
 use crate::id::CtxId;
@@ -66,18 +66,20 @@ impl<C: Copy, V: Drop> Tree<C, V> {
 
     /// A context with no parent, which is never ended.
     pub fn background(&mut self) -> Result<CtxId, CtxError>
-        ensures made { IfOk result (λ id. (past : List (TreeOp C V)) → StandsFor self.old past → (make_fault None past ≡ None) × StandsFor self.new (Makes id Background 0 ∷ past)) }
-        ensures refused { IfErr result (λ e. (past : List (TreeOp C V)) → StandsFor self.old past → IsFault (make_fault None past) e) }
+        ensures made { IfOk result (IsMade self.old self.new Background 0) }
+        ensures refused { IfErr result (IsRefused self.old Background) }
         ensures unchanged { OnErr result (self.new ≡ self.old) }
+        ensures keeps { OnErr result (StandsAsBefore self.old self.new) }
     {
         self.make(Kind::Background, 0).map_err(|refused| refused.1)
     }
 
     /// A context that ends with its parent, or once it is cancelled.
     pub fn with_cancel(&mut self, parent: CtxId) -> Result<CtxId, CtxError>
-        ensures made { IfOk result (λ id. (past : List (TreeOp C V)) → StandsFor self.old past → (make_fault (Some parent) past ≡ None) × StandsFor self.new (Makes id (Cancel parent) 0 ∷ past)) }
-        ensures refused { IfErr result (λ e. (past : List (TreeOp C V)) → StandsFor self.old past → IsFault (make_fault (Some parent) past) e) }
+        ensures made { IfOk result (IsMade self.old self.new (Cancel parent) 0) }
+        ensures refused { IfErr result (IsRefused self.old (Cancel parent)) }
         ensures unchanged { OnErr result (self.new ≡ self.old) }
+        ensures keeps { OnErr result (StandsAsBefore self.old self.new) }
     {
         self.make(Kind::Cancel { parent }, 0)
             .map_err(|refused| refused.1)
@@ -92,9 +94,10 @@ impl<C: Copy, V: Drop> Tree<C, V> {
         now: u64,
         cause: Option<C>,
     ) -> Result<CtxId, CtxError>
-        ensures made { IfOk result (λ id. (past : List (TreeOp C V)) → StandsFor self.old past → (make_fault (Some parent) past ≡ None) × StandsFor self.new (Makes id (Deadline parent at cause) now ∷ past)) }
-        ensures refused { IfErr result (λ e. (past : List (TreeOp C V)) → StandsFor self.old past → IsFault (make_fault (Some parent) past) e) }
+        ensures made { IfOk result (IsMade self.old self.new (Deadline parent at cause) now) }
+        ensures refused { IfErr result (IsRefused self.old (Deadline parent at cause)) }
         ensures unchanged { OnErr result (self.new ≡ self.old) }
+        ensures keeps { OnErr result (StandsAsBefore self.old self.new) }
     {
         self.make(Kind::Deadline { parent, at, cause }, now)
             .map_err(|refused| refused.1)
@@ -102,9 +105,10 @@ impl<C: Copy, V: Drop> Tree<C, V> {
 
     /// A context that ends with its parent and has a value at a key. The value is given back beside an error.
     pub fn with_value(&mut self, parent: CtxId, key: u32, value: V) -> Result<CtxId, (V, CtxError)>
-        ensures made { IfOk result (λ id. (past : List (TreeOp C V)) → StandsFor self.old past → (make_fault (Some parent) past ≡ None) × StandsFor self.new (Makes id (Value parent key value) 0 ∷ past)) }
-        ensures refused { IfErr result (λ e. (past : List (TreeOp C V)) → StandsFor self.old past → IsFault (make_fault (Some parent) past) e.1) }
+        ensures made { IfOk result (IsMade self.old self.new (Value parent key value) 0) }
+        ensures refused { IfErr result (λ e. IsRefused self.old (Value parent key value) e.1) }
         ensures unchanged { OnErr result (self.new ≡ self.old) }
+        ensures keeps { OnErr result (StandsAsBefore self.old self.new) }
         ensures given_back { IfErr result (λ e. e.0 ≡ value) }
     {
         match self.make(Kind::Value { parent, key, value }, 0) {
@@ -118,18 +122,20 @@ impl<C: Copy, V: Drop> Tree<C, V> {
 
     /// A context that has the values of its parent and is never ended.
     pub fn without_cancel(&mut self, parent: CtxId) -> Result<CtxId, CtxError>
-        ensures made { IfOk result (λ id. (past : List (TreeOp C V)) → StandsFor self.old past → (make_fault (Some parent) past ≡ None) × StandsFor self.new (Makes id (WithoutCancel parent) 0 ∷ past)) }
-        ensures refused { IfErr result (λ e. (past : List (TreeOp C V)) → StandsFor self.old past → IsFault (make_fault (Some parent) past) e) }
+        ensures made { IfOk result (IsMade self.old self.new (WithoutCancel parent) 0) }
+        ensures refused { IfErr result (IsRefused self.old (WithoutCancel parent)) }
         ensures unchanged { OnErr result (self.new ≡ self.old) }
+        ensures keeps { OnErr result (StandsAsBefore self.old self.new) }
     {
         self.make(Kind::WithoutCancel { parent }, 0)
             .map_err(|refused| refused.1)
     }
 
     fn make(&mut self, kind: Kind<C, V>, now: u64) -> Result<CtxId, (Kind<C, V>, CtxError)>
-        ensures made { IfOk result (λ id. (past : List (TreeOp C V)) → StandsFor self.old past → (make_fault (parent_of kind) past ≡ None) × StandsFor self.new (Makes id kind now ∷ past)) }
-        ensures refused { IfErr result (λ e. (past : List (TreeOp C V)) → StandsFor self.old past → IsFault (make_fault (parent_of kind) past) e.1) }
+        ensures made { IfOk result (IsMade self.old self.new kind now) }
+        ensures refused { IfErr result (λ e. IsRefused self.old kind e.1) }
         ensures unchanged { OnErr result (self.new ≡ self.old) }
+        ensures keeps { OnErr result (StandsAsBefore self.old self.new) }
         ensures given_back { IfErr result (λ e. e.0 ≡ kind) }
     {
         if !walk::knows_parent(&self.nodes, kind.parent()) {
@@ -171,6 +177,7 @@ impl<C: Copy, V: Drop> Tree<C, V> {
         ensures answer { (past : List (TreeOp C V)) → StandsFor self.old past → result ≡ is_ended_by_cancel id past }
         ensures cancelled { result ≡ true → (past : List (TreeOp C V)) → StandsFor self.old past → StandsFor self.new (Cancels id cause ∷ past) }
         ensures unchanged { result ≡ false → self.new ≡ self.old }
+        ensures keeps { result ≡ false → StandsAsBefore self.old self.new }
     {
         match walk::node(&self.nodes, id) {
             Some(node) if node.kind.can_cancel() && node.ending.is_none() => {
@@ -216,6 +223,8 @@ impl<C: Copy, V: Drop> Tree<C, V> {
         ensures handed { IfSome result (λ id. (past : List (TreeOp C V)) → StandsFor self.old past → StandsFor self.new (HandsOut id ∷ past)) }
         ensures none { IfNone result ((past : List (TreeOp C V)) → StandsFor self.old past → (x : Id) → is_waiting x past ≡ false) }
         ensures unchanged { IfNone result (self.new ≡ self.old) }
+        ensures keeps { IfNone result (StandsAsBefore self.old self.new) }
+        ensures fewer { IfSome result (λ id. left_to_hand_out self.old ≡ left_to_hand_out self.new + 1) }
     {
         self.done.pop_front()
     }
@@ -226,6 +235,7 @@ impl<C: Copy, V: Drop> Tree<C, V> {
         ensures has_children { result ≡ Released.HasChildren → (past : List (TreeOp C V)) → StandsFor self.old past → HasChild id past }
         ensures gone { result ≡ Released.Gone → (past : List (TreeOp C V)) → StandsFor self.old past → StandsFor self.new (Releases id ∷ past) }
         ensures unchanged { (result ≡ Released.Gone → ⊥) → self.new ≡ self.old }
+        ensures keeps { (result ≡ Released.Gone → ⊥) → StandsAsBefore self.old self.new }
     {
         if walk::node(&self.nodes, id).is_none() {
             return Released::Unknown;

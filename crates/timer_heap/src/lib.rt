@@ -5,11 +5,10 @@
 #![tactic(auto)]
 
 mod error;
-mod laws;
+pub mod laws;
 #[cfg(test)]
 mod tests;
 mod timers;
 
 pub use error::SetError;
-pub use laws::{first_due_law, waiting_law};
 pub use timers::Timers;

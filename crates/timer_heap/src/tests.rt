@@ -18,6 +18,35 @@ fn timers(rt: HostRuntime) -> Result<(), Fail> {
     Ok(())
 }
 
+// A hundred wait at once: room is asked for as they come, and none is refused while there is memory.
+#[test]
+fn a_hundred(rt: HostRuntime) -> Result<(), Fail> {
+    let mut timers = Timers::new(rt.alloc());
+    for id in 0..100 {
+        assert_eq!(rt; timers.set(100 - id, id), Ok(()), "{id}");
+    }
+    for id in 0..50 {
+        assert_eq!(rt; timers.stop(id), true, "{id}");
+    }
+    for at in 1..51 {
+        assert_eq!(rt; timers.pop_due(at), Some((at, 100 - at)));
+    }
+    assert_eq!(rt; timers.next(), None);
+    Ok(())
+}
+
+#[test]
+fn says_why_a_timer_is_not_set(rt: HostRuntime) -> Result<(), Fail> {
+    for (error, text) in [
+        (SetError::Waiting, "a timer of this id is waiting"),
+        (SetError::Exhausted, "too many timers were set"),
+        (SetError::Memory, "no memory"),
+    ] {
+        assert_eq!(rt; error.to_string(rt.alloc())?.as_str(), text);
+    }
+    Ok(())
+}
+
 #[test]
 fn equal_times_by_order_of_setting(rt: HostRuntime) -> Result<(), Fail> {
     let mut timers = Timers::new(rt.alloc());

@@ -34,6 +34,16 @@ impl Model for Timers {
     ghost view = { λ t. record { entries = t.entries.items; sets = t.sets } };
 }
 
+impl Model for Entry {
+    ghost use Rattle.timer_heap.specs.Timers.{Timer};
+
+    ghost Value = { Timer };
+
+    ghost view = { λ e. record { at = e.at; id = e.id } };
+
+    ghost inverse = { λ t. record { at = t.at; id = t.id } };
+}
+
 impl Timers {
     /// No timers. Later ones are kept on this allocator.
     pub fn new(alloc: Global) -> Timers
@@ -54,6 +64,7 @@ impl Timers {
         ensures set { OnOk result ((past : List TimerOp) → StandsFor self.old past → StandsFor self.new (Set at id ∷ past)) }
         ensures refused { MatchOption (set_fault id self.old) (IsOkUnless result Memory) (λ e. result ≡ Err e) }
         ensures unchanged { OnErr result (self.new ≡ self.old) }
+        ensures keeps { OnErr result ((past : List TimerOp) → StandsFor self.old past → StandsFor self.new past) }
     {
         if self.is_set(id) {
             return Err(SetError::Waiting);
