@@ -102,13 +102,13 @@ pub record IsCallSound (c : CallValue) : Type 0 where
   pub answered_is : c.answered ≤ length c.plan.branches
   pub few : length c.plan.branches ≤ 16
 
--- the error of a failed branch, as the caller is told it: behind the branch's name
+-- the error of a failed branch, as the caller is told it: its code and its details, and its message behind the branch's name
 abbrev pub named_message : List ℕ → List ℕ → List ℕ
 named_message name [] = name
 named_message name (b ∷ message) = name ++ codes ": " ++ b ∷ message
 
 abbrev pub branch_error : List ℕ → RpcError → RpcError
-branch_error name error = record { code = error.code; message = named_message name error.message }
+branch_error name error = record error { message = named_message name error.message }
 
 abbrev pub reply_of : List ℕ → Bool → Reply
 reply_of bytes last = record { bytes = bytes; last = last }

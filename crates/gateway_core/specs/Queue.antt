@@ -2,6 +2,7 @@
 use Rattle.std.specs.Prelude.{◌≡◌, ℕ, Bool, true, false, ◌==◌, if◌then◌else◌, is_some, List, [], ◌∷◌, ◌++◌, map, flat_map, length, codes, option_to_list, Option, None, Some, option_map, option_and_then}
 use Rattle.std.specs.List.{range_with_len}
 use Rattle.std.specs.Option.{option_or, option_map_or, unwrap_or}
+use Rattle.error_document.specs.Documents.{plain_error}
 use Rattle.error_document.specs.declared.code.Code.TheVariants.{ResourceExhausted, DeadlineExceeded, Canceled, Unavailable}
 use Rattle.error_document.specs.declared.document.RpcError.{RpcError}
 use Rattle.http_pieces.specs.declared.refusal.Refusal.{Refusal}
@@ -57,7 +58,7 @@ answers_in n events = map (λ i. unwrap_or (answer_of_branch i events) []) (rang
 
 -- the error of a call whose deadline is reached
 abbrev pub expired_error : RpcError
-expired_error = record { code = DeadlineExceeded; message = codes "context deadline exceeded" }
+expired_error = plain_error DeadlineExceeded (codes "context deadline exceeded")
 
 abbrev pub expired_reply : Bool → Reply
 expired_reply last = reply_of (error_reply expired_error last) last
@@ -67,8 +68,8 @@ abbrev pub error_of : PlanRecord → CallEvent → Option RpcError
 error_of plan (Answered i body) = None
 error_of plan (Failed i error) = Some (branch_error (branch_at plan i).name error)
 error_of plan (Expired moment) = Some expired_error
-error_of plan HungUp = Some (record { code = Canceled; message = codes "context canceled" })
-error_of plan Drained = Some (record { code = Unavailable; message = codes "gateway is draining" })
+error_of plan HungUp = Some (plain_error Canceled (codes "context canceled"))
+error_of plan Drained = Some (plain_error Unavailable (codes "gateway is draining"))
 
 -- the last of some events
 abbrev pub last_event : List CallEvent → Option CallEvent
@@ -97,7 +98,7 @@ pub data ReplyEntry : Type 0 where
 
 -- the error of a call too many
 abbrev pub crowded_error : RpcError
-crowded_error = record { code = ResourceExhausted; message = codes "more than 8 calls in flight" }
+crowded_error = plain_error ResourceExhausted (codes "more than 8 calls in flight")
 
 -- the reply to a request
 abbrev pub answer_of : ReplyEntry → Reply
