@@ -2,7 +2,7 @@
 use Rattle.std.specs.Prelude.{ℕ, List, ◌==◌, if◌then◌else◌, false, Option, None, Some, is_some, codes}
 use Rattle.std.specs.Option.{option_map_or}
 use Rattle.http_pieces.specs.declared.reply.HttpReply.{HttpReply}
-use Rattle.error_document.specs.Documents.{json_of, read_error}
+use Rattle.error_document.specs.Documents.{json_of, plain_error, read_error}
 use Rattle.error_document.specs.declared.code.Code.{Code}
 use Rattle.error_document.specs.declared.code.Code.TheVariants.{Internal, Unavailable}
 use Rattle.connect_codec.specs.Headers.{is_json_type}
@@ -10,7 +10,7 @@ use Rattle.connect_codec.specs.declared.answer.Outcome.{Outcome}
 use Rattle.connect_codec.specs.declared.answer.Outcome.TheVariants.{Answer, Fail}
 
 abbrev pub failed : Code → List ℕ → Outcome
-failed code message = Fail (record { code = code; message = message })
+failed code message = Fail (plain_error code message)
 
 -- a reply of status 200 answers where its content type is JSON and its body is JSON too
 abbrev pub outcome_of_success : Option (List ℕ) → List ℕ → Outcome

@@ -7,7 +7,7 @@ use Rattle.http_pieces.specs.Fields.{values_of}
 use Rattle.http_pieces.specs.Request.{HttpRequest}
 use Rattle.timeout_header.specs.Timeout.{timeout_of}
 use Rattle.timeout_header.specs.declared.error.BadTimeout.{BadTimeout}
-use Rattle.error_document.specs.Documents.{json_of}
+use Rattle.error_document.specs.Documents.{json_of, plain_error}
 use Rattle.error_document.specs.declared.code.Code.{Code}
 use Rattle.error_document.specs.declared.code.Code.TheVariants.{InvalidArgument, Unimplemented}
 use Rattle.connect_codec.specs.Headers.{is_one, is_absent_or_one, is_json_type, is_identity, is_version_1, request_id_of}
@@ -24,7 +24,7 @@ abbrev pub asked_timeout : HttpRequest → Result (Option ℕ) BadTimeout
 asked_timeout q = timeout_of (said (codes "Connect-Timeout-Ms") q)
 
 abbrev pub failure : Code → List ℕ → Verdict
-failure code message = Fail (record { code = code; message = message })
+failure code message = Fail (plain_error code message)
 
 -- why a request is no call, and what it is then: each rule that applies, with its verdict, in the order in which they count.
 -- `known` says whether the request's path names a plan.

@@ -6,7 +6,7 @@ use crate::headers::is_json_type;
 use crate::json::is_json;
 use error_document::{Code, RpcError};
 use http::StatusCode;
-use http_pieces::{Bytes, HttpReply, Text};
+use http_pieces::{Bytes, HttpReply};
 use std::alloc::{AllocError, Global};
 
 /// What a backend's reply means; None is a reply that was lost. Status 200 with a body of JSON, whose
@@ -46,6 +46,5 @@ fn outcome_of_success(
 fn failed(alloc: Global, code: Code, message: &str) -> Result<Outcome, AllocError>
     ensures { IfOk result (λ outcome. outcome ≡ failed code message.now) }
 {
-    let message = Text::from_str(alloc, message)?;
-    Ok(Outcome::Fail(RpcError { code, message }))
+    Ok(Outcome::Fail(RpcError::plain(alloc, code, message)?))
 }

@@ -4,8 +4,8 @@ use crate::{
 };
 use error_document::{Code, RpcError};
 use http::StatusCode;
-use http_pieces::{Bytes, HttpReply, Reader, Request, Text};
-use std::alloc::{AllocError, Global};
+use http_pieces::{Bytes, HttpReply, Reader, Request};
+use std::alloc::Global;
 use std::test::Fail;
 
 // The request of these bytes.
@@ -22,11 +22,6 @@ fn judged(alloc: Global, fields: &str, body: &str) -> Result<Verdict, Fail> {
         "POST /acme.v1.Ping/Ping HTTP/1.1\r\nHost: g\r\n{fields}Content-Length: {length}\r\n\r\n{body}"
     )?;
     Ok(judge(alloc, &request(alloc, text.as_bytes())?, true)?)
-}
-
-fn error(alloc: Global, code: Code, message: &str) -> Result<RpcError, AllocError> {
-    let message = Text::from_str(alloc, message)?;
-    Ok(RpcError { code, message })
 }
 
 #[test]
@@ -152,7 +147,7 @@ fn failures(rt: HostRuntime) -> Result<(), Fail> {
         ("", "1e400", json),
     ] {
         let fields = format!(in alloc; "Content-Type: application/json\r\n{fields}")?;
-        let expected = Verdict::Fail(error(alloc, code, message)?);
+        let expected = Verdict::Fail(RpcError::plain(alloc, code, message)?);
         assert!(rt;
             judged(alloc, fields.as_str(), body)? == expected,
             "{fields}{body}"
@@ -356,7 +351,7 @@ fn error_replies(rt: HostRuntime) -> Result<(), Fail> {
         ),
     ] {
         for (last, close) in [(false, ""), (true, "Connection: close\r\n")] {
-            let bytes = error_reply(alloc, &error(alloc, code, message)?, last)?;
+            let bytes = error_reply(alloc, &RpcError::plain(alloc, code, message)?, last)?;
             let expected = format!(in alloc;
                 "HTTP/1.1 {line}\r\nContent-Type: application/json\r\nContent-Length: {len}\r\n{close}\r\n{body}"
             )?;
@@ -378,7 +373,7 @@ fn phrases_of_statuses(rt: HostRuntime) -> Result<(), Fail> {
         (Code::Unavailable, "503 Service Unavailable"),
         (Code::DeadlineExceeded, "504 Gateway Timeout"),
     ] {
-        let bytes = error_reply(alloc, &error(alloc, code, "")?, false)?;
+        let bytes = error_reply(alloc, &RpcError::plain(alloc, code, "")?, false)?;
         let start = format!(in alloc; "HTTP/1.1 {line}\r\nContent-Type: ")?;
         assert!(rt; bytes.as_slice().starts_with(start.as_bytes()), "{line}");
     }
@@ -446,7 +441,6 @@ fn outcome_of(
 fn failed_branches(rt: HostRuntime) -> Result<(), Fail> {
     let alloc = rt.alloc();
     let json = Some("application/json");
-    let detailed = r#"{"code":"not_found","message":"no","details":[{"type":"t","value":"AA"}]}"#;
     for (status, content_type, body, code, message) in [
         (
             503,
@@ -473,7 +467,6 @@ fn failed_branches(rt: HostRuntime) -> Result<(), Fail> {
             "unexpected content type",
         ),
         (200, None, "{}", Code::Internal, "unexpected content type"),
-        (404, json, detailed, Code::NotFound, "no"),
         (409, json, r#"{"code":"aborted"}"#, Code::Aborted, ""),
         (404, json, r#"{"message":"m"}"#, Code::Unimplemented, "m"),
         (
@@ -486,14 +479,35 @@ fn failed_branches(rt: HostRuntime) -> Result<(), Fail> {
         (204, None, "", Code::Unknown, "HTTP status 204"),
         (201, json, "{}", Code::Unknown, "HTTP status 201"),
     ] {
-        let expected = Outcome::Fail(error(alloc, code, message)?);
+        let expected = Outcome::Fail(RpcError::plain(alloc, code, message)?);
         assert!(rt;
             outcome_of(alloc, status, content_type, body)? == expected,
             "{status} {body}"
         );
     }
-    let lost = Outcome::Fail(error(alloc, Code::Unavailable, "backend unreachable")?);
+    let lost = Outcome::Fail(RpcError::plain(alloc, Code::Unavailable, "backend unreachable")?);
     assert!(rt; outcome(alloc, None)? == lost);
+    Ok(())
+}
+
+#[test]
+fn carries_details(rt: HostRuntime) -> Result<(), Fail> {
+    let alloc = rt.alloc();
+    let body =
+        r#"{"code":"not_found","message":"no","details":[{"type":"t","value":"AA","debug":1}]}"#;
+    let document = r#"{"code":"not_found","details":[{"type":"t","value":"AA"}],"message":"no"}"#;
+    let Outcome::Fail(error) = outcome_of(alloc, 404, None, body)? else {
+        panic!(rt; "an error is no answer");
+    };
+    assert_eq!(rt; error.details.as_slice().len(), 1);
+    let length = document.len();
+    let expected = format!(in alloc;
+        "HTTP/1.1 404 Not Found\r\nContent-Type: application/json\r\nContent-Length: {length}\r\n\r\n{document}"
+    )?;
+    assert_eq!(rt;
+        error_reply(alloc, &error, false)?.as_slice(),
+        expected.as_bytes()
+    );
     Ok(())
 }
 

@@ -5,7 +5,7 @@ ghost use Rattle.connect_codec.specs.Verdict.{verdict_of, failure, HasBareStatus
 use crate::headers::{is_known_version, is_plain, names_json, request_id};
 use crate::json::is_json;
 use error_document::{Code, RpcError};
-use http_pieces::{Bytes, Request, Text};
+use http_pieces::{Bytes, Request};
 use std::alloc::{AllocError, Global};
 
 /// What a request is.
@@ -71,6 +71,5 @@ fn is_post(request: &Request) -> bool
 fn failure(alloc: Global, code: Code, message: &str) -> Result<Verdict, AllocError>
     ensures { IfOk result (λ verdict. verdict ≡ failure code message.now) }
 {
-    let message = Text::from_str(alloc, message)?;
-    Ok(Verdict::Fail(RpcError { code, message }))
+    Ok(Verdict::Fail(RpcError::plain(alloc, code, message)?))
 }

@@ -1,20 +1,23 @@
 -- What is read of a reply.
-use Rattle.std.proofs.Common.{◌≡◌, ℕ, List, Bool, true, false, Option, Some, None, option_and_then, cond, codes, refl, sym}
+use Rattle.std.proofs.Common.{◌≡◌, ℕ, List, [], Bool, true, false, None, Some, option_and_then, cond, codes, refl, sym}
 use Rattle.std.proofs.lemmas.Str.{is_utf8-from_IsUtf8, IsUtf8-from_is_utf8}
 use Rattle.std.specs.Str.{IsUtf8, is_utf8}
 use Rattle.serde_json.specs.Data.{Data}
 use Rattle.serde_json.specs.Read.{read}
 use Rattle.error_document.specs.Codes.{code_named}
-use Rattle.error_document.specs.Documents.{text_at, json_of, error_from, read_error}
-use Rattle.error_document.specs.declared.code.Code.{Code}
+use Rattle.error_document.specs.Documents.{text_at, details_in, json_of, error_from, read_error}
 
--- the error of the code and the message that stand in the body
-pub error_from-body : (status : ℕ) (body : List ℕ) (code : Option Code) (message : Option (List ℕ))
-    → code ≡ option_and_then code_named (option_and_then (text_at (codes "code")) (json_of body))
-    → message ≡ option_and_then (text_at (codes "message")) (json_of body)
-    → error_from status code message ≡ read_error status body
+-- the error of a body that is this document
+pub read_error-of_document : (status : ℕ) (body : List ℕ) (document : Data) → Some document ≡ json_of body
+    → read_error status body
+    ≡ error_from status (option_and_then code_named (text_at (codes "code") document)) (text_at (codes "message") document) (details_in document)
 unfolding read_error
-error_from-body status body code message named told = rw (named, told)
+read_error-of_document status body document e = rw (← e) refl
+
+-- the error of a body that is no JSON
+pub read_error-of_none : (status : ℕ) (body : List ℕ) → None ≡ json_of body → read_error status body ≡ error_from status None None []
+unfolding read_error
+read_error-of_none status body e = rw (← e) refl
 
 -- ---- the value in a body
 

@@ -5,10 +5,18 @@
 #![tactic(auto)]
 
 mod code;
+mod detail;
+mod details;
 mod document;
+mod json;
 pub mod laws;
+mod reply;
 #[cfg(test)]
 mod tests;
 
 pub use code::Code;
-pub use document::{RpcError, read, write};
+pub use detail::Detail;
+pub use details::Details;
+pub use document::{RpcError, write};
+pub use json::{json_value, text_at};
+pub use reply::read;

@@ -1,16 +1,9 @@
-use crate::{Code, RpcError, read, write};
+use crate::{Code, Detail, Details, RpcError, read, write};
 use http::StatusCode;
 use http_pieces::Text;
 use std::alloc::{AllocError, Global};
 use std::process::Abort;
 use std::test::Fail;
-
-fn error(alloc: Global, code: Code, message: &str) -> Result<RpcError, AllocError> {
-    Ok(RpcError {
-        code,
-        message: Text::from_str(alloc, message)?,
-    })
-}
 
 fn read_at(
     rt: &impl Abort,
@@ -131,7 +124,7 @@ fn writes_documents(rt: HostRuntime) -> Result<(), Fail> {
             r#"{"code":"unknown","message":"é ☃ 😀"}"#,
         ),
     ] {
-        let error = error(rt.alloc(), code, message)?;
+        let error = RpcError::plain(rt.alloc(), code, message)?;
         let written = write(rt.alloc(), &error)?;
         assert_eq!(rt; written.as_slice(), text.as_bytes(), "{message}");
         assert!(rt;
@@ -150,7 +143,7 @@ fn written_lengths(rt: HostRuntime) -> Result<(), Fail> {
         (Code::DeadlineExceeded, "context deadline exceeded", 66),
         (Code::Canceled, "context canceled", 48),
     ] {
-        let error = error(rt.alloc(), code, message)?;
+        let error = RpcError::plain(rt.alloc(), code, message)?;
         assert_eq!(rt; write(rt.alloc(), &error)?.len(), len, "{message}");
     }
     Ok(())
@@ -162,7 +155,7 @@ fn reads_bodies(rt: HostRuntime) -> Result<(), Fail> {
         (503, "busy", Code::Unavailable, "HTTP status 503"),
         (
             404,
-            r#"{"code":"not_found","message":"no","details":[{"type":"t","value":"AA"}]}"#,
+            r#"{"code":"not_found","message":"no"}"#,
             Code::NotFound,
             "no",
         ),
@@ -243,7 +236,7 @@ fn reads_bodies(rt: HostRuntime) -> Result<(), Fail> {
     ] {
         let read = read_at(&rt, rt.alloc(), status, body.as_bytes())?;
         assert!(rt;
-            read == error(rt.alloc(), code, message)?,
+            read == RpcError::plain(rt.alloc(), code, message)?,
             "{status} {body}"
         );
     }
@@ -258,7 +251,7 @@ fn bytes_that_are_no_text(rt: HostRuntime) -> Result<(), Fail> {
         b"\xef\xbb\xbf{\"code\":\"aborted\"}".as_slice(),
     ] {
         let read = read_at(&rt, rt.alloc(), 502, body)?;
-        assert!(rt; read == error(rt.alloc(), Code::Unavailable, "HTTP status 502")?);
+        assert!(rt; read == RpcError::plain(rt.alloc(), Code::Unavailable, "HTTP status 502")?);
     }
     Ok(())
 }
@@ -279,15 +272,141 @@ fn nesting_ends_at_127(rt: HostRuntime) -> Result<(), Fail> {
         }
         body.push_str("}")?;
         let read = read_at(&rt, rt.alloc(), 404, body.as_bytes())?;
-        assert!(rt; read == error(alloc, code, message)?, "{arrays}");
+        assert!(rt; read == RpcError::plain(alloc, code, message)?, "{arrays}");
     }
     Ok(())
 }
 
 #[test]
 fn shows_code_and_message(rt: HostRuntime) -> Result<(), Fail> {
-    let error = error(rt.alloc(), Code::NotFound, "no")?;
+    let error = RpcError::plain(rt.alloc(), Code::NotFound, "no")?;
     let shown = format!(in rt.alloc(); "{error}")?;
     assert_eq!(rt; shown.as_str(), "not_found: no");
+    Ok(())
+}
+
+// What is written of the error that a body stands for; it reads back.
+#[test]
+fn carries_details(rt: HostRuntime) -> Result<(), Fail> {
+    let alloc = rt.alloc();
+    for (status, body, text) in [
+        (
+            404,
+            r#"{"code":"not_found","message":"no","details":[{"type":"t","value":"AA"}]}"#,
+            r#"{"code":"not_found","details":[{"type":"t","value":"AA"}],"message":"no"}"#,
+        ),
+        // No details, and details that are no array.
+        (
+            409,
+            r#"{"code":"aborted","details":[]}"#,
+            r#"{"code":"aborted"}"#,
+        ),
+        (
+            409,
+            r#"{"code":"aborted","details":7}"#,
+            r#"{"code":"aborted"}"#,
+        ),
+        (
+            409,
+            r#"{"code":"aborted","details":null}"#,
+            r#"{"code":"aborted"}"#,
+        ),
+        (
+            409,
+            r#"{"code":"aborted","details":{"type":"t","value":"AA"}}"#,
+            r#"{"code":"aborted"}"#,
+        ),
+        // Entries that are no details, and what else a detail has.
+        (
+            404,
+            r#"{"code":"not_found","details":[{"type":"t","value":"AA","debug":{"x":1}},{"type":5}]}"#,
+            r#"{"code":"not_found","details":[{"type":"t","value":"AA"}]}"#,
+        ),
+        (
+            404,
+            r#"{"code":"aborted","details":[1,"t",["t","AA"],null,{},{"type":"t"},{"value":"v"},{"type":"t","value":1},
+                {"type":"a","value":"1"},{"type":null,"value":"v"},{"b":2,"value":"2","c":[],"type":"b"}]}"#,
+            r#"{"code":"aborted","details":[{"type":"a","value":"1"},{"type":"b","value":"2"}]}"#,
+        ),
+        // Empty texts, and two that are the same.
+        (
+            404,
+            r#"{"code":"aborted","details":[{"type":"","value":"A"},{"type":"t","value":""},{"type":"","value":"A"}]}"#,
+            r#"{"code":"aborted","details":[{"type":"","value":"A"},{"type":"t","value":""},{"type":"","value":"A"}]}"#,
+        ),
+        // The last value of a repeated key.
+        (
+            404,
+            r#"{"code":"aborted","details":[{"type":1,"type":"t","value":"a","value":"b"},{"type":"t","type":1,"value":"c"}]}"#,
+            r#"{"code":"aborted","details":[{"type":"t","value":"b"}]}"#,
+        ),
+        (
+            404,
+            r#"{"code":"aborted","details":7,"details":[{"type":"t","value":"a"}]}"#,
+            r#"{"code":"aborted","details":[{"type":"t","value":"a"}]}"#,
+        ),
+        (
+            404,
+            r#"{"code":"aborted","details":[{"type":"t","value":"a"}],"details":7}"#,
+            r#"{"code":"aborted"}"#,
+        ),
+        // Escapes, and texts beyond ASCII; the value is no base64.
+        (
+            404,
+            r#"{"code":"aborted","details":[{"type":"\u0074/é","value":"\u0041\n\"☃ 😀 =="}]}"#,
+            r#"{"code":"aborted","details":[{"type":"t/é","value":"A\n\"☃ 😀 =="}]}"#,
+        ),
+        // A code that the status stands for has no details.
+        (
+            404,
+            r#"{"message":"m","details":[{"type":"t","value":"AA"}]}"#,
+            r#"{"code":"unimplemented","message":"m"}"#,
+        ),
+        (
+            404,
+            r#"{"code":"ok","details":[{"type":"t","value":"AA"}]}"#,
+            r#"{"code":"unimplemented","message":"HTTP status 404"}"#,
+        ),
+    ] {
+        let error = read_at(&rt, alloc, status, body.as_bytes())?;
+        let written = write(alloc, &error)?;
+        assert_eq!(rt; written.as_slice(), text.as_bytes(), "{body}");
+        assert!(rt;
+            read_at(&rt, alloc, 599, written.as_slice())? == error,
+            "{body}"
+        );
+        assert!(rt; error.clone()? == error, "{body}");
+    }
+    Ok(())
+}
+
+#[test]
+fn carries_many_details(rt: HostRuntime) -> Result<(), Fail> {
+    let alloc = rt.alloc();
+    let mut error = RpcError::plain(alloc, Code::Aborted, "m")?;
+    let mut text = String::from_str(alloc, r#"{"code":"aborted","details":["#)?;
+    let mut details = Vec::new(alloc);
+    for number in 0..1000 {
+        let comma = if number == 0 { "" } else { "," };
+        text.push_str(format!(in alloc;
+            "{comma}{{\"type\":\"t{number}\",\"value\":\"AA\"}}"
+        )?.as_str())?;
+        details.push(Detail {
+            type_name: Text::from_string(format!(in alloc; "t{number}")?),
+            value: Text::from_str(alloc, "AA")?,
+        })?;
+    }
+    text.push_str(r#"],"message":"m"}"#)?;
+    error.details = Details::from_vec(details);
+    assert!(rt; read_at(&rt, alloc, 500, text.as_bytes())? == error);
+    assert_eq!(rt; write(alloc, &error)?.as_slice(), text.as_bytes());
+    let turned = error.clone()?;
+    assert!(rt; turned == error);
+    let mut details = turned.details.into_vec();
+    details.reverse();
+    assert!(rt;
+        Details::from_vec(details) != error.details,
+        "details have an order"
+    );
     Ok(())
 }

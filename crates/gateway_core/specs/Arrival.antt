@@ -4,6 +4,7 @@ use Rattle.std.specs.Option.{option_map_or}
 use Rattle.http_pieces.specs.declared.refusal.Refusal.{Refusal}
 use Rattle.http_pieces.specs.declared.refusal.Refusal.TheVariants as refusal
 use Rattle.http_pieces.specs.Request.{HttpRequest}
+use Rattle.error_document.specs.Documents.{plain_error}
 use Rattle.error_document.specs.declared.code.Code.TheVariants.{ResourceExhausted}
 use Rattle.connect_codec.specs.Path.{path_of}
 use Rattle.connect_codec.specs.Reply.{bare_reply, error_reply}
@@ -49,4 +50,4 @@ refusal_reply refusal.LengthRequired = reply_of (bare_reply 411 true) true
 refusal_reply refusal.BadLength = reply_of (bare_reply 400 true) true
 refusal_reply refusal.BadHost = reply_of (bare_reply 400 true) true
 refusal_reply refusal.BodyTooLarge =
-    reply_of (error_reply (record { code = ResourceExhausted; message = codes "body larger than 65536 bytes" }) true) true
+    reply_of (error_reply (plain_error ResourceExhausted (codes "body larger than 65536 bytes")) true) true

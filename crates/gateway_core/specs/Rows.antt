@@ -1,7 +1,7 @@
 -- Worked rows: what occurs in each.
 use Rattle.std.specs.Prelude.{ℕ, zero, suc, Bool, false, ◌&&◌, option_and_then, List, [], ◌∷◌, ◌++◌, replicate, reverse, length, codes, Option, None, Some}
 use Rattle.std.specs.List.{enumerate_from}
-use Rattle.error_document.specs.Documents.{error_text}
+use Rattle.error_document.specs.Documents.{error_text, plain_error}
 use Rattle.error_document.specs.declared.code.Code.{Code}
 use Rattle.error_document.specs.declared.document.RpcError.{RpcError}
 use Rattle.http_pieces.specs.declared.reply.HttpReply.{HttpReply}
@@ -177,7 +177,11 @@ answers k i body = Result (call_id 0 k) i (Answer body)
 
 -- an error of that code
 abbrev pub error : Code → List ℕ → RpcError
-error code message = record { code = code; message = message }
+error = plain_error
+
+-- the same with one detail, `AA` of type `t`
+abbrev pub detailed : Code → List ℕ → RpcError
+detailed code message = record (error code message) { details = record { type_name = codes "t"; value = codes "AA" } ∷ [] }
 
 -- it fails
 abbrev pub fails : ℕ → ℕ → Code → List ℕ → Occurrence
@@ -213,8 +217,11 @@ flooded strangers repeats =
 abbrev pub succeeded : List ℕ → Reply
 succeeded body = reply_of (success_reply body false) false
 
+abbrev pub failed_with : RpcError → Reply
+failed_with error = reply_of (error_reply error false) false
+
 abbrev pub failed : Code → List ℕ → Reply
-failed code message = reply_of (error_reply (error code message) false) false
+failed code message = failed_with (error code message)
 
 -- the text of an error
 abbrev pub document : Code → List ℕ → List ℕ

@@ -255,7 +255,7 @@ fn empty_answers(alloc: Global, count: usize) -> Result<Vec<Bytes>, AllocError>
     Ok(answers)
 }
 
-/// The error behind the branch's name.
+/// The error with its message behind the branch's name.
 fn named(alloc: Global, name: &str, error: &RpcError) -> Result<RpcError, AllocError>
     ensures { IfOk result (λ e. e ≡ branch_error name.now error.now) }
 {
@@ -267,5 +267,6 @@ fn named(alloc: Global, name: &str, error: &RpcError) -> Result<RpcError, AllocE
     Ok(RpcError {
         code: error.code,
         message: Text::from_string(message),
+        details: error.details.clone()?,
     })
 }

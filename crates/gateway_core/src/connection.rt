@@ -20,7 +20,7 @@ use crate::reply::Reply;
 use call_plan::{Plan, Plans};
 use connect_codec::{Outcome, Verdict, bare_reply, error_reply, judge, target_path};
 use error_document::{Code, RpcError};
-use http_pieces::{Bytes, Reader, Refusal, Request, State, Text};
+use http_pieces::{Bytes, Reader, Refusal, Request, State};
 use std::alloc::{AllocError, Global};
 use std::collections::VecDeque;
 use std::marker::Model;
@@ -325,10 +325,7 @@ fn is_over(asked: Option<u64>, plan: Option<u64>) -> bool
 fn expired(alloc: Global, last: bool) -> Result<Reply, AllocError>
     ensures { IfOk result (λ reply. reply ≡ expired_reply last) }
 {
-    let error = RpcError {
-        code: Code::DeadlineExceeded,
-        message: Text::from_str(alloc, "context deadline exceeded")?,
-    };
+    let error = RpcError::plain(alloc, Code::DeadlineExceeded, "context deadline exceeded")?;
     let bytes = error_reply(alloc, &error, last)?;
     Ok(Reply { bytes, last })
 }
@@ -360,10 +357,11 @@ fn last_bare(alloc: Global, status: u16) -> Result<Reply, AllocError>
 fn too_large(alloc: Global) -> Result<Reply, AllocError>
     ensures { IfOk result (λ reply. reply ≡ refusal_reply Refusal.BodyTooLarge) }
 {
-    let error = RpcError {
-        code: Code::ResourceExhausted,
-        message: Text::from_str(alloc, "body larger than 65536 bytes")?,
-    };
+    let error = RpcError::plain(
+        alloc,
+        Code::ResourceExhausted,
+        "body larger than 65536 bytes",
+    )?;
     let bytes = error_reply(alloc, &error, true)?;
     Ok(Reply { bytes, last: true })
 }

@@ -6,13 +6,14 @@ ghost use Rattle.connect_codec.specs.Reply.{bare_reply};
 ghost use Rattle.connect_codec.specs.Verdict.{verdict_of};
 ghost use Rattle.connect_codec.specs.declared.answer.Outcome.{Outcome};
 ghost use Rattle.connect_codec.specs.declared.verdict.Verdict.{Verdict};
+ghost use Rattle.error_document.specs.Documents.{error_text};
 ghost use Rattle.error_document.specs.declared.code.Code.{Code};
 ghost use Rattle.gateway_core.specs.Arrival.{Arrival};
 ghost use Rattle.gateway_core.specs.Reply.{reply_of};
 ghost use Rattle.gateway_core.specs.Occurrence.{Opening};
 ghost use Rattle.gateway_core.specs.Past.{past_of};
 ghost use Rattle.gateway_core.specs.Queue.{replies};
-ghost use Rattle.gateway_core.specs.Rows.{ping, quote, request_for, get_request, ping_adding, ping_of_type, ping_empty, text_of, arrives, comes, error, backend_reply, outcome_at, pinged, failed, document, bytes_queued};
+ghost use Rattle.gateway_core.specs.Rows.{ping, quote, request_for, get_request, ping_adding, ping_of_type, ping_empty, text_of, arrives, comes, error, backend_reply, outcome_at, pinged, detailed, failed_with, failed, document, bytes_queued};
 
 /// A request of another method is told which there is.
 fn another_method()
@@ -154,15 +155,48 @@ fn broken_answer()
     ensures bytes { bytes_queued (pinged (outcome_at 200 (codes "{"))) ≡ 148 }
 {}
 
-/// An error with details, which are dropped.
-fn named_error()
+/// An error with a detail, which is kept.
+fn details_kept()
     ensures outcome { outcome_at 404 (codes "{\"code\":\"not_found\",\"message\":\"no\",\"details\":[{\"type\":\"t\",\"value\":\"AA\"}]}")
-        ≡ Outcome.Fail (error Code.NotFound (codes "no")) }
+        ≡ Outcome.Fail (detailed Code.NotFound (codes "no")) }
     ensures replies { replies 0 (past_of (pinged (outcome_at 404 (codes "{\"code\":\"not_found\",\"message\":\"no\",\"details\":[{\"type\":\"t\",\"value\":\"AA\"}]}"))))
-        ≡ failed Code.NotFound (codes "pong: no") ∷ [] }
-    ensures body { document Code.NotFound (codes "pong: no") ≡ codes "{\"code\":\"not_found\",\"message\":\"pong: no\"}" }
-    ensures body_bytes { length (document Code.NotFound (codes "pong: no")) ≡ 41 }
-    ensures bytes { bytes_queued (pinged (outcome_at 404 (codes "{\"code\":\"not_found\",\"message\":\"no\",\"details\":[{\"type\":\"t\",\"value\":\"AA\"}]}"))) ≡ 119 }
+        ≡ failed_with (detailed Code.NotFound (codes "pong: no")) ∷ [] }
+    ensures body { error_text (detailed Code.NotFound (codes "pong: no"))
+        ≡ codes "{\"code\":\"not_found\",\"details\":[{\"type\":\"t\",\"value\":\"AA\"}],\"message\":\"pong: no\"}" }
+    ensures body_bytes { length (error_text (detailed Code.NotFound (codes "pong: no"))) ≡ 79 }
+    ensures bytes { bytes_queued (pinged (outcome_at 404 (codes "{\"code\":\"not_found\",\"message\":\"no\",\"details\":[{\"type\":\"t\",\"value\":\"AA\"}]}"))) ≡ 157 }
+{}
+
+/// Of a detail its type and its value are kept, and what is no detail is left out.
+fn details_filtered()
+    ensures outcome { outcome_at 404 (codes "{\"code\":\"not_found\",\"details\":[{\"type\":\"t\",\"value\":\"AA\",\"debug\":{\"x\":1}},{\"type\":5}]}")
+        ≡ Outcome.Fail (detailed Code.NotFound []) }
+    ensures replies { replies 0 (past_of (pinged (Outcome.Fail (detailed Code.NotFound []))))
+        ≡ failed_with (detailed Code.NotFound (codes "pong")) ∷ [] }
+    ensures body { error_text (detailed Code.NotFound (codes "pong"))
+        ≡ codes "{\"code\":\"not_found\",\"details\":[{\"type\":\"t\",\"value\":\"AA\"}],\"message\":\"pong\"}" }
+    ensures body_bytes { length (error_text (detailed Code.NotFound (codes "pong"))) ≡ 75 }
+    ensures bytes { bytes_queued (pinged (Outcome.Fail (detailed Code.NotFound []))) ≡ 153 }
+{}
+
+/// Details that are no array are none.
+fn details_no_array()
+    ensures outcome { outcome_at 409 (codes "{\"code\":\"aborted\",\"details\":7}") ≡ Outcome.Fail (error Code.Aborted []) }
+    ensures replies { replies 0 (past_of (pinged (Outcome.Fail (error Code.Aborted [])))) ≡ failed Code.Aborted (codes "pong") ∷ [] }
+    ensures body { document Code.Aborted (codes "pong") ≡ codes "{\"code\":\"aborted\",\"message\":\"pong\"}" }
+    ensures body_bytes { length (document Code.Aborted (codes "pong")) ≡ 35 }
+    ensures bytes { bytes_queued (pinged (Outcome.Fail (error Code.Aborted []))) ≡ 112 }
+{}
+
+/// An error whose code the status stands for has no details.
+fn details_without_code()
+    ensures outcome { outcome_at 404 (codes "{\"message\":\"m\",\"details\":[{\"type\":\"t\",\"value\":\"AA\"}]}")
+        ≡ Outcome.Fail (error Code.Unimplemented (codes "m")) }
+    ensures replies { replies 0 (past_of (pinged (Outcome.Fail (error Code.Unimplemented (codes "m")))))
+        ≡ failed Code.Unimplemented (codes "pong: m") ∷ [] }
+    ensures body { document Code.Unimplemented (codes "pong: m") ≡ codes "{\"code\":\"unimplemented\",\"message\":\"pong: m\"}" }
+    ensures body_bytes { length (document Code.Unimplemented (codes "pong: m")) ≡ 44 }
+    ensures bytes { bytes_queued (pinged (Outcome.Fail (error Code.Unimplemented (codes "m")))) ≡ 128 }
 {}
 
 /// An error of a code alone.

@@ -1,7 +1,7 @@
 use Rattle.std.proofs.Common.{refl}
 use Rattle.http_pieces.specs.Fields.{same_without_case}
 use Rattle.gateway_core.proofs.OnLiterals.{outcomes_on_literals, replies_on_literals}
-use Rattle.gateway_core.proofs.rows_replies.named_error.Goals as goal
+use Rattle.gateway_core.proofs.rows_replies.details_kept.Goals as goal
 
 pub returns-clause-outcome : goal.returns-clause-outcome
 unfolding outcomes_on_literals
