@@ -16,7 +16,7 @@ use Rattle.gateway_core.proofs.Cases.{and_false}
 use Rattle.gateway_core.specs.Step.{CallState, kept}
 use Rattle.gateway_core.specs.LiveStands.{CallStands, Stepped}
 use Rattle.gateway_core.specs.Begins.{arrive}
-use Rattle.gateway_core.specs.Machine.{ConnState, MachineState, call_at, conn_at, is_full, next_id, arriving, with_slot}
+use Rattle.gateway_core.specs.Machine.{ConnState, MachineState, is_full, next_id, arriving, with_slot}
 use Rattle.gateway_core.specs.Standing.{SlotsStand, ConnStands}
 use Rattle.gateway_core.proofs.BeginsLemmas.{arrives}
 use Rattle.gateway_core.proofs.SlotLemmas.{undecided_count}
@@ -38,17 +38,17 @@ next_of c k taken past h =
 
 -- what comes on a connection that goes on
 comes_on : (c : ℕ) (x : Entering) (s : MachineState) (taken : List ReplyEntry) (os : List Occurrence) → s.moment ≡ now (marked os) → s.drained ≡ is_drained (marked os)
-    → ConnStands c (conn_at c s.conns) taken (marked os) → is_closed c (marked os) ≡ false
+    → ConnStands c (s.conns c) taken (marked os) → is_closed c (marked os) ≡ false
     → Stepped (next_id c s) (arriving c x s) (mark_of (marked os) (Entry c x)) (marked os)
 comes_on c x s taken os m_is d_is k unclosed =
-    let full : is_full (conn_at c s.conns).slots ≡ nat_le most_calls (undecided_calls c (marked os)) =
-    ap (λ n. nat_le most_calls n) (undecided_count c taken (conn_at c s.conns).slots (marked os) k.slots_stand) in
+    let full : is_full (s.conns c).slots ≡ nat_le most_calls (undecided_calls c (marked os)) =
+    ap (λ n. nat_le most_calls n) (undecided_count c taken (s.conns c).slots (marked os) k.slots_stand) in
     let right : arriving c x s ≡ arrive (now (marked os)) (is_drained (marked os)) (crowds (Entry c x) (marked os)) (next_id c s) x =
-    crowd_is c x (is_full (conn_at c s.conns).slots) (marked os) s.moment s.drained (next_id c s) full
+    crowd_is c x (is_full (s.conns c).slots) (marked os) s.moment s.drained (next_id c s) full
     ∙ ap (λ n. arrive n s.drained (crowds (Entry c x) (marked os)) (next_id c s) x) m_is
     ∙ ap (λ b. arrive (now (marked os)) b (crowds (Entry c x) (marked os)) (next_id c s) x) d_is in
     subst (λ r. Stepped (next_id c s) r (mark_of (marked os) (Entry c x)) (marked os)) (sym right)
-    (arrives (next_id c s) x os (record { next = next_of c (conn_at c s.conns) taken (marked os) k; unclosed = unclosed }))
+    (arrives (next_id c s) x os (record { next = next_of c (s.conns c) taken (marked os) k; unclosed = unclosed }))
 
 -- any other call
 other_goes : (c : ℕ) (x : Entering) (id : CallId) (old : CallState) (moment : ℕ) (os : List Occurrence) → entering_now id (mark_of (marked os) (Entry c x)) (marked os) ≡ None
@@ -85,11 +85,11 @@ fated_entry c x breaks s t fates taken handed os unclosed h concerned a = record
   moment_is = a.moment_is ∙ h.moment_is ∙ omega arith;
   drained_is = a.drained_is ∙ h.drained_is;
   calls_stand = λ id.
-      call_then id (breaks id.conn) (Entry c x) (call_at id s.calls) (call_at id t.calls) s.moment os (fates id.conn) (h.calls_stand id)
-      (if is_call (next_id c s) id then (arriving c x s).call else call_at id s.calls)
+      call_then id (breaks id.conn) (Entry c x) (s.calls id) (t.calls id) s.moment os (fates id.conn) (h.calls_stand id)
+      (if is_call (next_id c s) id then (arriving c x s).call else s.calls id)
       (call_made id) (a.calls_are id);
   conns_stand = λ d.
-      conn_by d (breaks d) (d == c) (arriving c x s).reply (Entry c x) (conn_at d s.conns) (conn_at d t.conns) (taken d) os (fates d) (h.conns_stand d)
+      conn_by d (breaks d) (d == c) (arriving c x s).reply (Entry c x) (s.conns d) (t.conns d) (taken d) os (fates d) (h.conns_stand d)
       (conn_made d (d == c) refl) (a.conns_are d);
   jobs_are = rw a.jobs_are
       (sym (append_assoc handed s.jobs (if is_stopped breaks fates c then [] else (arriving c x s).jobs))
@@ -104,28 +104,28 @@ fated_entry c x breaks s t fates taken handed os unclosed h concerned a = record
     m : Mark
     m = mark_of (marked os) (Entry c x)
 
-    conn_goes_on : (d : ℕ) → is_stopped breaks fates d ≡ false → ConnStands d (conn_at d s.conns) (taken d) (marked os)
-    conn_goes_on d e = subst (λ f. ConnFated d (conn_at d s.conns) (taken d) f os) (going (fates d) (breaks d) e) (h.conns_stand d)
+    conn_goes_on : (d : ℕ) → is_stopped breaks fates d ≡ false → ConnStands d (s.conns d) (taken d) (marked os)
+    conn_goes_on d e = subst (λ f. ConnFated d (s.conns d) (taken d) f os) (going (fates d) (breaks d) e) (h.conns_stand d)
 
-    call_goes_on : (id : CallId) → is_stopped breaks fates id.conn ≡ false → CallStands id (call_at id s.calls) (marked os)
-    call_goes_on id e = subst (λ f. CallFated id (call_at id s.calls) f os) (going (fates id.conn) (breaks id.conn) e) (h.calls_stand id)
+    call_goes_on : (id : CallId) → is_stopped breaks fates id.conn ≡ false → CallStands id (s.calls id) (marked os)
+    call_goes_on id e = subst (λ f. CallFated id (s.calls id) f os) (going (fates id.conn) (breaks id.conn) e) (h.calls_stand id)
 
     comes : is_stopped breaks fates c ≡ false → Stepped (next_id c s) (arriving c x s) m past
     comes e = comes_on c x s (taken c) os h.moment_is h.drained_is (conn_goes_on c e) (unclosed e)
 
     -- another call than the one that comes
-    other : (id : CallId) → is_stopped breaks fates id.conn ≡ false → is_call (next_id c s) id ≡ false → Stepped id (kept (call_at id s.calls)) m past
+    other : (id : CallId) → is_stopped breaks fates id.conn ≡ false → is_call (next_id c s) id ≡ false → Stepped id (kept (s.calls id)) m past
     other id e apart = ⊎_elim
         (λ (here : (c == id.conn) ≡ true).
         let on_c : is_stopped breaks fates c ≡ false = ap (λ d. is_stopped breaks fates d) (eqb-true c id.conn here) ∙ e in
-        other_goes c x id (call_at id s.calls) s.moment os
-        (other_call c x id _ past (next_of c (conn_at c s.conns) (taken c) past (conn_goes_on c on_c)) apart) h.moment_is (call_goes_on id e))
+        other_goes c x id (s.calls id) s.moment os
+        (other_call c x id _ past (next_of c (s.conns c) (taken c) past (conn_goes_on c on_c)) apart) h.moment_is (call_goes_on id e))
         (λ (there : (c == id.conn) ≡ false).
-        other_goes c x id (call_at id s.calls) s.moment os (elsewhere c x id past there) h.moment_is (call_goes_on id e))
+        other_goes c x id (s.calls id) s.moment os (elsewhere c x id past there) h.moment_is (call_goes_on id e))
         (cases_Bool (c == id.conn))
 
-    call_made : (id : CallId) → is_stopped breaks fates id.conn ≡ false → CallStands id (call_at id s.calls) (marked os)
-        → CallStands id (if is_call (next_id c s) id then (arriving c x s).call else call_at id s.calls) (m ∷ past)
+    call_made : (id : CallId) → is_stopped breaks fates id.conn ≡ false → CallStands id (s.calls id) (marked os)
+        → CallStands id (if is_call (next_id c s) id then (arriving c x s).call else s.calls id) (m ∷ past)
     call_made id e old = ⊎_elim
         (λ (it : is_call (next_id c s) id ≡ true).
         let same : next_id c s ≡ id = same_call (next_id c s) id it in
@@ -134,37 +134,37 @@ fated_entry c x breaks s t fates taken handed os unclosed h concerned a = record
         (λ (apart : is_call (next_id c s) id ≡ false). rw apart (other id e apart).stands)
         (cases_Bool (is_call (next_id c s) id))
 
-    conn_made : (d : ℕ) (b : Bool) → (d == c) ≡ b → is_stopped breaks fates d ≡ false → ConnStands d (conn_at d s.conns) (taken d) (marked os)
-        → ConnStands d (if d == c then with_slot (arriving c x s).reply (conn_at d s.conns) else conn_at d s.conns) (taken d) (m ∷ past)
+    conn_made : (d : ℕ) (b : Bool) → (d == c) ≡ b → is_stopped breaks fates d ≡ false → ConnStands d (s.conns d) (taken d) (marked os)
+        → ConnStands d (if d == c then with_slot (arriving c x s).reply (s.conns d) else s.conns d) (taken d) (m ∷ past)
     conn_made d true b_is e k =
-        rw b_is (subst (λ i. ConnStands i (with_slot (arriving c x s).reply (conn_at i s.conns)) (taken i) (m ∷ past)) (sym (eqb-true d c b_is))
+        rw b_is (subst (λ i. ConnStands i (with_slot (arriving c x s).reply (s.conns i)) (taken i) (m ∷ past)) (sym (eqb-true d c b_is))
         (slot_added (ap (λ i. is_stopped breaks fates i) (sym (eqb-true d c b_is)) ∙ e)))
       where
-        slot_added : is_stopped breaks fates c ≡ false → ConnStands c (with_slot (arriving c x s).reply (conn_at c s.conns)) (taken c) (m ∷ past)
+        slot_added : is_stopped breaks fates c ≡ false → ConnStands c (with_slot (arriving c x s).reply (s.conns c)) (taken c) (m ∷ past)
         slot_added on = record {
           taken_is = kc.taken_is;
           closed_is = kc.closed_is;
-          slots_stand = subst (λ xs. SlotsStand c xs (m ∷ past)) (append_assoc (map Some (taken c)) (conn_at c s.conns).slots ((arriving c x s).reply ∷ []))
-              (more_slots c x (map Some (taken c) ++ (conn_at c s.conns).slots) (arriving c x s).reply past kc.slots_stand others here);
+          slots_stand = subst (λ xs. SlotsStand c xs (m ∷ past)) (append_assoc (map Some (taken c)) (s.conns c).slots ((arriving c x s).reply ∷ []))
+              (more_slots c x (map Some (taken c) ++ (s.conns c).slots) (arriving c x s).reply past kc.slots_stand others here);
         }
           where
-            kc : ConnStands c (conn_at c s.conns) (taken c) (marked os)
+            kc : ConnStands c (s.conns c) (taken c) (marked os)
             kc = conn_goes_on c on
 
-            next : entries c past ≡ (conn_at c s.conns).taken + length (conn_at c s.conns).slots
-            next = next_of c (conn_at c s.conns) (taken c) past kc
+            next : entries c past ≡ (s.conns c).taken + length (s.conns c).slots
+            next = next_of c (s.conns c) (taken c) past kc
 
-            size : length (map Some (taken c) ++ (conn_at c s.conns).slots) ≡ (conn_at c s.conns).taken + length (conn_at c s.conns).slots
+            size : length (map Some (taken c) ++ (s.conns c).slots) ≡ (s.conns c).taken + length (s.conns c).slots
             size = kc.slots_stand.size_is ∙ next
 
-            others : (k : ℕ) → (k ≡ length (map Some (taken c) ++ (conn_at c s.conns).slots) → ⊥) → entry (call_id c k) past ≡ entry (call_id c k) (m ∷ past)
+            others : (k : ℕ) → (k ≡ length (map Some (taken c) ++ (s.conns c).slots) → ⊥) → entry (call_id c k) past ≡ entry (call_id c k) (m ∷ past)
             others k ne =
                 sym (or_none (entry (call_id c k) past))
                 ∙ (other (call_id c k) on (rw (ne_eqb _ k (λ e. ne (sym e ∙ sym size))) (and_false (c == c)))).replies
 
-            here : (arriving c x s).reply ≡ entry (call_id c (length (map Some (taken c) ++ (conn_at c s.conns).slots))) (m ∷ past)
+            here : (arriving c x s).reply ≡ entry (call_id c (length (map Some (taken c) ++ (s.conns c).slots))) (m ∷ past)
             here = subst (λ n. (arriving c x s).reply ≡ entry (call_id c n) (m ∷ past)) (sym size)
-                (ap (λ o. option_or o (arriving c x s).reply) (sym (no_entry_yet c ((conn_at c s.conns).taken + length (conn_at c s.conns).slots) past (omega (arith, next))))
+                (ap (λ o. option_or o (arriving c x s).reply) (sym (no_entry_yet c ((s.conns c).taken + length (s.conns c).slots) past (omega (arith, next))))
                 ∙ (comes on).replies)
     conn_made d false b_is e k = rw b_is (record {
       taken_is = k.taken_is;
@@ -180,5 +180,5 @@ fated_entry c x breaks s t fates taken handed os unclosed h concerned a = record
     jobs_made true b_is = ap (λ b. if b then [] else (arriving c x s).jobs) b_is ∙ ap (λ b. if b then [] else jobs_by (Entry c x) m past) (sym b_is)
     jobs_made false b_is =
         ap (λ b. if b then [] else (arriving c x s).jobs) b_is
-        ∙ ((comes b_is).starts ∙ ap (λ n. jobs_started (call_id c n) m past) (sym (next_of c (conn_at c s.conns) (taken c) past (conn_goes_on c b_is))))
+        ∙ ((comes b_is).starts ∙ ap (λ n. jobs_started (call_id c n) m past) (sym (next_of c (s.conns c) (taken c) past (conn_goes_on c b_is))))
         ∙ ap (λ b. if b then [] else jobs_by (Entry c x) m past) (sym b_is)

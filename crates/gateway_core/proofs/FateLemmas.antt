@@ -13,7 +13,7 @@ use Rattle.gateway_core.specs.Starts.{jobs_by}
 use Rattle.gateway_core.proofs.Cases.{or_false}
 use Rattle.gateway_core.specs.Step.{CallState, step}
 use Rattle.gateway_core.specs.LiveStands.{CallStands, Stepped}
-use Rattle.gateway_core.specs.Machine.{ConnState, MachineState, ConnAfter, call_at, conn_at, slot_at, step_of, starting, is_entry}
+use Rattle.gateway_core.specs.Machine.{ConnState, MachineState, ConnAfter, slot_at, step_of, starting, is_entry}
 use Rattle.gateway_core.specs.Standing.{SlotsStand, ConnStands}
 use Rattle.gateway_core.proofs.StepLemmas.{stepped}
 use Rattle.gateway_core.proofs.MachineLemmas.{no_entering, entries_same, slots_after, each_slot}
@@ -87,7 +87,7 @@ breaks_conn c old new taken os h q = record {
 
 -- an unbroken one at an occurrence that does not break it
 pub conn_goes : (c : ℕ) (o : Occurrence) (s : MachineState) (old new : ConnState) (taken : List ReplyEntry) (os : List Occurrence) → is_entry o ≡ false
-    → s.moment ≡ now (marked os) → ((k : ℕ) → CallStands (call_id c k) (call_at (call_id c k) s.calls) (marked os))
+    → s.moment ≡ now (marked os) → ((k : ℕ) → CallStands (call_id c k) (s.calls (call_id c k)) (marked os))
     → ConnStands c old taken (marked os) → ConnAfter o s c old new → ConnStands c new taken (marked (o ∷ os))
 conn_goes c o s old new taken os plain m_is calls h a =
     let r : ℕ → Option ReplyEntry = λ j. (step_of (call_id c j) o s).reply in
@@ -100,11 +100,11 @@ conn_goes c o s old new taken os plain m_is calls h a =
           (length-append (map Some taken) new.slots ∙ ap (λ n. length (map Some taken) + n) a.size_is ∙ sym (length-append (map Some taken) old.slots))
           (each_slot taken old.slots new.slots r a.size_is
           (λ j lt. a.each j lt ∙ ap (λ n. option_or (slot_at j old.slots) (step_of (call_id c (n + j)) o s).reply) h.taken_is))
-          (λ j. (call_goes (call_id c j) o (call_at (call_id c j) s.calls) s.moment os (no_entering (call_id c j) o (marked os) plain) m_is (calls j)).replies);
+          (λ j. (call_goes (call_id c j) o (s.calls (call_id c j)) s.moment os (no_entering (call_id c j) o (marked os) plain) m_is (calls j)).replies);
     }
 
 pub conn_then : (c : ℕ) (breaks : Bool) (o : Occurrence) (s : MachineState) (old new : ConnState) (taken : List ReplyEntry) (os : List Occurrence) (f : Fate)
-    → is_entry o ≡ false → s.moment ≡ now (marked os) → ((k : ℕ) → CallFated (call_id c k) (call_at (call_id c k) s.calls) f os)
+    → is_entry o ≡ false → s.moment ≡ now (marked os) → ((k : ℕ) → CallFated (call_id c k) (s.calls (call_id c k)) f os)
     → ConnFated c old taken f os → ConnOn (is_broken f || breaks) o s c old new → ConnFated c new taken (fate_after breaks o os f) (o ∷ os)
 conn_then c true o s old new taken os Unbroken plain m_is calls h a = breaks_conn c old new taken os h a
 conn_then c false o s old new taken os Unbroken plain m_is calls h a = conn_goes c o s old new taken os plain m_is calls h a
@@ -150,17 +150,17 @@ jobs_then breaks o os fates h =
     (broken_now (starting_conn o) (breaks (starting_conn o)) o os (fates (starting_conn o)) (h (starting_conn o)))
 
 jobs_now : (o : Occurrence) (breaks : Bool) (f : Fate) (s : MachineState) (os : List Occurrence) → is_entry o ≡ false → s.moment ≡ now (marked os)
-    → ((id : CallId) → id.conn ≡ starting_conn o → CallFated id (call_at id s.calls) f os)
+    → ((id : CallId) → id.conn ≡ starting_conn o → CallFated id (s.calls id) f os)
     → (if is_broken f || breaks then [] else starting o s) ≡ (if is_broken f || breaks then [] else jobs_by o (mark_of (marked os) o) (marked os))
 jobs_now o breaks (BrokenAt since at older) s os plain m_is calls = refl
 jobs_now o true Unbroken s os plain m_is calls = refl
 jobs_now o false Unbroken s os plain m_is calls = by_each o plain calls
   where
-    by_each : (o : Occurrence) → is_entry o ≡ false → ((id : CallId) → id.conn ≡ starting_conn o → CallStands id (call_at id s.calls) (marked os))
+    by_each : (o : Occurrence) → is_entry o ≡ false → ((id : CallId) → id.conn ≡ starting_conn o → CallStands id (s.calls id) (marked os))
         → starting o s ≡ jobs_by o (mark_of (marked os) o) (marked os)
     by_each (Entry c x) e calls = absurd (cc)
     by_each (Result of i r) e calls =
-        (call_goes of (Result of i r) (call_at of s.calls) s.moment os (no_entering of (Result of i r) (marked os) refl) m_is (calls of refl)).starts
+        (call_goes of (Result of i r) (s.calls of) s.moment os (no_entering of (Result of i r) (marked os) refl) m_is (calls of refl)).starts
     by_each Opening e calls = refl
     by_each (HangUp d) e calls = refl
     by_each (Moment t) e calls = refl
@@ -177,16 +177,16 @@ fated_after o breaks s t fates taken handed os plain h concerned a = record {
   moment_is = a.moment_is ∙ ap (λ k. max k (moment_of o)) h.moment_is;
   drained_is = a.drained_is ∙ ap (λ b. is_drain o || b) h.drained_is;
   calls_stand = λ id.
-      call_then id (breaks id.conn) o (call_at id s.calls) (call_at id t.calls) s.moment os (fates id.conn) (h.calls_stand id) (step_of id o s).call
-      (λ _ stands. (call_goes id o (call_at id s.calls) s.moment os (no_entering id o (marked os) plain) h.moment_is stands).stands) (a.calls_are id);
+      call_then id (breaks id.conn) o (s.calls id) (t.calls id) s.moment os (fates id.conn) (h.calls_stand id) (step_of id o s).call
+      (λ _ stands. (call_goes id o (s.calls id) s.moment os (no_entering id o (marked os) plain) h.moment_is stands).stands) (a.calls_are id);
   conns_stand = λ c.
-      conn_then c (breaks c) o s (conn_at c s.conns) (conn_at c t.conns) (taken c) os (fates c) plain h.moment_is (λ k. h.calls_stand (call_id c k))
+      conn_then c (breaks c) o s (s.conns c) (t.conns c) (taken c) os (fates c) plain h.moment_is (λ k. h.calls_stand (call_id c k))
       (h.conns_stand c) (a.conns_are c);
   jobs_are = rw a.jobs_are
       (sym (append_assoc handed s.jobs (if is_stopped breaks fates (starting_conn o) then [] else starting o s))
       ∙ ap (λ js. js ++ (if is_stopped breaks fates (starting_conn o) then [] else starting o s)) h.jobs_are
       ∙ ap (λ js. jobs_fated fates os ++ js)
       (jobs_now o (breaks (starting_conn o)) (fates (starting_conn o)) s os plain h.moment_is
-      (λ id e. subst (λ c. CallFated id (call_at id s.calls) (fates c) os) e (h.calls_stand id)))
+      (λ id e. subst (λ c. CallFated id (s.calls id) (fates c) os) e (h.calls_stand id)))
       ∙ sym (jobs_then breaks o os fates h.fates_are));
 }

@@ -18,10 +18,10 @@ use Rattle.gateway_core.specs.Starts.{jobs as all_jobs}
 use Rattle.gateway_core.proofs.LimitLemmas.{same_call}
 use Rattle.gateway_core.proofs.Cases.{and_false}
 use Rattle.gateway_core.proofs.Unborn.{unborn}
-use Rattle.gateway_core.specs.Step.{Live, call_state, kept, step}
+use Rattle.gateway_core.specs.Step.{CallState, Live, call_state, gone, kept, step}
 use Rattle.gateway_core.specs.LiveStands.{CallStands, Stepped}
 use Rattle.gateway_core.specs.Begins.{arrive}
-use Rattle.gateway_core.specs.Machine.{Kept, ConnState, MachineState, ConnAfter, After, AfterEntry, call_at, conn_at, slot_at, step_of, starting, is_full, next_id, arriving, with_slot, is_entry}
+use Rattle.gateway_core.specs.Machine.{new_conn, ConnState, MachineState, ConnAfter, After, AfterEntry, slot_at, step_of, starting, is_full, next_id, arriving, with_slot, is_entry}
 use Rattle.gateway_core.specs.Standing.{SlotsStand, ConnStands, StandsFor}
 use Rattle.gateway_core.proofs.StepLemmas.{stepped}
 use Rattle.gateway_core.proofs.BeginsLemmas.{arrives}
@@ -54,8 +54,8 @@ entries_same c (Closing d) past e = refl
 step_at : (id : CallId) (o : Occurrence) (s : MachineState) (taken : ℕ → List ReplyEntry) (handed : List JobValue) (os : List Occurrence)
     → entering_now id (mark_of (marked os) o) (marked os) ≡ None → StandsFor s taken handed os → Stepped id (step_of id o s) (mark_of (marked os) o) (marked os)
 step_at id o s taken handed os none h =
-    subst (λ n. Stepped id (step n id o (call_at id s.calls)) (mark_of (marked os) o) (marked os)) (sym h.moment_is)
-    (stepped id o (call_at id s.calls).out (call_at id s.calls).live (marked os) none (h.calls_stand id))
+    subst (λ n. Stepped id (step n id o (s.calls id)) (mark_of (marked os) o) (marked os)) (sym h.moment_is)
+    (stepped id o (s.calls id).out (s.calls id).live (marked os) none (h.calls_stand id))
 
 -- what is behind the requests that came has no entry
 pub no_entry_yet : (c k : ℕ) (past : Past) → entries c past ≤ k → entry (call_id c k) past ≡ None
@@ -107,10 +107,10 @@ stands_after o s t taken handed os plain h a =
           ∙ ap (λ js. all_jobs past ++ js) (jobs_after o s taken handed os plain h));
     }
   where
-    conn_after : (c : ℕ) (m : Mark) (past : Past) → ConnStands c (conn_at c t.conns) (taken c) (mark_of (marked os) o ∷ marked os)
+    conn_after : (c : ℕ) (m : Mark) (past : Past) → ConnStands c (t.conns c) (taken c) (mark_of (marked os) o ∷ marked os)
     conn_after c m past =
-        let k : ConnState = conn_at c s.conns in
-        let l : ConnState = conn_at c t.conns in
+        let k : ConnState = s.conns c in
+        let l : ConnState = t.conns c in
         let ka : ConnAfter o s c k l = a.conns_are c in
         let kh : ConnStands c k (taken c) (marked os) = h.conns_stand c in
         let r : ℕ → Option ReplyEntry = λ j. (step_of (call_id c j) o s).reply in
@@ -129,10 +129,10 @@ stands_after o s t taken handed os plain h a =
 -- ---- something comes on a stream
 
 next_is : (c : ℕ) (s : MachineState) (taken : ℕ → List ReplyEntry) (handed : List JobValue) (os : List Occurrence) → StandsFor s taken handed os
-    → entries c (marked os) ≡ (conn_at c s.conns).taken + length (conn_at c s.conns).slots
+    → entries c (marked os) ≡ (s.conns c).taken + length (s.conns c).slots
 next_is c s taken handed os h =
-    let k : ConnStands c (conn_at c s.conns) (taken c) (marked os) = h.conns_stand c in
-    sym k.slots_stand.size_is ∙ length-append (map Some (taken c)) (conn_at c s.conns).slots
+    let k : ConnStands c (s.conns c) (taken c) (marked os) = h.conns_stand c in
+    sym k.slots_stand.size_is ∙ length-append (map Some (taken c)) (s.conns c).slots
     ∙ omega (arith, k.taken_is, length-map (taken c) (λ (e : ReplyEntry). Some e))
 
 -- whether a call is one too many matters only where one is asked for
@@ -145,11 +145,11 @@ crowd_is c (Request q (Asks plan t rid)) full past moment drained id e = ap (λ 
 arriving_is : (c : ℕ) (x : Entering) (s : MachineState) (taken : ℕ → List ReplyEntry) (handed : List JobValue) (os : List Occurrence) → StandsFor s taken handed os
     → is_closed c (marked os) ≡ false → Stepped (next_id c s) (arriving c x s) (mark_of (marked os) (Entry c x)) (marked os)
 arriving_is c x s taken handed os h unclosed =
-    let k : ConnStands c (conn_at c s.conns) (taken c) (marked os) = h.conns_stand c in
-    let full : is_full (conn_at c s.conns).slots ≡ nat_le most_calls (undecided_calls c (marked os)) =
-    ap (λ n. nat_le most_calls n) (undecided_count c (taken c) (conn_at c s.conns).slots (marked os) k.slots_stand) in
+    let k : ConnStands c (s.conns c) (taken c) (marked os) = h.conns_stand c in
+    let full : is_full (s.conns c).slots ≡ nat_le most_calls (undecided_calls c (marked os)) =
+    ap (λ n. nat_le most_calls n) (undecided_count c (taken c) (s.conns c).slots (marked os) k.slots_stand) in
     let right : arriving c x s ≡ arrive (now (marked os)) (is_drained (marked os)) (crowds (Entry c x) (marked os)) (next_id c s) x =
-    crowd_is c x (is_full (conn_at c s.conns).slots) (marked os) s.moment s.drained (next_id c s) full
+    crowd_is c x (is_full (s.conns c).slots) (marked os) s.moment s.drained (next_id c s) full
     ∙ ap (λ n. arrive n s.drained (crowds (Entry c x) (marked os)) (next_id c s) x) h.moment_is
     ∙ ap (λ b. arrive (now (marked os)) b (crowds (Entry c x) (marked os)) (next_id c s) x) h.drained_is in
     subst (λ r. Stepped (next_id c s) r (mark_of (marked os) (Entry c x)) (marked os)) (sym right)
@@ -173,9 +173,9 @@ kept_by_entry moment id c x out None = refl
 kept_by_entry moment id c x out (Some l) = refl
 
 other_step : (c : ℕ) (x : Entering) (s : MachineState) (taken : ℕ → List ReplyEntry) (handed : List JobValue) (os : List Occurrence) (id : CallId) → StandsFor s taken handed os
-    → is_call (next_id c s) id ≡ false → Stepped id (kept (call_at id s.calls)) (mark_of (marked os) (Entry c x)) (marked os)
+    → is_call (next_id c s) id ≡ false → Stepped id (kept (s.calls id)) (mark_of (marked os) (Entry c x)) (marked os)
 other_step c x s taken handed os id h other =
-    subst (λ r. Stepped id r (mark_of (marked os) (Entry c x)) (marked os)) (kept_by_entry s.moment id c x (call_at id s.calls).out (call_at id s.calls).live)
+    subst (λ r. Stepped id r (mark_of (marked os) (Entry c x)) (marked os)) (kept_by_entry s.moment id c x (s.calls id).out (s.calls id).live)
     (step_at id (Entry c x) s taken handed os (other_call c x id _ (marked os) (next_is c s taken handed os h) other) h)
 
 pub or_none : {A : Type 0} (x : Option A) → option_or x None ≡ x
@@ -225,28 +225,28 @@ stands_entry c x s t taken handed os unclosed h a = record {
     st : Stepped (next_id c s) (arriving c x s) m past
     st = arriving_is c x s taken handed os h unclosed
 
-    next : entries c past ≡ (conn_at c s.conns).taken + length (conn_at c s.conns).slots
+    next : entries c past ≡ (s.conns c).taken + length (s.conns c).slots
     next = next_is c s taken handed os h
 
-    by_conn : (d : ℕ) (b : Bool) → (d == c) ≡ b → ConnStands d (if b then with_slot (arriving c x s).reply (conn_at d s.conns) else conn_at d s.conns) (taken d) (m ∷ past)
-    by_conn d true b_is = subst (λ e. ConnStands e (with_slot (arriving c x s).reply (conn_at e s.conns)) (taken e) (m ∷ past)) (sym (eqb-true d c b_is)) (record {
+    by_conn : (d : ℕ) (b : Bool) → (d == c) ≡ b → ConnStands d (if b then with_slot (arriving c x s).reply (s.conns d) else s.conns d) (taken d) (m ∷ past)
+    by_conn d true b_is = subst (λ e. ConnStands e (with_slot (arriving c x s).reply (s.conns e)) (taken e) (m ∷ past)) (sym (eqb-true d c b_is)) (record {
       taken_is = (h.conns_stand c).taken_is;
       closed_is = (h.conns_stand c).closed_is;
-      slots_stand = subst (λ xs. SlotsStand c xs (m ∷ past)) (append_assoc (map Some (taken c)) (conn_at c s.conns).slots ((arriving c x s).reply ∷ []))
-          (more_slots c x (map Some (taken c) ++ (conn_at c s.conns).slots) (arriving c x s).reply past (h.conns_stand c).slots_stand others here);
+      slots_stand = subst (λ xs. SlotsStand c xs (m ∷ past)) (append_assoc (map Some (taken c)) (s.conns c).slots ((arriving c x s).reply ∷ []))
+          (more_slots c x (map Some (taken c) ++ (s.conns c).slots) (arriving c x s).reply past (h.conns_stand c).slots_stand others here);
     })
       where
-        size : length (map Some (taken c) ++ (conn_at c s.conns).slots) ≡ (conn_at c s.conns).taken + length (conn_at c s.conns).slots
+        size : length (map Some (taken c) ++ (s.conns c).slots) ≡ (s.conns c).taken + length (s.conns c).slots
         size = (h.conns_stand c).slots_stand.size_is ∙ next
 
-        others : (k : ℕ) → (k ≡ length (map Some (taken c) ++ (conn_at c s.conns).slots) → ⊥) → entry (call_id c k) past ≡ entry (call_id c k) (m ∷ past)
+        others : (k : ℕ) → (k ≡ length (map Some (taken c) ++ (s.conns c).slots) → ⊥) → entry (call_id c k) past ≡ entry (call_id c k) (m ∷ past)
         others k ne =
             sym (or_none (entry (call_id c k) past))
             ∙ (other_step c x s taken handed os (call_id c k) h (rw (ne_eqb _ k (λ e. ne (sym e ∙ sym size))) (and_false (c == c)))).replies
 
-        here : (arriving c x s).reply ≡ entry (call_id c (length (map Some (taken c) ++ (conn_at c s.conns).slots))) (m ∷ past)
+        here : (arriving c x s).reply ≡ entry (call_id c (length (map Some (taken c) ++ (s.conns c).slots))) (m ∷ past)
         here = subst (λ n. (arriving c x s).reply ≡ entry (call_id c n) (m ∷ past)) (sym size)
-            (ap (λ o. option_or o (arriving c x s).reply) (sym (no_entry_yet c ((conn_at c s.conns).taken + length (conn_at c s.conns).slots) past (omega (arith, next)))) ∙ st.replies)
+            (ap (λ o. option_or o (arriving c x s).reply) (sym (no_entry_yet c ((s.conns c).taken + length (s.conns c).slots) past (omega (arith, next)))) ∙ st.replies)
     by_conn d false b_is = record {
       taken_is = (h.conns_stand d).taken_is;
       closed_is = (h.conns_stand d).closed_is;
@@ -263,14 +263,14 @@ stands_entry c x s t taken handed os unclosed h a = record {
 -- ---- what is handed out
 
 pub stands_reply : (c : ℕ) (e : ReplyEntry) (rest : List (Option ReplyEntry)) (s t : MachineState) (taken : ℕ → List ReplyEntry) (handed : List JobValue) (os : List Occurrence)
-    → StandsFor s taken handed os → (conn_at c s.conns).slots ≡ Some e ∷ rest
+    → StandsFor s taken handed os → (s.conns c).slots ≡ Some e ∷ rest
     → t ≡ record s { conns = t.conns }
-    → ((d : ℕ) → conn_at d t.conns ≡ (if d == c then record { taken = (conn_at d s.conns).taken + 1; slots = rest; closed = (conn_at d s.conns).closed } else conn_at d s.conns))
+    → ((d : ℕ) → t.conns d ≡ (if d == c then record { taken = (s.conns d).taken + 1; slots = rest; closed = (s.conns d).closed } else s.conns d))
     → StandsFor t (λ d. if d == c then taken d ++ e ∷ [] else taken d) handed os
 stands_reply c e rest s t taken handed os h front t_is conns = record {
   moment_is = ap (λ (x : MachineState). x.moment) t_is ∙ h.moment_is;
   drained_is = ap (λ (x : MachineState). x.drained) t_is ∙ h.drained_is;
-  calls_stand = λ id. subst (λ (x : List Kept). CallStands id (call_at id x) (marked os)) (sym (ap (λ (x : MachineState). x.calls) t_is)) (h.calls_stand id);
+  calls_stand = λ id. subst (λ (x : CallId → CallState). CallStands id (x id) (marked os)) (sym (ap (λ (x : MachineState). x.calls) t_is)) (h.calls_stand id);
   conns_stand = λ d. subst (λ k. ConnStands d k (if d == c then taken d ++ e ∷ [] else taken d) (marked os)) (sym (conns d)) (by_conn d (d == c) refl);
   jobs_are = ap (λ (x : MachineState). handed ++ x.jobs) t_is ∙ h.jobs_are;
 }
@@ -280,18 +280,18 @@ stands_reply c e rest s t taken handed os h front t_is conns = record {
     taken_more (x ∷ xs) = ap (λ l. Some x ∷ l) (taken_more xs)
 
     by_conn : (d : ℕ) (b : Bool) → (d == c) ≡ b
-        → ConnStands d (if b then record { taken = (conn_at d s.conns).taken + 1; slots = rest; closed = (conn_at d s.conns).closed } else conn_at d s.conns)
+        → ConnStands d (if b then record { taken = (s.conns d).taken + 1; slots = rest; closed = (s.conns d).closed } else s.conns d)
         (if b then taken d ++ e ∷ [] else taken d) (marked os)
     by_conn d false b_is = h.conns_stand d
     by_conn d true b_is = record {
       taken_is = omega (arith, (h.conns_stand d).taken_is, length-append (taken d) (e ∷ []));
       closed_is = (h.conns_stand d).closed_is;
       slots_stand =
-          let there : (conn_at d s.conns).slots ≡ Some e ∷ rest = ap (λ n. (conn_at n s.conns).slots) (eqb-true d c b_is) ∙ front in
+          let there : (s.conns d).slots ≡ Some e ∷ rest = ap (λ n. (s.conns n).slots) (eqb-true d c b_is) ∙ front in
           subst (λ xs. SlotsStand d xs (marked os)) (ap (λ l. map Some (taken d) ++ l) there ∙ sym (taken_more (taken d))) (h.conns_stand d).slots_stand;
     }
 
-pub stands_first : (s : MachineState) → s ≡ record { moment = 0; drained = false; conns = []; calls = []; jobs = [] } → StandsFor s (λ c. []) [] []
+pub stands_first : (s : MachineState) → s ≡ record { moment = 0; drained = false; conns = λ c. new_conn; calls = λ id. gone; jobs = [] } → StandsFor s (λ c. []) [] []
 stands_first s s_is = subst (λ x. StandsFor x (λ c. []) [] []) (sym s_is) (record {
   moment_is = refl;
   drained_is = refl;

@@ -17,7 +17,7 @@ use Rattle.gateway_core.specs.Queue.{entry, front, queued_entries}
 use Rattle.gateway_core.specs.Starts.{jobs, jobs_by, jobs_started, branches_started}
 use Rattle.gateway_core.proofs.Cases.{and_true}
 use Rattle.gateway_core.specs.Step.{CallState, Step, call_state, has_out, kept, step}
-use Rattle.gateway_core.specs.Machine.{ConnState, MachineState, conn_at}
+use Rattle.gateway_core.specs.Machine.{ConnState, MachineState}
 use Rattle.gateway_core.specs.Standing.{SlotsStand}
 use Rattle.gateway_core.proofs.StepLemmas.{back_out}
 use Rattle.gateway_core.specs.Fate.{Fate, Unbroken, BrokenAt, is_broken, is_broken_by, HasFate, lived, starting_conn, jobs_fated}
@@ -38,16 +38,16 @@ slots_lived c k taken Unbroken os h = h.slots_stand
 slots_lived c k taken (BrokenAt since at older) os h = h.slots_stand
 
 pub queued_is : (c : ℕ) (s : MachineState) (fates : ℕ → Fate) (taken : ℕ → List ReplyEntry) (handed : List JobValue) (os : List Occurrence)
-    → FatedStands s fates taken handed os → front (map Some (taken c) ++ (conn_at c s.conns).slots) ≡ queued_entries c (marked (lived (fates c) os))
+    → FatedStands s fates taken handed os → front (map Some (taken c) ++ (s.conns c).slots) ≡ queued_entries c (marked (lived (fates c) os))
 queued_is c s fates taken handed os h =
-    ap front (slots_are c (map Some (taken c) ++ (conn_at c s.conns).slots) (marked (lived (fates c) os))
-    (slots_lived c (conn_at c s.conns) (taken c) (fates c) os (h.conns_stand c)))
+    ap front (slots_are c (map Some (taken c) ++ (s.conns c).slots) (marked (lived (fates c) os))
+    (slots_lived c (s.conns c) (taken c) (fates c) os (h.conns_stand c)))
 
 pub broke_with : (c : ℕ) (s : MachineState) (fates : ℕ → Fate) (taken : ℕ → List ReplyEntry) (handed : List JobValue) (os : List Occurrence)
-    → FatedStands s fates taken handed os → is_broken (fates c) ≡ true → BrokeWith c (front (map Some (taken c) ++ (conn_at c s.conns).slots)) os
+    → FatedStands s fates taken handed os → is_broken (fates c) ≡ true → BrokeWith c (front (map Some (taken c) ++ (s.conns c).slots)) os
 broke_with c s fates taken handed os h broken = by_fate (fates c) refl (h.fates_are c)
   where
-    by_fate : (f : Fate) → fates c ≡ f → HasFate c f os → BrokeWith c (front (map Some (taken c) ++ (conn_at c s.conns).slots)) os
+    by_fate : (f : Fate) → fates c ≡ f → HasFate c f os → BrokeWith c (front (map Some (taken c) ++ (s.conns c).slots)) os
     by_fate Unbroken f_is has = absurd (let bad : false ≡ true = ap is_broken (sym f_is) ∙ broken in cc)
     by_fate (BrokenAt since at older) f_is has =
         (since, at, older, has.0, has.1, queued_is c s fates taken handed os h ∙ ap (λ f. queued_entries c (marked (lived f os))) f_is)

@@ -10,7 +10,7 @@ use Rattle.gateway_core.specs.declared.entry.ReplyEntry.{ReplyEntry}
 use Rattle.gateway_core.proofs.Cases.{and_true}
 use Rattle.gateway_core.specs.Step.{CallState, has_out}
 use Rattle.gateway_core.specs.LiveStands.{CallStands}
-use Rattle.gateway_core.specs.Machine.{MachineState, call_at, conn_at}
+use Rattle.gateway_core.specs.Machine.{MachineState}
 use Rattle.gateway_core.specs.Fate.{Fate, Unbroken, BrokenAt, is_broken, is_broken_by, HasFate, fates_refused}
 use Rattle.gateway_core.specs.Fated.{BrokenCall, CallFated, BrokenConn, ConnFated, FatedStands}
 use Rattle.gateway_core.specs.Breaks.{AfterRefusal}
@@ -50,12 +50,12 @@ refused c s t fates taken handed os unbroken unclosed h a = record {
     by_fate d true b_is = rw b_is (refl, ap (λ e. not (is_closed e (marked os))) (eqb-true d c b_is) ∙ ap not unclosed)
     by_fate d false b_is = rw b_is (h.fates_are d)
 
-    by_call : (id : CallId) (b : Bool) → (id.conn == c) ≡ b → CallFated id (call_at id t.calls) (if id.conn == c then BrokenAt [] None os else fates id.conn) os
-    by_call id true b_is = rw b_is (call_refused id (call_at id s.calls) (call_at id t.calls) os
-        (subst (λ f. CallFated id (call_at id s.calls) f os) (ap fates (eqb-true id.conn c b_is) ∙ was) (h.calls_stand id)) (a.outs_are id))
+    by_call : (id : CallId) (b : Bool) → (id.conn == c) ≡ b → CallFated id (t.calls id) (if id.conn == c then BrokenAt [] None os else fates id.conn) os
+    by_call id true b_is = rw b_is (call_refused id (s.calls id) (t.calls id) os
+        (subst (λ f. CallFated id (s.calls id) f os) (ap fates (eqb-true id.conn c b_is) ∙ was) (h.calls_stand id)) (a.outs_are id))
     by_call id false b_is = rw b_is (subst (λ k. CallFated id k (fates id.conn) os) (sym (a.others_are id b_is)) (h.calls_stand id))
 
-    by_conn : (d : ℕ) (b : Bool) → (d == c) ≡ b → ConnFated d (conn_at d t.conns) (taken d) (if d == c then BrokenAt [] None os else fates d) os
-    by_conn d true b_is = rw b_is (subst (λ e. BrokenConn e (conn_at e t.conns) (taken e) os) (sym (eqb-true d c b_is))
-        (breaks_conn c (conn_at c s.conns) (conn_at c t.conns) (taken c) os (subst (λ f. ConnFated c (conn_at c s.conns) (taken c) f os) was (h.conns_stand c)) a.conn_is))
+    by_conn : (d : ℕ) (b : Bool) → (d == c) ≡ b → ConnFated d (t.conns d) (taken d) (if d == c then BrokenAt [] None os else fates d) os
+    by_conn d true b_is = rw b_is (subst (λ e. BrokenConn e (t.conns e) (taken e) os) (sym (eqb-true d c b_is))
+        (breaks_conn c (s.conns c) (t.conns c) (taken c) os (subst (λ f. ConnFated c (s.conns c) (taken c) f os) was (h.conns_stand c)) a.conn_is))
     by_conn d false b_is = rw b_is (subst (λ k. ConnFated d k (taken d) (fates d) os) (sym (a.conns_are d b_is)) (h.conns_stand d))

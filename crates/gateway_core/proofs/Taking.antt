@@ -9,13 +9,15 @@ use Rattle.gateway_core.specs.Past.{Past, marked}
 use Rattle.gateway_core.specs.declared.entry.ReplyEntry.{ReplyEntry}
 use Rattle.gateway_core.specs.Queue.{queued_entries}
 use Rattle.gateway_core.specs.Starts.{Placed, occurrences}
-use Rattle.gateway_core.specs.Machine.{Kept, ConnState, MachineState, call_at, conn_at}
+use Rattle.gateway_core.specs.declared.id.CallId.{CallId}
+use Rattle.gateway_core.specs.Step.{CallState, gone}
+use Rattle.gateway_core.specs.Machine.{ConnState, MachineState, new_conn}
 use Rattle.gateway_core.specs.Standing.{SlotsStand}
 use Rattle.gateway_core.specs.Fate.{Fate, Unbroken, BrokenAt, breaks_at}
 use Rattle.gateway_core.specs.Fated.{CallFated, ConnFated, FatedStands}
 use Rattle.gateway_core.specs.Breaks.{BrokeWith, BrokeAtEvent}
 
-pub first_stands : FatedStands (record { moment = 0; drained = false; conns = []; calls = []; jobs = [] }) (λ c. Unbroken) (λ c. []) [] []
+pub first_stands : FatedStands (record { moment = 0; drained = false; conns = λ c. new_conn; calls = λ id. gone; jobs = [] }) (λ c. Unbroken) (λ c. []) [] []
 first_stands = record {
   fates_are = λ c. tt;
   moment_is = refl;
@@ -47,25 +49,25 @@ conn_taken d k e rest taken (BrokenAt since at older) os there h = record {
 }
 
 pub reply_taken : (c : ℕ) (e : ReplyEntry) (rest : List (Option ReplyEntry)) (s t : MachineState) (fates : ℕ → Fate) (taken : ℕ → List ReplyEntry) (handed : List JobValue) (os : List Occurrence)
-    → FatedStands s fates taken handed os → (conn_at c s.conns).slots ≡ Some e ∷ rest
+    → FatedStands s fates taken handed os → (s.conns c).slots ≡ Some e ∷ rest
     → t ≡ record s { conns = t.conns }
-    → ((d : ℕ) → conn_at d t.conns ≡ (if d == c then record { taken = (conn_at d s.conns).taken + 1; slots = rest; closed = (conn_at d s.conns).closed } else conn_at d s.conns))
+    → ((d : ℕ) → t.conns d ≡ (if d == c then record { taken = (s.conns d).taken + 1; slots = rest; closed = (s.conns d).closed } else s.conns d))
     → FatedStands t fates (λ d. if d == c then taken d ++ e ∷ [] else taken d) handed os
 reply_taken c e rest s t fates taken handed os h there t_is conns = record {
   fates_are = h.fates_are;
   moment_is = ap (λ (x : MachineState). x.moment) t_is ∙ h.moment_is;
   drained_is = ap (λ (x : MachineState). x.drained) t_is ∙ h.drained_is;
-  calls_stand = λ id. subst (λ (x : List Kept). CallFated id (call_at id x) (fates id.conn) os) (sym (ap (λ (x : MachineState). x.calls) t_is)) (h.calls_stand id);
+  calls_stand = λ id. subst (λ (x : CallId → CallState). CallFated id (x id) (fates id.conn) os) (sym (ap (λ (x : MachineState). x.calls) t_is)) (h.calls_stand id);
   conns_stand = λ d. subst (λ k. ConnFated d k (if d == c then taken d ++ e ∷ [] else taken d) (fates d) os) (sym (conns d)) (by_conn d (d == c) refl);
   jobs_are = ap (λ (x : MachineState). handed ++ x.jobs) t_is ∙ h.jobs_are;
 }
   where
     by_conn : (d : ℕ) (b : Bool) → (d == c) ≡ b
-        → ConnFated d (if b then record { taken = (conn_at d s.conns).taken + 1; slots = rest; closed = (conn_at d s.conns).closed } else conn_at d s.conns)
+        → ConnFated d (if b then record { taken = (s.conns d).taken + 1; slots = rest; closed = (s.conns d).closed } else s.conns d)
         (if b then taken d ++ e ∷ [] else taken d) (fates d) os
     by_conn d false b_is = h.conns_stand d
     by_conn d true b_is =
-        conn_taken d (conn_at d s.conns) e rest (taken d) (fates d) os (ap (λ n. (conn_at n s.conns).slots) (eqb-true d c b_is) ∙ there) (h.conns_stand d)
+        conn_taken d (s.conns d) e rest (taken d) (fates d) os (ap (λ n. (s.conns n).slots) (eqb-true d c b_is) ∙ there) (h.conns_stand d)
 
 -- ---- places
 

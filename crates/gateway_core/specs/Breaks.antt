@@ -8,7 +8,7 @@ use Rattle.gateway_core.specs.declared.entry.ReplyEntry.{ReplyEntry}
 use Rattle.gateway_core.specs.Queue.{queued_entries}
 use Rattle.gateway_core.specs.Starts.{Placed, occurrences}
 use Rattle.gateway_core.specs.Step.{CallState, Step, call_state, has_out}
-use Rattle.gateway_core.specs.Machine.{ConnState, MachineState, ConnAfter, call_at, conn_at, step_of, starting, next_id, arriving, with_slot}
+use Rattle.gateway_core.specs.Machine.{ConnState, MachineState, ConnAfter, step_of, starting, next_id, arriving, with_slot}
 use Rattle.gateway_core.specs.Past.{judged}
 use Rattle.gateway_core.specs.declared.fault.Seen.{Seen}
 use Rattle.gateway_core.specs.declared.fault.Seen.TheVariants.{Counted, Late, Unknown}
@@ -49,17 +49,17 @@ AreConcerned breaks fates o os = (c : ℕ) → is_broken (fates c) ≡ false →
 pub record AfterBreaks (breaks : ℕ → Bool) (fates : ℕ → Fate) (o : Occurrence) (s t : MachineState) : Type 0 where
   pub moment_is : t.moment ≡ max s.moment (moment_of o)
   pub drained_is : t.drained ≡ (is_drain o || s.drained)
-  pub calls_are : (id : CallId) → CallAfter (is_stopped breaks fates id.conn) id o (call_at id s.calls) (call_at id t.calls) (step_of id o s).call
-  pub conns_are : (c : ℕ) → ConnOn (is_stopped breaks fates c) o s c (conn_at c s.conns) (conn_at c t.conns)
+  pub calls_are : (id : CallId) → CallAfter (is_stopped breaks fates id.conn) id o (s.calls id) (t.calls id) (step_of id o s).call
+  pub conns_are : (c : ℕ) → ConnOn (is_stopped breaks fates c) o s c (s.conns c) (t.conns c)
   pub jobs_are : t.jobs ≡ s.jobs ++ (if is_stopped breaks fates (starting_conn o) then [] else starting o s)
 
 -- the machine after something came on that connection's stream
 pub record EntryBreaks (breaks : ℕ → Bool) (fates : ℕ → Fate) (c : ℕ) (x : Entering) (s t : MachineState) : Type 0 where
   pub moment_is : t.moment ≡ s.moment
   pub drained_is : t.drained ≡ s.drained
-  pub calls_are : (id : CallId) → CallAfter (is_stopped breaks fates id.conn) id (Entry c x) (call_at id s.calls) (call_at id t.calls)
-      (if is_call (next_id c s) id then (arriving c x s).call else call_at id s.calls)
-  pub conns_are : (d : ℕ) → ConnBy (is_stopped breaks fates d) (d == c) (arriving c x s).reply (conn_at d s.conns) (conn_at d t.conns)
+  pub calls_are : (id : CallId) → CallAfter (is_stopped breaks fates id.conn) id (Entry c x) (s.calls id) (t.calls id)
+      (if is_call (next_id c s) id then (arriving c x s).call else s.calls id)
+  pub conns_are : (d : ℕ) → ConnBy (is_stopped breaks fates d) (d == c) (arriving c x s).reply (s.conns d) (t.conns d)
   pub jobs_are : t.jobs ≡ s.jobs ++ (if is_stopped breaks fates c then [] else (arriving c x s).jobs)
 
 -- the machine after memory was refused to a piece of that connection's stream that brings no request
@@ -67,10 +67,10 @@ pub record AfterRefusal (c : ℕ) (s t : MachineState) : Type 0 where
   pub moment_is : t.moment ≡ s.moment
   pub drained_is : t.drained ≡ s.drained
   pub jobs_are : t.jobs ≡ s.jobs
-  pub outs_are : (id : CallId) (i : ℕ) → has_out (call_at id t.calls) i ≡ has_out (call_at id s.calls) i
-  pub others_are : (id : CallId) → (id.conn == c) ≡ false → call_at id t.calls ≡ call_at id s.calls
-  pub conn_is : ConnStays (conn_at c s.conns) (conn_at c t.conns)
-  pub conns_are : (d : ℕ) → (d == c) ≡ false → conn_at d t.conns ≡ conn_at d s.conns
+  pub outs_are : (id : CallId) (i : ℕ) → has_out (t.calls id) i ≡ has_out (s.calls id) i
+  pub others_are : (id : CallId) → (id.conn == c) ≡ false → t.calls id ≡ s.calls id
+  pub conn_is : ConnStays (s.conns c) (t.conns c)
+  pub conns_are : (d : ℕ) → (d == c) ≡ false → t.conns d ≡ s.conns d
 
 -- what is queued for a connection that broke: all of the past before that, and no more
 abbrev pub BrokeWith : ℕ → List ReplyEntry → List Occurrence → Type 0
@@ -94,12 +94,12 @@ pub record GivenUp (breaks : ℕ → Bool) (s u : MachineState) : Type 0 where
   pub moment_is : u.moment ≡ s.moment
   pub drained_is : u.drained ≡ s.drained
   pub jobs_are : u.jobs ≡ s.jobs
-  pub conns_are : u.conns ≡ s.conns
-  pub calls_are : (id : CallId) → call_at id u.calls ≡ (if breaks id.conn then call_state (call_at id s.calls).out None else call_at id s.calls)
+  pub conns_are : (c : ℕ) → u.conns c ≡ s.conns c
+  pub calls_are : (id : CallId) → u.calls id ≡ (if breaks id.conn then call_state (s.calls id).out None else s.calls id)
 
 -- no call of a connection that stops can be decided
 abbrev pub NoneLive : (ℕ → Bool) → MachineState → Type 0
-NoneLive stopped s = (id : CallId) → stopped id.conn ≡ true → (call_at id s.calls).live ≡ None
+NoneLive stopped s = (id : CallId) → stopped id.conn ≡ true → (s.calls id).live ≡ None
 
 -- the same over events with their places: what is queued is all of the past before an occurrence of one of them, which concerned
 -- the connection; or memory was refused to a piece that brought no request

@@ -7,7 +7,7 @@ use Rattle.gateway_core.specs.Past.{now, is_drained, marked}
 use Rattle.gateway_core.specs.declared.entry.ReplyEntry.{ReplyEntry}
 use Rattle.gateway_core.specs.Step.{CallState, has_out}
 use Rattle.gateway_core.specs.LiveStands.{CallStands}
-use Rattle.gateway_core.specs.Machine.{ConnState, MachineState, call_at, conn_at}
+use Rattle.gateway_core.specs.Machine.{ConnState, MachineState}
 use Rattle.gateway_core.specs.Standing.{SlotsStand, ConnStands}
 use Rattle.gateway_core.specs.Fate.{Fate, Unbroken, BrokenAt, HasFate, still_out, jobs_fated}
 
@@ -34,6 +34,6 @@ pub record FatedStands (s : MachineState) (fates : ℕ → Fate) (taken : ℕ �
   pub fates_are : (c : ℕ) → HasFate c (fates c) os
   pub moment_is : s.moment ≡ now (marked os)
   pub drained_is : s.drained ≡ is_drained (marked os)
-  pub calls_stand : (id : CallId) → CallFated id (call_at id s.calls) (fates id.conn) os
-  pub conns_stand : (c : ℕ) → ConnFated c (conn_at c s.conns) (taken c) (fates c) os
+  pub calls_stand : (id : CallId) → CallFated id (s.calls id) (fates id.conn) os
+  pub conns_stand : (c : ℕ) → ConnFated c (s.conns c) (taken c) (fates c) os
   pub jobs_are : handed ++ s.jobs ≡ jobs_fated fates os

@@ -7,7 +7,7 @@ use Rattle.gateway_core.specs.Past.{Past, call_id, entries, now, is_drained, is_
 use Rattle.gateway_core.specs.declared.entry.ReplyEntry.{ReplyEntry}
 use Rattle.gateway_core.specs.Queue.{entry}
 use Rattle.gateway_core.specs.Starts.{jobs}
-use Rattle.gateway_core.specs.Machine.{ConnState, MachineState, call_at, conn_at, slot_at}
+use Rattle.gateway_core.specs.Machine.{ConnState, MachineState, slot_at}
 use Rattle.gateway_core.specs.LiveStands.{CallStands}
 
 -- all slots of a connection: each has its request's entry, once that is decided
@@ -24,6 +24,6 @@ pub record ConnStands (c : ℕ) (conn : ConnState) (taken : List ReplyEntry) (pa
 pub record StandsFor (s : MachineState) (taken : ℕ → List ReplyEntry) (handed : List JobValue) (os : List Occurrence) : Type 0 where
   pub moment_is : s.moment ≡ now (marked os)
   pub drained_is : s.drained ≡ is_drained (marked os)
-  pub calls_stand : (id : CallId) → CallStands id (call_at id s.calls) (marked os)
-  pub conns_stand : (c : ℕ) → ConnStands c (conn_at c s.conns) (taken c) (marked os)
+  pub calls_stand : (id : CallId) → CallStands id (s.calls id) (marked os)
+  pub conns_stand : (c : ℕ) → ConnStands c (s.conns c) (taken c) (marked os)
   pub jobs_are : handed ++ s.jobs ≡ jobs (marked os)

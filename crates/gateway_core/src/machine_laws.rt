@@ -3,9 +3,9 @@ ghost use Rattle.std.specs.Prelude.{◌≡◌, ℕ, None, List, false, ◌∷◌
 ghost use Rattle.gateway_core.specs.declared.id.CallId.{CallId};
 ghost use Rattle.gateway_core.specs.Occurrence.{Occurrence, Entry, Entering};
 ghost use Rattle.gateway_core.specs.Past.{Past, entering_now, mark_of, marked, now, entries, is_closed, is_drained, crowds, call_id};
-ghost use Rattle.gateway_core.specs.Step.{CallState, step};
+ghost use Rattle.gateway_core.specs.Step.{CallState, gone, step};
 ghost use Rattle.gateway_core.specs.Begins.{arrive};
-ghost use Rattle.gateway_core.specs.Machine.{MachineState, After, AfterEntry, is_entry, conn_at};
+ghost use Rattle.gateway_core.specs.Machine.{MachineState, new_conn, After, AfterEntry, is_entry};
 ghost use Rattle.gateway_core.specs.declared.entry.ReplyEntry.{ReplyEntry};
 ghost use Rattle.gateway_core.specs.Job.{JobValue};
 ghost use Rattle.gateway_core.specs.LiveStands.{CallStands, Stepped};
@@ -59,9 +59,9 @@ pub fn quiet_law()
 /// What is queued for a connection.
 pub fn queue_law()
     ensures queue_is { (c : ℕ) (s : MachineState) (fates : ℕ → Fate) (taken : ℕ → List ReplyEntry) (handed : List JobValue) (os : List Occurrence)
-        → FatedStands s fates taken handed os → front (map Some (taken c) ++ (conn_at c s.conns).slots) ≡ queued_entries c (marked (lived (fates c) os)) }
+        → FatedStands s fates taken handed os → front (map Some (taken c) ++ (s.conns c).slots) ≡ queued_entries c (marked (lived (fates c) os)) }
     ensures broke_is { (c : ℕ) (s : MachineState) (fates : ℕ → Fate) (taken : ℕ → List ReplyEntry) (handed : List JobValue) (os : List Occurrence)
-        → FatedStands s fates taken handed os → is_broken (fates c) ≡ true → BrokeWith c (front (map Some (taken c) ++ (conn_at c s.conns).slots)) os }
+        → FatedStands s fates taken handed os → is_broken (fates c) ≡ true → BrokeWith c (front (map Some (taken c) ++ (s.conns c).slots)) os }
 {}
 
 /// The jobs of a connection's calls are those of the past that it stands for.
@@ -90,15 +90,15 @@ pub fn given_up_law()
 
 /// A machine at which nothing has occurred.
 pub fn first_law()
-    ensures { FatedStands (record { moment = 0; drained = false; conns = []; calls = []; jobs = [] }) (λ c. Unbroken) (λ c. []) [] [] }
+    ensures { FatedStands (record { moment = 0; drained = false; conns = λ c. new_conn; calls = λ id. gone; jobs = [] }) (λ c. Unbroken) (λ c. []) [] [] }
 {}
 
 /// A reply is taken, also of a broken connection.
 pub fn take_law()
     ensures { (c : ℕ) (e : ReplyEntry) (rest : List (Option ReplyEntry)) (s t : MachineState) (fates : ℕ → Fate) (taken : ℕ → List ReplyEntry) (handed : List JobValue) (os : List Occurrence)
-        → FatedStands s fates taken handed os → (conn_at c s.conns).slots ≡ Some e ∷ rest
+        → FatedStands s fates taken handed os → (s.conns c).slots ≡ Some e ∷ rest
         → t ≡ record s { conns = t.conns }
-        → ((d : ℕ) → conn_at d t.conns ≡ (if d == c then record { taken = (conn_at d s.conns).taken + 1; slots = rest; closed = (conn_at d s.conns).closed } else conn_at d s.conns))
+        → ((d : ℕ) → t.conns d ≡ (if d == c then record { taken = (s.conns d).taken + 1; slots = rest; closed = (s.conns d).closed } else s.conns d))
         → FatedStands t fates (λ d. if d == c then taken d ++ e ∷ [] else taken d) handed os }
 {}
 
