@@ -6,3 +6,4 @@ pub mod CutLemmas
 pub mod DeliverLemmas
 pub mod StepLemmas
 pub mod WholeLemmas
+pub mod Existence

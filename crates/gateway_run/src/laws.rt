@@ -7,11 +7,18 @@ ghost use Rattle.gateway_core.specs.Starts.{Placed, occurrences, job_started, st
 ghost use Rattle.gateway_core.specs.Queue.{queued, IsPrefixOf};
 ghost use Rattle.gateway_run.specs.Events.{GatewayEvent, Piece, Occurs, has_no_effect, IsShifted};
 
-/// These events come to one list of occurrences.
+use http_pieces::laws::{existence_law, requests_law};
+
+/// These events come to one list of occurrences: to no other, and not to none.
 pub fn occurs_law()
     ensures unique { (plans : List PlanRecord) (opened : List ℕ) (events : List GatewayEvent) (a b : List Placed)
         → Occurs plans opened events a → Occurs plans opened events b → a ≡ b }
-{}
+    ensures exists { (plans : List PlanRecord) (opened : List ℕ) (events : List GatewayEvent)
+        → ¬ ((occurred : List Placed) → ¬ (Occurs plans opened events occurred)) }
+{
+    existence_law();
+    requests_law();
+}
 
 /// An event of no effect changes nothing.
 pub fn no_effect_law()

@@ -8,3 +8,4 @@ pub mod PushLemmas
 pub mod ReaderLemmas
 pub mod ReplyLemmas
 pub mod RequestsLemmas
+pub mod Existence

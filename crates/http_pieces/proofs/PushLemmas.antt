@@ -1,5 +1,5 @@
 -- What a push does to a reader of requests.
-use Rattle.std.proofs.Common.{◌≡◌, ℕ, ◌<◌, ◌⊎◌, inl, inr, List, ◌++◌, length, take, sym, ap, subst, ◌∙◌, arith, append-nil, Result, Ok, Err, false, true}
+use Rattle.std.proofs.Common.{◌≡◌, ℕ, ◌<◌, ◌⊎◌, inl, inr, List, ◌++◌, length, take, refl, sym, ap, subst, ◌∙◌, arith, append-nil, Result, Ok, Err, false, true}
 use Rattle.std.specs.Result.{IfOk, IsOk}
 use Rattle.std.proofs.lemmas.Result.{IfOk-weaker}
 use Rattle.http_pieces.specs.declared.refusal.Refusal.{Refusal}
@@ -11,7 +11,8 @@ use Rattle.http_pieces.specs.Form.{Advances, Pushes}
 use Rattle.http_pieces.specs.Form as form
 use Rattle.http_pieces.specs.Head.{request_kind}
 use Rattle.http_pieces.specs.Request.{HttpRequest}
-use Rattle.http_pieces.specs.Reader.{Partial, Waiting, ReaderValue, reader_value, HasRead, IsShortest, is_over}
+use Rattle.std.specs.Prelude.{Bool, if◌then◌else◌}
+use Rattle.http_pieces.specs.Reader.{Partial, Waiting, Stopped, Done, Reading, ReaderValue, reader_value, HasRead, IsShortest, is_over}
 use Rattle.http_pieces.specs.Layout.{request_of, request_form, request_single, reading_of}
 use Rattle.http_pieces.proofs.PhaseLemmas.{advance_shortest}
 use Rattle.http_pieces.proofs.ReaderLemmas.{read_on, read_refusal, read_request, read_stopped, read_done}
@@ -39,6 +40,12 @@ module _ (k : ℕ) (before piece after : List ℕ) (n : ℕ) where
       subst (λ x. HasRead (reader_value k x) (bytes ++ take n piece) given) (sym (stays (phase.Refused r) new p.1 p.2)) (read_stopped k bytes (take n piece) given r h)
   reads_by phase.Ended new p bytes given h =
       subst (λ x. HasRead (reader_value k x) (bytes ++ take n piece) given) (sym (stays phase.Ended new p.1 p.2)) (read_done k bytes (take n piece) given h)
+
+abbrev is_partial : Reading → Bool
+is_partial (Partial left) = true
+is_partial (Waiting q) = false
+is_partial (Stopped r) = false
+is_partial Done = false
 
 -- the clauses of `push`, by the reader's value before it
 module _ (k : ℕ) (before piece after : List ℕ) (self : ReaderValue) (was new : Phase Head Refusal) (view : reader_value k (reading_of before was k) ≡ self) where
@@ -80,22 +87,41 @@ module _ (k : ℕ) (before piece after : List ℕ) (self : ReaderValue) (was new
       by_phase n (phase.Refused r) e a = inl (omega (arith, a.0, some))
       by_phase n phase.Ended e a = inl (omega (arith, a.0, some))
 
-  pub push_over : {E : Type 0} (r : Result ℕ E) → IfOk r (Pushes request_form before was piece after new) → (form.is_over was ≡ true → IsOk r) → is_over self.reading ≡ true
+  kept : (w : Phase Head Refusal) → is_partial (reading_of before w k) ≡ false → form.is_more w ≡ false
+  kept phase.More e = e
+  kept (phase.Complete head body) e = refl
+  kept (phase.Refused r) e = refl
+  kept phase.Ended e = refl
+
+  -- in every phase but `More` nothing is kept, and nothing changes
+  settled : (w : Phase Head Refusal) (n : ℕ) → Pushes request_form before w piece after new n → is_partial (reading_of before w k) ≡ false
+      → (n ≡ (if is_over (reading_of before w k) then length piece else 0)) × (reading_of after new k ≡ reading_of before w k)
+  settled phase.More n a e = absurd (cc)
+  settled (phase.Complete head body) n a e = (a.0, stays k before piece after n (phase.Complete head body) new a.1 a.2)
+  settled (phase.Refused r) n a e = (a.0, stays k before piece after n (phase.Refused r) new a.1 a.2)
+  settled phase.Ended n a e = (a.0, stays k before piece after n phase.Ended new a.1 a.2)
+
+  push_settled : {E : Type 0} (r : Result ℕ E) → IfOk r (Pushes request_form before was piece after new) → (form.is_more was ≡ false → IsOk r) → is_partial self.reading ≡ false
+      → (r ≡ Ok (if is_over self.reading then length piece else 0)) × (reader_value k (reading_of after new k) ≡ self)
+  push_settled (Err e) p fine e_is = absurd (let clash : false ≡ true = fine (kept was (sym (ap is_partial reading_is) ∙ e_is)) in cc)
+  push_settled (Ok n) p fine e_is =
+      let x = settled was n p (sym (ap is_partial reading_is) ∙ e_is) in
+      (ap Ok (x.0 ∙ ap (λ y. if is_over y then length piece else 0) (sym reading_is)), ap (reader_value k) x.1 ∙ view)
+
+  pub push_waits : {E : Type 0} (r : Result ℕ E) → IfOk r (Pushes request_form before was piece after new) → (form.is_more was ≡ false → IsOk r) → (q : HttpRequest)
+      → self.reading ≡ Waiting q → (r ≡ Ok 0) × (reader_value k (reading_of after new k) ≡ self)
+  push_waits r p fine q is =
+      let x = push_settled r p fine (ap is_partial is) in
+      (x.0 ∙ ap (λ y. Ok (if is_over y then length piece else 0)) is, x.1)
+
+  pub push_over : {E : Type 0} (r : Result ℕ E) → IfOk r (Pushes request_form before was piece after new) → (form.is_more was ≡ false → IsOk r) → is_over self.reading ≡ true
       → (r ≡ Ok (length piece)) × (reader_value k (reading_of after new k) ≡ self)
-  push_over (Err e) p fine over = absurd (let clash : false ≡ true = fine (same_over was (sym (ap is_over reading_is) ∙ over)) in cc)
+  push_over r p fine over =
+      let x = push_settled r p fine (over_whole self.reading over) in
+      (x.0 ∙ ap (λ b. Ok (if b then length piece else 0)) over, x.1)
     where
-      same_over : (w : Phase Head Refusal) → is_over (reading_of before w k) ≡ true → form.is_over w ≡ true
-      same_over phase.More o = o
-      same_over (phase.Complete head body) o = o
-      same_over (phase.Refused r) o = o
-      same_over phase.Ended o = o
-  push_over (Ok n) p fine over =
-      let x = by_phase was p (sym (ap is_over reading_is) ∙ over) in
-      (ap Ok x.0, ap (reader_value k) x.1 ∙ view)
-    where
-      by_phase : (w : Phase Head Refusal) → Pushes request_form before w piece after new n → is_over (reading_of before w k) ≡ true
-          → (n ≡ length piece) × (reading_of after new k ≡ reading_of before w k)
-      by_phase phase.More a o = absurd (cc)
-      by_phase (phase.Complete head body) a o = absurd (cc)
-      by_phase (phase.Refused r) a o = (a.0, stays k before piece after n (phase.Refused r) new a.1 a.2)
-      by_phase phase.Ended a o = (a.0, stays k before piece after n phase.Ended new a.1 a.2)
+      over_whole : (y : Reading) → is_over y ≡ true → is_partial y ≡ false
+      over_whole (Partial left) e = absurd (cc)
+      over_whole (Waiting q) e = refl
+      over_whole (Stopped r) e = refl
+      over_whole Done e = refl

@@ -1,6 +1,7 @@
 -- A reply is cut in one way, and what was read of its head in the bytes of the whole reply.
-use Rattle.std.proofs.Common.{◌≡◌, ℕ, List, [], ◌∷◌, ◌++◌, map, length, take, refl, sym, ap, subst, ◌∙◌, arith, append-nil, Result, Ok, Option, codes}
-use Rattle.std.specs.Result.{IfOk}
+use Rattle.std.proofs.Common.{◌≡◌, ℕ, Bool, true, false, List, [], ◌∷◌, ◌++◌, map, length, take, refl, sym, ap, subst, ◌∙◌, arith, append-nil, Result, Ok, Err, Option, codes}
+use Rattle.std.specs.Prelude.{if◌then◌else◌}
+use Rattle.std.specs.Result.{IfOk, IsOk}
 use Rattle.std.proofs.lemmas.Result.{IfOk-weaker}
 use Rattle.std.proofs.Math.Seq.{drop-append_seam}
 use Rattle.httparse.specs.declared.spans.HeaderSpan.{HeaderSpan}
@@ -16,10 +17,11 @@ use Rattle.http_pieces.specs.declared.reply_head.ReplyHead.{ReplyHead}
 use Rattle.http_pieces.specs.Cut.{Cut, Incomplete, Refused, Complete, Body, skip_pairs, IsCutText, IsCut}
 use Rattle.http_pieces.specs.Fields.{values_of, IsFieldOf}
 use Rattle.http_pieces.specs.Form.{IsHeadOf, Advances, Pushes}
+use Rattle.http_pieces.specs.Form as form
 use Rattle.http_pieces.specs.Head.{stated_length}
 use Rattle.http_pieces.specs.ReplyHead.{length_by_number, length_by_fields, reply_length, one_value, reply_with, asks_by_length, reply_kind}
 use Rattle.http_pieces.specs.ReplyLayout.{IsReplyHeadAt, reply_of, reply_form, reply_single, reply_reading_of}
-use Rattle.http_pieces.specs.ReplyReader.{ReplyReading, Partial, HasReadReply, IsShortestReply}
+use Rattle.http_pieces.specs.ReplyReader.{ReplyReading, Partial, Waiting, Stopped, Done, HasReadReply, IsShortestReply, is_over_reply}
 use Rattle.http_pieces.proofs.CutLemmas.{skip_append, kind_unique, kind_complete_append, kind_refused_append}
 use Rattle.http_pieces.proofs.PhaseLemmas.{advance_shortest}
 
@@ -98,6 +100,12 @@ module _ (before piece after : List ℕ) (n : ℕ) where
       subst (λ x. HasReadReply x (bytes ++ take n piece) given) (stays phase.Ended new p.1 p.2)
       (h.0, h.1 ++ take n piece, h.2, reply_complete_append bytes (take n piece) h.0 h.1 h.3)
 
+abbrev is_partial : ReplyReading → Bool
+is_partial (Partial left) = true
+is_partial (Waiting q) = false
+is_partial (Stopped f) = false
+is_partial Done = false
+
 -- the clauses of `push`, by the reader's value before it
 module _ (before piece after : List ℕ) (self : ReplyReading) (was new : Phase ReplyHead ReplyFault) (view : reply_reading_of before was ≡ self) where
   pub reply_reads : {E : Type 0} (r : Result ℕ E) → IfOk r (Pushes reply_form before was piece after new) → (bytes : List ℕ) (given : Option HttpReply)
@@ -119,3 +127,42 @@ module _ (before piece after : List ℕ) (self : ReplyReading) (was new : Phase 
       by_phase n (phase.Complete head body) e a m q rest lt cut = cc
       by_phase n (phase.Refused f) e a m q rest lt cut = cc
       by_phase n phase.Ended e a m q rest lt cut = cc
+
+  kept : (w : Phase ReplyHead ReplyFault) → is_partial (reply_reading_of before w) ≡ false → form.is_more w ≡ false
+  kept phase.More e = e
+  kept (phase.Complete head body) e = refl
+  kept (phase.Refused f) e = refl
+  kept phase.Ended e = refl
+
+  -- in every phase but `More` nothing is kept, and nothing changes
+  settled : (w : Phase ReplyHead ReplyFault) (n : ℕ) → Pushes reply_form before w piece after new n → is_partial (reply_reading_of before w) ≡ false
+      → (n ≡ (if is_over_reply (reply_reading_of before w) then length piece else 0)) × (reply_reading_of after new ≡ reply_reading_of before w)
+  settled phase.More n a e = absurd (cc)
+  settled (phase.Complete head body) n a e = (a.0, sym (stays before piece after n (phase.Complete head body) new a.1 a.2))
+  settled (phase.Refused f) n a e = (a.0, sym (stays before piece after n (phase.Refused f) new a.1 a.2))
+  settled phase.Ended n a e = (a.0, sym (stays before piece after n phase.Ended new a.1 a.2))
+
+  reply_settled : {E : Type 0} (r : Result ℕ E) → IfOk r (Pushes reply_form before was piece after new) → (form.is_more was ≡ false → IsOk r) → is_partial self ≡ false
+      → (r ≡ Ok (if is_over_reply self then length piece else 0)) × (reply_reading_of after new ≡ self)
+  reply_settled (Err e) p fine e_is = absurd (let clash : false ≡ true = fine (kept was (ap is_partial view ∙ e_is)) in cc)
+  reply_settled (Ok n) p fine e_is =
+      let x = settled was n p (ap is_partial view ∙ e_is) in
+      (ap Ok (x.0 ∙ ap (λ y. if is_over_reply y then length piece else 0) view), x.1 ∙ view)
+
+  pub reply_waits : {E : Type 0} (r : Result ℕ E) → IfOk r (Pushes reply_form before was piece after new) → (form.is_more was ≡ false → IsOk r) → (q : HttpReply)
+      → self ≡ Waiting q → (r ≡ Ok 0) × (reply_reading_of after new ≡ self)
+  reply_waits r p fine q is =
+      let x = reply_settled r p fine (ap is_partial is) in
+      (x.0 ∙ ap (λ y. Ok (if is_over_reply y then length piece else 0)) is, x.1)
+
+  pub reply_over : {E : Type 0} (r : Result ℕ E) → IfOk r (Pushes reply_form before was piece after new) → (form.is_more was ≡ false → IsOk r) → is_over_reply self ≡ true
+      → (r ≡ Ok (length piece)) × (reply_reading_of after new ≡ self)
+  reply_over r p fine over =
+      let x = reply_settled r p fine (over_whole self over) in
+      (x.0 ∙ ap (λ b. Ok (if b then length piece else 0)) over, x.1)
+    where
+      over_whole : (y : ReplyReading) → is_over_reply y ≡ true → is_partial y ≡ false
+      over_whole (Partial left) e = absurd (cc)
+      over_whole (Waiting q) e = refl
+      over_whole (Stopped f) e = refl
+      over_whole Done e = refl

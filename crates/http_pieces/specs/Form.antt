@@ -54,12 +54,12 @@ IsPhaseSound form bytes (phase.Complete head body) = form.IsIn bytes head × (bo
 IsPhaseSound form bytes (phase.Refused r) = Unit {0}
 IsPhaseSound form bytes phase.Ended = Unit {0}
 
--- nothing more is read in this phase
-abbrev pub is_over : {R H : Type 0} → Phase H R → Bool
-is_over phase.More = false
-is_over (phase.Complete head body) = false
-is_over (phase.Refused r) = true
-is_over phase.Ended = true
+-- bytes are kept in this phase, and more are to come
+abbrev pub is_more : {R H : Type 0} → Phase H R → Bool
+is_more phase.More = true
+is_more (phase.Complete head body) = false
+is_more (phase.Refused r) = false
+is_more phase.Ended = false
 
 -- from bytes that are no whole message, a piece leads to these, n bytes of it are taken, and this came of it
 abbrev pub AdvancesTo : {R H V : Type 0} → Form R H V → List ℕ → List ℕ → List ℕ → ℕ → Phase H R → Type 0

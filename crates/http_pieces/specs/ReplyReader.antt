@@ -1,5 +1,5 @@
 -- A reader of one reply, and what it has read.
-use Rattle.std.specs.Prelude.{◌≡◌, ℕ, ◌<◌, List, [], ◌++◌, take, Option, Some, None}
+use Rattle.std.specs.Prelude.{◌≡◌, ℕ, ◌<◌, Bool, true, false, List, [], ◌++◌, take, Option, Some, None}
 use Rattle.http_pieces.specs.declared.reply.HttpReply.{HttpReply}
 use Rattle.http_pieces.specs.declared.reply_fault.ReplyFault.{ReplyFault}
 use Rattle.http_pieces.specs.declared.reply_state.ReplyState.{ReplyState}
@@ -19,6 +19,13 @@ state_of_reply (Partial left) = state.More
 state_of_reply (Waiting q) = state.Complete
 state_of_reply (Stopped f) = state.Refused f
 state_of_reply Done = state.Ended
+
+-- nothing more is read of the stream
+abbrev pub is_over_reply : ReplyReading → Bool
+is_over_reply (Partial left) = false
+is_over_reply (Waiting q) = false
+is_over_reply (Stopped f) = true
+is_over_reply Done = true
 
 -- the reader stands where it does after pushes that took these bytes, and takes that gave no reply, or this one: the bytes
 -- are cut into what it says, and only once the reply was given may others follow it

@@ -4,7 +4,7 @@ ghost use Rattle.http_pieces.specs.Cut.{Cut, Refused, Complete, IsBlock, IsCut};
 ghost use Rattle.http_pieces.specs.Head.{request_kind};
 ghost use Rattle.http_pieces.specs.ReplyHead.{reply_kind};
 ghost use Rattle.http_pieces.specs.Request.{HttpRequest};
-ghost use Rattle.http_pieces.specs.Requests.{Ending, Open, Requests};
+ghost use Rattle.http_pieces.specs.Requests.{Ending, Open, Broken, Closed, Requests};
 ghost use Rattle.http_pieces.specs.declared.refusal.Refusal.{Refusal};
 ghost use Rattle.http_pieces.specs.declared.reply.HttpReply.{HttpReply};
 ghost use Rattle.http_pieces.specs.declared.reply_fault.ReplyFault.{ReplyFault};
@@ -44,4 +44,18 @@ pub fn requests_law()
         → Requests k text given (Open left) → (more : List ℕ) (requests : List HttpRequest) (ending : Ending)
         → Requests (k + length given) (left ++ more) requests ending
         → Requests k (text ++ more) (given ++ requests) ending }
+
+    // A stream that was refused, or whose last request closes, gains nothing.
+    ensures refused_stays { (k : ℕ) (text more : List ℕ) (given : List HttpRequest) (r : Refusal)
+        → Requests k text given (Broken r) → Requests k (text ++ more) given (Broken r) }
+    ensures closed_stays { (k : ℕ) (text more : List ℕ) (given : List HttpRequest)
+        → Requests k text given Closed → Requests k (text ++ more) given Closed }
+{}
+
+/// Every text is cut into something, and has a list of requests. (There can't be none: a head's grammar is a relation, so
+/// that no head is computed here.)
+pub fn existence_law()
+    ensures cut { (k : ℕ) (text : List ℕ) → ¬ ((c : Cut Refusal HttpRequest) → ¬ (IsCut (request_kind k) text c)) }
+    ensures reply_cut { (text : List ℕ) → ¬ ((c : Cut ReplyFault HttpReply) → ¬ (IsCut reply_kind text c)) }
+    ensures requests { (k : ℕ) (text : List ℕ) → ¬ ((given : List HttpRequest) (ending : Ending) → ¬ (Requests k text given ending)) }
 {}

@@ -1,6 +1,6 @@
-ghost use Rattle.std.specs.Prelude.{◌≡◌, ◌≤◌, ℕ, length, drop, IfOk, IsOk, OnErr, true};
+ghost use Rattle.std.specs.Prelude.{◌≡◌, ◌≤◌, ℕ, length, drop, IfOk, IsOk, OnErr, false};
 ghost use Rattle.http_pieces.specs.Cut.{IsCut, Incomplete};
-ghost use Rattle.http_pieces.specs.Form.{Advances, IsPhaseSound, Pushes, is_over};
+ghost use Rattle.http_pieces.specs.Form.{Advances, IsPhaseSound, Pushes, is_more};
 
 use crate::cut::{Cut, cut_message};
 use crate::message::Message;
@@ -27,7 +27,9 @@ pub(crate) fn push_into<M: Message>(
     requires { IsPhaseSound M.form bytes.old.items phase.old }
     ensures ok { IfOk result (Pushes M.form bytes.old.items phase.old piece.now bytes.new.items phase.new) }
     ensures err { OnErr result ((bytes.new.items ≡ bytes.old.items) × (phase.new ≡ phase.old)) }
-    ensures over { is_over phase.old ≡ true → IsOk result }
+
+    // Memory is needed for bytes that are kept, and else for none.
+    ensures kept { is_more phase.old ≡ false → IsOk result }
 {
     match phase {
         Phase::More => {

@@ -60,10 +60,10 @@ impl Reader {
 
         ensures moves { 0 < length piece.now
             → IfOk result (λ n. (0 < n) ⊎ ((q : HttpRequest) × (self.old.reading ≡ Waiting q))) }
-        ensures waits { (q : HttpRequest) → self.old.reading ≡ Waiting q → IfOk result (λ n. (n ≡ 0) × (self.new ≡ self.old)) }
         ensures err { OnErr result (self.new ≡ self.old) }
 
-        // Of a stream that is over it takes all, which needs no memory.
+        // With a request waiting it takes none, and of a stream that is over all: neither needs memory.
+        ensures waits { (q : HttpRequest) → self.old.reading ≡ Waiting q → (result ≡ Ok 0) × (self.new ≡ self.old) }
         ensures over { is_over self.old.reading ≡ true → (result ≡ Ok (length piece.now)) × (self.new ≡ self.old) }
     {
         push_into::<Requests>(&mut self.bytes, &mut self.phase, piece)

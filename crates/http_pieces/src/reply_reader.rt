@@ -1,6 +1,6 @@
-ghost use Rattle.std.specs.Prelude.{◌≡◌, ◌<◌, ◌≤◌, ◌++◌, [], ℕ, List, length, take, IfOk, IfSome, OnErr, Option, Some, None, IfNone, MatchOption, ◌⊎◌};
+ghost use Rattle.std.specs.Prelude.{◌≡◌, ◌<◌, ◌≤◌, ◌++◌, [], ℕ, List, length, take, IfOk, IfSome, OnErr, Ok, true, Option, Some, None, IfNone, MatchOption, ◌⊎◌};
 ghost use Rattle.http_pieces.specs.declared.reply.HttpReply.{HttpReply};
-ghost use Rattle.http_pieces.specs.ReplyReader.{HasReadReply, IsShortestReply, state_of_reply, Partial, Waiting, Done};
+ghost use Rattle.http_pieces.specs.ReplyReader.{HasReadReply, IsShortestReply, is_over_reply, state_of_reply, Partial, Waiting, Done};
 
 use crate::bytes::Bytes;
 use crate::phase::{Phase, drop_front, push_into};
@@ -58,8 +58,11 @@ impl ReplyReader {
 
         ensures moves { 0 < length piece.now
             → IfOk result (λ n. (0 < n) ⊎ ((q : HttpReply) × (self.old ≡ Waiting q))) }
-        ensures waits { (q : HttpReply) → self.old ≡ Waiting q → IfOk result (λ n. (n ≡ 0) × (self.new ≡ self.old)) }
         ensures err { OnErr result (self.new ≡ self.old) }
+
+        // With the reply waiting it takes none, and after a fault or the reply all: neither needs memory.
+        ensures waits { (q : HttpReply) → self.old ≡ Waiting q → (result ≡ Ok 0) × (self.new ≡ self.old) }
+        ensures over { is_over_reply self.old ≡ true → (result ≡ Ok (length piece.now)) × (self.new ≡ self.old) }
     {
         push_into::<Replies>(&mut self.bytes, &mut self.phase, piece)
     }

@@ -1,4 +1,5 @@
-use Rattle.http_pieces.proofs.RequestsLemmas.{requests_unique, requests_more}
+use Rattle.http_pieces.specs.Requests.{Broken, Closed}
+use Rattle.http_pieces.proofs.RequestsLemmas.{requests_unique, requests_more, requests_stay}
 use Rattle.http_pieces.proofs.laws.requests_law.Goals as goal
 
 pub returns-clause-unique : goal.returns-clause-unique
@@ -6,3 +7,9 @@ returns-clause-unique c = requests_unique
 
 pub returns-clause-more : goal.returns-clause-more
 returns-clause-more c = requests_more
+
+pub returns-clause-refused_stays : goal.returns-clause-refused_stays
+returns-clause-refused_stays c = λ k text more given r h. requests_stay k text more given (Broken r) tt h
+
+pub returns-clause-closed_stays : goal.returns-clause-closed_stays
+returns-clause-closed_stays c = λ k text more given h. requests_stay k text more given Closed tt h

@@ -1,4 +1,4 @@
-use Rattle.http_pieces.proofs.PushLemmas.{push_reads, push_shortest, push_moves, push_over}
+use Rattle.http_pieces.proofs.PushLemmas.{push_reads, push_shortest, push_moves, push_over, push_waits}
 use Rattle.http_pieces.proofs.reader.Reader.push.Goals as goal
 
 pub returns-clause-reads : goal.returns-clause-reads
@@ -19,4 +19,9 @@ returns-clause-moves c =
 pub returns-clause-over : goal.returns-clause-over
 returns-clause-over c =
     push_over c.self.inside.taken c.self.inside.bytes.items c.args.piece.now c.push_into.new.bytes.items c.args.self.now c.self.inside.phase c.push_into.new.phase c.self.view_is
-    c.push_into.result c.push_into.ensures.ok c.push_into.ensures.over
+    c.push_into.result c.push_into.ensures.ok c.push_into.ensures.kept
+
+pub returns-clause-waits : goal.returns-clause-waits
+returns-clause-waits c =
+    push_waits c.self.inside.taken c.self.inside.bytes.items c.args.piece.now c.push_into.new.bytes.items c.args.self.now c.self.inside.phase c.push_into.new.phase c.self.view_is
+    c.push_into.result c.push_into.ensures.ok c.push_into.ensures.kept

@@ -1,4 +1,4 @@
-use Rattle.http_pieces.proofs.ReplyLemmas.{reply_reads, reply_shortest}
+use Rattle.http_pieces.proofs.ReplyLemmas.{reply_reads, reply_shortest, reply_over, reply_waits}
 use Rattle.http_pieces.proofs.reply_reader.ReplyReader.push.Goals as goal
 
 pub returns-clause-reads : goal.returns-clause-reads
@@ -10,3 +10,13 @@ pub returns-clause-shortest : goal.returns-clause-shortest
 returns-clause-shortest c =
     reply_shortest c.self.inside.bytes.items c.args.piece.now c.push_into.new.bytes.items c.args.self.now c.self.inside.phase c.push_into.new.phase c.self.view_is
     c.push_into.result c.push_into.ensures.ok
+
+pub returns-clause-waits : goal.returns-clause-waits
+returns-clause-waits c =
+    reply_waits c.self.inside.bytes.items c.args.piece.now c.push_into.new.bytes.items c.args.self.now c.self.inside.phase c.push_into.new.phase c.self.view_is
+    c.push_into.result c.push_into.ensures.ok c.push_into.ensures.kept
+
+pub returns-clause-over : goal.returns-clause-over
+returns-clause-over c =
+    reply_over c.self.inside.bytes.items c.args.piece.now c.push_into.new.bytes.items c.args.self.now c.self.inside.phase c.push_into.new.phase c.self.view_is
+    c.push_into.result c.push_into.ensures.ok c.push_into.ensures.kept
