@@ -1,4 +1,5 @@
 pub mod Firing
+pub mod Leaving
 pub mod Once
 pub mod Order
 pub mod Since

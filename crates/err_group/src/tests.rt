@@ -63,6 +63,22 @@ fn limit_zero(rt: HostRuntime) -> Result<(), Fail> {
     Ok(())
 }
 
+// A hundred wait for one another, and none is refused while there is memory.
+#[test]
+fn a_hundred(rt: HostRuntime) -> Result<(), Fail> {
+    let mut group: Group<u64, u64> = Group::new(rt.alloc());
+    assert_eq!(rt; group.set_limit(Some(1)), Ok(()));
+    for n in 0..101 {
+        assert!(rt; group.go(n).is_ok(), "{n}");
+    }
+    assert_eq!(rt; (group.active(), group.queued()), (1, 100));
+    for n in 1..101 {
+        assert_eq!(rt; group.done(Ok(())).next, Some(n));
+    }
+    assert_eq!(rt; (group.active(), group.queued()), (1, 0));
+    Ok(())
+}
+
 #[test]
 fn says_why_a_limit_is_refused(rt: HostRuntime) -> Result<(), Fail> {
     assert_eq!(rt;
