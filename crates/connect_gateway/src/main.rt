@@ -7,15 +7,16 @@ mod input;
 mod task;
 #[cfg(test)]
 mod tests;
+mod words;
 
 pub use fault::Fault;
 use gateway_run::{run, write_run};
 pub use input::read_input;
-use std::env;
 use std::io::{self, BufWriter, Write};
 use std::process::ExitCode;
 use std::rt::Env;
 pub use task::{Task, task_of};
+pub use words::read_words;
 
 fn main(rt: HostRuntime) -> ExitCode {
     match run_words(&rt) {
@@ -31,10 +32,7 @@ fn main(rt: HostRuntime) -> ExitCode {
 /// Does what the machine's words ask for.
 fn run_words(rt: &(impl Print + Input + Env + AllocGlobal)) -> Result<(), Fault> {
     let alloc = rt.alloc();
-    let mut owned = Vec::new(alloc);
-    for word in env::args(rt)? {
-        owned.push(word)?;
-    }
+    let owned = read_words(rt)?;
     let mut words = Vec::new(alloc);
     for word in &owned {
         words.push(word.as_str())?;

@@ -1,4 +1,5 @@
 use super::*;
+use std::env::{Env, FillError};
 use std::io::{self, Read};
 use std::test::Fail;
 
@@ -27,6 +28,39 @@ fn all_other_words_are_refused(rt: HostRuntime) {
             "of {words:?}"
         );
     }
+}
+
+/// A machine whose words are the program's name, `replay` and these bytes.
+#[derive(Drop)]
+struct Machine(&'static [u8]);
+
+impl Env for Machine {
+    fn arg(&self, i: usize, buf: &mut [u8]) -> Result<usize, FillError> {
+        let words: [&[u8]; 3] = [b"connect_gateway", b"replay", self.0];
+        let word = *words.get(i).ok_or(FillError::NotPresent)?;
+        let room = buf.get_mut(..word.len()).ok_or(FillError::TooLong)?;
+        room.copy_from_slice(word);
+        Ok(word.len())
+    }
+
+    fn var(&self, _name: &str, _buf: &mut [u8]) -> Result<usize, FillError> {
+        Err(FillError::NotPresent)
+    }
+
+    fn var_at(&self, _i: usize, _buf: &mut [u8]) -> Result<usize, FillError> {
+        Err(FillError::NotPresent)
+    }
+}
+
+#[test]
+fn words_are_utf_8(rt: HostRuntime) -> Result<(), Fail> {
+    let words = read_words(&(Machine(b"now"), rt.alloc()))?;
+    assert_eq!(rt; words.len(), 3);
+    assert_eq!(rt; words[2].as_str(), "now");
+    for bytes in [b"\xff".as_slice(), b"no\xc3", b"\xed\xa0\x80"] {
+        assert!(rt; matches!(read_words(&(Machine(bytes), rt.alloc())), Err(Fault::Words)));
+    }
+    Ok(())
 }
 
 #[test]
