@@ -192,12 +192,17 @@ fn the_hundredth_closes(rt: HostRuntime) -> Result<(), Fail> {
 
 #[test]
 fn owned_bytes_and_text(rt: HostRuntime) -> Result<(), Fail> {
-    let mut bytes = Bytes::from_slice(rt.alloc(), b"ab")?;
-    bytes.extend_from_slice(b"c")?;
-    assert!(rt; bytes == bytes.clone()?);
-    assert_eq!(rt; bytes.into_vec().as_slice(), b"abc".as_slice());
-    let text = Text::from_str(rt.alloc(), "hé")?;
-    assert!(rt; text == text.clone()?);
-    assert_eq!(rt; text.into_string().as_str(), "hé");
+    for size in [0, 1, 101, 65_536] {
+        let wanted = vec![in rt.alloc(); b'x'; size]?;
+        let (front, back) = wanted.split_at(size / 2);
+        let mut bytes = Bytes::from_slice(rt.alloc(), front)?;
+        bytes.extend_from_slice(back)?;
+        assert!(rt; bytes == bytes.clone()?, "{size}");
+        assert_eq!(rt; bytes.into_vec().as_slice(), wanted.as_slice());
+        let text = String::from_utf8(wanted)?;
+        let copy = Text::from_str(rt.alloc(), text.as_str())?;
+        assert!(rt; copy == copy.clone()?, "{size}");
+        assert_eq!(rt; copy.into_string().as_str(), text.as_str());
+    }
     Ok(())
 }

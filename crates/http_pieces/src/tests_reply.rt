@@ -131,3 +131,19 @@ fn content_types(rt: HostRuntime) -> Result<(), Fail> {
     }
     Ok(())
 }
+
+/// A head as large as may be, of which all but a few bytes are the content type.
+#[test]
+fn largest_content_type(rt: HostRuntime) -> Result<(), Fail> {
+    let (front, back) = ("HTTP/1.1 204 No\r\nContent-Type: ", "\r\n\r\n");
+    let size = 8_192 - front.len() - back.len();
+    let name = vec![in rt.alloc(); b'x'; size]?;
+    let mut reader = ReplyReader::new(rt.alloc());
+    reader.push(front.as_bytes())?;
+    reader.push(name.as_slice())?;
+    reader.push(back.as_bytes())?;
+    let reply = reader.take().ok_or("a reply")?;
+    let content_type = reply.content_type.ok_or("a type")?;
+    assert_eq!(rt; content_type.as_slice(), name.as_slice());
+    Ok(())
+}
