@@ -86,6 +86,92 @@ fn joined(rt: HostRuntime) -> Result<(), Fail> {
     Ok(())
 }
 
+// The text of a plan file with so many plans, whose paths have 1,024 bytes, and each with a branch of the longest name,
+// address and path.
+fn longest_file(alloc: Global, plans: usize) -> Result<String, AllocError> {
+    let name = filled(alloc, "", 64, "")?;
+    let address = filled(alloc, "", 249, ":65535")?;
+    let mut file = String::from_str(alloc, "[")?;
+    for n in 0..plans {
+        let path = longest_path(alloc, n)?;
+        let plan = format!(in alloc;
+            "{}{{\"path\":\"{}\",\"limit\":1,\"branches\":[{{\"name\":\"{}\",\"address\":\"{}\",\"path\":\"{}\"}}]}}",
+            if n == 0 { "" } else { "," },
+            path.as_str(),
+            name.as_str(),
+            address.as_str(),
+            path.as_str()
+        )?;
+        file.push_str(plan.as_str())?;
+    }
+    file.push_str("]")?;
+    Ok(file)
+}
+
+// A path of 1,024 bytes, another one for each number below 1,000.
+fn longest_path(alloc: Global, number: usize) -> Result<Text, AllocError> {
+    let number = format!(in alloc; "/{number:03}")?;
+    filled(alloc, number.as_str(), 1020, "")
+}
+
+#[test]
+fn largest_file(rt: HostRuntime) -> Result<(), Fail> {
+    let alloc = rt.alloc();
+    let plans = read_plans(alloc, longest_file(alloc, 256)?.as_bytes())?;
+    assert_eq!(rt; plans.len(), 256);
+    for n in 0..256 {
+        let path = longest_path(alloc, n)?;
+        let plan = plans.find(path.as_str().as_bytes()).ok_or("no plan")?;
+        assert_eq!(rt; plan.branches().len(), 1);
+        assert!(rt; plan.branches()[0].path == path, "{n}");
+    }
+    let refused = read_plans(alloc, longest_file(alloc, 257)?.as_bytes());
+    assert_eq!(rt; refused.err(), Some(PlanError::TooManyPlans));
+    Ok(())
+}
+
+// Sixteen answers of 65,536 bytes.
+#[test]
+fn largest_join(rt: HostRuntime) -> Result<(), Fail> {
+    let alloc = rt.alloc();
+    let plan = Plan::new(Text::from_str(alloc, "/")?, 16, None, branches(alloc, 16)?)?;
+    let mut answers = Vec::new(alloc);
+    let mut expected = String::new(alloc);
+    let answer = filled(alloc, "\"", 65_534, "\"")?;
+    for (place, branch) in plan.branches().iter().enumerate() {
+        let member = format!(in alloc;
+            "{}\"{}\":{}",
+            if place == 0 { "{" } else { "," },
+            branch.name.as_str(),
+            answer.as_str()
+        )?;
+        expected.push_str(member.as_str())?;
+        answers.push(Bytes::from_slice(alloc, answer.as_str().as_bytes())?)?;
+    }
+    expected.push_str("}")?;
+    assert_eq!(rt; plan.branches().len(), answers.len());
+    assert!(rt; plan.join(alloc, answers.as_slice())?.as_slice() == expected.as_bytes());
+    Ok(())
+}
+
+#[test]
+fn says_what_is_wrong(rt: HostRuntime) -> Result<(), Fail> {
+    for (fault, text) in [
+        (PlanError::Memory, "no memory"),
+        (PlanError::NotAPlan, "not a plan"),
+        (PlanError::BadName, "bad branch name"),
+        (PlanError::NoBranch, "no branch"),
+        (PlanError::TooManyBranches, "more than 16 branches"),
+        (PlanError::ZeroLimit, "limit is 0"),
+        (PlanError::RepeatedName, "repeated branch name"),
+        (PlanError::RepeatedPath, "repeated plan path"),
+        (PlanError::TooManyPlans, "more than 256 plans"),
+    ] {
+        assert_eq!(rt; fault.to_string(rt.alloc())?.as_str(), text);
+    }
+    Ok(())
+}
+
 // A branch's name, and the fault.
 const NAMES: [(&str, Option<PlanError>); 7] = [
     ("a", None),

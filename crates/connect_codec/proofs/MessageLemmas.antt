@@ -10,7 +10,7 @@ use Rattle.http_pieces.specs.Fields.{NamedValue}
 use Rattle.timeout_header.specs.Timeout.{timeout_text}
 use Rattle.connect_codec.specs.BranchRequest.{BranchCall, request_line, branch_fields, branch_request}
 use Rattle.connect_codec.specs.Message.{crlf, field_line, message_bytes, field_if, field_of}
-use Rattle.connect_codec.specs.Reply.{phrase_of, status_line, reply_fields, reply_bytes}
+use Rattle.connect_codec.specs.Reply.{phrase_of, status_line}
 
 -- the lines of the fields
 abbrev pub lines : List NamedValue → List ℕ
@@ -58,17 +58,25 @@ is_405 status e = eq-eqb status 405 e
 pub not_405 : (status : ℕ) → status ≢ 405 → (status == 405) ≡ false
 not_405 status other = grind (arith, nat_tests)
 
+-- the fields of a reply, by whether it has a document and by its length
+abbrev pub fields_by : ℕ → Bool → ℕ → Bool → List NamedValue
+fields_by status typed len last =
+    field_if typed (codes "Content-Type", codes "application/json")
+    ++ field_if (status == 405) (codes "Allow", codes "POST")
+    ++ (codes "Content-Length", decimal len) ∷ []
+    ++ field_if last (codes "Connection", codes "close")
+
 pub reply_ends : (status : ℕ) (document : Bool) (body : List ℕ) (last : Bool) (start typed allowed sized closed : List ℕ) → start ≡ status_line status ++ crlf
     → typed ≡ start ++ lines (field_if document (codes "Content-Type", codes "application/json"))
     → allowed ≡ typed ++ lines (field_if (status == 405) (codes "Allow", codes "POST"))
     → sized ≡ allowed ++ field_line (codes "Content-Length", decimal (length body))
     → closed ≡ sized ++ lines (field_if last (codes "Connection", codes "close"))
-    → closed ++ crlf ++ body ≡ reply_bytes status document body last
+    → closed ++ crlf ++ body ≡ message_bytes (status_line status) (fields_by status document (length body) last) body
 reply_ends status document body last start typed allowed sized closed e0 e1 e2 e3 e4 =
     let two = lines_grow start typed allowed _ _ e1 e2 in
     let three = lines_grow start allowed sized _ _ two (one_line allowed sized (codes "Content-Length", decimal (length body)) e3) in
     let four = lines_grow start sized closed _ _ three e4 in
-    message_ends (status_line status) closed body _ (four ∙ ap (λ xs. xs ++ lines (reply_fields status document (length body) last)) e0)
+    message_ends (status_line status) closed body _ (four ∙ ap (λ xs. xs ++ lines (fields_by status document (length body) last)) e0)
 
 -- ---- a branch request
 

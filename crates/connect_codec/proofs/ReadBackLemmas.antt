@@ -1,6 +1,6 @@
 -- The messages of this crate, read back.
 use Rattle.std.proofs.Common.{◌≡◌, ℕ, ◌/◌, ◌≤◌, ◌<◌, ◌^◌, Bool, true, false, List, [], ◌∷◌, ◌++◌, map, length, refl, ◌∙◌, append_assoc, arith, lit≤, lit<, ◌==◌, get_or, codes, Some, None, cond}
-use Rattle.std.specs.Prelude.{decimal, min, Option, option_map, IfSome}
+use Rattle.std.specs.Prelude.{decimal, min, Option, is_some, option_map, unwrap_or, IfSome}
 use Rattle.std.proofs.lemmas.Bool.Decides.{nat_tests}
 use Rattle.std.proofs.lemmas.Fmt.{decimal_is_IsNumeral, decimal_step, decimal_digit}
 use Rattle.std.proofs.lemmas.List.Folds.{list_all-append}
@@ -23,6 +23,7 @@ use Rattle.error_document.specs.declared.code.Code.{Code}
 use Rattle.error_document.specs.declared.code.Code.TheVariants as code
 use Rattle.connect_codec.specs.ReadBack.{IsHeadOfReply, ReadsAsReply, Frames, IsHeadOfCall, IsSendable, ReadsAsCall}
 use Rattle.connect_codec.specs.BranchRequest.{BranchCall, request_line, branch_fields, branch_request}
+use Rattle.connect_codec.proofs.MessageLemmas.{fields_by}
 use Rattle.connect_codec.proofs.FieldLineLemmas.{both_true, sound_name, digit_visible, list_all-weaker, is_sound, as_field, all_fields, all_values, print_fields}
 
 -- ---- statuses
@@ -114,7 +115,7 @@ pub length_sound : (len : ℕ) → len < 2 ^ 64 → is_sound (codes "Content-Len
 unfolding httparse_on_literals
 length_sound len small = rw (list_all-weaker is_ascii_digit is_visible digit_visible (decimal len) (digits_pass (decimal len) (decimal_is_IsNumeral len small).0.1)) refl
 
-pub reply_fields_sound : (status : ℕ) (document : Bool) (len : ℕ) (last : Bool) → len < 2 ^ 64 → list_all is_sound (reply_fields status document len last) ≡ true
+pub reply_fields_sound : (status : ℕ) (document : Bool) (len : ℕ) (last : Bool) → len < 2 ^ 64 → list_all is_sound (fields_by status document len last) ≡ true
 unfolding httparse_on_literals
 reply_fields_sound status document len last small =
     all_append (field_if document _ ++ field_if (status == 405) _ ++ (codes "Content-Length", decimal len) ∷ []) (field_if last (codes "Connection", codes "close"))
@@ -146,7 +147,7 @@ values_of_front name fields more value a b = values_of-append name fields more �
 values_of_back : (name : List ℕ) (fields more : List NamedValue) (value : List ℕ) → values_of name fields ≡ [] → values_of name more ≡ value ∷ [] → values_of name (fields ++ more) ≡ value ∷ []
 values_of_back name fields more value a b = values_of-append name fields more ∙ rw (a, b) refl
 
-pub reply_framed : (status : ℕ) (document : Bool) (len : ℕ) (last : Bool) → Frames (reply_fields status document len last) len
+pub reply_framed : (status : ℕ) (document : Bool) (len : ℕ) (last : Bool) → Frames (fields_by status document len last) len
 unfolding same_without_case
 reply_framed status document len last =
     let kind : NamedValue = (codes "Content-Type", codes "application/json") in
@@ -168,11 +169,13 @@ reply_framed status document len last =
           (values_if name last close refl);
     }
 
-pub reply_reads_back : (status : ℕ) (document : Bool) (body : List ℕ) (last : Bool) (more : List ℕ) → 100 ≤ status → status < 1000 → length body < 2 ^ 64
-    → ReadsAsReply (reply_bytes status document body last) status (reply_fields status document (length body) last) body more
-reply_reads_back status document body last more low high small =
-    reply_reads status (reply_fields status document (length body) last) body more low high (reply_fields_sound status document (length body) last small)
-    (reply_framed status document (length body) last)
+pub reply_reads_back : (status : ℕ) (document : Option (List ℕ)) (last : Bool) (more : List ℕ) → 100 ≤ status → status < 1000 → length (unwrap_or document []) < 2 ^ 64
+    → ReadsAsReply (reply_bytes status document last) status (reply_fields status document last) (unwrap_or document []) more
+reply_reads_back status document last more low high small =
+    let typed = is_some document in
+    let len = length (unwrap_or document []) in
+    reply_reads status (reply_fields status document last) (unwrap_or document []) more low high (reply_fields_sound status typed len last small)
+    (reply_framed status typed len last)
 
 pub code_range : (code : Code) → (100 ≤ code_status code) × (code_status code < 1000)
 code_range code.Canceled = (lit≤ tt, lit< tt)

@@ -1,5 +1,5 @@
 -- The replies of a unary call (Connect protocol, "Unary-Response") and of what is no call (RFC 9110, section 15.5), byte for byte.
-use Rattle.std.specs.Prelude.{ℕ, List, [], ◌∷◌, ◌++◌, length, Bool, true, false, ◌==◌, if◌then◌else◌, decimal, codes}
+use Rattle.std.specs.Prelude.{ℕ, List, [], ◌∷◌, ◌++◌, length, Bool, ◌==◌, if◌then◌else◌, Option, None, Some, is_some, unwrap_or, decimal, codes}
 use Rattle.std.specs.List.{list_any}
 use Rattle.http_pieces.specs.Fields.{NamedValue}
 use Rattle.error_document.specs.Codes.{code_status}
@@ -40,26 +40,26 @@ phrase_of status = phrase_in phrases status
 abbrev pub status_line : ℕ → List ℕ
 status_line status = codes "HTTP/1.1 " ++ decimal status ++ codes " " ++ phrase_of status
 
--- The fields of a reply with that status and a body of that length. A reply with a document says that it is JSON; 405 says which
--- method there is (RFC 9110, section 15.5.6); the last reply of a connection says that it closes (RFC 9112, section 9.6).
-abbrev pub reply_fields : ℕ → Bool → ℕ → Bool → List NamedValue
-reply_fields status document len last =
-    field_if document (codes "Content-Type", codes "application/json")
+-- The fields of a reply with that status, and with that document or none. A document is JSON; 405 says which method there is
+-- (RFC 9110, section 15.5.6); the last reply of a connection says that it closes (RFC 9112, section 9.6).
+abbrev pub reply_fields : ℕ → Option (List ℕ) → Bool → List NamedValue
+reply_fields status document last =
+    field_if (is_some document) (codes "Content-Type", codes "application/json")
     ++ field_if (status == 405) (codes "Allow", codes "POST")
-    ++ (codes "Content-Length", decimal len) ∷ []
+    ++ (codes "Content-Length", decimal (length (unwrap_or document []))) ∷ []
     ++ field_if last (codes "Connection", codes "close")
 
 -- the bytes of a reply
-abbrev pub reply_bytes : ℕ → Bool → List ℕ → Bool → List ℕ
-reply_bytes status document body last = message_bytes (status_line status) (reply_fields status document (length body) last) body
+abbrev pub reply_bytes : ℕ → Option (List ℕ) → Bool → List ℕ
+reply_bytes status document last = message_bytes (status_line status) (reply_fields status document last) (unwrap_or document [])
 
 -- the answer of a call that succeeded: 200 and the answer's JSON
 unfoldable pub success_reply : List ℕ → Bool → List ℕ
-success_reply body last = reply_bytes 200 true body last
+success_reply body last = reply_bytes 200 (Some body) last
 
 -- the answer of what failed: the code's status and the error's document
 unfoldable pub error_reply : RpcError → Bool → List ℕ
-error_reply error last = reply_bytes (code_status error.code) true (error_text error) last
+error_reply error last = reply_bytes (code_status error.code) (Some (error_text error)) last
 
 -- the statuses that a reply with no document may have
 abbrev pub is_bare_status : ℕ → Bool
@@ -67,4 +67,4 @@ is_bare_status status = list_any (λ s. s == status) (400 ∷ 404 ∷ 405 ∷ 41
 
 -- the answer to what is no call: a status alone
 unfoldable pub bare_reply : ℕ → Bool → List ℕ
-bare_reply status last = reply_bytes status false [] last
+bare_reply status last = reply_bytes status None last

@@ -26,13 +26,17 @@ asked_timeout q = timeout_of (said (codes "Connect-Timeout-Ms") q)
 abbrev pub failure : Code → List ℕ → Verdict
 failure code message = Fail (plain_error code message)
 
--- why a request is no call, and what it is then: each rule that applies, with its verdict, in the order in which they count.
--- `known` says whether the request's path names a plan.
-abbrev pub refusals : HttpRequest → Bool → List (Bool × Verdict)
-refusals q known =
+-- Why a request is no call, and what it is then: each rule that applies, with its verdict, in the order in which they count. First
+-- those of HTTP, whose replies are bare; `known` says whether the request's path names a plan.
+abbrev pub bare_refusals : HttpRequest → Bool → List (Bool × Verdict)
+bare_refusals q known =
     (not (bytes_eq q.method (codes "POST")), Bare 405) ∷
     (not known, Bare 404) ∷
-    (not (is_one is_json_type (said (codes "Content-Type") q)), Bare 415) ∷
+    (not (is_one is_json_type (said (codes "Content-Type") q)), Bare 415) ∷ []
+
+-- then those of the protocol, whose replies are errors
+abbrev pub protocol_refusals : HttpRequest → List (Bool × Verdict)
+protocol_refusals q =
     (not (is_absent_or_one is_identity (said (codes "Content-Encoding") q)), failure Unimplemented (codes "content encoding not supported")) ∷
     (not (is_absent_or_one is_version_1 (said (codes "Connect-Protocol-Version") q)), failure InvalidArgument (codes "Connect-Protocol-Version must be 1")) ∷
     (is_err (asked_timeout q), failure InvalidArgument (codes "bad Connect-Timeout-Ms")) ∷
@@ -43,11 +47,14 @@ abbrev pub first_that_applies : List (Bool × Verdict) → Verdict → Verdict
 first_that_applies [] otherwise = otherwise
 first_that_applies (rule ∷ later) otherwise = if rule.0 then rule.1 else first_that_applies later otherwise
 
--- a request is a call where no rule applies
-unfoldable pub verdict_of : HttpRequest → Bool → Verdict
-verdict_of q known =
+-- a request is a call where no rule of the protocol applies
+abbrev pub protocol_verdict : HttpRequest → Verdict
+protocol_verdict q =
     let call = Ask (result_unwrap_or (asked_timeout q) None) (request_id_of (said (codes "X-Request-Id") q)) in
-    first_that_applies (refusals q known) call
+    first_that_applies (protocol_refusals q) call
+
+unfoldable pub verdict_of : HttpRequest → Bool → Verdict
+verdict_of q known = first_that_applies (bare_refusals q known) (protocol_verdict q)
 
 -- a bare verdict has a status that a bare reply may have
 abbrev pub HasBareStatus : Verdict → Type 0

@@ -1,5 +1,5 @@
 //! What follows from the definitions alone. The functions are empty: their clauses are the laws.
-ghost use Rattle.std.specs.Prelude.{ℕ, ◌<◌, ◌^◌, List, [], length, Bool, true, false, IsTrue};
+ghost use Rattle.std.specs.Prelude.{ℕ, ◌<◌, ◌^◌, List, [], length, Bool, None, Some, IsTrue};
 ghost use Rattle.error_document.specs.Codes.{code_status};
 ghost use Rattle.error_document.specs.Documents.{error_text};
 ghost use Rattle.error_document.specs.declared.document.RpcError.{RpcError};
@@ -12,15 +12,15 @@ ghost use Rattle.connect_codec.specs.ReadBack.{ReadsAsReply, ReadsAsCall, IsSend
 pub fn replies_read_back()
     ensures success { (body more : List ℕ) (last : Bool) → length body < 2 ^ 64
         → ReadsAsReply (success_reply body last) 200
-        (reply_fields 200 true (length body) last) body more }
+        (reply_fields 200 (Some body) last) body more }
     ensures error { (error : RpcError) (more : List ℕ) (last : Bool)
         → length (error_text error) < 2 ^ 64
         → ReadsAsReply (error_reply error last) (code_status error.code)
-        (reply_fields (code_status error.code) true (length (error_text error)) last)
+        (reply_fields (code_status error.code) (Some (error_text error)) last)
         (error_text error) more }
     ensures bare { (status : ℕ) (more : List ℕ) (last : Bool) → IsTrue (is_bare_status status)
         → ReadsAsReply (bare_reply status last) status
-        (reply_fields status false 0 last) [] more }
+        (reply_fields status None last) [] more }
 {}
 
 /// A reader of requests finds in the bytes of a branch request the head and the body that it was made

@@ -1,4 +1,4 @@
-ghost use Rattle.std.specs.Prelude.{◌≡◌, IfOk, IsTrue};
+ghost use Rattle.std.specs.Prelude.{◌≡◌, IfOk, IsTrue, option_map};
 ghost use Rattle.connect_codec.specs.Reply.{reply_bytes, success_reply, error_reply, bare_reply, is_bare_status};
 
 use crate::head::Head;
@@ -12,7 +12,7 @@ use std::alloc::{AllocError, Global};
 pub fn success_reply(alloc: Global, body: &[u8], last: bool) -> Result<Bytes, AllocError>
     ensures { IfOk result (λ bytes. bytes ≡ success_reply body.now last) }
 {
-    reply(alloc, 200, true, body, last)
+    reply(alloc, 200, Some(body), last)
 }
 
 /// The reply that carries an error: the status of its code, and its document. `last` says that no
@@ -22,7 +22,7 @@ pub fn error_reply(alloc: Global, error: &RpcError, last: bool) -> Result<Bytes,
     ensures { IfOk result (λ bytes. bytes ≡ error_reply error.now last) }
 {
     let document = error_document::write(alloc, error)?;
-    reply(alloc, error.code.status(), true, document.as_slice(), last)
+    reply(alloc, error.code.status(), Some(document.as_slice()), last)
 }
 
 /// The reply that has a status and no document, which is 400, 404, 405, 411, 415 or 431. `last` says
@@ -32,20 +32,21 @@ pub fn bare_reply(alloc: Global, status: u16, last: bool) -> Result<Bytes, Alloc
     requires { IsTrue (is_bare_status status) }
     ensures { IfOk result (λ bytes. bytes ≡ bare_reply status last) }
 {
-    reply(alloc, status, false, b"", last)
+    reply(alloc, status, None, last)
 }
 
 fn reply(
     alloc: Global,
     status: u16,
-    document: bool,
-    body: &[u8],
+    document: Option<&[u8]>,
     last: bool,
 ) -> Result<Bytes, AllocError>
-    ensures { IfOk result (λ bytes. bytes ≡ reply_bytes status document body.now last) }
+    ensures { IfOk result
+        (λ bytes. bytes ≡ reply_bytes status (option_map (λ text. text.now) document.entry) last) }
 {
+    let body = document.unwrap_or(b"");
     let mut head = Head::of_reply(alloc, status)?;
-    if document {
+    if document.is_some() {
         head.field("Content-Type", b"application/json")?;
     }
     if status == 405 {

@@ -410,3 +410,63 @@ fn carries_many_details(rt: HostRuntime) -> Result<(), Fail> {
     );
     Ok(())
 }
+
+fn letters(alloc: Global, n: usize) -> Result<String, AllocError> {
+    let mut text = String::new(alloc);
+    for _ in 0..n {
+        text.push('m')?;
+    }
+    Ok(text)
+}
+
+// Every status and every code, and texts of 65,536 bytes.
+#[test]
+fn every_status_code_and_size(rt: HostRuntime) -> Result<(), Fail> {
+    let alloc = rt.alloc();
+    for status in 100..1000 {
+        if status != 200 {
+            let code = Code::inferred(StatusCode::from_u16(status)?);
+            let message = format!(in alloc; "HTTP status {status}")?;
+            let expected = RpcError::plain(alloc, code, message.as_str())?;
+            assert!(rt;
+                read_at(&rt, alloc, status, b"busy")? == expected,
+                "{status}"
+            );
+        }
+    }
+    for name in [
+        "canceled",
+        "unknown",
+        "invalid_argument",
+        "deadline_exceeded",
+        "not_found",
+        "already_exists",
+        "permission_denied",
+        "resource_exhausted",
+        "failed_precondition",
+        "aborted",
+        "out_of_range",
+        "unimplemented",
+        "internal",
+        "unavailable",
+        "data_loss",
+        "unauthenticated",
+    ] {
+        let code = Code::from_name(name.as_bytes()).ok_or("a name of no code")?;
+        let message = letters(alloc, 65_536)?;
+        let text = format!(in alloc; "{{\"code\":\"{name}\",\"message\":\"{message}\"}}")?;
+        let error = RpcError::plain(alloc, code, message.as_str())?;
+        assert!(rt;
+            read_at(&rt, alloc, 500, text.as_bytes())? == error,
+            "{name}"
+        );
+        assert!(rt;
+            write(alloc, &error)?.as_slice() == text.as_bytes(),
+            "{name}"
+        );
+        assert!(rt; error.clone()? == error, "{name}");
+    }
+    let nothing = RpcError::plain(alloc, Code::Unknown, "HTTP status 500")?;
+    assert!(rt; read_at(&rt, alloc, 500, letters(alloc, 65_536)?.as_bytes())? == nothing);
+    Ok(())
+}

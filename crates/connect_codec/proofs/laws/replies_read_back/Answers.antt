@@ -1,4 +1,4 @@
-use Rattle.std.proofs.Common.{[], true, false, lit≤, lit<}
+use Rattle.std.proofs.Common.{None, Some, lit≤, lit<}
 use Rattle.error_document.specs.Codes.{code_status}
 use Rattle.error_document.specs.Documents.{error_text}
 use Rattle.connect_codec.specs.Reply.{success_reply, error_reply, bare_reply}
@@ -7,16 +7,16 @@ use Rattle.connect_codec.proofs.laws.replies_read_back.Goals as goal
 
 pub returns-clause-success : goal.returns-clause-success
 unfolding success_reply
-returns-clause-success c = λ body more last small. reply_reads_back 200 true body last more (lit≤ tt) (lit< tt) small
+returns-clause-success c = λ body more last small. reply_reads_back 200 (Some body) last more (lit≤ tt) (lit< tt) small
 
 pub returns-clause-error : goal.returns-clause-error
 unfolding error_reply
 returns-clause-error c = λ error more last small.
     let range = code_range error.code in
-    reply_reads_back (code_status error.code) true (error_text error) last more range.0 range.1 small
+    reply_reads_back (code_status error.code) (Some (error_text error)) last more range.0 range.1 small
 
 pub returns-clause-bare : goal.returns-clause-bare
 unfolding bare_reply
 returns-clause-bare c = λ status more last bare.
     let range = bare_range status bare in
-    reply_reads_back status false [] last more range.0 range.1 (lit< tt)
+    reply_reads_back status None last more range.0 range.1 (lit< tt)
