@@ -1,6 +1,7 @@
 -- A plan as contracts see it, when it is lawful, why it is refused, and the text that joins its answers.
 use Rattle.std.specs.Prelude.{◌≡◌, ℕ, ◌<◌, ◌≤◌, List, [], ◌∷◌, ◌++◌, map, zip, length, codes, Bool, true, false, not, ◌&&◌, ◌||◌, ◌==◌, nat_lt, nat_le, if◌then◌else◌, IsTrue, bytes_eq, Option, Some, None}
 use Rattle.std.specs.List.{list_all, list_any, join_with_byte}
+use Rattle.http_pieces.specs.declared.largest.TheConstants.{MAX_DECIMAL}
 use Rattle.call_plan.specs.declared.branch.Branch.{Branch}
 use Rattle.call_plan.specs.declared.error.PlanError.{PlanError}
 use Rattle.call_plan.specs.declared.error.PlanError.TheVariants.{NotAPlan, BadName, NoBranch, TooManyBranches, ZeroLimit, RepeatedName}
@@ -14,10 +15,10 @@ pub record PlanRecord : Type 0 where
   pub timeout : Option ℕ
   pub branches : List Branch
 
--- a timeout is at most 9,999,999,999 milliseconds, or absent
+-- a timeout is at most the milliseconds that `Connect-Timeout-Ms` can say, 9,999,999,999, or absent
 abbrev pub is_timeout : Option ℕ → Bool
 is_timeout None = true
-is_timeout (Some ms) = nat_le ms 9999999999
+is_timeout (Some ms) = nat_le ms MAX_DECIMAL
 
 -- the branch goes to a lawful address and path
 abbrev pub has_target : Branch → Bool

@@ -5,6 +5,7 @@ use Rattle.std.specs.Str.{is_utf8}
 use Rattle.serde_json.specs.Data.{Data, Items, no_items, item}
 use Rattle.serde_json.specs.Find.{get, as_str, as_number, as_u64, as_array}
 use Rattle.serde_json.specs.Read.{read}
+use Rattle.http_pieces.specs.declared.largest.TheConstants.{MAX_DECIMAL}
 use Rattle.call_plan.specs.declared.branch.Branch.{Branch}
 use Rattle.call_plan.specs.declared.error.PlanError.{PlanError}
 use Rattle.call_plan.specs.declared.error.PlanError.TheVariants.{Memory, NotAPlan}
@@ -36,7 +37,7 @@ limit_of d = option_and_then (whole_number 4294967295) (get (codes "limit") d)
 
 -- the timeout of a plan, from 0 to 9,999,999,999, or none where the key is absent
 unfoldable pub timeout_of : Data → Option (Option ℕ)
-timeout_of d = option_map_or (λ ms. option_map Some (whole_number 9999999999 ms)) (get (codes "timeout_ms") d) (Some None)
+timeout_of d = option_map_or (λ ms. option_map Some (whole_number MAX_DECIMAL ms)) (get (codes "timeout_ms") d) (Some None)
 
 -- what each of the entries is, if each is something
 abbrev pub each_of : {A : Type 0} → (Data → Option A) → Items → Option (List A)

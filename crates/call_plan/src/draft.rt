@@ -8,14 +8,12 @@ ghost use Rattle.call_plan.specs.PlanFile.{text_at, array_at, whole_number, limi
 use crate::branch::Branch;
 use crate::error::PlanError;
 use crate::plan::Plan;
-use http_pieces::Text;
+use http_pieces::{MAX_DECIMAL, Text};
 use serde_json::Value;
 use std::alloc::Global;
 use std::marker::Model;
 
 const MAX_LIMIT: u64 = 4_294_967_295;
-
-const MAX_TIMEOUT_MS: u64 = 9_999_999_999;
 
 // The parts of a plan.
 #[derive(Debug, Drop)]
@@ -137,7 +135,7 @@ fn timeout_of(entry: &Value) -> Option<Option<u64>>
 {
     match entry.get("timeout_ms") {
         None => Some(None),
-        Some(timeout_ms) => whole_number(timeout_ms, MAX_TIMEOUT_MS).map(Some),
+        Some(timeout_ms) => whole_number(timeout_ms, MAX_DECIMAL).map(Some),
     }
 }
 

@@ -6,13 +6,11 @@ ghost use Rattle.call_plan.specs.Plan.{IsLawful, has_target, has_name, is_well_f
 use crate::branch::Branch;
 use crate::error::PlanError;
 use crate::rules;
-use http_pieces::{Bytes, Text};
+use http_pieces::{Bytes, MAX_DECIMAL, Text};
 use std::alloc::{AllocError, Global};
 use std::marker::Model;
 
 const MAX_BRANCHES: usize = 16;
-
-const MAX_TIMEOUT_MS: u64 = 9_999_999_999;
 
 /// What one path of the gateway asks: its branches, and how many of them may be out at a time.
 ///
@@ -155,9 +153,7 @@ fn judge(
 fn is_well_formed(path: &str, timeout_ms: Option<u64>, branches: &[Branch]) -> bool
     ensures { result ≡ is_well_formed path.now timeout_ms branches.now }
 {
-    rules::is_path(path)
-        && timeout_ms.is_none_or(|ms| ms <= MAX_TIMEOUT_MS)
-        && have_targets(branches)
+    rules::is_path(path) && timeout_ms.is_none_or(|ms| ms <= MAX_DECIMAL) && have_targets(branches)
 }
 
 fn have_targets(branches: &[Branch]) -> bool

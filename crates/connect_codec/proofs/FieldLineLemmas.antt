@@ -1,10 +1,11 @@
 -- Field lines as the grammar of HTTP/1.1 has them.
-use Rattle.std.proofs.Common.{◌≡◌, ℕ, Bool, true, false, ◌&&◌, List, [], ◌∷◌, map, reverse, length, refl, ap, append_assoc, arith, nat_lt}
+use Rattle.std.proofs.Common.{◌≡◌, ℕ, Bool, true, false, ◌&&◌, List, [], ◌∷◌, map, reverse, length, refl, ap, append_assoc, arith, nat_lt, ◌≤◌}
 use Rattle.std.proofs.lemmas.Bool.Decides.{nat_tests}
 use Rattle.std.proofs.lemmas.List.Elements.{All-map}
 use Rattle.std.proofs.lemmas.List.Sums.{AllPass-from_list_all, list_all-from_AllPass}
 use Rattle.std.specs.Prelude.{All}
-use Rattle.std.specs.Char.{is_ascii_digit}
+use Rattle.std.proofs.lemmas.Str.Parse.{digit_from_value}
+use Rattle.std.specs.Str.Parse.{AllDigits}
 use Rattle.std.specs.List.{list_all, flat_map}
 use Rattle.httparse.proofs.TrimLemmas.{trim_ows_space, AllPass-reverse}
 use Rattle.httparse.specs.Grammar.{Field, crlf, IsField, is_token, is_token_byte, is_value_byte, is_ows, skip_ows, print_field, IsToken}
@@ -21,8 +22,12 @@ visible_value b seen = grind (arith, nat_tests)
 visible_no_blank : (b : ℕ) → is_visible b ≡ true → is_ows b ≡ false
 visible_no_blank b seen = grind (arith, nat_tests)
 
-pub digit_visible : (b : ℕ) → is_ascii_digit b ≡ true → is_visible b ≡ true
-digit_visible b digit = grind (arith, nat_tests)
+-- the digits of a number pass each test that digits pass
+pub digits_pass : (test : ℕ → Bool) → ((b : ℕ) → 48 ≤ b → b ≤ 57 → test b ≡ true) → (text : List ℕ) → AllDigits 10 text → list_all test text ≡ true
+digits_pass test passes [] all = refl
+digits_pass test passes (c ∷ text) all =
+    let within = digit_from_value c all.0 in
+    rw (passes c (omega (arith, within)) (omega (arith, within)), digits_pass test passes text all.1) refl
 
 -- what holds of each byte that passes one test holds of each that passes another
 pub list_all-weaker : (p q : ℕ → Bool) → ((b : ℕ) → p b ≡ true → q b ≡ true) → (xs : List ℕ) → list_all p xs ≡ true → list_all q xs ≡ true

@@ -3,8 +3,9 @@ use Rattle.std.proofs.Common.{◌≡◌, ℕ, ◌+◌, ◌<◌, ◌≤◌, ◌==
 use Rattle.std.proofs.lemmas.List.{take_all, length-map}
 use Rattle.std.specs.Prelude.{position}
 use Rattle.std.specs.Char.{to_ascii_lowercase}
+use Rattle.std.specs.Cmp.Lexicographic.{unequal}
 use Rattle.std.specs.List.{position_or_len, before_first, starts_with}
-use Rattle.http_pieces.proofs.FieldLemmas.{same_is}
+use Rattle.http_pieces.specs.Fields.{same_without_case}
 use Rattle.connect_codec.specs.Path.{from_slash, path_and_query, path_of}
 use Rattle.connect_codec.proofs.TextLemmas.{position_found, position_missing}
 
@@ -34,22 +35,20 @@ from_slash_missing text e = (from_place text).missing (position_missing (λ b. b
 -- ---- a target
 
 pub path_and_query_absolute : (target : List ℕ) → starts_with nat_eq target (codes "/") ≡ false
-    → map to_ascii_lowercase (take 7 target) ≡ map to_ascii_lowercase (codes "http://")
-    → path_and_query target ≡ from_slash (drop 7 target)
-path_and_query_absolute target other scheme = rw (other, sym (same_is (take 7 target) (codes "http://") true ((λ _. scheme), (λ _. refl)))) refl
+    → same_without_case (take 7 target) (codes "http://") ≡ true → path_and_query target ≡ from_slash (drop 7 target)
+path_and_query_absolute target other scheme = rw (other, scheme) refl
 
 pub path_and_query_none : (target : List ℕ) → starts_with nat_eq target (codes "/") ≡ false
-    → ¬ (map to_ascii_lowercase (take 7 target) ≡ map to_ascii_lowercase (codes "http://"))
-    → path_and_query target ≡ None
-path_and_query_none target other scheme =
-    rw (other, sym (same_is (take 7 target) (codes "http://") false ((λ wrong. absurd (cc)), (λ same. absurd (scheme same))))) refl
+    → same_without_case (take 7 target) (codes "http://") ≡ false → path_and_query target ≡ None
+path_and_query_none target other scheme = rw (other, scheme) refl
 
 -- a shorter text has no such scheme
-pub no_scheme : (target : List ℕ) → length target < 7 → ¬ (map to_ascii_lowercase (take 7 target) ≡ map to_ascii_lowercase (codes "http://"))
-no_scheme target short same =
+pub no_scheme : (target : List ℕ) → length target < 7 → same_without_case (take 7 target) (codes "http://") ≡ false
+unfolding same_without_case
+no_scheme target short =
     let whole : take 7 target ≡ target = take_all 7 target (omega arith) in
-    let lengths = ap length same in
-    absurd (omega (arith, rw (length-map {A = ℕ} {B = ℕ}, whole) at lengths))
+    unequal nat_eq (map to_ascii_lowercase (take 7 target)) (map to_ascii_lowercase (codes "http://"))
+    (λ same. absurd (omega (arith, rw (length-map {A = ℕ} {B = ℕ}, whole) at same)))
 
 -- what stands before the query
 pub path_of-none : (target : List ℕ) → path_and_query target ≡ None → path_of target ≡ None

@@ -14,7 +14,7 @@ use Rattle.httparse.proofs.GrammarLemmas.{print_response-append, print_request-a
 use Rattle.httparse.specs.Grammar.{crlf, is_value_byte, ResponseHead, IsResponseHead, print_response, ReadsResponse, RequestHead, IsRequestHead, print_request, ReadsRequest, is_uri_byte, is_token, AllPass}
 use Rattle.http_pieces.specs.Fields.{NamedValue, values_of, same_without_case}
 use Rattle.timeout_header.specs.Timeout.{timeout_text}
-use Rattle.timeout_header.proofs.DigitsLemmas.{digits_pass}
+use Rattle.http_pieces.specs.declared.largest.TheConstants.{MAX_DECIMAL}
 use Rattle.connect_codec.specs.Message.{message_bytes, field_if, field_of}
 use Rattle.connect_codec.specs.Headers.{is_visible}
 use Rattle.connect_codec.specs.Reply.{phrases, phrase_in, phrase_of, status_line, reply_bytes, reply_fields, is_bare_status}
@@ -24,7 +24,7 @@ use Rattle.error_document.specs.declared.code.Code.TheVariants as code
 use Rattle.connect_codec.specs.ReadBack.{IsHeadOfReply, ReadsAsReply, Frames, IsHeadOfCall, IsSendable, ReadsAsCall}
 use Rattle.connect_codec.specs.BranchRequest.{BranchCall, request_line, branch_fields, branch_request}
 use Rattle.connect_codec.proofs.MessageLemmas.{fields_by}
-use Rattle.connect_codec.proofs.FieldLineLemmas.{both_true, sound_name, digit_visible, list_all-weaker, is_sound, as_field, all_fields, all_values, print_fields}
+use Rattle.connect_codec.proofs.FieldLineLemmas.{both_true, sound_name, digits_pass, is_sound, as_field, all_fields, all_values, print_fields}
 
 -- ---- statuses
 
@@ -36,7 +36,7 @@ three_digits status low high =
     rw (last, middle, first) refl
 
 pub digits_of_status : (status : ℕ) → status < 1000 → list_all is_ascii_digit (decimal status) ≡ true
-digits_of_status status high = digits_pass (decimal status) (decimal_is_IsNumeral status (omega arith)).0.1
+digits_of_status status high = digits_pass is_ascii_digit (λ b low top. grind (arith, nat_tests)) (decimal status) (decimal_is_IsNumeral status (omega arith)).0.1
 
 abbrev are_phrases : List (ℕ × List ℕ) → Bool
 are_phrases rows = list_all (λ row. list_all is_value_byte row.1) rows
@@ -110,10 +110,13 @@ all_if : (b : Bool) (f : NamedValue) → is_sound f ≡ true → list_all is_sou
 all_if true f sound = rw sound refl
 all_if false f sound = refl
 
+digits_seen : (n : ℕ) → n < 2 ^ 64 → list_all is_visible (decimal n) ≡ true
+digits_seen n small = digits_pass is_visible (λ b low top. grind (arith, nat_tests)) (decimal n) (decimal_is_IsNumeral n small).0.1
+
 -- the length of a body
 pub length_sound : (len : ℕ) → len < 2 ^ 64 → is_sound (codes "Content-Length", decimal len) ≡ true
 unfolding httparse_on_literals
-length_sound len small = rw (list_all-weaker is_ascii_digit is_visible digit_visible (decimal len) (digits_pass (decimal len) (decimal_is_IsNumeral len small).0.1)) refl
+length_sound len small = rw (digits_seen len small) refl
 
 pub reply_fields_sound : (status : ℕ) (document : Bool) (len : ℕ) (last : Bool) → len < 2 ^ 64 → list_all is_sound (fields_by status document len last) ≡ true
 unfolding httparse_on_literals
@@ -239,13 +242,9 @@ all_of : (name : List ℕ) (found : Option (List ℕ)) → is_token name ≡ tru
 all_of name None token seen = refl
 all_of name (Some value) token seen = rw (token, list_all-from_AllPass is_visible value seen) refl
 
-digits_seen : (n : ℕ) → n < 2 ^ 64 → AllPass is_visible (decimal n)
-digits_seen n small =
-    AllPass-from_list_all is_visible (decimal n) (list_all-weaker is_ascii_digit is_visible digit_visible (decimal n) (digits_pass (decimal n) (decimal_is_IsNumeral n small).0.1))
-
 timeout_seen : (remaining : Option ℕ) → IfSome (option_map timeout_text remaining) (AllPass is_visible)
 timeout_seen None = tt
-timeout_seen (Some n) = digits_seen (min n 9999999999) (omega arith)
+timeout_seen (Some n) = AllPass-from_list_all is_visible (decimal (min n MAX_DECIMAL)) (digits_seen (min n MAX_DECIMAL) (omega arith))
 
 pub branch_fields_sound : (call : BranchCall) → IsSendable call → list_all is_sound (branch_fields call) ≡ true
 unfolding httparse_on_literals
@@ -257,7 +256,7 @@ branch_fields_sound call sendable =
     all_append (front ++ time ++ id) ((codes "Connection", codes "close") ∷ [])
     (all_append (front ++ time) id
     (all_append front time
-    (rw (list_all-from_AllPass is_visible call.address sendable.address, list_all-from_AllPass is_visible (decimal (length call.body)) (digits_seen (length call.body) sendable.body)) refl)
+    (rw (list_all-from_AllPass is_visible call.address sendable.address, digits_seen (length call.body) sendable.body) refl)
     (all_of (codes "Connect-Timeout-Ms") (option_map timeout_text call.remaining) refl (timeout_seen call.remaining)))
     (all_of (codes "X-Request-Id") call.request_id refl sendable.request_id))
     refl

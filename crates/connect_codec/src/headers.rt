@@ -4,7 +4,7 @@ ghost use Rattle.http_pieces.specs.Fields.{IsFieldOf};
 ghost use Rattle.connect_codec.specs.Headers.{is_one, is_absent_or_one, is_json_type, is_identity, is_version_1, is_visible, is_request_id, request_id_of};
 
 use crate::text::until;
-use http_pieces::{Bytes, Field, trim_blanks};
+use http_pieces::{Bytes, Field, same_without_case, trim_blanks};
 use std::alloc::{AllocError, Global};
 
 /// Whether the one value of a `Content-Type` field is JSON.
@@ -19,10 +19,11 @@ pub(crate) fn names_json(content_type: Field<'_>) -> bool
 }
 
 /// Whether the media type is `application/json`, whatever its parameters.
+#[tactic(auto, unfolding(crate::specs::Headers::is_json_type))]
 pub(crate) fn is_json_type(content_type: &[u8]) -> bool
     ensures { result ≡ is_json_type content_type.now }
 {
-    trim_blanks(until(content_type, b';')).eq_ignore_ascii_case(b"application/json")
+    same_without_case(trim_blanks(until(content_type, b';')), b"application/json")
 }
 
 /// Whether a `Content-Encoding` field says that the content is not encoded.
@@ -32,7 +33,7 @@ pub(crate) fn is_plain(content_encoding: Field<'_>) -> bool
 {
     match content_encoding {
         Field::None => true,
-        Field::One(value) => value.eq_ignore_ascii_case(b"identity"),
+        Field::One(value) => same_without_case(value, b"identity"),
         Field::Many => false,
     }
 }

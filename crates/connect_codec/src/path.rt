@@ -3,7 +3,7 @@ ghost use Rattle.std.specs.Option.{option_copied};
 ghost use Rattle.connect_codec.specs.Path.{path_of, path_and_query, from_slash};
 
 use crate::text::{index_of, until};
-use http_pieces::Request;
+use http_pieces::{Request, same_without_case};
 
 /// The path that a request's target names: of a target in origin form (`/..`), or in absolute form
 /// (`http://..`), the bytes up to the first `?`. Other targets name none (RFC 9112, section 3.2).
@@ -24,7 +24,7 @@ fn path_and_query(target: &[u8]) -> Option<&[u8]>
 {
     if target.starts_with(b"/") {
         Some(target)
-    } else if target.len() >= 7 && target[..7].eq_ignore_ascii_case(b"http://") {
+    } else if target.len() >= 7 && same_without_case(&target[..7], b"http://") {
         from_slash(&target[7..])
     } else {
         None

@@ -7,10 +7,12 @@
 
 mod blanks;
 mod bytes;
+mod case;
 mod cut;
 mod decimal;
 mod field;
 mod head;
+mod largest;
 pub mod laws;
 mod lookup;
 mod message;
@@ -29,8 +31,10 @@ mod version;
 
 pub use blanks::trim_blanks;
 pub use bytes::Bytes;
+pub use case::same_without_case;
 pub use decimal::read_decimal;
 pub use field::Field;
+pub use largest::MAX_DECIMAL;
 pub use reader::Reader;
 pub use refusal::Refusal;
 pub use reply::HttpReply;

@@ -2,6 +2,7 @@
 -- digits; 0 is taken too, which is this project's choice).
 use Rattle.std.specs.Prelude.{ℕ, List, [], ◌∷◌, Option, None, Some, Result, Ok, Err, min, decimal}
 use Rattle.http_pieces.specs.Fields as fields
+use Rattle.http_pieces.specs.declared.largest.TheConstants.{MAX_DECIMAL}
 use Rattle.timeout_header.specs.declared.error.BadTimeout.{BadTimeout}
 
 -- a value's number of milliseconds, where it is 1 to 10 digits
@@ -18,4 +19,4 @@ timeout_of (value ∷ other ∷ more) = Err (record {})
 
 -- the decimal digits of a timeout, cut at the most that ten digits say
 abbrev pub timeout_text : ℕ → List ℕ
-timeout_text n = decimal (min n 9999999999)
+timeout_text n = decimal (min n MAX_DECIMAL)

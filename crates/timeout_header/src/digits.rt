@@ -1,5 +1,6 @@
 ghost use Rattle.std.specs.Prelude.{◌≡◌, ◌≤◌, decimal};
 
+use http_pieces::MAX_DECIMAL;
 use itoa::write_digits;
 use std::marker::Model;
 
@@ -22,7 +23,7 @@ impl Model for Digits {
 
 impl Digits {
     pub(crate) fn of(number: u64) -> Digits
-        requires { number ≤ 9999999999 }
+        requires { number ≤ MAX_DECIMAL }
         ensures { result ≡ decimal number }
     {
         let mut bytes = [0; 10];

@@ -4,10 +4,7 @@ ghost use Rattle.timeout_header.specs.Timeout.{timeout_of, timeout_text};
 
 use crate::digits::Digits;
 use crate::error::BadTimeout;
-use http_pieces::{Field, read_decimal};
-
-/// The most milliseconds that ten digits say.
-const MOST_MILLISECONDS: u64 = 9_999_999_999;
+use http_pieces::{Field, MAX_DECIMAL, read_decimal};
 
 /// What a request's `Connect-Timeout-Ms` field says, in milliseconds: None without the field, else
 /// the number of its one value of 1 to 10 digits. Every other field is refused.
@@ -25,7 +22,7 @@ pub fn read(field: Field<'_>) -> Result<Option<u64>, BadTimeout>
 /// most that ten digits say, is written as that.
 pub fn write(timeout: u64) -> Digits
     ensures digits { result ≡ timeout_text timeout }
-    ensures reads_back { timeout_of (result ∷ []) ≡ Ok (Some (min timeout 9999999999)) }
+    ensures reads_back { timeout_of (result ∷ []) ≡ Ok (Some (min timeout MAX_DECIMAL)) }
 {
-    Digits::of(timeout.min(MOST_MILLISECONDS))
+    Digits::of(timeout.min(MAX_DECIMAL))
 }
