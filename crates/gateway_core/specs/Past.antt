@@ -29,7 +29,7 @@ Past = List Mark
 
 -- the moment that is handed in, cut at 2^62
 abbrev pub moment_of : Occurrence → ℕ
-moment_of (Moment m) = min m (2 ^ 61)
+moment_of (Moment m) = min m (2 ^ 62)
 moment_of _ = 0
 
 -- the current moment: the greatest one handed in, or 0 (this project's choice, so that the clock never goes back)
@@ -137,7 +137,7 @@ of_branch i (Fail error) = Failed i error
 abbrev pub event_by : CallId → Asked → Occurrence → Bool → Past → Option CallEvent
 event_by id c (Result of i outcome) counted past = if counted && is_call of id then Some (of_branch i outcome) else None
 event_by id c (Moment m) counted past =
-    let moment = max (now past) (min m (2 ^ 61)) in
+    let moment = max (now past) (min m (2 ^ 62)) in
     if is_due moment c.deadline then Some (Expired moment) else None
 event_by id c (HangUp conn) counted past = if conn == id.conn then Some HungUp else None
 event_by id c Drain counted past = Some Drained
