@@ -1,5 +1,4 @@
 pub mod Firing
-pub mod Leaving
 pub mod Once
 pub mod Order
 pub mod Since

@@ -1,9 +1,6 @@
 //! What the definitions come to, as facts on every list of operations. The functions do nothing.
-ghost use Rattle.std.specs.Prelude.{◌≡◌, ◌+◌, ◌++◌, ◌∷◌, List, Contains, map, filter, not, count_by, AllPairs, ◌<◌, nat_eq, nat_lt, if◌then◌else◌};
-ghost use Rattle.context_tree.specs.declared.id.CtxId.{CtxId};
-ghost use Rattle.context_tree.specs.Context.{same};
-ghost use Rattle.context_tree.specs.Tree.{is_among};
-ghost use Rattle.after_funcs.specs.Hooks.{Operation, Fire, Stop, is_named, is_waiting, waiting, due, registered};
+ghost use Rattle.std.specs.Prelude.{◌≡◌, ◌+◌, ◌++◌, ◌∷◌, List, Contains, count_by, AllPairs, ◌<◌, nat_lt, if◌then◌else◌};
+ghost use Rattle.after_funcs.specs.Hooks.{Operation, Stop, is_named, is_waiting, waiting, due, registered};
 ghost use Rattle.after_funcs.specs.Whole.{called, stopped, became_due, HasWaitedSince};
 ghost use Rattle.after_funcs.specs.declared.id.AfterId.{AfterId as Id};
 ghost use Rattle.after_funcs.specs.declared.registration.Registration.{Registration as Registered};
@@ -27,14 +24,4 @@ pub fn once_law<H>()
 pub fn order_law<H>()
     ensures called { (past : List (Operation H)) → called past ++ due past ≡ became_due past }
     ensures registered { (past : List (Operation H)) → AllPairs (λ r s. r.id < s.id) (waiting past) }
-{}
-
-/// What a fire or a stop leaves waiting and makes due, and what several fires leave waiting: the hooks of the other
-/// contexts, in their order.
-pub fn left_law<H>()
-    ensures fire { (past : List (Operation H)) (ctx : CtxId) → waiting (Fire ctx ∷ past) ≡ filter (λ r. not (same r.ctx ctx)) (waiting past) }
-    ensures fires { (past : List (Operation H)) (ctxs : List CtxId)
-        → waiting (map Fire ctxs ++ past) ≡ filter (λ r. not (is_among r.ctx ctxs)) (waiting past) }
-    ensures due { (past : List (Operation H)) (ctx : CtxId) → due (Fire ctx ∷ past) ≡ due past ++ filter (λ r. same r.ctx ctx) (waiting past) }
-    ensures stop { (past : List (Operation H)) (id : Id) → waiting (Stop id ∷ past) ≡ filter (λ r. not (nat_eq r.id id)) (waiting past) }
 {}

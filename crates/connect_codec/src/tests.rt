@@ -5,7 +5,7 @@ use crate::{
 use error_document::{Code, RpcError};
 use http::StatusCode;
 use http_pieces::{Bytes, HttpReply, Reader, Request};
-use std::alloc::{AllocError, Global};
+use std::alloc::Global;
 use std::test::Fail;
 
 // The request of these bytes.
@@ -363,6 +363,24 @@ fn error_replies(rt: HostRuntime) -> Result<(), Fail> {
 }
 
 #[test]
+fn phrases_of_statuses(rt: HostRuntime) -> Result<(), Fail> {
+    let alloc = rt.alloc();
+    for (code, line) in [
+        (Code::Unauthenticated, "401 Unauthorized"),
+        (Code::PermissionDenied, "403 Forbidden"),
+        (Code::NotFound, "404 Not Found"),
+        (Code::Aborted, "409 Conflict"),
+        (Code::Unavailable, "503 Service Unavailable"),
+        (Code::DeadlineExceeded, "504 Gateway Timeout"),
+    ] {
+        let bytes = error_reply(alloc, &RpcError::plain(alloc, code, "")?, false)?;
+        let start = format!(in alloc; "HTTP/1.1 {line}\r\nContent-Type: ")?;
+        assert!(rt; bytes.as_slice().starts_with(start.as_bytes()), "{line}");
+    }
+    Ok(())
+}
+
+#[test]
 fn branch_requests(rt: HostRuntime) -> Result<(), Fail> {
     let alloc = rt.alloc();
     let front =
@@ -510,104 +528,5 @@ fn answers(rt: HostRuntime) -> Result<(), Fail> {
             "{body}"
         );
     }
-    Ok(())
-}
-
-fn letters(alloc: Global, n: usize) -> Result<String, AllocError> {
-    let mut text = String::new(alloc);
-    for _ in 0..n {
-        text.push('m')?;
-    }
-    Ok(text)
-}
-
-// Every status of a backend, and every code of a reply.
-#[test]
-fn every_status_and_code(rt: HostRuntime) -> Result<(), Fail> {
-    let alloc = rt.alloc();
-    for status in 100..1000 {
-        let expected = if status == 200 {
-            Outcome::Answer(Bytes::from_slice(alloc, b"1")?)
-        } else {
-            let code = Code::inferred(StatusCode::from_u16(status)?);
-            let message = format!(in alloc; "HTTP status {status}")?;
-            Outcome::Fail(RpcError::plain(alloc, code, message.as_str())?)
-        };
-        assert!(rt;
-            outcome_of(alloc, status, Some("application/json"), "1")? == expected,
-            "{status}"
-        );
-    }
-    let message = letters(alloc, 65_536)?;
-    for (name, line) in [
-        ("canceled", "499 Client Closed Request"),
-        ("unknown", "500 Internal Server Error"),
-        ("invalid_argument", "400 Bad Request"),
-        ("deadline_exceeded", "504 Gateway Timeout"),
-        ("not_found", "404 Not Found"),
-        ("already_exists", "409 Conflict"),
-        ("permission_denied", "403 Forbidden"),
-        ("resource_exhausted", "429 Too Many Requests"),
-        ("failed_precondition", "400 Bad Request"),
-        ("aborted", "409 Conflict"),
-        ("out_of_range", "400 Bad Request"),
-        ("unimplemented", "501 Not Implemented"),
-        ("internal", "500 Internal Server Error"),
-        ("unavailable", "503 Service Unavailable"),
-        ("data_loss", "500 Internal Server Error"),
-        ("unauthenticated", "401 Unauthorized"),
-    ] {
-        let code = Code::from_name(name.as_bytes()).ok_or("a name of no code")?;
-        let error = RpcError::plain(alloc, code, message.as_str())?;
-        let body = format!(in alloc; "{{\"code\":\"{name}\",\"message\":\"{message}\"}}")?;
-        let length = body.len();
-        let expected = format!(in alloc;
-            "HTTP/1.1 {line}\r\nContent-Type: application/json\r\nContent-Length: {length}\r\n\r\n{body}"
-        )?;
-        assert!(rt;
-            error_reply(alloc, &error, false)?.as_slice() == expected.as_bytes(),
-            "{name}"
-        );
-        let failed = outcome_of(alloc, 500, None, body.as_str())?;
-        assert!(rt; failed == Outcome::Fail(error), "{name}");
-    }
-    Ok(())
-}
-
-// A request and a reply with a body of 65,536 bytes, and what is made of sixteen such replies.
-#[test]
-fn largest_bodies(rt: HostRuntime) -> Result<(), Fail> {
-    let alloc = rt.alloc();
-    let body = format!(in alloc; "\"{}\"", letters(alloc, 65_534)?.as_str())?;
-    let called = judged(alloc, "Content-Type: application/json\r\n", body.as_str())?;
-    let ask = Verdict::Ask {
-        timeout: None,
-        request_id: None,
-    };
-    assert!(rt; called == ask);
-    let answer = outcome_of(alloc, 200, Some("application/json"), body.as_str())?;
-    assert!(rt; answer == Outcome::Answer(Bytes::from_slice(alloc, body.as_bytes())?));
-    let joined = letters(alloc, 16 * 65_536 + 1100)?;
-    let reply = success_reply(alloc, joined.as_bytes(), true)?;
-    let length = joined.len();
-    let expected = format!(in alloc;
-        "HTTP/1.1 200 OK\r\nContent-Type: application/json\r\nContent-Length: {length}\r\nConnection: close\r\n\r\n{joined}"
-    )?;
-    assert!(rt; reply.as_slice() == expected.as_bytes());
-    let path = letters(alloc, 1024)?;
-    let address = letters(alloc, 255)?;
-    let id = letters(alloc, 128)?;
-    let ask = BranchAsk {
-        address: address.as_str(),
-        path: path.as_str(),
-        remaining: Some(9_999_999_999),
-        request_id: Some(id.as_bytes()),
-        body: body.as_bytes(),
-    };
-    let expected = format!(in alloc;
-        "POST {path} HTTP/1.1\r\nHost: {address}\r\nContent-Type: application/json\r\nContent-Length: 65536\r\nConnect-Protocol-Version: 1\r\n\
-        Connect-Timeout-Ms: 9999999999\r\nX-Request-Id: {id}\r\nConnection: close\r\n\r\n{body}"
-    )?;
-    assert!(rt; branch_request(alloc, &ask)?.as_slice() == expected.as_bytes());
     Ok(())
 }

@@ -42,7 +42,6 @@ impl<H> AfterFuncs<H> {
             → OnOk result (StandsFor self.new (AfterFunc ctx done hook ∷ past)) }
         ensures unchanged { (past : List (Operation H)) → StandsFor self.old past
             → OnErr result (StandsFor self.new past) }
-        ensures given_back { IfErr result (λ refused. refused.0 ≡ hook) }
         ensures exhausted { (past : List (Operation H)) → StandsFor self.old past
             → 2 ^ 62 ≤ registered past → result ≡ Err (hook, Exhausted) }
         ensures memory { (past : List (Operation H)) → StandsFor self.old past
