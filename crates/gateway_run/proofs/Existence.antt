@@ -61,11 +61,14 @@ module _ (laws : RequestLaws) (plans : List PlanRecord) (opened : List ℕ) wher
   at_exists (Closing conn) before none = none _ refl
   at_exists (Piece conn bytes) before none = by_listening (listens opened conn before) refl
     where
+      nothing : List Occurrence
+      nothing = []
+
       Gained : List Occurrence → Type 0
       Gained os = (gained : List Entering) × Gains plans (stream opened conn before) (stream opened conn before ++ bytes) gained × (os ≡ map (Entry conn) gained)
 
       by_listening : (b : Bool) → listens opened conn before ≡ b → ⊥
-      by_listening false b_is = none [] (subst (λ b. MatchBool b (Gained []) ([] ≡ [])) (sym b_is) refl)
+      by_listening false b_is = none [] (subst (λ b. MatchBool b (Gained []) (nothing ≡ [])) (sym b_is) refl)
       by_listening true b_is =
           gains_exist (stream opened conn before) bytes (λ gained is. none (map (Entry conn) gained)
           (subst (λ b. MatchBool b (Gained (map (Entry conn) gained)) (map (Entry conn) gained ≡ [])) (sym b_is) (gained, is, refl)))
