@@ -1,14 +1,10 @@
 -- A cut depends on the shortest block alone, and bytes that follow change neither a message nor a refusal.
-use Rattle.std.proofs.Common.{◌≡◌, ℕ, zero, suc, ◌+◌, ◌-◌, ◌<◌, ◌≤◌, ◌==◌, Bool, true, false, ◌&&◌, nat_eq, nat_lt, List, [], ◌∷◌, ◌++◌, length, take, drop, refl, sym, ap, subst, ◌∙◌, arith, min, ◌⊎◌, inl, inr, zero-add, length-take, length-append, length-take-le}
-use Rattle.std.proofs.lemmas.Bool.{eqb-true, cases_lt, both_ways}
-use Rattle.std.proofs.lemmas.Bool.Decides.{nat_tests, Decides-eqb}
-use Rattle.std.proofs.lemmas.Slice.Eq.{starts_is}
-use Rattle.std.specs.List.{starts_with}
-use Rattle.std.proofs.lemmas.List.{take-append-le, drop-append-le, length-drop, drop-drop, take_rest, take_all, take-append-drop}
-use Rattle.std.proofs.Math.Seq.{take-length}
-use Rattle.http_pieces.specs.Cut.{Cut, Incomplete, Refused, Complete, Asks, Refusal, Body, Kind, IsSingle, IsCut, skip_pairs, EndsInEmptyLine, most_head, IsBlock, HasNoBlock, cut_unblocked, cut_after, IsCutText, without_block, without_head, with_head}
+use Rattle.std.proofs.Common.{◌≡◌, ℕ, ◌<◌, ◌≤◌, ◌==◌, Bool, true, false, ◌&&◌, nat_lt, List, [], ◌∷◌, ◌++◌, length, take, drop, refl, sym, ap, subst, ◌∙◌, arith, length-take, length-append, length-take-le}
+use Rattle.std.proofs.lemmas.Bool.Decides.{nat_tests}
+use Rattle.std.proofs.lemmas.List.{take-append-le, drop-append-le, take-append-drop}
+use Rattle.http_pieces.specs.Cut.{Cut, Incomplete, Refused, Complete, Asks, Refusal, Body, Kind, IsSingle, IsCut, skip_pairs, most_head, IsBlock, HasNoBlock, cut_unblocked, cut_after, IsCutText, without_block, without_head, with_head}
 
-abbrev is_pair : ℕ → ℕ → Bool
+abbrev pub is_pair : ℕ → ℕ → Bool
 is_pair a b = (a == 13) && (b == 10)
 
 -- ---- the pairs that lead a text
@@ -41,57 +37,6 @@ skip_shorter (a ∷ b ∷ s) = by_test (skip_shorter s) (is_pair a b) refl
     by_test : length (skip_pairs s) ≤ length s → (t : Bool) → is_pair a b ≡ t → length (skip_pairs (a ∷ b ∷ s)) ≤ length (a ∷ b ∷ s)
     by_test later true pair = rw pair (omega arith)
     by_test later false other = rw other (omega arith)
-
--- a text that no pair leads stays
-pub skip_none : (s : List ℕ) → ((rest : List ℕ) → s ≡ 13 ∷ 10 ∷ rest → ⊥) → skip_pairs s ≡ s
-skip_none [] other = refl
-skip_none (a ∷ []) other = refl
-skip_none (a ∷ b ∷ s) other = by_tests (nat_eq a 13) refl (nat_eq b 10) refl
-  where
-    by_tests : (t : Bool) → nat_eq a 13 ≡ t → (u : Bool) → nat_eq b 10 ≡ u → skip_pairs (a ∷ b ∷ s) ≡ a ∷ b ∷ s
-    by_tests true x true y =
-        let first : a ≡ 13 = eqb-true a 13 x in
-        let second : b ≡ 10 = eqb-true b 10 y in
-        absurd (other s (rw (first, second) refl))
-    by_tests true x false y = rw (x, y) refl
-    by_tests false x u y = rw x refl
-
-pub skip_one : (s : List ℕ) → s ≡ 13 ∷ 10 ∷ drop 2 s → skip_pairs s ≡ skip_pairs (drop 2 s)
-skip_one s e = ap skip_pairs e
-
--- what is cut off behind the pairs does not change them
-pub skip_front : (s : List ℕ) (d e : ℕ) → d ≤ length s → drop d s ≡ skip_pairs s
-    → skip_pairs (take (d + suc (suc e)) s) ≡ take (suc (suc e)) (drop d s)
-skip_front [] zero e le rest = rw zero-add refl
-skip_front [] (suc d) e le rest = absurd (omega arith)
-skip_front (a ∷ []) zero e le rest = rw zero-add refl
-skip_front (a ∷ []) (suc d) e le rest = absurd (omega (arith, ap length rest, length-drop {A = ℕ} d []))
-skip_front (a ∷ b ∷ s) zero e le rest = by_test (is_pair a b) refl
-  where
-    by_test : (t : Bool) → is_pair a b ≡ t → skip_pairs (take (0 + suc (suc e)) (a ∷ b ∷ s)) ≡ take (suc (suc e)) (a ∷ b ∷ s)
-    by_test true pair =
-        let same : a ∷ b ∷ s ≡ skip_pairs s = rw pair at rest in
-        absurd (omega (arith, ap length same, skip_shorter s))
-    by_test false other = rw (zero-add, other) refl
-skip_front (a ∷ b ∷ s) (suc zero) e le rest = by_test (is_pair a b) refl
-  where
-    by_test : (t : Bool) → is_pair a b ≡ t → skip_pairs (take (1 + suc (suc e)) (a ∷ b ∷ s)) ≡ take (suc (suc e)) (b ∷ s)
-    by_test true pair =
-        let same : b ∷ s ≡ skip_pairs s = rw pair at rest in
-        absurd (omega (arith, ap length same, skip_shorter s))
-    by_test false other =
-        let same : b ∷ s ≡ a ∷ b ∷ s = rw other at rest in
-        absurd (omega (arith, ap length same))
-skip_front (a ∷ b ∷ s) (suc (suc d)) e le rest = by_test (skip_front s d e (omega arith)) (is_pair a b) refl
-  where
-    by_test : (drop d s ≡ skip_pairs s → skip_pairs (take (d + suc (suc e)) s) ≡ take (suc (suc e)) (drop d s)) → (t : Bool) → is_pair a b ≡ t
-        → skip_pairs (take (suc (suc d) + suc (suc e)) (a ∷ b ∷ s)) ≡ take (suc (suc e)) (drop d s)
-    by_test later true pair =
-        let longer : suc (suc d) + suc (suc e) ≡ suc (suc (d + suc (suc e))) = omega arith in
-        rw (longer, pair) (later (rw pair at rest))
-    by_test later false other =
-        let same : drop d s ≡ a ∷ b ∷ s = rw other at rest in
-        absurd (omega (arith, ap length same, length-drop d s))
 
 -- ---- the block
 
@@ -219,30 +164,6 @@ text_refused kind text more r (without_head n b other e) =
 text_refused kind text more r (with_head n a b head e) =
     with_head n a (block_append text more n b) (rw (take-append-le n text more b.within) head)
     (rw (after_refused a (drop n text) r e) refl)
-
--- prefixes up to the end, or up to the limit, are all that have to be looked at
-pub no_block_within : (text : List ℕ) → ((n : ℕ) → n ≤ min (length text) most_head → ¬ (EndsInEmptyLine (take n text))) → HasNoBlock text
-no_block_within text none = λ n le ends. by_length n le ends (cases_lt n (length text))
-  where
-    by_length : (n : ℕ) → n ≤ most_head → EndsInEmptyLine (take n text) → (n < length text) ⊎ (length text ≤ n) → ⊥
-    by_length n le ends (inl lt) = none n (omega arith) ends
-    by_length n le ends (inr ge) =
-        let all : take n text ≡ take (length text) text = take_all n text ge ∙ sym (take-length text) in
-        none (length text) (omega arith) (subst EndsInEmptyLine all ends)
-
--- a step over one pair, and the end of the pairs
-pub pair_step : (text : List ℕ) (i : ℕ) (r : Bool) → i ≤ length text → r ≡ starts_with nat_eq (take (length text - i) (drop i text)) (13 ∷ 10 ∷ []) → r ≡ true
-    → (i + 2 ≤ length text) × (skip_pairs (drop i text) ≡ skip_pairs (drop (i + 2) text))
-pair_step text i r le is starts =
-    let from : r ≡ starts_with nat_eq (drop i text) (13 ∷ 10 ∷ []) = rw (take_rest text i) at is in
-    let here : drop i text ≡ 13 ∷ 10 ∷ drop 2 (drop i text) = (starts_is Decides-eqb (drop i text) (13 ∷ 10 ∷ []) r from).0 starts in
-    (omega (arith, ap length here, length-drop i text), skip_one (drop i text) here ∙ ap skip_pairs (drop-drop 2 i text))
-
-pub pair_stop : (text : List ℕ) (i : ℕ) (r : Bool) → r ≡ starts_with nat_eq (take (length text - i) (drop i text)) (13 ∷ 10 ∷ []) → r ≡ false
-    → skip_pairs (drop i text) ≡ drop i text
-pair_stop text i r is other =
-    let from : r ≡ starts_with nat_eq (drop i text) (13 ∷ 10 ∷ []) = rw (take_rest text i) at is in
-    skip_none (drop i text) (λ rest e. both_ways r other ((starts_is Decides-eqb (drop i text) (13 ∷ 10 ∷ []) r from).1 rest e))
 
 -- ---- a kind whose heads ask for one thing each
 

@@ -1,13 +1,14 @@
 -- Every text is cut, and has its requests. A head's grammar is a relation of its parser's, so what is shown is that there can't be none.
-use Rattle.std.proofs.Common.{◌≡◌, ℕ, zero, suc, ◌+◌, ◌<◌, ◌≤◌, Bool, true, false, List, [], ◌∷◌, ◌++◌, length, take, drop, refl, sym, ap, ◌∙◌, subst, arith, ⊎_elim}
-use Rattle.std.specs.Prelude.{MatchBool, nat_lt, if◌then◌else◌, ◌&&◌, ◌==◌}
-use Rattle.std.proofs.lemmas.Bool.{cases_Bool, cases_lt}
+use Rattle.std.proofs.Common.{◌≡◌, ℕ, zero, suc, ◌<◌, ◌≤◌, Bool, true, false, List, [], ◌∷◌, length, take, drop, refl, sym, ap, ◌∙◌, subst, arith, ⊎_elim}
+use Rattle.std.specs.Prelude.{MatchBool, nat_lt, if◌then◌else◌}
+use Rattle.std.proofs.lemmas.Bool.{cases_lt}
 use Rattle.std.proofs.lemmas.List.{take_all, length-append, length-take, length-drop}
-use Rattle.http_pieces.specs.Cut.{Cut, Incomplete, Refused, Complete, Asks, Refusal, Body, Kind, IsBlock, EndsInEmptyLine, HasNoBlock, IsCut, IsCutText, without_block, without_head, with_head, cut_unblocked, cut_after, most_head, skip_pairs}
+use Rattle.http_pieces.specs.Cut.{Cut, Incomplete, Refused, Complete, Refusal, Body, Kind, IsBlock, EndsInEmptyLine, IsCut, IsCutText, without_block, without_head, with_head, cut_unblocked, cut_after, most_head, skip_pairs}
 use Rattle.http_pieces.specs.Head.{request_kind}
 use Rattle.http_pieces.specs.Request.{HttpRequest, closes}
-use Rattle.http_pieces.specs.Requests.{Ending, Open, Broken, Closed, EndsAt, unfinished, broken, Requests}
+use Rattle.http_pieces.specs.Requests.{Ending, Open, Broken, Closed, unfinished, broken, Requests}
 use Rattle.http_pieces.specs.declared.refusal.Refusal.{Refusal as RequestRefusal}
+use Rattle.http_pieces.proofs.CutLemmas.{skip_shorter}
 
 -- where no prefix is the block, none below the limit ends in an empty line
 no_ending : (text : List ℕ) → ((n : ℕ) → IsBlock text n → ⊥) → (bound n : ℕ) → n < bound → n ≤ most_head → EndsInEmptyLine (take n text) → ⊥
@@ -34,15 +35,6 @@ pub any_cut : {R V : Type 0} (kind : Kind R V) (text : List ℕ) → ((c : Cut R
 any_cut kind text none = text_cut kind (skip_pairs text) none
 
 -- ---- what is behind a message is shorter
-
-skip_shorter : (text : List ℕ) → length (skip_pairs text) ≤ length text
-skip_shorter [] = omega arith
-skip_shorter (a ∷ []) = omega arith
-skip_shorter (a ∷ b ∷ text) = by_pair ((a == 13) && (b == 10)) (skip_shorter text)
-  where
-    by_pair : (p : Bool) → length (skip_pairs text) ≤ length text → length (if p then skip_pairs text else a ∷ b ∷ text) ≤ length (a ∷ b ∷ text)
-    by_pair true less = omega (arith, less)
-    by_pair false less = omega arith
 
 -- an empty line has four bytes
 four : (text : List ℕ) (n : ℕ) → EndsInEmptyLine (take n text) → 4 ≤ length (take n text)

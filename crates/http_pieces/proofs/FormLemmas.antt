@@ -1,15 +1,10 @@
--- A message that lies in the bytes up to its end is what they are cut into.
-use Rattle.std.proofs.Common.{◌≡◌, ℕ, suc, ◌+◌, ◌-◌, ◌<◌, ◌≤◌, true, false, nat_lt, List, [], ◌++◌, length, take, drop, refl, sym, ap, subst, ◌∙◌, arith, length-take}
+-- What a text is cut into, by what was read of its head and how much of its body is there.
+use Rattle.std.proofs.Common.{◌≡◌, ℕ, ◌+◌, ◌-◌, ◌<◌, ◌≤◌, true, false, nat_lt, List, [], ◌++◌, length, take, drop, refl, sym, ap, subst, ◌∙◌, arith, length-take}
 use Rattle.std.proofs.lemmas.Bool.Decides.{nat_tests}
-use Rattle.std.proofs.lemmas.List.{length-drop, drop-take, take_all, drop_all, take-append-drop}
+use Rattle.std.proofs.lemmas.List.{length-drop, take_all, drop_all, take-append-drop, take-append-le, length-append}
 use Rattle.http_pieces.specs.Cut.{Cut, Incomplete, Refused, Complete, Body, Refusal, Kind, skip_pairs, most_head, IsBlock, HasNoBlock, IsCutText, without_block, without_head, with_head, cut_after, IsCut}
-use Rattle.http_pieces.specs.Form.{Form, IsHeadOf, IsRefused, as_head, as_none, IsLaidOut}
-use Rattle.http_pieces.proofs.CutLemmas.{skip_front, block_trim, block_long, take_prefix, after_complete_intro}
-
--- a cut of the text behind the pairs is one of the bytes
-pub cut_behind : {R V : Type 0} (kind : Kind R V) (bytes : List ℕ) (start : ℕ) (c : Cut R V) → drop start bytes ≡ skip_pairs bytes
-    → IsCutText kind (drop start bytes) c → IsCut kind bytes c
-cut_behind kind bytes start c rest cut = subst (λ t. IsCutText kind t c) rest cut
+use Rattle.http_pieces.specs.Form.{Form, IsHeadOf, IsRefused, as_head, as_none, IsOpenBody}
+use Rattle.http_pieces.proofs.CutLemmas.{skip_long, block_trim, block_append, block_long, take_prefix, after_complete_intro}
 
 pub cut_short : {R V : Type 0} (kind : Kind R V) (text : List ℕ) → HasNoBlock text → length text < most_head → IsCutText kind text Incomplete
 cut_short kind text none short =
@@ -63,33 +58,35 @@ module _ {R H V : Type 0} (form : Form R H V) where
       (subst (λ b. (form.kind k).IsHead b (Body size message)) (sym front) (at.asks k))
       (whole_after (drop n bytes) size message (form.message bytes head n k) tail is)
 
-  -- the bytes up to the end, behind the pairs
-  whole_is : (bytes : List ℕ) (start end e : ℕ) → end ≡ start + e → drop start (take end bytes) ≡ take e (drop start bytes)
-  whole_is bytes start end e is = ap (λ x. drop start (take x bytes)) is ∙ drop-take start e bytes
+  -- ---- a body that has begun
 
-  skip_whole : (bytes : List ℕ) (start end e : ℕ) → end ≡ start + e → 2 ≤ e → start ≤ length bytes → drop start bytes ≡ skip_pairs bytes
-      → skip_pairs (take end bytes) ≡ take e (drop start bytes)
-  skip_whole bytes start end e is some le rest =
-      let two : e ≡ suc (suc (e - 2)) = omega arith in
-      ap (λ x. skip_pairs (take x bytes)) (is ∙ ap (λ x. start + x) two) ∙ skip_front bytes start (e - 2) le rest ∙ ap (λ x. take x (drop start bytes)) (sym two)
+  module _ (text : List ℕ) (head : H) (body missing : ℕ) (at : IsOpenBody form text head body missing) where
+    of_text : (k : ℕ) (c : Cut R V) → IsCutText (form.kind k) text c → IsCut (form.kind k) text c
+    of_text k c cut = subst (λ t. IsCutText (form.kind k) t c) (sym at.unpaired) cut
 
-  -- the message behind the pairs lies in the bytes so
-  pub laid_out : (bytes : List ℕ) (start n size end : ℕ) (head : H) → start ≤ length bytes → drop start bytes ≡ skip_pairs bytes
-      → IsBlock (drop start bytes) n → IsHeadOf form (take n (drop start bytes)) head size
-      → n + size ≤ length (drop start bytes) → end ≡ start + (n + size) → IsLaidOut form bytes (record { start = start; head = head; body = n; end = end })
-  laid_out bytes start n size end head le rest block at fits end_is =
-      let text = drop start bytes in
-      let whole : drop start (take end bytes) ≡ take (n + size) text = whole_is bytes start end (n + size) end_is in
-      let long : length (take (n + size) text) ≡ n + size = omega (arith, length-take (n + size) text) in
-      let four = block_long text n block in
-      let skipped : skip_pairs (take end bytes) ≡ take (n + size) text = skip_whole bytes start end (n + size) end_is (omega arith) le rest in
-      let parts = parts_are text n (n + size) (omega arith) in
-      record {
-        ordered = omega arith;
-        within = omega (arith, length-drop start bytes);
-        head = subst (λ b. form.IsIn b head) (parts ∙ sym whole) (at.within (drop n (take (n + size) text)));
-        body = omega (arith, ap length whole);
-        cut = λ k.
-            subst (λ t. IsCutText (form.kind k) t (Complete (form.message (drop start (take end bytes)) head n k) [])) (sym skipped)
-            (subst (λ w. IsCutText (form.kind k) (take (n + size) text) (Complete (form.message w head n k) [])) (sym whole) (cut_whole text n k size head block at fits));
-      }
+    pub open_short : 0 < missing → (k : ℕ) → IsCut (form.kind k) text Incomplete
+    open_short some k =
+        of_text k Incomplete (cut_no_body text body k (length text - body + missing) head at.block at.head_is (omega arith))
+
+    pub open_whole : missing ≡ 0 → (k : ℕ) → IsCut (form.kind k) text (Complete (form.message text head body k) [])
+    open_whole none k =
+        let size = length text - body + missing in
+        let all : take (body + size) text ≡ text = take_all (body + size) text (omega (arith, at.block.within)) in
+        of_text k (Complete (form.message text head body k) [])
+        (subst (λ t. IsCutText (form.kind k) t (Complete (form.message t head body k) [])) all
+        (cut_whole text body k size head at.block at.head_is (omega (arith, at.block.within))))
+
+    pub open_in : form.IsIn text head
+    open_in = subst (λ t. form.IsIn t head) (take-append-drop body text) (at.head_is.within (drop body text))
+
+    pub open_more : (more : List ℕ) → length more ≤ missing → IsOpenBody form (text ++ more) head body (missing - length more)
+    open_more more le =
+        let four = block_long text body at.block in
+        let long : 2 ≤ length (skip_pairs text) = omega (arith, at.block.within, ap length at.unpaired) in
+        let size : length text - body + missing ≡ length (text ++ more) - body + (missing - length more) = omega (arith, at.block.within, length-append text more) in
+        record {
+          unpaired = skip_long text more long ∙ ap (λ t. t ++ more) at.unpaired;
+          block = block_append text more body at.block;
+          head_is = subst (IsHeadOf form (take body (text ++ more)) head) size
+              (subst (λ b. IsHeadOf form b head (length text - body + missing)) (sym (take-append-le body text more at.block.within)) at.head_is);
+        }

@@ -1,11 +1,9 @@
 -- How messages of a kind lie in the bytes of their stream, and what a piece adds to them.
-use Rattle.std.specs.Prelude.{◌≡◌, ℕ, ◌<◌, ◌≤◌, Bool, true, false, List, [], ◌++◌, length, take, drop, Result, Ok, Err}
-use Rattle.http_pieces.specs.declared.cut.Cut.{Cut}
-use Rattle.http_pieces.specs.declared.cut.Cut.TheVariants as found
-use Rattle.http_pieces.specs.declared.cut.Layout.{Layout}
+use Rattle.std.specs.Prelude.{◌≡◌, ℕ, ◌+◌, ◌-◌, ◌<◌, ◌≤◌, Bool, true, false, if◌then◌else◌, nat_lt, List, [], ◌++◌, length, take, Result, Ok, Err}
 use Rattle.http_pieces.specs.declared.phase.Phase.{Phase}
 use Rattle.http_pieces.specs.declared.phase.Phase.TheVariants as phase
-use Rattle.http_pieces.specs.Cut.{Asks, Refusal, Body, Kind, Incomplete, Refused, Complete, IsCut, skip_pairs}
+use Rattle.http_pieces.specs.Cut.{Asks, Refusal, Body, Kind, Incomplete, Refused, Complete, IsBlock, IsCut, skip_pairs}
+use Rattle.http_pieces.specs.Scan.{IsScanned}
 
 -- a kind of message, and how its readers keep it: what was read of a head is an H
 pub record Form (R H V : Type 0) : Type 1 where
@@ -31,55 +29,73 @@ abbrev pub JudgesTo : {R H V : Type 0} → Form R H V → List ℕ → Result (H
 JudgesTo form block (Err r) = (k : ℕ) → IsRefused (form.kind k) block r
 JudgesTo form block (Ok head) = IsHeadOf form block head.0 head.1
 
--- the bytes up to the layout's end are cut into the message that it covers, with nothing left
-pub record IsLaidOut {R H V : Type 0} (form : Form R H V) (bytes : List ℕ) (layout : Layout H) : Type 0 where
-  pub ordered : layout.start ≤ layout.end
-  pub within : layout.end ≤ length bytes
-  pub head : form.IsIn (drop layout.start (take layout.end bytes)) layout.head
-  pub body : layout.body ≤ length (drop layout.start (take layout.end bytes))
-  pub cut : (k : ℕ) → IsCut (form.kind k) (take layout.end bytes)
-      (Complete (form.message (drop layout.start (take layout.end bytes)) layout.head layout.body k) [])
+-- the bytes are a block and the first ones of its body, of which so many are missing
+pub record IsOpenBody {R H V : Type 0} (form : Form R H V) (text : List ℕ) (head : H) (body missing : ℕ) : Type 0 where
+  pub unpaired : skip_pairs text ≡ text
+  pub block : IsBlock text body
+  pub head_is : IsHeadOf form (take body text) head (length text - body + missing)
 
--- the bytes are cut so, whatever the message's number
-abbrev pub CutsTo : {R H V : Type 0} → Form R H V → List ℕ → Cut H R → Type 0
-CutsTo form bytes (found.Incomplete start) =
-    (start ≤ length bytes) × (drop start bytes ≡ skip_pairs bytes) × ((k : ℕ) → IsCut (form.kind k) bytes Incomplete)
-CutsTo form bytes (found.Refused r) = (k : ℕ) → IsCut (form.kind k) bytes (Refused r)
-CutsTo form bytes (found.Complete layout) = IsLaidOut form bytes layout
-
--- what is true of a reader's bytes and phase: a message that is not whole, or one that lies in the bytes
+-- what is true of a reader's bytes and phase: a head that has not ended, a body that has not, or a message that lies in
+-- the bytes
 abbrev pub IsPhaseSound : {R H V : Type 0} → Form R H V → List ℕ → Phase H R → Type 0
-IsPhaseSound form bytes phase.More = (k : ℕ) → IsCut (form.kind k) bytes Incomplete
+IsPhaseSound form bytes (phase.Head matched) = IsScanned bytes matched
+IsPhaseSound form bytes (phase.Body head body missing) = IsOpenBody form bytes head body missing × (0 < missing)
 IsPhaseSound form bytes (phase.Complete head body) = form.IsIn bytes head × (body ≤ length bytes)
 IsPhaseSound form bytes (phase.Refused r) = Unit {0}
 IsPhaseSound form bytes phase.Ended = Unit {0}
 
 -- bytes are kept in this phase, and more are to come
 abbrev pub is_more : {R H : Type 0} → Phase H R → Bool
-is_more phase.More = true
+is_more (phase.Head matched) = true
+is_more (phase.Body head body missing) = true
 is_more (phase.Complete head body) = false
 is_more (phase.Refused r) = false
 is_more phase.Ended = false
 
--- from bytes that are no whole message, a piece leads to these, n bytes of it are taken, and this came of it
-abbrev pub AdvancesTo : {R H V : Type 0} → Form R H V → List ℕ → List ℕ → List ℕ → ℕ → Phase H R → Type 0
-AdvancesTo form before piece after n phase.More =
+-- the bytes that were scanned, and that `httparse` has not been given
+abbrev pub unread : {R H : Type 0} → List ℕ → Phase H R → ℕ
+unread bytes (phase.Head matched) = length bytes
+unread bytes (phase.Body head body missing) = 0
+unread bytes (phase.Complete head body) = 0
+unread bytes (phase.Refused r) = 0
+unread bytes phase.Ended = 0
+
+-- the phase once so many bytes of the body were added
+abbrev pub filled : {R H : Type 0} → Phase H R → ℕ → Phase H R
+filled (phase.Head matched) n = phase.Head matched
+filled (phase.Body head body missing) n = if nat_lt n missing then phase.Body head body (missing - n) else phase.Complete head body
+filled (phase.Complete head body) n = phase.Complete head body
+filled (phase.Refused r) n = phase.Refused r
+filled phase.Ended n = phase.Ended
+
+-- the bytes after a push are those before it and n of the piece, of which no message has come
+abbrev pub IsMore : {R H V : Type 0} → Form R H V → List ℕ → List ℕ → List ℕ → ℕ → Type 0
+IsMore form before piece after n =
     (n ≡ length piece) × (after ≡ skip_pairs (before ++ take n piece)) × ((k : ℕ) → IsCut (form.kind k) (before ++ take n piece) Incomplete)
-AdvancesTo form before piece after n (phase.Refused r) =
+
+-- from bytes that are no whole message, a piece leads to these, n bytes of it are taken, and this came of it
+abbrev pub GrowsTo : {R H V : Type 0} → Form R H V → List ℕ → List ℕ → List ℕ → ℕ → Phase H R → Type 0
+GrowsTo form before piece after n (phase.Head matched) = IsMore form before piece after n
+GrowsTo form before piece after n (phase.Body head body missing) = IsMore form before piece after n
+GrowsTo form before piece after n (phase.Refused r) =
     (n ≡ length piece) × ((k : ℕ) → IsCut (form.kind k) (before ++ take n piece) (Refused r))
-AdvancesTo form before piece after n (phase.Complete head body) =
+GrowsTo form before piece after n (phase.Complete head body) =
     (k : ℕ) → IsCut (form.kind k) (before ++ take n piece) (Complete (form.message after head body k) [])
-AdvancesTo form before piece after n phase.Ended = ⊥
+GrowsTo form before piece after n phase.Ended = ⊥
+
+pub record Grows {R H V : Type 0} (form : Form R H V) (before piece after : List ℕ) (n : ℕ) (phase : Phase H R) : Type 0 where
+  pub within : n ≤ length piece
+  pub to : GrowsTo form before piece after n phase
+  pub sound : IsPhaseSound form after phase
 
 pub record Advances {R H V : Type 0} (form : Form R H V) (before piece after : List ℕ) (n : ℕ) (phase : Phase H R) : Type 0 where
-  pub within : n ≤ length piece
+  pub grows : Grows form before piece after n phase
   pub moves : 0 < length piece → 0 < n
-  pub to : AdvancesTo form before piece after n phase
-  pub sound : IsPhaseSound form after phase
 
 -- a reader of these bytes and this phase, to which a piece is pushed, has those afterwards, and took n bytes of it
 abbrev pub Pushes : {R H V : Type 0} → Form R H V → List ℕ → Phase H R → List ℕ → List ℕ → Phase H R → ℕ → Type 0
-Pushes form before phase.More piece after new n = Advances form before piece after n new
+Pushes form before (phase.Head matched) piece after new n = Advances form before piece after n new
+Pushes form before (phase.Body head body missing) piece after new n = Advances form before piece after n new
 Pushes form before (phase.Complete head body) piece after new n = (n ≡ 0) × (after ≡ before) × (new ≡ phase.Complete head body)
 Pushes form before (phase.Refused r) piece after new n = (n ≡ length piece) × (after ≡ before) × (new ≡ phase.Refused r)
 Pushes form before phase.Ended piece after new n = (n ≡ length piece) × (after ≡ before) × (new ≡ phase.Ended)

@@ -11,7 +11,8 @@ use Rattle.http_pieces.specs.declared.refusal.Refusal.{Refusal}
 use Rattle.http_pieces.specs.Form.{Form, IsPhaseSound}
 use Rattle.http_pieces.specs.Cut.{IsSingle}
 use Rattle.http_pieces.specs.Head.{IsRequestBlock, request_asks, request_kind, version_of}
-use Rattle.http_pieces.specs.Reader.{Reading, Partial, Waiting, Stopped, Done}
+use Rattle.http_pieces.specs.Looked.{most_looked}
+use Rattle.http_pieces.specs.Reader.{Reading, ReaderValue, Partial, Waiting, Stopped, Done}
 use Rattle.http_pieces.specs.Request.{HttpRequest, request_at, most_requests}
 
 -- the parts of the head lie in the first n bytes
@@ -50,19 +51,26 @@ request_single k block a b x y =
 
 -- how far a reader is, by its bytes and its phase
 abbrev pub reading_of : List ℕ → Phase Head Refusal → ℕ → Reading
-reading_of bytes phase.More taken = Partial bytes
+reading_of bytes (phase.Head matched) taken = Partial bytes
+reading_of bytes (phase.Body head body missing) taken = Partial bytes
 reading_of bytes (phase.Complete head body) taken = Waiting (request_of bytes head body taken)
 reading_of bytes (phase.Refused r) taken = Stopped r
 reading_of bytes phase.Ended taken = Done
 
+-- the reader of that
+abbrev pub value_of : List ℕ → Phase Head Refusal → ℕ → ℕ → ReaderValue
+value_of bytes phase taken looked = record { taken = taken; reading = reading_of bytes phase taken; looked = looked }
+
 -- more requests can come
 abbrev pub is_live : Phase Head Refusal → Bool
-is_live phase.More = true
+is_live (phase.Head matched) = true
+is_live (phase.Body head body missing) = true
 is_live (phase.Complete head body) = true
 is_live (phase.Refused r) = false
 is_live phase.Ended = false
 
-pub record IsReaderSound (bytes : List ℕ) (phase : Phase Head Refusal) (taken : ℕ) : Type 0 where
+pub record IsReaderSound (bytes : List ℕ) (phase : Phase Head Refusal) (taken looked : ℕ) : Type 0 where
   pub phase_sound : IsPhaseSound request_form bytes phase
+  pub still : looked ≤ most_looked
   pub room : is_live phase ≡ true → taken < most_requests
   pub few : taken ≤ most_requests

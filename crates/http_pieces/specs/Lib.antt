@@ -3,9 +3,11 @@ pub mod Fields
 pub mod Form
 pub mod Head
 pub mod Layout
+pub mod Looked
 pub mod ReplyHead
 pub mod ReplyLayout
 pub mod ReplyReader
 pub mod Request
 pub mod Requests
+pub mod Scan
 pub mod Reader

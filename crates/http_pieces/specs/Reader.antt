@@ -1,10 +1,11 @@
 -- A reader of requests, and what it has read.
-use Rattle.std.specs.Prelude.{◌≡◌, ℕ, ◌<◌, Bool, true, false, if◌then◌else◌, List, [], ◌∷◌, ◌++◌, length, take}
+use Rattle.std.specs.Prelude.{◌≡◌, ℕ, ◌<◌, Bool, true, false, if◌then◌else◌, List, [], ◌∷◌, ◌++◌, length, take, Option, None, Some}
 use Rattle.http_pieces.specs.declared.refusal.Refusal.{Refusal}
 use Rattle.http_pieces.specs.declared.state.State.{State}
 use Rattle.http_pieces.specs.declared.state.State.TheVariants as state
 use Rattle.http_pieces.specs.Cut.{Complete, IsCut}
 use Rattle.http_pieces.specs.Head.{request_kind}
+use Rattle.http_pieces.specs.Looked.{HasLooked}
 use Rattle.http_pieces.specs.Request.{HttpRequest, closes}
 use Rattle.http_pieces.specs.Requests.{Ending, Open, Broken, Closed, Requests}
 
@@ -15,13 +16,15 @@ pub data Reading : Type 0 where
   Stopped : Refusal → Reading
   Done : Reading
 
--- how many requests were taken, and how far the next is
+-- how many requests were taken, how far the next is, and how many bytes were looked at
 pub record ReaderValue : Type 0 where
   pub taken : ℕ
   pub reading : Reading
+  pub looked : ℕ
 
+-- a reader that has looked at nothing
 abbrev pub reader_value : ℕ → Reading → ReaderValue
-reader_value taken reading = record { taken = taken; reading = reading }
+reader_value taken reading = record { taken = taken; reading = reading; looked = 0 }
 
 abbrev pub state_of : Reading → State
 state_of (Partial left) = state.More
@@ -35,6 +38,13 @@ is_over (Partial left) = false
 is_over (Waiting q) = false
 is_over (Stopped r) = true
 is_over Done = true
+
+-- the bytes of a request that is not whole
+abbrev pub left_of : Reading → Option (List ℕ)
+left_of (Partial left) = Some left
+left_of (Waiting q) = None
+left_of (Stopped r) = None
+left_of Done = None
 
 -- once this request is taken
 abbrev pub after_request : HttpRequest → Reading
@@ -55,6 +65,7 @@ HasReadTo Done bytes given = Requests 0 bytes given Closed
 pub record HasRead (reader : ReaderValue) (bytes : List ℕ) (given : List HttpRequest) : Type 0 where
   pub count : reader.taken ≡ length given
   pub reads : HasReadTo reader.reading bytes given
+  pub looked : HasLooked reader.looked (left_of reader.reading) bytes
 
 -- no prefix of the piece that is shorter than n makes a whole request of the bytes before it
 abbrev pub IsShortest : ReaderValue → List ℕ → List ℕ → ℕ → Type 0

@@ -11,9 +11,10 @@ use Rattle.http_pieces.specs.declared.reply.HttpReply.{HttpReply}
 use Rattle.http_pieces.specs.declared.reply_fault.ReplyFault.{ReplyFault}
 use Rattle.http_pieces.specs.declared.reply_head.ReplyHead.{ReplyHead}
 use Rattle.http_pieces.specs.Cut.{IsSingle}
-use Rattle.http_pieces.specs.Form.{Form}
+use Rattle.http_pieces.specs.Form.{Form, IsPhaseSound}
+use Rattle.http_pieces.specs.Looked.{most_looked}
 use Rattle.http_pieces.specs.ReplyHead.{IsReplyBlock, reply_asks, reply_kind}
-use Rattle.http_pieces.specs.ReplyReader.{ReplyReading, Partial, Waiting, Stopped, Done}
+use Rattle.http_pieces.specs.ReplyReader.{ReplyReading, ReplyReaderValue, Partial, Waiting, Stopped, Done}
 
 -- the block is the head h, of that status, and the spans cover its fields
 pub record IsReplyHeadAt (block : List ℕ) (headers : List HeaderSpan) (status : ℕ) (h : ResponseHead) : Type 0 where
@@ -43,7 +44,16 @@ reply_single block a b x y =
 
 -- how far a reader is, by its bytes and its phase
 abbrev pub reply_reading_of : List ℕ → Phase ReplyHead ReplyFault → ReplyReading
-reply_reading_of bytes phase.More = Partial bytes
+reply_reading_of bytes (phase.Head matched) = Partial bytes
+reply_reading_of bytes (phase.Body head body missing) = Partial bytes
 reply_reading_of bytes (phase.Complete head body) = Waiting (reply_of bytes head body)
 reply_reading_of bytes (phase.Refused f) = Stopped f
 reply_reading_of bytes phase.Ended = Done
+
+-- the reader of that
+abbrev pub reply_value_of : List ℕ → Phase ReplyHead ReplyFault → ℕ → ReplyReaderValue
+reply_value_of bytes phase looked = record { reading = reply_reading_of bytes phase; looked = looked }
+
+pub record IsReplyReaderSound (bytes : List ℕ) (phase : Phase ReplyHead ReplyFault) (looked : ℕ) : Type 0 where
+  pub phase_sound : IsPhaseSound reply_form bytes phase
+  pub still : looked ≤ most_looked

@@ -1,5 +1,6 @@
 -- A reader of one reply, and what it has read.
 use Rattle.std.specs.Prelude.{◌≡◌, ℕ, ◌<◌, Bool, true, false, List, [], ◌++◌, take, Option, Some, None}
+use Rattle.http_pieces.specs.Looked.{HasLooked}
 use Rattle.http_pieces.specs.declared.reply.HttpReply.{HttpReply}
 use Rattle.http_pieces.specs.declared.reply_fault.ReplyFault.{ReplyFault}
 use Rattle.http_pieces.specs.declared.reply_state.ReplyState.{ReplyState}
@@ -14,6 +15,15 @@ pub data ReplyReading : Type 0 where
   Stopped : ReplyFault → ReplyReading
   Done : ReplyReading
 
+-- how far the reply is, and how many bytes were looked at
+pub record ReplyReaderValue : Type 0 where
+  pub reading : ReplyReading
+  pub looked : ℕ
+
+-- a reader that has looked at nothing
+abbrev pub reply_reader_value : ReplyReading → ReplyReaderValue
+reply_reader_value reading = record { reading = reading; looked = 0 }
+
 abbrev pub state_of_reply : ReplyReading → ReplyState
 state_of_reply (Partial left) = state.More
 state_of_reply (Waiting q) = state.Complete
@@ -27,13 +37,25 @@ is_over_reply (Waiting q) = false
 is_over_reply (Stopped f) = true
 is_over_reply Done = true
 
--- the reader stands where it does after pushes that took these bytes, and takes that gave no reply, or this one: the bytes
--- are cut into what it says, and only once the reply was given may others follow it
-abbrev pub HasReadReply : ReplyReading → List ℕ → Option HttpReply → Type 0
-HasReadReply (Partial left) bytes given = (given ≡ None) × (left ≡ skip_pairs bytes) × IsCut reply_kind bytes Incomplete
-HasReadReply (Waiting q) bytes given = (given ≡ None) × IsCut reply_kind bytes (Complete q [])
-HasReadReply (Stopped f) bytes given = (given ≡ None) × IsCut reply_kind bytes (Refused f)
-HasReadReply Done bytes given = (q : HttpReply) × (rest : List ℕ) × (given ≡ Some q) × IsCut reply_kind bytes (Complete q rest)
+-- the bytes of a reply that is not whole
+abbrev pub left_of_reply : ReplyReading → Option (List ℕ)
+left_of_reply (Partial left) = Some left
+left_of_reply (Waiting q) = None
+left_of_reply (Stopped f) = None
+left_of_reply Done = None
+
+-- how far the reader is, where these bytes were taken, and no reply was given, or this one: the bytes are cut into what it
+-- says, and only once the reply was given may others follow it
+abbrev pub HasReadReplyTo : ReplyReading → List ℕ → Option HttpReply → Type 0
+HasReadReplyTo (Partial left) bytes given = (given ≡ None) × (left ≡ skip_pairs bytes) × IsCut reply_kind bytes Incomplete
+HasReadReplyTo (Waiting q) bytes given = (given ≡ None) × IsCut reply_kind bytes (Complete q [])
+HasReadReplyTo (Stopped f) bytes given = (given ≡ None) × IsCut reply_kind bytes (Refused f)
+HasReadReplyTo Done bytes given = (q : HttpReply) × (rest : List ℕ) × (given ≡ Some q) × IsCut reply_kind bytes (Complete q rest)
+
+-- the reader stands where it does after pushes that took these bytes, and takes that gave no reply, or this one
+pub record HasReadReply (reader : ReplyReaderValue) (bytes : List ℕ) (given : Option HttpReply) : Type 0 where
+  pub reads : HasReadReplyTo reader.reading bytes given
+  pub looked : HasLooked reader.looked (left_of_reply reader.reading) bytes
 
 -- no prefix of the piece that is shorter than n makes a whole reply of the bytes before it
 abbrev pub IsShortestReply : List ℕ → List ℕ → ℕ → Type 0

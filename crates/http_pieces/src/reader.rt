@@ -1,5 +1,6 @@
 ghost use Rattle.std.specs.Prelude.{◌≡◌, ◌<◌, ◌≤◌, ◌++◌, ◌∷◌, [], ℕ, List, length, take, IfOk, IfSome, OnErr, Ok, Some, IfNone, true, MatchOption, ◌⊎◌, ◌+◌};
 ghost use Rattle.http_pieces.specs.Reader.{HasRead, IsShortest, is_over, state_of, after_request, reader_value, Partial, Waiting};
+ghost use Rattle.http_pieces.specs.Looked.{most_looked};
 ghost use Rattle.http_pieces.specs.Request.{HttpRequest};
 
 use crate::head::{Head, Requests};
@@ -19,17 +20,19 @@ pub struct Reader {
     phase: Phase<Head, Refusal>,
     /// How many requests were taken.
     taken: u64,
+    /// How many bytes were looked at.
+    looked: u64,
 }
 
 impl Model for Reader {
-    ghost use Rattle.http_pieces.specs.Reader.{ReaderValue, reader_value};
-    ghost use Rattle.http_pieces.specs.Layout.{reading_of, IsReaderSound};
+    ghost use Rattle.http_pieces.specs.Reader.{ReaderValue};
+    ghost use Rattle.http_pieces.specs.Layout.{value_of, IsReaderSound};
 
     ghost Value = { ReaderValue };
 
-    ghost view = { λ r. reader_value r.taken (reading_of r.bytes.items r.phase r.taken) };
+    ghost view = { λ r. value_of r.bytes.items r.phase r.taken r.looked };
 
-    ghost invariant = { λ r. IsReaderSound r.bytes.items r.phase r.taken };
+    ghost invariant = { λ r. IsReaderSound r.bytes.items r.phase r.taken r.looked };
 }
 
 impl Reader {
@@ -40,8 +43,9 @@ impl Reader {
     {
         Reader {
             bytes: Vec::new(alloc),
-            phase: Phase::More,
+            phase: Phase::Head(0),
             taken: 0,
+            looked: 0,
         }
     }
 
@@ -65,8 +69,11 @@ impl Reader {
         // With a request waiting it takes none, and of a stream that is over all: neither needs memory.
         ensures waits { (q : HttpRequest) → self.old.reading ≡ Waiting q → (result ≡ Ok 0) × (self.new ≡ self.old) }
         ensures over { is_over self.old.reading ≡ true → (result ≡ Ok (length piece.now)) × (self.new ≡ self.old) }
+
+        // `reads` says that at most twice the bytes taken were looked at.
+        ensures looks { self.old.looked ≤ self.new.looked }
     {
-        push_into::<Requests>(&mut self.bytes, &mut self.phase, piece)
+        push_into::<Requests>(&mut self.bytes, &mut self.phase, &mut self.looked, piece)
     }
 
     /// How far the reader is.
@@ -74,11 +81,20 @@ impl Reader {
         ensures { result ≡ state_of self.now.reading }
     {
         match self.phase {
-            Phase::More => State::More,
+            Phase::Head(_) | Phase::Body(..) => State::More,
             Phase::Complete(..) => State::Complete,
             Phase::Refused(refusal) => State::Refused(refusal),
             Phase::Ended => State::Ended,
         }
+    }
+
+    /// How many bytes were looked at: each once that was compared in the search for a head's first byte
+    /// and its end, and once more with its whole head. The count stands still at 2^63.
+    pub fn looked(&self) -> u64
+        ensures looked { result ≡ self.now.looked }
+        ensures still { result ≤ most_looked }
+    {
+        self.looked
     }
 
     /// Gives the request that waits, if one does. The state is then `Ended` if the request closes,
@@ -88,10 +104,10 @@ impl Reader {
             → MatchOption result (HasRead self.new bytes given) (λ q. HasRead self.new bytes (given ++ q ∷ [])) }
         ensures waits { (q : HttpRequest) → self.old.reading ≡ Waiting q → result ≡ Some q }
         ensures gives { IfSome result (λ q. self.old.reading ≡ Waiting q) }
-        ensures after { IfSome result (λ q. self.new ≡ reader_value (self.old.taken + 1) (after_request q)) }
+        ensures after { IfSome result (λ q. self.new ≡ record self.old { taken = self.old.taken + 1; reading = after_request q }) }
         ensures none { IfNone result (self.new ≡ self.old) }
     {
-        match mem::replace(&mut self.phase, Phase::More) {
+        match mem::replace(&mut self.phase, Phase::Head(0)) {
             Phase::Complete(head, body) => {
                 let empty = Vec::new(*self.bytes.allocator());
                 let request = Request {

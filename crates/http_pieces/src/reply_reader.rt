@@ -1,6 +1,7 @@
 ghost use Rattle.std.specs.Prelude.{◌≡◌, ◌<◌, ◌≤◌, ◌++◌, [], ℕ, List, length, take, IfOk, IfSome, OnErr, Ok, true, Option, Some, None, IfNone, MatchOption, ◌⊎◌};
 ghost use Rattle.http_pieces.specs.declared.reply.HttpReply.{HttpReply};
-ghost use Rattle.http_pieces.specs.ReplyReader.{HasReadReply, IsShortestReply, is_over_reply, state_of_reply, Partial, Waiting, Done};
+ghost use Rattle.http_pieces.specs.Looked.{most_looked};
+ghost use Rattle.http_pieces.specs.ReplyReader.{HasReadReply, IsShortestReply, is_over_reply, reply_reader_value, state_of_reply, Partial, Waiting, Done};
 
 use crate::bytes::Bytes;
 use crate::phase::{Phase, drop_front, push_into};
@@ -18,29 +19,31 @@ pub struct ReplyReader {
     /// The bytes of the reply, behind the CR LF pairs that lead it.
     bytes: Vec<u8>,
     phase: Phase<ReplyHead, ReplyFault>,
+    /// How many bytes were looked at.
+    looked: u64,
 }
 
 impl Model for ReplyReader {
-    ghost use Rattle.http_pieces.specs.Form.{IsPhaseSound};
-    ghost use Rattle.http_pieces.specs.ReplyReader.{ReplyReading};
-    ghost use Rattle.http_pieces.specs.ReplyLayout.{reply_form, reply_reading_of};
+    ghost use Rattle.http_pieces.specs.ReplyReader.{ReplyReaderValue};
+    ghost use Rattle.http_pieces.specs.ReplyLayout.{reply_value_of, IsReplyReaderSound};
 
-    ghost Value = { ReplyReading };
+    ghost Value = { ReplyReaderValue };
 
-    ghost view = { λ r. reply_reading_of r.bytes.items r.phase };
+    ghost view = { λ r. reply_value_of r.bytes.items r.phase r.looked };
 
-    ghost invariant = { λ r. IsPhaseSound reply_form r.bytes.items r.phase };
+    ghost invariant = { λ r. IsReplyReaderSound r.bytes.items r.phase r.looked };
 }
 
 impl ReplyReader {
     /// A reader of a reply from its first byte on. Its buffer lies on this allocator.
     pub fn new(alloc: Global) -> ReplyReader
-        ensures reader { result ≡ Partial [] }
+        ensures reader { result ≡ reply_reader_value (Partial []) }
         ensures reads { HasReadReply result [] None }
     {
         ReplyReader {
             bytes: Vec::new(alloc),
-            phase: Phase::More,
+            phase: Phase::Head(0),
+            looked: 0,
         }
     }
 
@@ -53,39 +56,51 @@ impl ReplyReader {
             → IfOk result (λ n. HasReadReply self.new (bytes ++ take n piece.now) given) }
 
         // In `More` it takes the shortest prefix that makes the whole reply, and else all.
-        ensures shortest { (left : List ℕ) → self.old ≡ Partial left → IfOk result (IsShortestReply left piece.now) }
-        ensures all { IfOk result (λ n. (n ≡ length piece.now) ⊎ ((q : HttpReply) × (self.new ≡ Waiting q))) }
+        ensures shortest { (left : List ℕ) → self.old.reading ≡ Partial left → IfOk result (IsShortestReply left piece.now) }
+        ensures all { IfOk result (λ n. (n ≡ length piece.now) ⊎ ((q : HttpReply) × (self.new.reading ≡ Waiting q))) }
 
         ensures moves { 0 < length piece.now
-            → IfOk result (λ n. (0 < n) ⊎ ((q : HttpReply) × (self.old ≡ Waiting q))) }
+            → IfOk result (λ n. (0 < n) ⊎ ((q : HttpReply) × (self.old.reading ≡ Waiting q))) }
         ensures err { OnErr result (self.new ≡ self.old) }
 
         // With the reply waiting it takes none, and after a fault or the reply all: neither needs memory.
-        ensures waits { (q : HttpReply) → self.old ≡ Waiting q → (result ≡ Ok 0) × (self.new ≡ self.old) }
-        ensures over { is_over_reply self.old ≡ true → (result ≡ Ok (length piece.now)) × (self.new ≡ self.old) }
+        ensures waits { (q : HttpReply) → self.old.reading ≡ Waiting q → (result ≡ Ok 0) × (self.new ≡ self.old) }
+        ensures over { is_over_reply self.old.reading ≡ true → (result ≡ Ok (length piece.now)) × (self.new ≡ self.old) }
+
+        // `reads` says that at most twice the bytes taken were looked at.
+        ensures looks { self.old.looked ≤ self.new.looked }
     {
-        push_into::<Replies>(&mut self.bytes, &mut self.phase, piece)
+        push_into::<Replies>(&mut self.bytes, &mut self.phase, &mut self.looked, piece)
     }
 
     /// How far the reader is.
     pub fn state(&self) -> ReplyState
-        ensures { result ≡ state_of_reply self.now }
+        ensures { result ≡ state_of_reply self.now.reading }
     {
         match self.phase {
-            Phase::More => ReplyState::More,
+            Phase::Head(_) | Phase::Body(..) => ReplyState::More,
             Phase::Complete(..) => ReplyState::Complete,
             Phase::Refused(fault) => ReplyState::Refused(fault),
             Phase::Ended => ReplyState::Ended,
         }
     }
 
+    /// How many bytes were looked at: each once that was compared in the search for the head's first
+    /// byte and its end, and once more with the whole head. The count stands still at 2^63.
+    pub fn looked(&self) -> u64
+        ensures looked { result ≡ self.now.looked }
+        ensures still { result ≤ most_looked }
+    {
+        self.looked
+    }
+
     /// Gives the reply, if it waits. The state is then `Ended`.
     pub fn take(&mut self) -> Option<HttpReply>
         ensures reads { (bytes : List ℕ) (given : Option HttpReply) → HasReadReply self.old bytes given
             → MatchOption result (HasReadReply self.new bytes given) (λ q. HasReadReply self.new bytes (Some q)) }
-        ensures waits { (q : HttpReply) → self.old ≡ Waiting q → result ≡ Some q }
-        ensures gives { IfSome result (λ q. self.old ≡ Waiting q) }
-        ensures after { IfSome result (λ q. self.new ≡ Done) }
+        ensures waits { (q : HttpReply) → self.old.reading ≡ Waiting q → result ≡ Some q }
+        ensures gives { IfSome result (λ q. self.old.reading ≡ Waiting q) }
+        ensures after { IfSome result (λ q. self.new ≡ record self.old { reading = Done }) }
         ensures none { IfNone result (self.new ≡ self.old) }
     {
         match mem::replace(&mut self.phase, Phase::Ended) {

@@ -14,6 +14,28 @@ fn state_after(alloc: Global, bytes: &[u8]) -> Result<State, AllocError> {
     Ok(reader.state())
 }
 
+/// The state of a new reader to which these bytes were pushed one by one.
+fn state_bytewise(alloc: Global, bytes: &[u8]) -> Result<State, AllocError> {
+    let mut reader = Reader::new(alloc);
+    for byte in bytes {
+        reader.push(&[*byte])?;
+    }
+    Ok(reader.state())
+}
+
+/// How many bytes a new reader looks at in these, which are pushed in pieces of at most `size` bytes,
+/// where each request is taken once it is whole.
+fn looked_at(alloc: Global, bytes: &[u8], size: usize) -> Result<u64, AllocError> {
+    let mut reader = Reader::new(alloc);
+    let mut rest = bytes;
+    for _ in bytes {
+        let taken = reader.push(&rest[..size.min(rest.len())])?;
+        rest = &rest[taken..];
+        let _request = reader.take();
+    }
+    Ok(reader.looked())
+}
+
 /// Cases, one a line: the state that is wanted, a space, and the bytes, where `~` is CR LF and `^` is LF.
 const HEADS: &str = "\
 Complete POST / HTTP/1.1~Host: g~~
@@ -72,6 +94,29 @@ fn each_refusal_in_its_order(rt: HostRuntime) -> Result<(), Fail> {
             state => format!(in rt.alloc(); "{state:?}")?,
         };
         assert_eq!(rt; state.as_str(), wanted, "{text}");
+        assert_eq!(rt;
+            state_bytewise(rt.alloc(), &bytes)?,
+            state_after(rt.alloc(), &bytes)?,
+            "{text}"
+        );
+    }
+    Ok(())
+}
+
+#[test]
+fn looked_at_twice_at_most(rt: HostRuntime) -> Result<(), Fail> {
+    let mut led = Vec::from_slice(rt.alloc(), b"\r\n\r\n")?;
+    led.extend_from_slice(CALL)?;
+    let endless = vec![in rt.alloc(); b'x'; 8292]?;
+    let mut pipelined = Vec::new(rt.alloc());
+    for _ in 0..9 {
+        pipelined.extend_from_slice(CALL)?;
+    }
+    for size in [1, 2, 3, 97, 98, 9000] {
+        assert_eq!(rt; looked_at(rt.alloc(), CALL, size)?, 192, "{size}");
+        assert_eq!(rt; looked_at(rt.alloc(), &led, size)?, 196, "{size}");
+        assert_eq!(rt; looked_at(rt.alloc(), &endless, size)?, 8192, "{size}");
+        assert_eq!(rt; looked_at(rt.alloc(), &pipelined, size)?, 1728, "{size}");
     }
     Ok(())
 }
@@ -148,6 +193,7 @@ fn cut_at_every_place(rt: HostRuntime) -> Result<(), Fail> {
         assert!(rt; reader.take().is_none());
         assert_eq!(rt; reader.push(back)?, 98 - place);
         assert_eq!(rt; reader.push(back)?, 0);
+        assert_eq!(rt; reader.looked(), 192);
         let request = reader.take().ok_or("a request")?;
         is_call(&rt, &request);
         assert_eq!(rt; reader.state(), State::More);

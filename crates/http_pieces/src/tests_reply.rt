@@ -60,6 +60,7 @@ fn each_fault_in_its_order(rt: HostRuntime) -> Result<(), Fail> {
 fn take_reply(rt: &impl Abort, reader: &mut ReplyReader) -> Result<(), Fail> {
     assert_eq!(rt; reader.state(), ReplyState::Complete);
     assert_eq!(rt; reader.push(REPLY)?, 0);
+    assert_eq!(rt; reader.looked(), 140);
     let reply = reader.take().ok_or("a reply")?;
     assert_eq!(rt; reply.status.as_u16(), 200);
     let content_type = reply.content_type.ok_or("a content type")?;

@@ -1,38 +1,42 @@
-use Rattle.std.proofs.Common.{refl, arith}
-use Rattle.http_pieces.specs.declared.cut.Cut.TheVariants as found
-use Rattle.http_pieces.proofs.PhaseLemmas.{cuts_whole, advance_more, advance_refused, advance_complete, ends_behind}
+use Rattle.std.proofs.Common.{length, Result, Ok, Err, sym, subst, ◌∙◌, arith, inl}
+use Rattle.std.specs.Result.{IfOk}
+use Rattle.http_pieces.specs.Form.{Grows}
+use Rattle.http_pieces.specs.declared.phase.Phase.TheVariants as phase
+use Rattle.http_pieces.proofs.ScanLemmas.{scan_moves, scan_ends}
+use Rattle.http_pieces.proofs.PhaseLemmas.{too_large_grows, head_grows}
 use Rattle.http_pieces.proofs.phase.advance.Goals as goal
 
-pub overflow_sub-taken : goal.overflow_sub-taken
-overflow_sub-taken g c =
+both_ok : {A E : Type 0} (r : Result A E) (P Q S : A → Type 0) → ((a : A) → P a → Q a → S a) → IfOk r P → IfOk r Q → IfOk r S
+both_ok (Ok a) P Q S f p q = f a p q
+both_ok (Err e) P Q S f p q = tt
+
+pub returns-then-scan-eq4-clause-ok : goal.returns-then-scan-eq4-clause-ok
+returns-then-scan-eq4-clause-ok g c =
+    let form = g.M.Message.form in
+    let before = c.args.bytes.now.items in
+    let scan = c.scan_piece-scan.result in
+    let scans = rw c.deref.ensures.value at c.scan_piece-scan.ensures in
+    let moves = scan_moves before c.args.piece.now scan c.args.matched c.requires scans.to (inl c.if-scan-eq4.true) in
+    both_ok c.read_head.result _ _ _ (λ r grows seen. record { grows = grows; moves = λ some. omega (arith, moves, seen) }) c.read_head.ensures.ok c.read_head.ensures.seen
+
+pub returns-then-scan-eq-MAX_HEAD-clause-ok : goal.returns-then-scan-eq-MAX_HEAD-clause-ok
+returns-then-scan-eq-MAX_HEAD-clause-ok g c =
+    let form = g.M.Message.form in
+    let scans = rw c.deref.ensures.value at c.scan_piece-scan.ensures in
+    record {
+      grows = too_large_grows form c.args.bytes.now.items c.args.piece.now c.clear.new.self.items c.scan_piece-scan.result c.too_large.result scans.to c.if-scan-eq4.false c.if-scan-eq-MAX_HEAD.true c.too_large.ensures;
+      moves = λ some. some;
+    }
+
+pub returns-clause-ok : goal.returns-clause-ok
+returns-clause-ok g c =
     let form = g.M.Message.form in
     let before = c.args.bytes.now.items in
     let piece = c.args.piece.now in
-    let layout = c.in-Ok-Complete.layout in
-    let whole = cuts_whole form before piece c.deref.result.now _ _ (found.Complete layout) c.deref.ensures.value c.in_ok-extend_from_slice.ensures.items c.in-Ok-Complete.field-0-is
-    c.in-Ok-Complete.ensures in
-    rw (c.len-before.ensures, c.args.bytes.now.ok.0) (let behind = ends_behind form before piece layout (g.met.M.Message.single 0) c.requires whole in omega arith)
-
-pub returns-in-Ok-Incomplete-clause-ok : goal.returns-in-Ok-Incomplete-clause-ok
-returns-in-Ok-Incomplete-clause-ok g c =
-    let form = g.M.Message.form in
-    let start = c.in-Ok-Incomplete.start in
-    let cut = cuts_whole form c.args.bytes.now.items c.args.piece.now c.deref.result.now _ _ (found.Incomplete start)
-    c.deref.ensures.value c.in_ok-extend_from_slice.ensures.items c.in-Ok-Incomplete.field-0-is c.in-Ok-Incomplete.ensures in
-    advance_more form _ _ _ _ start cut c.in_ok-extend_from_slice.ensures.items c.drop_front.ensures
-
-pub returns-in-Ok-Refused-clause-ok : goal.returns-in-Ok-Refused-clause-ok
-returns-in-Ok-Refused-clause-ok g c =
-    let form = g.M.Message.form in
-    let cut = cuts_whole form c.args.bytes.now.items c.args.piece.now c.deref.result.now _ _ (found.Refused c.in-Ok-Refused.fault)
-    c.deref.ensures.value c.in_ok-extend_from_slice.ensures.items c.in-Ok-Refused.field-0-is c.in-Ok-Refused.ensures in
-    advance_refused form _ _ _ _ cut
-
-pub returns-in-Ok-Complete-clause-ok : goal.returns-in-Ok-Complete-clause-ok
-returns-in-Ok-Complete-clause-ok g c =
-    let form = g.M.Message.form in
-    let layout = c.in-Ok-Complete.layout in
-    let whole = cuts_whole form c.args.bytes.now.items c.args.piece.now c.deref.result.now _ _ (found.Complete layout)
-    c.deref.ensures.value c.in_ok-extend_from_slice.ensures.items c.in-Ok-Complete.field-0-is c.in-Ok-Complete.ensures in
-    advance_complete form _ _ _ _ _ _ layout (ends_behind form _ _ layout (g.met.M.Message.single 0) c.requires whole) whole
-    c.in_ok-extend_from_slice.ensures.items c.truncate-in-Ok-Complete.ensures.items c.drop_front-in-Ok-Complete.ensures (rw (c.len-before.ensures, c.args.bytes.now.ok.0) refl)
+    let scan = c.scan_piece-scan.result in
+    let scans = rw c.deref.ensures.value at c.scan_piece-scan.ensures in
+    let grows = head_grows form before piece scan scans.to c.if-scan-eq4.false c.if-scan-eq-MAX_HEAD.false (scan_ends before piece scan scans c.if-scan-eq4.false c.if-scan-eq-MAX_HEAD.false) in
+    record {
+      grows = subst (λ b. Grows form before piece b (length piece) (phase.Head scan.matched)) (sym (c.drop_front.ensures ∙ c.in_ok-front.ensures.held)) grows;
+      moves = λ some. some;
+    }
