@@ -45,7 +45,8 @@ pub(crate) fn push_into<M: Message>(
     requires sound { IsPhaseSound M.form bytes.old.items phase.old }
     requires still { looked.old ≤ most_looked }
     ensures ok { IfOk result (Pushes M.form bytes.old.items phase.old piece.now bytes.new.items phase.new) }
-    ensures err { OnErr result ((bytes.new.items ≡ bytes.old.items) × (phase.new ≡ phase.old) × (looked.new ≡ looked.old)) }
+    ensures err { OnErr result ((bytes.new.items ≡ bytes.old.items) × (phase.new ≡ phase.old)
+        × (looked.new ≡ looked.old)) }
 
     // Memory is needed for bytes that are kept, and else for none.
     ensures kept { is_more phase.old ≡ false → IsOk result }
@@ -87,7 +88,8 @@ fn advance<M: Message>(
 ) -> Result<Step<M::Head, M::Fault>, AllocError>
     requires { IsScanned bytes.old.items matched }
     ensures ok { IfOk result (λ r. Advances M.form bytes.old.items piece.now bytes.new.items r.taken r.phase) }
-    ensures looks { IfOk result (λ r. r.looked + unread bytes.new.items r.phase ≤ length bytes.old.items + 2 * r.taken) }
+    ensures looks { IfOk result (λ r. r.looked + unread bytes.new.items r.phase
+        ≤ length bytes.old.items + 2 * r.taken) }
     ensures err { OnErr result (bytes.new.items ≡ bytes.old.items) }
 {
     let scan = scan_piece(bytes, matched, piece);
@@ -121,7 +123,8 @@ fn read_head<M: Message>(
     requires whole { scan.matched ≡ 4 }
     ensures ok { IfOk result (λ r. Grows M.form bytes.old.items piece.now bytes.new.items r.taken r.phase) }
     ensures seen { IfOk result (λ r. scan.seen ≤ r.taken) }
-    ensures looks { IfOk result (λ r. r.looked + unread bytes.new.items r.phase ≤ length bytes.old.items + 2 * r.taken) }
+    ensures looks { IfOk result (λ r. r.looked + unread bytes.new.items r.phase
+        ≤ length bytes.old.items + 2 * r.taken) }
     ensures err { OnErr result (bytes.new.items ≡ bytes.old.items) }
 {
     let before = bytes.len();

@@ -104,7 +104,8 @@ impl Reader {
             → MatchOption result (HasRead self.new bytes given) (λ q. HasRead self.new bytes (given ++ q ∷ [])) }
         ensures waits { (q : HttpRequest) → self.old.reading ≡ Waiting q → result ≡ Some q }
         ensures gives { IfSome result (λ q. self.old.reading ≡ Waiting q) }
-        ensures after { IfSome result (λ q. self.new ≡ record self.old { taken = self.old.taken + 1; reading = after_request q }) }
+        ensures after { IfSome result (λ q. self.new
+            ≡ record self.old { taken = self.old.taken + 1; reading = after_request q }) }
         ensures none { IfNone result (self.new ≡ self.old) }
     {
         match mem::replace(&mut self.phase, Phase::Head(0)) {

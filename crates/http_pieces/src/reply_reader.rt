@@ -56,7 +56,8 @@ impl ReplyReader {
             → IfOk result (λ n. HasReadReply self.new (bytes ++ take n piece.now) given) }
 
         // In `More` it takes the shortest prefix that makes the whole reply, and else all.
-        ensures shortest { (left : List ℕ) → self.old.reading ≡ Partial left → IfOk result (IsShortestReply left piece.now) }
+        ensures shortest { (left : List ℕ) → self.old.reading ≡ Partial left
+            → IfOk result (IsShortestReply left piece.now) }
         ensures all { IfOk result (λ n. (n ≡ length piece.now) ⊎ ((q : HttpReply) × (self.new.reading ≡ Waiting q))) }
 
         ensures moves { 0 < length piece.now
@@ -65,7 +66,8 @@ impl ReplyReader {
 
         // With the reply waiting it takes none, and after a fault or the reply all: neither needs memory.
         ensures waits { (q : HttpReply) → self.old.reading ≡ Waiting q → (result ≡ Ok 0) × (self.new ≡ self.old) }
-        ensures over { is_over_reply self.old.reading ≡ true → (result ≡ Ok (length piece.now)) × (self.new ≡ self.old) }
+        ensures over { is_over_reply self.old.reading ≡ true
+            → (result ≡ Ok (length piece.now)) × (self.new ≡ self.old) }
 
         // `reads` says that at most twice the bytes taken were looked at.
         ensures looks { self.old.looked ≤ self.new.looked }
