@@ -1,24 +1,23 @@
 -- A connection stands for what has occurred: its first request arrives, or its stream is refused.
 use Rattle.std.proofs.Common.{◌≡◌, ℕ, zero, suc, ◌+◌, ◌≤◌, ◌<◌, min, true, false, List, [], ◌∷◌, ◌++◌, map, length, replicate, Option, None, Some, refl, sym, ap, ◌∙◌, subst, arith, zero-add, append_assoc, ⊎_elim}
-use Rattle.std.specs.Prelude.{is_some, is_none, if◌then◌else◌, ◌==◌, option_map, option_and_then, slice_index_or}
+use Rattle.std.specs.Prelude.{is_some, is_none, if◌then◌else◌, option_map, option_and_then, slice_index_or}
 use Rattle.std.specs.Option.{option_map_or, unwrap_or}
 use Rattle.std.specs.List.{range_with_len}
-use Rattle.std.proofs.lemmas.Bool.{cond_both, cases_lt, le-ltb, ne_eqb, le-leb}
+use Rattle.std.proofs.lemmas.Bool.{cases_lt, le-ltb, ne_eqb, le-leb}
 use Rattle.std.proofs.lemmas.List.{get_or-replicate, length-replicate}
 use Rattle.std.proofs.Math.ListN.{get_or-eq_default}
 use Rattle.http_pieces.specs.declared.refusal.Refusal.{Refusal}
 use Rattle.http_pieces.specs.Request.{HttpRequest, closes}
 use Rattle.connect_codec.specs.declared.verdict.Verdict.{Verdict}
 use Rattle.call_plan.specs.Plan.{PlanRecord}
-use Rattle.gateway_core.specs.declared.id.CallId.{CallId}
-use Rattle.gateway_core.specs.declared.reply.Reply.{Reply}
+use Rattle.gateway_core.specs.declared.reply_bytes.ReplyBytes.{ReplyBytes}
 use Rattle.gateway_core.specs.Arrival.{Arrival, Judged, Asks, refusal_reply, verdict_reply}
 use Rattle.gateway_core.specs.Call.{CallValue, HasStarted, new_call, due_of}
 use Rattle.gateway_core.specs.Core.{ConnValue, new_conn, first_call, ArrivesAs, GoesOn, refused_by}
 use Rattle.gateway_core.specs.Job.{JobValue}
 use Rattle.gateway_core.specs.Occurrence.{Occurrence, Entry, Entering, Request, Refused}
 use Rattle.gateway_core.specs.declared.event.CallEvent.TheVariants.{Expired}
-use Rattle.gateway_core.specs.Past.{Mark, Past, Asked, call, entries, entering_on, entering_now, asked_now, asked_by, asked_of, began, answers, started, is_drained, is_closed, is_due, smaller, own_event, event_by, ends_at_arrival, decided, now, mark_of, marked, crowds}
+use Rattle.gateway_core.specs.Past.{Mark, Past, Asked, call, entries, entering_now, asked_now, asked_by, asked_of, began, answers, started, is_drained, is_closed, is_due, smaller, own_event, ends_at_arrival, decided, now, mark_of, marked, crowds}
 use Rattle.gateway_core.specs.CallRecord.{answers_in}
 use Rattle.gateway_core.specs.Queue.{came, own_events, expired_reply, replies}
 use Rattle.gateway_core.specs.Stands.{CallStands, MayStand, ConnStands}
@@ -72,7 +71,7 @@ others_alone : (x : Entering) (past : Past) (other : ℕ) → (other ≡ 0 → �
 others_alone x past other ne e = rw (ne_eqb 0 other (λ same. ne (sym same)), e) refl
 
 -- what the first to come makes of the connection
-arrived : (conn new : ConnValue) (taken : List Reply) (os : List Occurrence) (x : Entering) → ConnStands conn taken (marked os) → First os
+arrived : (conn new : ConnValue) (taken : List ReplyBytes) (os : List Occurrence) (x : Entering) → ConnStands conn taken (marked os) → First os
     → new.arrived ≡ true → MayStand new.call (comes (marked os) x ∷ marked os) → taken ++ new.replies ≡ replies 0 (comes (marked os) x ∷ marked os)
     → ConnStands new taken (comes (marked os) x ∷ marked os)
 arrived conn new taken os x h f arrived_is stands replies_are = record {
@@ -85,34 +84,34 @@ arrived conn new taken os x h f arrived_is stands replies_are = record {
   replies_are = replies_are;
 }
 
-pub first_of : (conn : ConnValue) (taken : List Reply) (os : List Occurrence) → ConnStands conn taken (marked os) → conn.arrived ≡ false → First os
+pub first_of : (conn : ConnValue) (taken : List ReplyBytes) (os : List Occurrence) → ConnStands conn taken (marked os) → conn.arrived ≡ false → First os
 first_of conn taken os h fresh = record { none = h.entries_are ∙ rw fresh refl; now_is = h.now_is; undrained = h.undrained; unclosed = h.unclosed }
 
-pub no_call_yet : (conn : ConnValue) (taken : List Reply) (os : List Occurrence) → ConnStands conn taken (marked os) → First os → conn.call ≡ None
+pub no_call_yet : (conn : ConnValue) (taken : List ReplyBytes) (os : List Occurrence) → ConnStands conn taken (marked os) → First os → conn.call ≡ None
 no_call_yet conn taken os h f = by_call conn.call refl
   where
     by_call : (o : Option CallValue) → conn.call ≡ o → conn.call ≡ None
     by_call None e = e
     by_call (Some c) e = absurd (let stands : CallStands c (marked os) = subst (λ x. MayStand x (marked os)) e h.call_stands in omega (arith, stands.entries_are, f.none))
 
-no_replies_yet : (conn : ConnValue) (taken : List Reply) (os : List Occurrence) → ConnStands conn taken (marked os) → First os → taken ++ conn.replies ≡ []
+no_replies_yet : (conn : ConnValue) (taken : List ReplyBytes) (os : List Occurrence) → ConnStands conn taken (marked os) → First os → taken ++ conn.replies ≡ []
 no_replies_yet conn taken os h f = h.replies_are ∙ replies_none (marked os) f.none
 
 -- what comes is answered at once
-answered_conn : (conn : ConnValue) (taken : List Reply) (os : List Occurrence) (x : Entering) (r : Reply) → ConnStands conn taken (marked os) → First os
+answered_conn : (conn : ConnValue) (taken : List ReplyBytes) (os : List Occurrence) (x : Entering) (r : ReplyBytes) → ConnStands conn taken (marked os) → First os
     → began first_call (comes (marked os) x ∷ marked os) ≡ false → replies 0 (comes (marked os) x ∷ marked os) ≡ r ∷ []
     → ConnStands (record conn { arrived = true; replies = conn.replies ++ r ∷ [] }) taken (comes (marked os) x ∷ marked os)
 answered_conn conn taken os x r h f not_begun one =
     arrived conn _ taken os x h f refl (rw (no_call_yet conn taken os h f) not_begun)
     (sym (append_assoc taken conn.replies (r ∷ [])) ∙ ap (λ rs. rs ++ r ∷ []) (no_replies_yet conn taken os h f) ∙ sym one)
 
-refused_first : (conn : ConnValue) (taken : List Reply) (os : List Occurrence) (r : Refusal) → ConnStands conn taken (marked os) → First os
+refused_first : (conn : ConnValue) (taken : List ReplyBytes) (os : List Occurrence) (r : Refusal) → ConnStands conn taken (marked os) → First os
     → ConnStands (record conn { arrived = true; replies = conn.replies ++ refusal_reply r ∷ [] }) taken (comes (marked os) (Refused r) ∷ marked os)
 refused_first conn taken os r h f =
     answered_conn conn taken os (Refused r) (refusal_reply r) h f (began_now (Refused r) os f)
     (replies_one (comes (marked os) (Refused r) ∷ marked os) (entries_now (Refused r) (marked os) f.none) ∙ rw (came_now (Refused r) os f) refl)
 
-judged_first : (conn : ConnValue) (taken : List Reply) (os : List Occurrence) (q : HttpRequest) (v : Verdict) → ConnStands conn taken (marked os) → First os
+judged_first : (conn : ConnValue) (taken : List ReplyBytes) (os : List Occurrence) (q : HttpRequest) (v : Verdict) → ConnStands conn taken (marked os) → First os
     → ConnStands (record conn { arrived = true; replies = conn.replies ++ verdict_reply v (closes q) ∷ [] }) taken (comes (marked os) (Request q (Judged v)) ∷ marked os)
 judged_first conn taken os q v h f =
     let x : Entering = Request q (Judged v) in
@@ -130,7 +129,7 @@ ends_is : (os : List Occurrence) (q : HttpRequest) (plan : PlanRecord) (timeout 
 ends_is os q plan timeout rid f = rw (f.undrained, f.now_is, due_zero (smaller timeout plan.timeout)) refl
 
 -- the call is over as it arrives
-expired_first : (conn : ConnValue) (taken : List Reply) (os : List Occurrence) (q : HttpRequest) (plan : PlanRecord) (timeout : Option ℕ) (rid : Option (List ℕ))
+expired_first : (conn : ConnValue) (taken : List ReplyBytes) (os : List Occurrence) (q : HttpRequest) (plan : PlanRecord) (timeout : Option ℕ) (rid : Option (List ℕ))
     → ConnStands conn taken (marked os) → First os → is_due 0 (smaller timeout plan.timeout) ≡ true
     → ConnStands (record conn { arrived = true; replies = conn.replies ++ expired_reply (closes q) ∷ [] }) taken (comes (marked os) (Request q (Asks plan timeout rid)) ∷ marked os)
 expired_first conn taken os q plan timeout rid h f due =
@@ -191,7 +190,7 @@ begun_stands os q plan timeout rid later jobs after f not_due s =
       few = λ none. omega (arith, answers_are);
     }
 
-begun_first : (conn : ConnValue) (taken : List Reply) (os : List Occurrence) (q : HttpRequest) (plan : PlanRecord) (timeout : Option ℕ) (rid : Option (List ℕ)) (later : CallValue) (jobs after : List JobValue)
+begun_first : (conn : ConnValue) (taken : List ReplyBytes) (os : List Occurrence) (q : HttpRequest) (plan : PlanRecord) (timeout : Option ℕ) (rid : Option (List ℕ)) (later : CallValue) (jobs after : List JobValue)
     → ConnStands conn taken (marked os) → First os → is_due 0 (smaller timeout plan.timeout) ≡ false
     → HasStarted (due_of (new_call first_call (asked_of 0 q plan timeout rid))) (new_call first_call (asked_of 0 q plan timeout rid)) later jobs after
     → ConnStands (record conn { arrived = true; call = Some later }) taken (comes (marked os) (Request q (Asks plan timeout rid)) ∷ marked os)
@@ -205,7 +204,7 @@ begun_first conn taken os q plan timeout rid later jobs after h f not_due s =
     (no_replies_yet conn taken os h f ∙ sym (replies_undecided later (comes (marked os) x ∷ marked os) stands going))
 
 -- the first request, as the core takes it
-pub arrived_conn : (conn new : ConnValue) (taken : List Reply) (os : List Occurrence) (q : HttpRequest) (jobs after : List JobValue) (arrival : Arrival)
+pub arrived_conn : (conn new : ConnValue) (taken : List ReplyBytes) (os : List Occurrence) (q : HttpRequest) (jobs after : List JobValue) (arrival : Arrival)
     → ConnStands conn taken (marked os) → conn.arrived ≡ false → ArrivesAs q conn new jobs after arrival
     → ConnStands new taken (comes (marked os) (Request q arrival) ∷ marked os)
 arrived_conn conn new taken os q jobs after (Judged v) h fresh step =
@@ -222,7 +221,7 @@ arrived_conn conn new taken os q jobs after (Asks plan timeout rid) h fresh step
     step
 
 -- the stream's refusal, where no request came
-pub refused_conn : (conn : ConnValue) (taken : List Reply) (os : List Occurrence) (r : Refusal)
+pub refused_conn : (conn : ConnValue) (taken : List ReplyBytes) (os : List Occurrence) (r : Refusal)
     → ConnStands conn taken (marked os) → conn.arrived ≡ false → ConnStands (refused_by r conn) taken (comes (marked os) (Refused r) ∷ marked os)
 refused_conn conn taken os r h fresh =
     let next : Past = comes (marked os) (Refused r) ∷ marked os in

@@ -7,7 +7,7 @@ use Rattle.connect_codec.specs.declared.answer.Outcome.{Outcome}
 use Rattle.connect_codec.specs.declared.answer.Outcome.TheVariants.{Answer, Fail}
 use Rattle.gateway_core.specs.declared.id.CallId.{CallId}
 use Rattle.error_document.specs.declared.document.RpcError.{RpcError}
-use Rattle.gateway_core.specs.declared.reply.Reply.{Reply}
+use Rattle.gateway_core.specs.declared.reply_bytes.ReplyBytes.{ReplyBytes}
 use Rattle.gateway_core.specs.Call.{CallValue, HasStarted, is_out as has_out, back, answered_by, decided_of, due_of, failure_of, success_of}
 use Rattle.gateway_core.specs.Core.{ConnValue, first_call, CountedIn, back_on, GoesOn, IsDecidedBy}
 use Rattle.gateway_core.specs.Job.{JobValue}
@@ -25,7 +25,7 @@ none_of None e = refl
 none_of (Some a) e = absurd (cc)
 
 -- what a result leaves as it was
-framed : (conn x : ConnValue) (taken : List Reply) (of : CallId) (i : ℕ) (outcome : Outcome) (past : Past) → ConnStands conn taken past
+framed : (conn x : ConnValue) (taken : List ReplyBytes) (of : CallId) (i : ℕ) (outcome : Outcome) (past : Past) → ConnStands conn taken past
     → x.arrived ≡ conn.arrived → MayStand x.call (mark_of past (Result of i outcome) ∷ past)
     → taken ++ x.replies ≡ replies 0 (mark_of past (Result of i outcome) ∷ past) → ConnStands x taken (mark_of past (Result of i outcome) ∷ past)
 framed conn x taken of i outcome past h arrived_is stands replies_are = record {
@@ -38,7 +38,7 @@ framed conn x taken of i outcome past h arrived_is stands replies_are = record {
   replies_are = replies_are;
 }
 
-counting : (conn : ConnValue) (taken : List Reply) (past : Past) (c : CallValue) (i : ℕ) (outcome : Outcome) (hc : CallStands c past) → ConnStands conn taken past
+counting : (conn : ConnValue) (taken : List ReplyBytes) (past : Past) (c : CallValue) (i : ℕ) (outcome : Outcome) (hc : CallStands c past) → ConnStands conn taken past
     → has_out c i ≡ true → c.decided ≡ false → Counting i outcome past hc.asked
 counting conn taken past c i outcome hc h out undecided = record {
   call_is = hc.call_is;
@@ -48,13 +48,13 @@ counting conn taken past c i outcome hc h out undecided = record {
 }
 
 -- the replies, with one behind them
-one_more : (conn : ConnValue) (taken : List Reply) (past next : Past) (r : Reply) → ConnStands conn taken past → replies 0 past ≡ [] → replies 0 next ≡ r ∷ []
+one_more : (conn : ConnValue) (taken : List ReplyBytes) (past next : Past) (r : ReplyBytes) → ConnStands conn taken past → replies 0 past ≡ [] → replies 0 next ≡ r ∷ []
     → taken ++ (conn.replies ++ r ∷ []) ≡ replies 0 next
 one_more conn taken past next r h none one =
     sym (append_assoc taken conn.replies (r ∷ [])) ∙ ap (λ rs. rs ++ r ∷ []) (h.replies_are ∙ none) ∙ sym one
 
 -- a failure that counts
-failed_conn : (conn : ConnValue) (taken : List Reply) (os : List Occurrence) (c : CallValue) (i : ℕ) (error : RpcError) → ConnStands conn taken (marked os)
+failed_conn : (conn : ConnValue) (taken : List ReplyBytes) (os : List Occurrence) (c : CallValue) (i : ℕ) (error : RpcError) → ConnStands conn taken (marked os)
     → CallStands c (marked os) → has_out c i ≡ true → c.decided ≡ false
     → ConnStands (record conn { call = Some (decided_of (back i c)); replies = conn.replies ++ failure_of i error (back i c) ∷ [] }) taken
     (result_of (marked os) i (Fail error) ∷ marked os)
@@ -72,7 +72,7 @@ failed_conn conn taken os c i error h hc out undecided =
     (one_more conn taken past next (failure_of i error (back i c)) h (replies_undecided c past hc n.undecided) one)
 
 -- the last answer
-last_conn : (conn : ConnValue) (taken : List Reply) (os : List Occurrence) (c : CallValue) (i : ℕ) (body : List ℕ) → ConnStands conn taken (marked os)
+last_conn : (conn : ConnValue) (taken : List ReplyBytes) (os : List Occurrence) (c : CallValue) (i : ℕ) (body : List ℕ) → ConnStands conn taken (marked os)
     → CallStands c (marked os) → has_out c i ≡ true → c.decided ≡ false
     → nat_lt (answered_by i body (back i c)).answered (length c.asked.plan.branches) ≡ false
     → ConnStands (record conn { call = Some (decided_of (answered_by i body (back i c))); replies = conn.replies ++ success_of (answered_by i body (back i c)) ∷ [] }) taken
@@ -93,7 +93,7 @@ last_conn conn taken os c i body h hc out undecided finished =
     (one_more conn taken past next (success_of d) h (replies_undecided c past hc n.undecided) one)
 
 -- an answer that leaves others open
-going_conn : (conn : ConnValue) (taken : List Reply) (os : List Occurrence) (c later : CallValue) (i : ℕ) (body : List ℕ) (jobs after : List JobValue)
+going_conn : (conn : ConnValue) (taken : List ReplyBytes) (os : List Occurrence) (c later : CallValue) (i : ℕ) (body : List ℕ) (jobs after : List JobValue)
     → ConnStands conn taken (marked os) → CallStands c (marked os) → has_out c i ≡ true → c.decided ≡ false
     → nat_lt (answered_by i body (back i c)).answered (length c.asked.plan.branches) ≡ true
     → HasStarted (due_of (answered_by i body (back i c))) (answered_by i body (back i c)) later jobs after
@@ -106,7 +106,7 @@ going_conn conn taken os c later i body jobs after h hc out undecided unfinished
     framed conn _ taken first_call i (Answer body) past h refl stands (h.replies_are ∙ replies_undecided c past hc n.undecided ∙ sym still)
 
 -- a result that counts, as the core takes it
-pub counted_conn : (conn new : ConnValue) (taken : List Reply) (os : List Occurrence) (c : CallValue) (i : ℕ) (outcome : Outcome) (jobs after : List JobValue)
+pub counted_conn : (conn new : ConnValue) (taken : List ReplyBytes) (os : List Occurrence) (c : CallValue) (i : ℕ) (outcome : Outcome) (jobs after : List JobValue)
     → ConnStands conn taken (marked os) → conn.call ≡ Some c → has_out c i ≡ true → c.decided ≡ false
     → CountedIn i outcome conn c (Some new) jobs after → ConnStands new taken (result_of (marked os) i outcome ∷ marked os)
 counted_conn conn new taken os c i (Fail error) jobs after h call_is out undecided step =
@@ -126,7 +126,7 @@ counted_conn conn new taken os c i (Answer body) jobs after h call_is out undeci
     step
 
 -- a late result
-pub late_conn : (conn : ConnValue) (taken : List Reply) (past : Past) (c : CallValue) (i : ℕ) (outcome : Outcome)
+pub late_conn : (conn : ConnValue) (taken : List ReplyBytes) (past : Past) (c : CallValue) (i : ℕ) (outcome : Outcome)
     → ConnStands conn taken past → conn.call ≡ Some c → c.decided ≡ true → ConnStands (back_on i conn) taken (result_of past i outcome ∷ past)
 late_conn conn taken past c i outcome h call_is over =
     let hc : CallStands c past = subst (λ o. MayStand o past) call_is h.call_stands in
@@ -137,7 +137,7 @@ late_conn conn taken past c i outcome h call_is over =
     framed conn (back_on i conn) taken first_call i outcome past h refl back_is (h.replies_are ∙ sym (replies_same m past conn.arrived h.entries_are quiet))
 
 -- a result of a branch that is not out
-pub unknown_conn : (conn : ConnValue) (taken : List Reply) (past : Past) (of : CallId) (i : ℕ) (outcome : Outcome)
+pub unknown_conn : (conn : ConnValue) (taken : List ReplyBytes) (past : Past) (of : CallId) (i : ℕ) (outcome : Outcome)
     → ConnStands conn taken past → is_out of i past ≡ false → ConnStands conn taken (mark_of past (Result of i outcome) ∷ past)
 unknown_conn conn taken past of i outcome h shut =
     ⊎_elim (λ (own : is_call of first_call ≡ true).
@@ -166,7 +166,7 @@ unknown_conn conn taken past of i outcome h shut =
     kept (Some c) o_is other quiet = foreign_stands c of i outcome past other (subst (λ x. MayStand x past) o_is h.call_stands)
 
 -- an opening
-pub opened_conn : (conn : ConnValue) (taken : List Reply) (past : Past) → ConnStands conn taken past → ConnStands conn taken (mark_of past Opening ∷ past)
+pub opened_conn : (conn : ConnValue) (taken : List ReplyBytes) (past : Past) → ConnStands conn taken past → ConnStands conn taken (mark_of past Opening ∷ past)
 opened_conn conn taken past h =
     let m : Mark = mark_of past Opening in
     let quiet : Quiet first_call m past = record {

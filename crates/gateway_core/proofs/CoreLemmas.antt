@@ -11,7 +11,7 @@ use Rattle.connect_codec.specs.declared.answer.Outcome.{Outcome}
 use Rattle.connect_codec.specs.declared.answer.Outcome.TheVariants.{Answer, Fail}
 use Rattle.call_plan.specs.Plan.{PlanRecord}
 use Rattle.gateway_core.specs.declared.id.CallId.{CallId}
-use Rattle.gateway_core.specs.declared.reply.Reply.{Reply}
+use Rattle.gateway_core.specs.declared.reply_bytes.ReplyBytes.{ReplyBytes}
 use Rattle.gateway_core.specs.declared.fault.Seen.{Seen}
 use Rattle.gateway_core.specs.declared.fault.Seen.TheVariants.{Counted, Late, Unknown}
 use Rattle.gateway_core.specs.Arrival.{arrival_of}
@@ -32,7 +32,7 @@ use Rattle.gateway_core.proofs.StandsLemmas.{not_started}
 use Rattle.gateway_core.proofs.Cases.{not_so, or_false, and_true, and_false, either_way}
 
 -- only the reader goes on
-read_on : (conn : ConnValue) (reader : ReaderValue) (taken : List Reply) (past : Past) → ConnStands conn taken past → ConnStands (record conn { reader = reader }) taken past
+read_on : (conn : ConnValue) (reader : ReaderValue) (taken : List ReplyBytes) (past : Past) → ConnStands conn taken past → ConnStands (record conn { reader = reader }) taken past
 read_on conn reader taken past h = record {
   now_is = h.now_is;
   undrained = h.undrained;
@@ -49,7 +49,7 @@ stays_without (Waiting q) conn had = refl
 stays_without (Stopped r) conn had = rw had refl
 stays_without Done conn had = refl
 
-without_stands : (r : Reading) (conn : ConnValue) (taken : List Reply) (os : List Occurrence) → conn.arrived ≡ false → ConnStands conn taken (marked os)
+without_stands : (r : Reading) (conn : ConnValue) (taken : List ReplyBytes) (os : List Occurrence) → conn.arrived ≡ false → ConnStands conn taken (marked os)
     → ConnStands (without_request r conn) taken (marked (refusal_of r os))
 without_stands (Partial left) conn taken os fresh h = h
 without_stands (Waiting q) conn taken os fresh h = h
@@ -57,7 +57,7 @@ without_stands (Stopped r) conn taken os fresh h = refused_conn conn taken os r 
 without_stands Done conn taken os fresh h = h
 
 -- what bytes make of the connection
-fed : (plans : List PlanRecord) (old new : ConnValue) (taken : List Reply) (os : List Occurrence) (more : List HttpRequest) (jobs after : List JobValue) (b : Bool)
+fed : (plans : List PlanRecord) (old new : ConnValue) (taken : List ReplyBytes) (os : List Occurrence) (more : List HttpRequest) (jobs after : List JobValue) (b : Bool)
     → old.arrived ≡ b → ConnStands old taken (marked os) → FeedsTo plans more (record old { reader = new.reader }) new jobs after
     → ConnStands new taken (marked (occurred_by plans b more new.reader.reading os))
 fed plans old new taken os [] jobs after true had h step =
@@ -81,7 +81,7 @@ fed plans old new taken os (q ∷ []) jobs after false fresh h step =
 fed plans old new taken os (q ∷ r ∷ more) jobs after b had h step = absurd step
 
 -- the jobs that wait after bytes were fed: those that waited, and those that start by what comes
-fed_jobs : (plans : List PlanRecord) (old new : ConnValue) (taken : List Reply) (handed : List JobValue) (os : List Occurrence) (more : List HttpRequest) (jobs after : List JobValue) (b : Bool)
+fed_jobs : (plans : List PlanRecord) (old new : ConnValue) (taken : List ReplyBytes) (handed : List JobValue) (os : List Occurrence) (more : List HttpRequest) (jobs after : List JobValue) (b : Bool)
     → old.arrived ≡ b → ConnStands old taken (marked os) → ConnStands new taken (marked (occurred_by plans b more new.reader.reading os))
     → FeedsTo plans more (record old { reader = new.reader }) new jobs after → handed ++ jobs ≡ all_jobs (marked os)
     → handed ++ after ≡ all_jobs (marked (occurred_by plans b more new.reader.reading os))
@@ -116,7 +116,7 @@ conn_is : (core : CoreValue) (c : ConnValue) → core.conn ≡ Some c → conn_o
 conn_is core c e = rw e refl
 
 -- bytes of the stream
-pub fed_core : (old new : CoreValue) (number : ℕ) (text : List ℕ) (plans : List PlanRecord) (taken : List Reply) (handed : List JobValue) (occurred : List Occurrence) (was : ConnValue) (given : List HttpRequest)
+pub fed_core : (old new : CoreValue) (number : ℕ) (text : List ℕ) (plans : List PlanRecord) (taken : List ReplyBytes) (handed : List JobValue) (occurred : List Occurrence) (was : ConnValue) (given : List HttpRequest)
     (o : Option ConnValue) → conn_at number old ≡ Some was → StandsFor old taken handed occurred → conn_at number new ≡ o → is_unbroken o ≡ true
     → Feeds plans text given was o old.jobs new.jobs → StandsAfter plans text given was new taken handed occurred
 fed_core old new number text plans taken handed occurred was given None there h new_is live step = absurd step
@@ -139,7 +139,7 @@ one_at_most true = omega arith
 one_at_most false = omega arith
 
 -- no call but the first one begins
-other_unborn : (id : CallId) (conn : ConnValue) (taken : List Reply) (past : Past) → ConnStands conn taken past → is_call id first_call ≡ false → began id past ≡ false
+other_unborn : (id : CallId) (conn : ConnValue) (taken : List ReplyBytes) (past : Past) → ConnStands conn taken past → is_call id first_call ≡ false → began id past ≡ false
 other_unborn id conn taken past h other =
     ⊎_elim (λ (here : id.conn ≡ 0).
     let later : (id.request == 0) ≡ false = rw (eq-eqb id.conn 0 here) at other in
@@ -159,17 +159,17 @@ other_unseen id branch core other =
 
 -- ---- how a result is seen
 
-foreign_judged : (old : CoreValue) (id : CallId) (branch : ℕ) (taken : List Reply) (past : Past) → ConnStands (conn_of old) taken past → is_call id first_call ≡ false
+foreign_judged : (old : CoreValue) (id : CallId) (branch : ℕ) (taken : List ReplyBytes) (past : Past) → ConnStands (conn_of old) taken past → is_call id first_call ≡ false
     → (core_sees id branch old ≡ Unknown) × (is_out id branch past ≡ false)
 foreign_judged old id branch taken past h other = (other_unseen id branch old other, shut_of id branch past (other_unborn id (conn_of old) taken past h other))
 
 -- where no call is kept
-missing_judged : (old : CoreValue) (branch : ℕ) (taken : List Reply) (past : Past) → ConnStands (conn_of old) taken past → (conn_of old).call ≡ None
+missing_judged : (old : CoreValue) (branch : ℕ) (taken : List ReplyBytes) (past : Past) → ConnStands (conn_of old) taken past → (conn_of old).call ≡ None
     → is_out first_call branch past ≡ false
 missing_judged old branch taken past h none = shut_of first_call branch past (subst (λ o. MayStand o past) none h.call_stands)
 
 -- what the core sees is what the definition says
-pub sees_judged : (old : CoreValue) (id : CallId) (branch : ℕ) (taken : List Reply) (handed : List JobValue) (occurred : List Occurrence)
+pub sees_judged : (old : CoreValue) (id : CallId) (branch : ℕ) (taken : List ReplyBytes) (handed : List JobValue) (occurred : List Occurrence)
     → StandsFor old taken handed occurred → core_sees id branch old ≡ judged id branch (marked occurred)
 sees_judged old id branch taken handed occurred h =
     ⊎_elim (λ (own : is_call id first_call ≡ true). rw (same_call id first_call own) (by_conn old.conn refl))
@@ -219,7 +219,7 @@ ResultTaken old new id branch outcome seen =
     → CountedIn branch outcome conn was (conn_at id.conn new) old.jobs new.jobs)
 
 -- a result of a branch that is not out
-unknown_core : (old new : CoreValue) (taken : List Reply) (handed : List JobValue) (occurred : List Occurrence) (id : CallId) (branch : ℕ) (outcome : Outcome)
+unknown_core : (old new : CoreValue) (taken : List ReplyBytes) (handed : List JobValue) (occurred : List Occurrence) (id : CallId) (branch : ℕ) (outcome : Outcome)
     → StandsFor old taken handed occurred → new ≡ old → is_out id branch (marked occurred) ≡ false → StandsFor new taken handed (Ends id branch outcome ∷ occurred)
 unknown_core old new taken handed occurred id branch outcome h same shut =
     rw same (record {
@@ -230,7 +230,7 @@ unknown_core old new taken handed occurred id branch outcome h same shut =
     })
 
 -- what came of bytes, if no memory was refused
-pub fed_ok : {E : Type 0} (r : Result ℕ E) (old new : CoreValue) (number : ℕ) (stream bytes : List ℕ) (taken : List Reply) (handed : List JobValue) (occurred : List Occurrence) (was : ConnValue) (given : List HttpRequest)
+pub fed_ok : {E : Type 0} (r : Result ℕ E) (old new : CoreValue) (number : ℕ) (stream bytes : List ℕ) (taken : List ReplyBytes) (handed : List JobValue) (occurred : List Occurrence) (was : ConnValue) (given : List HttpRequest)
     → conn_at number old ≡ Some was → StandsFor old taken handed occurred
     → IfOk r (λ n. Feeds old.plans (stream ++ take n bytes) given was (conn_at number new) old.jobs new.jobs) → OnOk r (is_live number new ≡ true)
     → IfOk r (λ n. StandsAfter old.plans (stream ++ take n bytes) given was new taken handed occurred)
@@ -248,7 +248,7 @@ counted_unbroken branch (Answer body) conn new c jobs after step =
     either_way (nat_lt d.answered (length c.asked.plan.branches)) (GoesOn d on new jobs after) (IsDecidedBy (success_of d) d on new jobs after) (new.broken ≡ conn.broken)
     (λ _ g. ap (λ (x : ConnValue). x.broken) g.1) (λ _ g. ap (λ (x : ConnValue). x.broken) g.0) step
 
-counted_core : (new : CoreValue) (branch : ℕ) (outcome : Outcome) (conn : ConnValue) (c : CallValue) (taken : List Reply) (handed : List JobValue) (occurred : List Occurrence) (jobs : List JobValue)
+counted_core : (new : CoreValue) (branch : ℕ) (outcome : Outcome) (conn : ConnValue) (c : CallValue) (taken : List ReplyBytes) (handed : List JobValue) (occurred : List Occurrence) (jobs : List JobValue)
     (o : Option ConnValue) → new.conn ≡ o → ConnStands conn taken (marked occurred) → conn.broken ≡ false → conn.call ≡ Some c → has_out c branch ≡ true → c.decided ≡ false
     → handed ++ jobs ≡ all_jobs (marked occurred) → CountedIn branch outcome conn c o jobs new.jobs → StandsFor new taken handed (Ends first_call branch outcome ∷ occurred)
 counted_core new branch outcome conn c taken handed occurred jobs None o_is h fine call_is out undecided before step = absurd step
@@ -263,7 +263,7 @@ counted_core new branch outcome conn c taken handed occurred jobs (Some n) o_is 
     }
 
 -- a result of the call that is kept
-own_result : (old new : CoreValue) (branch : ℕ) (outcome : Outcome) (seen : Seen) (taken : List Reply) (handed : List JobValue) (occurred : List Occurrence) (conn : ConnValue) (c : CallValue)
+own_result : (old new : CoreValue) (branch : ℕ) (outcome : Outcome) (seen : Seen) (taken : List ReplyBytes) (handed : List JobValue) (occurred : List Occurrence) (conn : ConnValue) (c : CallValue)
     → StandsFor old taken handed occurred → old.conn ≡ Some conn → conn.call ≡ Some c
     → seen ≡ core_sees first_call branch old
     → (seen ≡ Unknown → new ≡ old)
@@ -294,7 +294,7 @@ own_result old new branch outcome seen taken handed occurred conn c h conn_there
     unknown_core old new taken handed occurred first_call branch outcome h (unknown (sees ∙ rw shut refl)) (sym (hc.out_is branch) ∙ shut))
     (cases_Bool (has_out c branch))
 
-first_result : (old new : CoreValue) (branch : ℕ) (outcome : Outcome) (seen : Seen) (taken : List Reply) (handed : List JobValue) (occurred : List Occurrence) (o : Option ConnValue)
+first_result : (old new : CoreValue) (branch : ℕ) (outcome : Outcome) (seen : Seen) (taken : List ReplyBytes) (handed : List JobValue) (occurred : List Occurrence) (o : Option ConnValue)
     → old.conn ≡ o → StandsFor old taken handed occurred → ResultTaken old new first_call branch outcome seen
     → StandsFor new taken handed (Ends first_call branch outcome ∷ occurred)
 first_result old new branch outcome seen taken handed occurred None o_is h r =
@@ -308,7 +308,7 @@ first_result old new branch outcome seen taken handed occurred (Some conn) o_is 
     by_call (Some c) c_is = own_result old new branch outcome seen taken handed occurred conn c h o_is c_is r.0 r.1 r.2 r.3
 
 pub result_stands : (old new : CoreValue) (id : CallId) (branch : ℕ) (outcome : Outcome) (seen : Seen) → ResultTaken old new id branch outcome seen
-    → (taken : List Reply) (handed : List JobValue) (occurred : List Occurrence) → StandsFor old taken handed occurred
+    → (taken : List ReplyBytes) (handed : List JobValue) (occurred : List Occurrence) → StandsFor old taken handed occurred
     → StandsFor new taken handed (Ends id branch outcome ∷ occurred)
 result_stands old new id branch outcome seen r taken handed occurred h =
     ⊎_elim (λ (own : is_call id first_call ≡ true).
@@ -324,7 +324,7 @@ result_stands old new id branch outcome seen r taken handed occurred h =
 pub new_core : (plans : List PlanRecord) → StandsFor (core_value plans None []) [] [] []
 new_core plans = record { unbroken = refl; conn_stands = new_stands; jobs_are = refl }
 
-pub opened_core : (core : CoreValue) (taken : List Reply) (handed : List JobValue) (occurred : List Occurrence) → core.conn ≡ None → StandsFor core taken handed occurred
+pub opened_core : (core : CoreValue) (taken : List ReplyBytes) (handed : List JobValue) (occurred : List Occurrence) → core.conn ≡ None → StandsFor core taken handed occurred
     → StandsFor (core_value core.plans (Some new_conn) core.jobs) taken handed (Opening ∷ occurred)
 opened_core core taken handed occurred none h =
     let was : conn_of core ≡ new_conn = rw none refl in
@@ -335,7 +335,7 @@ opened_core core taken handed occurred none h =
     }
 
 -- a job is taken
-pub job_taken : (old new : CoreValue) (job : Option JobValue) (taken : List Reply) (handed : List JobValue) (occurred : List Occurrence)
+pub job_taken : (old new : CoreValue) (job : Option JobValue) (taken : List ReplyBytes) (handed : List JobValue) (occurred : List Occurrence)
     → old.jobs ≡ option_to_list job ++ new.jobs → new ≡ core_value old.plans old.conn new.jobs
     → StandsFor old taken handed occurred → StandsFor new taken (handed ++ option_to_list job) occurred
 job_taken old new job taken handed occurred first rest h =
@@ -347,7 +347,7 @@ job_taken old new job taken handed occurred first rest h =
     }
 
 -- a reply is taken of a connection
-taken_conn : (old new : CoreValue) (conn : ConnValue) (reply : Option Reply) (taken : List Reply) (handed : List JobValue) (occurred : List Occurrence) → new.conn ≡ Some conn
+taken_conn : (old new : CoreValue) (conn : ConnValue) (reply : Option ReplyBytes) (taken : List ReplyBytes) (handed : List JobValue) (occurred : List Occurrence) → new.conn ≡ Some conn
     → old ≡ core_value new.plans (option_map (with_untaken (option_to_list reply)) new.conn) new.jobs
     → StandsFor old taken handed occurred → StandsFor new (taken ++ option_to_list reply) handed occurred
 taken_conn old new conn reply taken handed occurred new_is old_is h =
@@ -370,7 +370,7 @@ taken_conn old new conn reply taken handed occurred new_is old_is h =
     }
 
 -- a reply is taken, or none where there is none
-pub reply_taken : (old new : CoreValue) (reply : Option Reply) (taken : List Reply) (handed : List JobValue) (occurred : List Occurrence)
+pub reply_taken : (old new : CoreValue) (reply : Option ReplyBytes) (taken : List ReplyBytes) (handed : List JobValue) (occurred : List Occurrence)
     → old ≡ core_value new.plans (option_map (with_untaken (option_to_list reply)) new.conn) new.jobs → (new.conn ≡ None → reply ≡ None)
     → StandsFor old taken handed occurred → StandsFor new (taken ++ option_to_list reply) handed occurred
 reply_taken old new reply taken handed occurred old_is none h = by_conn new.conn refl
@@ -395,11 +395,11 @@ unseen : (id : CallId) (branch : ℕ) (core : CoreValue) → conn_at id.conn cor
 unseen id branch core none = ⊎_elim (λ (first : (id.request == 0) ≡ true). rw (first, none) refl) (λ (later : (id.request == 0) ≡ false). rw later refl) (cases_Bool (id.request == 0))
 
 pub unseen_judged : (old : CoreValue) (id : CallId) (branch : ℕ) → conn_at id.conn old ≡ None
-    → (taken : List Reply) (handed : List JobValue) (occurred : List Occurrence) → StandsFor old taken handed occurred → Unknown ≡ judged id branch (marked occurred)
+    → (taken : List ReplyBytes) (handed : List JobValue) (occurred : List Occurrence) → StandsFor old taken handed occurred → Unknown ≡ judged id branch (marked occurred)
 unseen_judged old id branch none taken handed occurred h = unseen id branch old none ∙ sees_judged old id branch taken handed occurred h
 
 pub unseen_stands : (old : CoreValue) (id : CallId) (branch : ℕ) (outcome : Outcome) → conn_at id.conn old ≡ None
-    → (taken : List Reply) (handed : List JobValue) (occurred : List Occurrence) → StandsFor old taken handed occurred
+    → (taken : List ReplyBytes) (handed : List JobValue) (occurred : List Occurrence) → StandsFor old taken handed occurred
     → StandsFor old taken handed (Ends id branch outcome ∷ occurred)
 unseen_stands old id branch outcome none =
     result_stands old old id branch outcome Unknown (unseen id branch old none, (λ _. refl), (λ e. absurd (cc)), (λ conn was there called e. absurd (cc)))

@@ -11,7 +11,7 @@ use Rattle.connect_codec.specs.declared.answer.Outcome.{Outcome}
 use Rattle.connect_codec.specs.declared.answer.Outcome.TheVariants.{Answer, Fail}
 use Rattle.gateway_core.specs.declared.fault.Seen.TheVariants.{Counted}
 use Rattle.gateway_core.specs.declared.id.CallId.{CallId}
-use Rattle.gateway_core.specs.declared.reply.Reply.{Reply}
+use Rattle.gateway_core.specs.declared.reply_bytes.ReplyBytes.{ReplyBytes}
 use Rattle.gateway_core.specs.Arrival.{Arrival, Judged, Asks}
 use Rattle.gateway_core.specs.Call.{CallValue, new_call, back, answered_by, success_of, decided_of, jobs_to}
 use Rattle.gateway_core.specs.Core.{ConnValue, first_call, CountedIn, GoesOn, IsDecidedBy, ArrivesAs}
@@ -69,11 +69,11 @@ uncounted_jobs id i outcome past uncounted =
 idle_jobs : (c d : CallValue) (m : Mark) (past : Past) → CallStands c past → CallStands d (m ∷ past) → d.started ≡ c.started → jobs_started first_call m past ≡ []
 idle_jobs c d m past hc hd same = none_start first_call m past (sym hd.started_is ∙ same ∙ hc.started_is)
 
-stands_call : (conn : ConnValue) (c : CallValue) (taken : List Reply) (past : Past) → ConnStands conn taken past → conn.call ≡ Some c → CallStands c past
+stands_call : (conn : ConnValue) (c : CallValue) (taken : List ReplyBytes) (past : Past) → ConnStands conn taken past → conn.call ≡ Some c → CallStands c past
 stands_call conn c taken past h call_is = subst (λ o. MayStand o past) call_is h.call_stands
 
 -- a result that counts: the jobs that the core queues are those that start
-pub counted_jobs : (conn new : ConnValue) (taken : List Reply) (past : Past) (c : CallValue) (i : ℕ) (outcome : Outcome) (jobs after : List JobValue)
+pub counted_jobs : (conn new : ConnValue) (taken : List ReplyBytes) (past : Past) (c : CallValue) (i : ℕ) (outcome : Outcome) (jobs after : List JobValue)
     → ConnStands conn taken past → conn.call ≡ Some c → ConnStands new taken (result_of past i outcome ∷ past)
     → CountedIn i outcome conn c (Some new) jobs after → after ≡ jobs ++ jobs_started first_call (result_of past i outcome) past
 counted_jobs conn new taken past c i (Fail error) jobs after h call_is n step =
@@ -115,7 +115,7 @@ pub refused_jobs : (os : List Occurrence) (r : Refusal) → First os → jobs_by
 refused_jobs os r f = first_jobs os (Refused r) f ∙ uncalled_jobs os (Refused r) f refl
 
 -- the first request: the jobs that the core queues are those that start
-pub arrived_jobs : (conn new : ConnValue) (taken : List Reply) (os : List Occurrence) (q : HttpRequest) (jobs after : List JobValue) (arrival : Arrival)
+pub arrived_jobs : (conn new : ConnValue) (taken : List ReplyBytes) (os : List Occurrence) (q : HttpRequest) (jobs after : List JobValue) (arrival : Arrival)
     → First os → conn.call ≡ None → ConnStands new taken (comes (marked os) (Request q arrival) ∷ marked os) → ArrivesAs q conn new jobs after arrival
     → after ≡ jobs ++ jobs_by (Entry 0 (Request q arrival)) (comes (marked os) (Request q arrival)) (marked os)
 arrived_jobs conn new taken os q jobs after (Judged v) f no_call n step =

@@ -9,7 +9,7 @@ use Rattle.call_plan.specs.Plan.{PlanRecord}
 use Rattle.gateway_core.specs.Arrival.{Arrival, Judged, Asks, arrival_of, refusal_reply, verdict_reply}
 use Rattle.connect_codec.specs.declared.answer.Outcome.{Outcome}
 use Rattle.connect_codec.specs.declared.answer.Outcome.TheVariants.{Answer, Fail}
-use Rattle.gateway_core.specs.declared.reply.Reply.{Reply}
+use Rattle.gateway_core.specs.declared.reply_bytes.ReplyBytes.{ReplyBytes}
 use Rattle.gateway_core.specs.Call.{CallValue, answered_by, back, failure_of, new_call, success_of}
 use Rattle.gateway_core.specs.Core.{ConnValue, ArrivesAs, CountedIn, GoesOn, IsDecidedBy, first_call, refused_by}
 use Rattle.gateway_core.specs.Job.{JobValue}
@@ -57,7 +57,7 @@ pub counted_keeps : (branch : ℕ) (outcome : Outcome) (conn new : ConnValue) (c
     → LosesNothing conn new jobs after
 counted_keeps branch (Fail error) conn new c jobs after step = decided_keeps (failure_of branch error (back branch c)) step
   where
-    decided_keeps : (reply : Reply) → IsDecidedBy reply (back branch c) (record conn { call = Some (back branch c) }) new jobs after → LosesNothing conn new jobs after
+    decided_keeps : (reply : ReplyBytes) → IsDecidedBy reply (back branch c) (record conn { call = Some (back branch c) }) new jobs after → LosesNothing conn new jobs after
     decided_keeps reply d = ((reply ∷ [], ap (λ (x : ConnValue). x.replies) d.0), same_begins jobs after d.1)
 counted_keeps branch (Answer body) conn new c jobs after step =
     let d : CallValue = answered_by branch body (back branch c) in

@@ -31,3 +31,4 @@ pub mod GivingUp
 pub mod Readings
 pub mod RecordLemmas
 pub mod PlacesOfStarts
+pub mod ReplyLemmas

@@ -3,7 +3,7 @@ use Rattle.std.proofs.Common.{◌≡◌, ℕ, zero, suc, ◌+◌, ◌≤◌, Boo
 use Rattle.std.proofs.lemmas.List.FromFn.{length-map-range_with_len}
 use Rattle.std.proofs.lemmas.List.{append-nil, map-append, length-map}
 use Rattle.std.proofs.lemmas.Grind.{flat_map-append}
-use Rattle.gateway_core.specs.declared.reply.Reply.{Reply}
+use Rattle.gateway_core.specs.declared.reply_bytes.ReplyBytes.{ReplyBytes}
 use Rattle.std.specs.Prelude.{is_some, if◌then◌else◌, flat_map, option_map, option_and_then}
 use Rattle.std.specs.List.{range_with_len}
 use Rattle.std.proofs.lemmas.Bool.{cond_both}
@@ -85,7 +85,7 @@ queued_entries_grow conn m past =
 
 queued_grows : (conn : ℕ) (m : Mark) (past : Past) → IsPrefixOf (queued conn past) (queued conn (m ∷ past))
 queued_grows conn m past =
-    prefix-flat_map (λ (reply : Reply). reply.bytes) (replies conn past) (replies conn (m ∷ past))
+    prefix-flat_map (λ (reply : ReplyBytes). reply.bytes) (replies conn past) (replies conn (m ∷ past))
     (prefix-map answer_of (queued_entries conn past) (queued_entries conn (m ∷ past)) (queued_entries_grow conn m past))
 
 -- nothing that comes later changes what was queued

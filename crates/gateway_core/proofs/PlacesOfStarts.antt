@@ -1,14 +1,13 @@
 -- Moments and starts, by places in the finished list.
-use Rattle.std.proofs.Common.{◌≡◌, ℕ, zero, suc, ◌+◌, ◌-◌, ◌≤◌, ◌<◌, max, Bool, true, false, List, [], ◌∷◌, ◌++◌, map, length, take, Option, None, Some, refl, sym, ap, ◌∙◌, subst, arith, ⊎_elim, inl, inr}
+use Rattle.std.proofs.Common.{◌≡◌, ℕ, zero, suc, ◌-◌, ◌≤◌, ◌<◌, max, Bool, false, List, [], ◌∷◌, ◌++◌, map, length, take, Option, None, Some, refl, sym, ap, ◌∙◌, arith, ⊎_elim, inl, inr}
 use Rattle.std.specs.Prelude.{◌⊎◌, ◌&&◌, ◌==◌, slice_get}
 use Rattle.std.specs.Option.{option_map_or}
-use Rattle.std.specs.List.{range_with_len}
 use Rattle.std.proofs.lemmas.Bool.{cond_both, cases_lt}
 use Rattle.std.proofs.lemmas.List.{length_push}
 use Rattle.connect_codec.specs.declared.answer.Outcome.{Outcome}
 use Rattle.connect_codec.specs.declared.answer.Outcome.TheVariants.{Answer, Fail}
 use Rattle.gateway_core.specs.declared.id.CallId.{CallId}
-use Rattle.gateway_core.specs.Job.{JobValue, job_of}
+use Rattle.gateway_core.specs.Job.{job_of}
 use Rattle.gateway_core.specs.Occurrence.{Occurrence, Opening, Entry, HangUp, Moment, Result, Drain, Closing}
 use Rattle.gateway_core.specs.Past.{Mark, Past, Asked, call, call_id, counts, entering_on, entries, is_answer_to, is_call, mark_of, moment_of, now, past_of, started}
 use Rattle.gateway_core.specs.Starts.{branches_started, jobs, jobs_started, jobs_by}

@@ -1,20 +1,16 @@
 -- The record of a decided call is lawful, and decided.
 use Rattle.std.proofs.Common.{◌≡◌, ℕ, suc, ◌+◌, ◌≤◌, ◌<◌, min, Bool, true, false, List, [], ◌∷◌, ◌++◌, length, Option, None, Some, refl, sym, ap, ◌∙◌, subst, arith, append_assoc, append-nil, ⊎_elim}
-use Rattle.std.specs.Prelude.{is_some, is_none, ◌&&◌, ◌||◌, not, ◌==◌, nat_lt, if◌then◌else◌, option_and_then, option_map, option_to_list}
+use Rattle.std.specs.Prelude.{is_some, is_none, ◌&&◌, ◌||◌, not, ◌==◌, nat_lt, if◌then◌else◌, option_and_then, option_map}
 use Rattle.std.specs.Option.{option_or, option_map_or}
-use Rattle.std.proofs.lemmas.Bool.{cond_both, cases_Bool, cases_eq, and_parts, ltb-true, lt-ltb, le-ltb, eq-eqb, ne_eqb, ltb-false}
-use Rattle.call_plan.specs.Plan.{PlanRecord}
-use Rattle.http_pieces.specs.Request.{HttpRequest}
-use Rattle.error_document.specs.declared.document.RpcError.{RpcError}
+use Rattle.std.proofs.lemmas.Bool.{cases_Bool, and_parts, lt-ltb, le-ltb, eq-eqb, ne_eqb, ltb-false}
 use Rattle.connect_codec.specs.declared.answer.Outcome.{Outcome}
 use Rattle.connect_codec.specs.declared.answer.Outcome.TheVariants.{Answer, Fail}
-use Rattle.gateway_core.specs.declared.entry.ReplyEntry.{ReplyEntry}
 use Rattle.gateway_core.specs.declared.entry.ReplyEntry.TheVariants.{Call as Calling}
 use Rattle.gateway_core.specs.declared.event.CallEvent.{CallEvent}
 use Rattle.gateway_core.specs.declared.event.CallEvent.TheVariants.{Answer as Answered, Failed, Expired, HungUp, Drained}
 use Rattle.gateway_core.specs.declared.id.CallId.{CallId}
 use Rattle.gateway_core.specs.Arrival.{Judged, Asks}
-use Rattle.gateway_core.specs.CallRecord.{CallRecord, answer_in, answer_of_branch, last_event}
+use Rattle.gateway_core.specs.CallRecord.{CallRecord, answer_in, answer_of_branch}
 use Rattle.gateway_core.specs.Occurrence.{Occurrence, Opening, Entry, HangUp, Moment, Result, Drain, Closing, Entering, Request, Refused}
 use Rattle.gateway_core.specs.Past.{Mark, Past, Asked, call, answers, asked_by, asked_now, began, branches, counts, decided, decides, ends_at_arrival, entering_now, event_by, is_answer_to, is_call, is_closed, is_due, is_drained, is_open, is_out, is_result_of, mark_of, marked, now, own_event, started}
 use Rattle.gateway_core.specs.Queue.{came, call_entry, entry, entry_by, own_events, record_of}
@@ -22,9 +18,9 @@ use Rattle.gateway_core.specs.Record.{answers_among, started_after, is_out_after
 use Rattle.gateway_core.proofs.LimitLemmas.{out_started, same_call, started_grows, unanswered, unanswered_next}
 use Rattle.gateway_core.proofs.PastLemmas.{call_stays}
 use Rattle.gateway_core.proofs.StepLemmas.{entering_at}
-use Rattle.gateway_core.proofs.StandsLemmas.{last_is, or_none}
+use Rattle.gateway_core.proofs.StandsLemmas.{last_is}
 use Rattle.gateway_core.proofs.Unborn.{Unborn, unborn}
-use Rattle.gateway_core.proofs.Cases.{and_false, or_true, or_false}
+use Rattle.gateway_core.proofs.Cases.{and_false, or_true}
 
 -- ---- lists of events
 

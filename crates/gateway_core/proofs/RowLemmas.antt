@@ -6,7 +6,7 @@ use Rattle.std.proofs.lemmas.List.FromFn.{map-range_with_len_more, length-map-ra
 use Rattle.http_pieces.specs.Request.{closes}
 use Rattle.connect_codec.specs.Reply.{bare_reply}
 use Rattle.connect_codec.specs.declared.verdict.Verdict.TheVariants.{Bare}
-use Rattle.gateway_core.specs.declared.reply.Reply.{Reply}
+use Rattle.gateway_core.specs.declared.reply_bytes.ReplyBytes.{ReplyBytes}
 use Rattle.gateway_core.specs.Reply.{reply_of}
 use Rattle.gateway_core.specs.Past.{Mark, Past, call_id, entries, mark_of, marked}
 use Rattle.gateway_core.specs.declared.entry.ReplyEntry.{ReplyEntry}
@@ -35,7 +35,7 @@ front_more f g stays k (suc n) a all here =
         ap (λ o. front (o ∷ map g (range_with_len (k + 1) (suc n)))) (stays k x o_is) ∙ ap (λ xs. x ∷ xs) (rest (omega (arith, full)))
 
 -- the reply to request number k
-abbrev get_reply : ℕ → Reply
+abbrev get_reply : ℕ → ReplyBytes
 get_reply k = reply_of (bare_reply 405 (closes (get_request k))) (closes (get_request k))
 
 gets_entries : (n : ℕ) → entries 0 (marked (after_gets n)) ≡ n

@@ -13,7 +13,6 @@ use Rattle.error_document.specs.declared.document.RpcError.{RpcError}
 use Rattle.gateway_core.specs.Arrival.{Judged, Asks}
 use Rattle.gateway_core.specs.Call.{CallValue, HasStarted, is_out as has_out, back, answered_by, decided_of, due_of, failure_of, success_of}
 use Rattle.gateway_core.specs.Job.{JobValue}
-use Rattle.call_plan.specs.Plan.{PlanRecord}
 use Rattle.gateway_core.specs.Core.{first_call}
 use Rattle.gateway_core.specs.Occurrence.{Occurrence, Result, Entering, Request, Refused}
 use Rattle.gateway_core.specs.declared.event.CallEvent.{CallEvent}
@@ -212,7 +211,7 @@ or_assoc None y z = refl
 or_assoc (Some a) y z = refl
 
 -- the answer of a branch after one more event
-answer_after : (k : ℕ) (es : List CallEvent) (e : CallEvent) → answer_of_branch k (es ++ e ∷ []) ≡ option_or (answer_in k e) (answer_of_branch k es)
+pub answer_after : (k : ℕ) (es : List CallEvent) (e : CallEvent) → answer_of_branch k (es ++ e ∷ []) ≡ option_or (answer_in k e) (answer_of_branch k es)
 answer_after k [] e = sym (or_none (answer_in k e))
 answer_after k (x ∷ es) e =
     rw (answer_after k es e) (or_assoc (answer_in k e) (answer_of_branch k es) (answer_in k x))

@@ -1,5 +1,5 @@
 -- Nothing is there of a request before it has come.
-use Rattle.std.proofs.Common.{◌≡◌, ℕ, suc, ◌≤◌, false, [], ◌∷◌, Option, None, Some, refl, arith}
+use Rattle.std.proofs.Common.{◌≡◌, suc, ◌≤◌, false, [], ◌∷◌, Option, None, Some, refl, arith}
 use Rattle.std.specs.Prelude.{is_some, if◌then◌else◌, ◌==◌, option_and_then}
 use Rattle.std.specs.Option.{option_map_or}
 use Rattle.std.proofs.lemmas.Bool.{cond_both, ne_eqb}

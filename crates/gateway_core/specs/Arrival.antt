@@ -13,7 +13,7 @@ use Rattle.connect_codec.specs.declared.verdict.Verdict.{Verdict}
 use Rattle.connect_codec.specs.declared.verdict.Verdict.TheVariants.{Ask, Bare, Fail}
 use Rattle.call_plan.specs.Plan.{PlanRecord}
 use Rattle.call_plan.specs.Plans.{plan_at}
-use Rattle.gateway_core.specs.declared.reply.Reply.{Reply}
+use Rattle.gateway_core.specs.declared.reply_bytes.ReplyBytes.{ReplyBytes}
 use Rattle.gateway_core.specs.Reply.{reply_of}
 
 -- what a request comes to
@@ -36,14 +36,20 @@ arrival_by (Fail error) plan = Judged (Fail error)
 abbrev pub arrival_of : List PlanRecord → HttpRequest → Arrival
 arrival_of plans q = option_map_or (λ plan. arrival_by (verdict_of q true) plan) (plan_of plans q) (Judged (verdict_of q false))
 
+-- the verdict asks for a call
+abbrev pub is_ask : Verdict → Bool
+is_ask (Ask timeout id) = true
+is_ask (Bare status) = false
+is_ask (Fail error) = false
+
 -- the reply to a request that is no call
-abbrev pub verdict_reply : Verdict → Bool → Reply
+abbrev pub verdict_reply : Verdict → Bool → ReplyBytes
 verdict_reply (Ask timeout id) last = reply_of [] last
 verdict_reply (Bare status) last = reply_of (bare_reply status last) last
 verdict_reply (Fail error) last = reply_of (error_reply error last) last
 
 -- the last reply of a stream that is refused: a status alone, or the error of a body that is too large
-unfoldable pub refusal_reply : Refusal → Reply
+unfoldable pub refusal_reply : Refusal → ReplyBytes
 refusal_reply refusal.HeadTooLarge = reply_of (bare_reply 431 true) true
 refusal_reply refusal.NotAHead = reply_of (bare_reply 400 true) true
 refusal_reply refusal.LengthRequired = reply_of (bare_reply 411 true) true

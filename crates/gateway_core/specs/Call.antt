@@ -1,12 +1,12 @@
 -- A call of a plan, and how far its branches are.
-use Rattle.std.specs.Prelude.{◌≡◌, ℕ, ◌+◌, ◌≤◌, Bool, true, false, if◌then◌else◌, ◌-◌, nat_le, nat_lt, ◌&&◌, ◌||◌, List, [], ◌∷◌, ◌++◌, length, map, min, replicate, slice_index_or, slice_set, Option, option_map}
+use Rattle.std.specs.Prelude.{◌≡◌, ℕ, ◌+◌, ◌≤◌, Bool, true, false, if◌then◌else◌, ◌-◌, nat_le, nat_lt, ◌&&◌, ◌||◌, List, [], ◌++◌, length, map, min, replicate, slice_index_or, slice_set, Option, option_map}
 use Rattle.std.specs.List.{range_with_len}
 use Rattle.error_document.specs.declared.document.RpcError.{RpcError}
 use Rattle.connect_codec.specs.Reply.{success_reply, error_reply}
 use Rattle.call_plan.specs.Plan.{PlanRecord, join_text}
 use Rattle.http_pieces.specs.Request.{HttpRequest, closes}
 use Rattle.gateway_core.specs.declared.id.CallId.{CallId}
-use Rattle.gateway_core.specs.declared.reply.Reply.{Reply}
+use Rattle.gateway_core.specs.declared.reply_bytes.ReplyBytes.{ReplyBytes}
 use Rattle.gateway_core.specs.Branch.{branch_at}
 use Rattle.gateway_core.specs.Errors.{branch_error}
 use Rattle.gateway_core.specs.Job.{JobValue, job_of}
@@ -109,9 +109,9 @@ pub record IsCallSound (c : CallValue) : Type 0 where
   pub few : length c.asked.plan.branches ≤ 16
 
 -- the reply of a call whose branches have all answered
-abbrev pub success_of : CallValue → Reply
+abbrev pub success_of : CallValue → ReplyBytes
 success_of c = reply_of (success_reply (join_text c.asked.plan.branches c.answers) (closes c.asked.request)) (closes c.asked.request)
 
 -- the reply of a call that fails with the error of that branch
-abbrev pub failure_of : ℕ → RpcError → CallValue → Reply
+abbrev pub failure_of : ℕ → RpcError → CallValue → ReplyBytes
 failure_of i error c = reply_of (error_reply (branch_error (branch_at c.asked.plan i).name error) (closes c.asked.request)) (closes c.asked.request)

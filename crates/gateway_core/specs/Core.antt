@@ -6,7 +6,7 @@ use Rattle.http_pieces.specs.declared.state.State.{State}
 use Rattle.http_pieces.specs.declared.state.State.TheVariants as state
 use Rattle.http_pieces.specs.Reader.{ReaderValue, Reading, reader_value, Partial, Waiting, Stopped, Done, state_of, HasRead}
 use Rattle.gateway_core.specs.declared.id.CallId.{CallId}
-use Rattle.gateway_core.specs.declared.reply.Reply.{Reply}
+use Rattle.gateway_core.specs.declared.reply_bytes.ReplyBytes.{ReplyBytes}
 use Rattle.gateway_core.specs.declared.fault.Seen.{Seen}
 use Rattle.gateway_core.specs.declared.fault.Seen.TheVariants.{Counted, Late, Unknown}
 use Rattle.http_pieces.specs.declared.refusal.Refusal.{Refusal}
@@ -24,10 +24,10 @@ pub record ConnValue : Type 0 where
   pub reader : ReaderValue
   pub arrived : Bool
   pub call : Option CallValue
-  pub replies : List Reply
+  pub replies : List ReplyBytes
   pub broken : Bool
 
-abbrev pub conn_value : ReaderValue → Bool → Option CallValue → List Reply → Bool → ConnValue
+abbrev pub conn_value : ReaderValue → Bool → Option CallValue → List ReplyBytes → Bool → ConnValue
 conn_value reader arrived call replies broken =
     record { reader = reader; arrived = arrived; call = call; replies = replies; broken = broken }
 
@@ -64,15 +64,15 @@ abbrev pub is_live : ℕ → CoreValue → Bool
 is_live number core = is_unbroken (conn_at number core)
 
 -- the replies of a connection that were not taken yet
-abbrev pub replies_of : Option ConnValue → List Reply
+abbrev pub replies_of : Option ConnValue → List ReplyBytes
 replies_of None = []
 replies_of (Some conn) = conn.replies
 
 -- the connection with these replies before those that were not taken
-abbrev pub with_untaken : List Reply → ConnValue → ConnValue
+abbrev pub with_untaken : List ReplyBytes → ConnValue → ConnValue
 with_untaken replies conn = record conn { replies = replies ++ conn.replies }
 
-abbrev pub untaken_of : ℕ → CoreValue → List Reply
+abbrev pub untaken_of : ℕ → CoreValue → List ReplyBytes
 untaken_of number core = replies_of (conn_at number core)
 
 abbrev pub is_broken_conn : Option ConnValue → Bool
@@ -122,7 +122,7 @@ abbrev pub GoesOn : CallValue → ConnValue → ConnValue → List JobValue → 
 GoesOn call old new jobs after = (later : CallValue) × (new ≡ record old { call = Some later }) × HasStarted (due_of call) call later jobs after
 
 -- the call is decided by this reply, and nothing starts
-abbrev pub IsDecidedBy : Reply → CallValue → ConnValue → ConnValue → List JobValue → List JobValue → Type 0
+abbrev pub IsDecidedBy : ReplyBytes → CallValue → ConnValue → ConnValue → List JobValue → List JobValue → Type 0
 IsDecidedBy reply call old new jobs after =
     (new ≡ record old { call = Some (decided_of call); replies = old.replies ++ reply ∷ [] }) × (after ≡ jobs)
 

@@ -22,3 +22,4 @@ pub mod Standing
 pub mod Fate
 pub mod Fated
 pub mod Breaks
+pub mod Duty

@@ -7,7 +7,7 @@ use Rattle.gateway_core.specs.Job.{JobValue}
 use Rattle.gateway_core.specs.Occurrence.{Occurrence, Entry, Result, Entering}
 use Rattle.gateway_core.specs.Past.{is_call, call_id, moment_of, is_drain, is_closing_of, most_calls}
 use Rattle.gateway_core.specs.declared.entry.ReplyEntry.{ReplyEntry}
-use Rattle.gateway_core.specs.Step.{CallState, Step, gone, step}
+use Rattle.gateway_core.specs.Step.{CallState, Step, step}
 use Rattle.gateway_core.specs.Begins.{arrive}
 
 -- how many replies of the connection were taken, and a slot for each request behind them

@@ -1,7 +1,6 @@
 -- What has occurred, newest first, and what it means. No state is kept here: each word looks at the whole past.
 use Rattle.std.specs.Prelude.{ℕ, zero, suc, ◌+◌, ◌^◌, min, max, Bool, true, false, ◌&&◌, ◌||◌, not, if◌then◌else◌, ◌==◌, nat_lt, nat_le, is_none, is_some, List, [], ◌∷◌, length, reverse, Option, None, Some, option_map, option_and_then}
 use Rattle.std.specs.Option.{option_or, option_map_or}
-use Rattle.error_document.specs.declared.document.RpcError.{RpcError}
 use Rattle.http_pieces.specs.Request.{HttpRequest}
 use Rattle.connect_codec.specs.declared.answer.Outcome.{Outcome}
 use Rattle.connect_codec.specs.declared.answer.Outcome.TheVariants.{Answer, Fail}

@@ -1,17 +1,15 @@
 -- What a request is answered by, and the bytes that are queued for a connection.
-use Rattle.std.specs.Prelude.{◌≡◌, ℕ, Bool, true, false, ◌==◌, if◌then◌else◌, is_some, List, [], ◌∷◌, ◌++◌, map, flat_map, length, option_to_list, Option, None, Some, option_map, option_and_then}
+use Rattle.std.specs.Prelude.{◌≡◌, ℕ, Bool, true, false, if◌then◌else◌, is_some, List, [], ◌∷◌, ◌++◌, map, flat_map, length, option_to_list, Option, None, Some, option_map, option_and_then}
 use Rattle.std.specs.List.{range_with_len}
 use Rattle.std.specs.Option.{option_or, option_map_or}
-use Rattle.http_pieces.specs.declared.refusal.Refusal.{Refusal}
 use Rattle.http_pieces.specs.Request.{closes}
 use Rattle.connect_codec.specs.Reply.{success_reply, error_reply}
-use Rattle.connect_codec.specs.declared.verdict.Verdict.{Verdict}
 use Rattle.call_plan.specs.Plan.{PlanRecord, join_text}
 use Rattle.gateway_core.specs.declared.entry.ReplyEntry.{ReplyEntry}
 use Rattle.gateway_core.specs.declared.entry.ReplyEntry.TheVariants as reply_entry
 use Rattle.gateway_core.specs.declared.event.CallEvent.{CallEvent}
 use Rattle.gateway_core.specs.declared.id.CallId.{CallId}
-use Rattle.gateway_core.specs.declared.reply.Reply.{Reply}
+use Rattle.gateway_core.specs.declared.reply_bytes.ReplyBytes.{ReplyBytes}
 use Rattle.gateway_core.specs.Arrival.{Judged, Asks, refusal_reply, verdict_reply}
 use Rattle.gateway_core.specs.CallRecord.{CallRecord, record_with, answers_in, last_event}
 use Rattle.gateway_core.specs.Errors.{crowded_error, error_of, expired_error}
@@ -33,20 +31,24 @@ record_of c events = record_with c.plan c.start c.deadline (closes c.request) ev
 
 -- ---- the reply to a call
 
-abbrev pub expired_reply : Bool → Reply
+abbrev pub expired_reply : Bool → ReplyBytes
 expired_reply last = reply_of (error_reply expired_error last) last
 
+-- the success of a call: the answers among its events joined, in declared order
+abbrev pub joined_reply : PlanRecord → List CallEvent → Bool → List ℕ
+joined_reply plan events last = success_reply (join_text plan.branches (answers_in (length plan.branches) events)) last
+
 -- the reply to a decided call: its answers joined, or the error of its last event
-abbrev pub call_reply : CallRecord → Reply
+abbrev pub call_reply : CallRecord → ReplyBytes
 call_reply r =
     option_map_or (λ error. reply_of (error_reply error r.last) r.last)
     (option_and_then (error_of r.plan) (last_event r.events))
-    (reply_of (success_reply (join_text r.plan.branches (answers_in (length r.plan.branches) r.events)) r.last) r.last)
+    (reply_of (joined_reply r.plan r.events r.last) r.last)
 
 -- ---- what a request is answered by
 
 -- the reply to a request
-abbrev pub answer_of : ReplyEntry → Reply
+abbrev pub answer_of : ReplyEntry → ReplyBytes
 answer_of (reply_entry.Refused r) = refusal_reply r
 answer_of (reply_entry.Judged v last) = verdict_reply v last
 answer_of (reply_entry.Crowded last) = reply_of (error_reply crowded_error last) last
@@ -86,7 +88,7 @@ abbrev pub queued_entries : ℕ → Past → List ReplyEntry
 queued_entries conn past = front (map (λ k. entry (call_id conn k) past) (range_with_len 0 (entries conn past)))
 
 -- the replies to a connection's requests in order, up to the first that is undecided
-abbrev pub replies : ℕ → Past → List Reply
+abbrev pub replies : ℕ → Past → List ReplyBytes
 replies conn past = map answer_of (queued_entries conn past)
 
 -- the bytes queued for a connection: those replies, one behind another

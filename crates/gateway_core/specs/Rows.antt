@@ -18,7 +18,7 @@ use Rattle.connect_codec.specs.declared.answer.Outcome.TheVariants.{Answer, Fail
 use Rattle.connect_codec.specs.declared.verdict.Verdict.TheVariants.{Bare}
 use Rattle.call_plan.specs.Plan.{PlanRecord}
 use Rattle.gateway_core.specs.Arrival.{Arrival, Judged, Asks, arrival_of}
-use Rattle.gateway_core.specs.declared.reply.Reply.{Reply}
+use Rattle.gateway_core.specs.declared.reply_bytes.ReplyBytes.{ReplyBytes}
 use Rattle.gateway_core.specs.Reply.{reply_of}
 use Rattle.gateway_core.specs.Occurrence.{Occurrence, Opening, Entry, Result, Request, Refused}
 use Rattle.gateway_core.specs.declared.entry.ReplyEntry.{ReplyEntry}
@@ -214,13 +214,13 @@ flooded strangers repeats =
 
 -- ---- the replies, none of them a connection's last
 
-abbrev pub succeeded : List ℕ → Reply
+abbrev pub succeeded : List ℕ → ReplyBytes
 succeeded body = reply_of (success_reply body false) false
 
-abbrev pub failed_with : RpcError → Reply
+abbrev pub failed_with : RpcError → ReplyBytes
 failed_with error = reply_of (error_reply error false) false
 
-abbrev pub failed : Code → List ℕ → Reply
+abbrev pub failed : Code → List ℕ → ReplyBytes
 failed code message = failed_with (error code message)
 
 -- the text of an error

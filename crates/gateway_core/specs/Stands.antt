@@ -4,7 +4,7 @@ use Rattle.std.specs.Option.{option_map_or}
 use Rattle.http_pieces.specs.Request.{HttpRequest}
 use Rattle.http_pieces.specs.Reader.{Reading, Partial, Waiting, Stopped, Done, HasRead}
 use Rattle.call_plan.specs.Plan.{PlanRecord}
-use Rattle.gateway_core.specs.declared.reply.Reply.{Reply}
+use Rattle.gateway_core.specs.declared.reply_bytes.ReplyBytes.{ReplyBytes}
 use Rattle.gateway_core.specs.Arrival.{Asks, arrival_of}
 use Rattle.gateway_core.specs.Call.{CallValue, is_out as has_out}
 use Rattle.gateway_core.specs.Core.{ConnValue, CoreValue, new_conn, first_call, is_waiting}
@@ -38,7 +38,7 @@ MayStand None past = began first_call past ≡ false
 MayStand (Some c) past = CallStands c past
 
 -- the connection after what has occurred, where these replies of it were taken
-pub record ConnStands (conn : ConnValue) (taken : List Reply) (past : Past) : Type 0 where
+pub record ConnStands (conn : ConnValue) (taken : List ReplyBytes) (past : Past) : Type 0 where
   pub now_is : now past ≡ 0
   pub undrained : is_drained past ≡ false
   pub unclosed : is_closed 0 past ≡ false
@@ -53,7 +53,7 @@ conn_of core = option_map_or (λ conn. conn) core.conn new_conn
 
 -- what the core stands for: what has occurred, newest first, where these replies and these jobs were taken; of a broken connection
 -- nothing is said
-pub record StandsFor (core : CoreValue) (taken : List Reply) (handed : List JobValue) (occurred : List Occurrence) : Type 0 where
+pub record StandsFor (core : CoreValue) (taken : List ReplyBytes) (handed : List JobValue) (occurred : List Occurrence) : Type 0 where
   pub unbroken : (conn_of core).broken ≡ false
   pub conn_stands : ConnStands (conn_of core) taken (marked occurred)
   pub jobs_are : handed ++ core.jobs ≡ jobs (marked occurred)
@@ -72,7 +72,7 @@ occurred_by plans false [] reading occurred = refusal_of reading occurred
 occurred_by plans false (q ∷ more) reading occurred = Entry 0 (Request q (arrival_of plans q)) ∷ occurred
 
 -- the core has read the text, with these requests given before, and stands for what occurs by it
-abbrev pub StandsAfter : List PlanRecord → List ℕ → List HttpRequest → ConnValue → CoreValue → List Reply → List JobValue → List Occurrence → Type 0
+abbrev pub StandsAfter : List PlanRecord → List ℕ → List HttpRequest → ConnValue → CoreValue → List ReplyBytes → List JobValue → List Occurrence → Type 0
 StandsAfter plans text requests old core taken handed occurred =
     (more : List HttpRequest) × HasRead (conn_of core).reader text (requests ++ more)
     × StandsFor core taken handed (occurred_by plans old.arrived more (conn_of core).reader.reading occurred)

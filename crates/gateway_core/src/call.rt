@@ -2,17 +2,17 @@ ghost use Rattle.std.specs.Prelude.{◌≡◌, ℕ, ◌<◌, ◌≤◌, ◌++◌
 ghost use Rattle.std.specs.Arc.{arc_value};
 ghost use Rattle.gateway_core.specs.Call.{new_call, is_out, call_sees, due_of, start_of, back, answered_by, success_of, failure_of, decided_of, HasStarted};
 ghost use Rattle.gateway_core.specs.Branch.{branch_at};
-ghost use Rattle.gateway_core.specs.Errors.{branch_error};
 ghost use Rattle.gateway_core.specs.Job.{job_of};
 ghost use Rattle.gateway_core.specs.Past.{asked_of, smaller};
 
+use crate::ending::named;
 use crate::id::CallId;
 use crate::job::Job;
-use crate::reply::Reply;
+use crate::reply_bytes::ReplyBytes;
 use call_plan::Plan;
 use connect_codec::{error_reply, success_reply};
 use error_document::RpcError;
-use http_pieces::{Bytes, Request, Text};
+use http_pieces::{Bytes, Request};
 use std::alloc::{AllocError, Global};
 use std::collections::VecDeque;
 use std::marker::Model;
@@ -183,13 +183,13 @@ impl Call {
     }
 
     /// The reply of a call whose branches have all answered: their answers joined, in declared order.
-    pub(crate) fn success(&self, alloc: Global) -> Result<Reply, AllocError>
+    pub(crate) fn success(&self, alloc: Global) -> Result<ReplyBytes, AllocError>
         ensures { IfOk result (λ reply. reply ≡ success_of self.now) }
     {
         let body = self.plan.join(alloc, &self.answers)?;
         let last = self.request.closes();
         let bytes = success_reply(alloc, body.as_slice(), last)?;
-        Ok(Reply { bytes, last })
+        Ok(ReplyBytes { bytes, last })
     }
 
     /// The reply of a call that fails with this error of a branch.
@@ -198,13 +198,13 @@ impl Call {
         alloc: Global,
         branch: u32,
         error: &RpcError,
-    ) -> Result<Reply, AllocError>
+    ) -> Result<ReplyBytes, AllocError>
         ensures { IfOk result (λ reply. reply ≡ failure_of branch error.now self.now) }
     {
         let error = named(alloc, self.branch_name(branch), error)?;
         let last = self.request.closes();
         let bytes = error_reply(alloc, &error, last)?;
-        Ok(Reply { bytes, last })
+        Ok(ReplyBytes { bytes, last })
     }
 
     fn branch_name(&self, branch: u32) -> &str
@@ -253,20 +253,4 @@ fn empty_answers(alloc: Global, count: usize) -> Result<Vec<Bytes>, AllocError>
         answers.push(Bytes::new(alloc))?;
     }
     Ok(answers)
-}
-
-/// The error with its message behind the branch's name.
-fn named(alloc: Global, name: &str, error: &RpcError) -> Result<RpcError, AllocError>
-    ensures { IfOk result (λ e. e ≡ branch_error name.now error.now) }
-{
-    let mut message = String::from_str(alloc, name)?;
-    if !error.message.as_str().is_empty() {
-        message.push_str(": ")?;
-        message.push_str(error.message.as_str())?;
-    }
-    Ok(RpcError {
-        code: error.code,
-        message: Text::from_string(message),
-        details: error.details.clone()?,
-    })
 }

@@ -1,5 +1,4 @@
 ghost use Rattle.std.specs.Prelude.{◌≡◌, ℕ, ◌<◌, ◌≤◌, ◌++◌, ◌∷◌, [], ◌==◌, Ok, Some, None, IfOk, IsOk, OnOk, OnErr, IsTrue, List, length, take, true, false, if◌then◌else◌};
-ghost use Rattle.connect_codec.specs.Reply.{bare_reply, is_bare_status};
 ghost use Rattle.connect_codec.specs.declared.answer.Outcome.{Outcome};
 ghost use Rattle.gateway_core.specs.Arrival.{refusal_reply, arrival_of};
 ghost use Rattle.gateway_core.specs.Past.{asked_of, is_due, smaller};
@@ -12,11 +11,12 @@ ghost use Rattle.http_pieces.specs.Reader.{HasRead, is_over};
 ghost use Rattle.http_pieces.specs.Request.{HttpRequest};
 ghost use Rattle.std.specs.Arc.{arc_value};
 
+use crate::answers::refused;
 use crate::call::Call;
 use crate::fault::{Seen, Took};
 use crate::id::{CallId, ConnId};
 use crate::job::Job;
-use crate::reply::Reply;
+use crate::reply_bytes::ReplyBytes;
 use call_plan::{Plan, Plans};
 use connect_codec::{Outcome, Verdict, bare_reply, error_reply, judge, target_path};
 use error_document::{Code, RpcError};
@@ -35,7 +35,7 @@ pub(crate) struct Connection {
     /// The call that the first request began, if it is one.
     call: Option<Call>,
     /// The replies not taken yet.
-    pub(crate) replies: VecDeque<Reply>,
+    pub(crate) replies: VecDeque<ReplyBytes>,
     pub(crate) broken: bool,
 }
 
@@ -285,7 +285,7 @@ impl Connection {
         ensures ok { OnOk result (self.new ≡ record self.old { replies = self.old.replies ++ reply_of bytes last ∷ [] }) }
         ensures err { OnErr result (self.new.replies ≡ self.old.replies) }
     {
-        self.replies.push_back(Reply { bytes, last })?;
+        self.replies.push_back(ReplyBytes { bytes, last })?;
         Ok(())
     }
 
@@ -322,46 +322,10 @@ fn is_over(asked: Option<u64>, plan: Option<u64>) -> bool
 }
 
 /// The reply to a call whose deadline is reached.
-fn expired(alloc: Global, last: bool) -> Result<Reply, AllocError>
+fn expired(alloc: Global, last: bool) -> Result<ReplyBytes, AllocError>
     ensures { IfOk result (λ reply. reply ≡ expired_reply last) }
 {
     let error = RpcError::plain(alloc, Code::DeadlineExceeded, "context deadline exceeded")?;
     let bytes = error_reply(alloc, &error, last)?;
-    Ok(Reply { bytes, last })
-}
-
-/// The reply to a stream that is refused.
-#[tactic(auto, unfolding(crate::specs::Arrival::refusal_reply))]
-fn refused(alloc: Global, refusal: Refusal) -> Result<Reply, AllocError>
-    ensures { IfOk result (λ reply. reply ≡ refusal_reply refusal) }
-{
-    match refusal {
-        Refusal::HeadTooLarge => last_bare(alloc, 431),
-        Refusal::NotAHead => last_bare(alloc, 400),
-        Refusal::LengthRequired => last_bare(alloc, 411),
-        Refusal::BadLength => last_bare(alloc, 400),
-        Refusal::BadHost => last_bare(alloc, 400),
-        Refusal::BodyTooLarge => too_large(alloc),
-    }
-}
-
-fn last_bare(alloc: Global, status: u16) -> Result<Reply, AllocError>
-    requires { IsTrue (is_bare_status status) }
-    ensures { IfOk result (λ reply. reply ≡ reply_of (bare_reply status true) true) }
-{
-    let bytes = bare_reply(alloc, status, true)?;
-    Ok(Reply { bytes, last: true })
-}
-
-#[tactic(auto, unfolding(crate::specs::Arrival::refusal_reply))]
-fn too_large(alloc: Global) -> Result<Reply, AllocError>
-    ensures { IfOk result (λ reply. reply ≡ refusal_reply Refusal.BodyTooLarge) }
-{
-    let error = RpcError::plain(
-        alloc,
-        Code::ResourceExhausted,
-        "body larger than 65536 bytes",
-    )?;
-    let bytes = error_reply(alloc, &error, true)?;
-    Ok(Reply { bytes, last: true })
+    Ok(ReplyBytes { bytes, last })
 }

@@ -7,7 +7,7 @@ ghost use Rattle.gateway_core.specs.Occurrence.{Occurrence};
 ghost use Rattle.gateway_core.specs.Past.{judged, marked};
 ghost use Rattle.gateway_core.specs.Queue.{IsPrefixOf};
 ghost use Rattle.gateway_core.specs.Stands.{StandsFor, StandsAfter};
-ghost use Rattle.gateway_core.specs.declared.reply.Reply.{Reply};
+ghost use Rattle.gateway_core.specs.declared.reply_bytes.ReplyBytes.{ReplyBytes};
 ghost use Rattle.http_pieces.specs.Reader.{HasRead, is_over};
 ghost use Rattle.http_pieces.specs.Request.{HttpRequest};
 
@@ -15,7 +15,7 @@ use crate::connection::Connection;
 use crate::fault::{OpenError, Seen, StepFault, Took};
 use crate::id::{CallId, ConnId};
 use crate::job::Job;
-use crate::reply::Reply;
+use crate::reply_bytes::ReplyBytes;
 use call_plan::Plans;
 use connect_codec::Outcome;
 use std::alloc::{AllocError, Global};
@@ -59,7 +59,7 @@ impl Core {
         ensures opened { IfOk result (λ conn. (conn ≡ 0) × (self.new ≡ core_value self.old.plans (Some new_conn) self.old.jobs)) }
         ensures full { (result ≡ Err OpenError.Full) ↔ IsSome self.old.conn }
         ensures unchanged { OnErr result (self.new ≡ self.old) }
-        ensures stands { (taken : List Reply) (handed : List JobValue) (occurred : List Occurrence) → StandsFor self.old taken handed occurred
+        ensures stands { (taken : List ReplyBytes) (handed : List JobValue) (occurred : List Occurrence) → StandsFor self.old taken handed occurred
             → OnOk result (StandsFor self.new taken handed (Occurrence.Opening ∷ occurred)) }
     {
         if self.connection.is_some() {
@@ -91,7 +91,7 @@ impl Core {
         ensures over { (was : ConnValue) → conn_at conn self.old ≡ Some was → was.broken ≡ false → was.arrived ≡ true → is_over was.reader.reading ≡ true
             → (result ≡ Ok (length bytes.now)) × (self.new ≡ self.old) }
 
-        ensures stands { (was : ConnValue) (stream : List ℕ) (given : List HttpRequest) (taken : List Reply) (handed : List JobValue) (occurred : List Occurrence)
+        ensures stands { (was : ConnValue) (stream : List ℕ) (given : List HttpRequest) (taken : List ReplyBytes) (handed : List JobValue) (occurred : List Occurrence)
             → conn_at conn self.old ≡ Some was → HasRead was.reader stream given → StandsFor self.old taken handed occurred
             → IfOk result (λ n. StandsAfter self.old.plans (stream ++ take n bytes.now) given was self.new taken handed occurred) }
     {
@@ -116,9 +116,9 @@ impl Core {
         ensures waits { (conn : ConnValue) (was : CallValue) (body : List ℕ) → conn_at call.conn self.old ≡ Some conn → conn.call ≡ Some was
             → outcome ≡ Outcome.Answer body → waits_on (answered_by branch body (back branch was)) ≡ true → result.broke ≡ false }
 
-        ensures judged { (taken : List Reply) (handed : List JobValue) (occurred : List Occurrence) → StandsFor self.old taken handed occurred
+        ensures judged { (taken : List ReplyBytes) (handed : List JobValue) (occurred : List Occurrence) → StandsFor self.old taken handed occurred
             → result.seen ≡ judged call branch (marked occurred) }
-        ensures stands { (taken : List Reply) (handed : List JobValue) (occurred : List Occurrence) → StandsFor self.old taken handed occurred
+        ensures stands { (taken : List ReplyBytes) (handed : List JobValue) (occurred : List Occurrence) → StandsFor self.old taken handed occurred
             → result.broke ≡ false → StandsFor self.new taken handed (Occurrence.Result call branch outcome ∷ occurred) }
     {
         self.see_result(call, branch, outcome)
@@ -129,18 +129,18 @@ impl Core {
         ensures first { self.old.jobs ≡ option_to_list result ++ self.new.jobs }
         ensures none { result ≡ None → self.old.jobs ≡ [] }
         ensures rest { self.new ≡ core_value self.old.plans self.old.conn self.new.jobs }
-        ensures stands { (taken : List Reply) (handed : List JobValue) (occurred : List Occurrence) → StandsFor self.old taken handed occurred
+        ensures stands { (taken : List ReplyBytes) (handed : List JobValue) (occurred : List Occurrence) → StandsFor self.old taken handed occurred
             → StandsFor self.new taken (handed ++ option_to_list result) occurred }
     {
         self.jobs.pop_front()
     }
 
     /// Gives the connection's next reply, in order of requests.
-    pub fn take_reply(&mut self, conn: ConnId) -> Option<Reply>
+    pub fn take_reply(&mut self, conn: ConnId) -> Option<ReplyBytes>
         ensures first { untaken_of conn self.old ≡ option_to_list result ++ untaken_of conn self.new }
         ensures none { result ≡ None → untaken_of conn self.old ≡ [] }
         ensures rest { self.old ≡ core_value self.new.plans (option_map (with_untaken (option_to_list result)) self.new.conn) self.new.jobs }
-        ensures stands { (taken : List Reply) (handed : List JobValue) (occurred : List Occurrence) → StandsFor self.old taken handed occurred
+        ensures stands { (taken : List ReplyBytes) (handed : List JobValue) (occurred : List Occurrence) → StandsFor self.old taken handed occurred
             → StandsFor self.new (taken ++ option_to_list result) handed occurred }
     {
         if conn.number() != 0 {

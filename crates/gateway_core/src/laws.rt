@@ -9,9 +9,12 @@ ghost use Rattle.connect_codec.specs.declared.answer.Outcome.{Outcome};
 ghost use Rattle.gateway_core.specs.Starts.{jobs};
 ghost use Rattle.gateway_core.specs.declared.fault.Seen.{Seen};
 ghost use Rattle.gateway_core.specs.declared.entry.ReplyEntry.{ReplyEntry};
-ghost use Rattle.gateway_core.specs.CallRecord.{CallRecord};
+ghost use Rattle.gateway_core.specs.CallRecord.{CallRecord, last_event};
 ghost use Rattle.gateway_core.specs.Record.{is_lawful, is_decided};
-ghost use Rattle.gateway_core.specs.Queue.{entry, replies, queued, IsPrefixOf};
+ghost use Rattle.gateway_core.specs.declared.ending.EndCause.{EndCause};
+ghost use Rattle.connect_codec.specs.Reply.{error_reply};
+ghost use Rattle.gateway_core.specs.Errors.{cause_of, ending_error, ending_with};
+ghost use Rattle.gateway_core.specs.Queue.{call_reply, entry, joined_reply, replies, queued, IsPrefixOf};
 
 /// What a request is answered by stays, whatever comes later.
 pub fn entry_law()
@@ -77,4 +80,13 @@ pub fn decided_law()
 pub fn out_law()
     ensures since { (occurred : List Occurrence) (id : CallId) (i : ℕ) → is_out id i (past_of occurred) ≡ true → (s : ℕ) × IsOutSince id i occurred s }
     ensures only { (occurred : List Occurrence) (id : CallId) (i s : ℕ) → IsOutSince id i occurred s → is_out id i (past_of occurred) ≡ true }
+{}
+
+/// The reply to a call that an answer decides has its answers joined; another event that ends it has the reply of its ending.
+pub fn call_reply_law()
+    ensures answered { (r : CallRecord) (branch : ℕ) (body : List ℕ) → last_event r.events ≡ Some (CallEvent.Answer branch body)
+        → (call_reply r).bytes ≡ joined_reply r.plan r.events r.last }
+    ensures ended { (r : CallRecord) (e : CallEvent) (cause : EndCause) → last_event r.events ≡ Some e → cause_of r.plan e ≡ Some cause
+        → (call_reply r).bytes ≡ error_reply (ending_error (ending_with cause r.last)) r.last }
+    ensures last { (r : CallRecord) → (call_reply r).last ≡ r.last }
 {}

@@ -2,18 +2,23 @@
 //! goes out are jobs for backends and replies. It does no input or output and reads no clock.
 #![tactic(auto)]
 
+mod answers;
 mod call;
 mod connection;
+mod ending;
 mod entry;
 mod event;
 mod fault;
 mod gateway;
+mod hook;
 mod id;
 mod job;
+mod joined;
 pub mod laws;
 pub mod machine_laws;
 mod record;
 mod reply;
+mod reply_bytes;
 #[cfg(test)]
 mod rows;
 #[cfg(test)]
@@ -22,15 +27,22 @@ mod rows_corners;
 mod rows_replies;
 #[cfg(test)]
 mod rows_streams;
+mod stock;
 
+pub use ending::{EndCause, Ending, ending_reply};
 pub use entry::ReplyEntry;
 pub use event::CallEvent;
 pub use fault::{OpenError, Seen, StepFault, Took};
 pub use gateway::Core;
+pub use hook::{CallHook, ReplyHook};
 pub use id::{CallId, ConnId};
 pub use job::Job;
 pub use record::CallRecord;
 pub use reply::Reply;
+pub use reply_bytes::ReplyBytes;
+pub use stock::Stock;
 
 #[cfg(test)]
 mod tests;
+#[cfg(test)]
+mod tests_replies;

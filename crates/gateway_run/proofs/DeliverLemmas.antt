@@ -14,7 +14,7 @@ use Rattle.http_pieces.specs.Reader.{Reading, ReaderValue, Partial, Waiting, Sto
 use Rattle.http_pieces.specs.Requests.{Open, Broken, Closed, Requests}
 use Rattle.http_pieces.proofs.RequestsLemmas.{requests_unique, requests_stay}
 use Rattle.call_plan.specs.Plan.{PlanRecord}
-use Rattle.gateway_core.specs.declared.reply.Reply.{Reply}
+use Rattle.gateway_core.specs.declared.reply_bytes.ReplyBytes.{ReplyBytes}
 use Rattle.gateway_core.specs.Arrival.{arrival_of}
 use Rattle.gateway_core.specs.Core.{ConnValue, CoreValue, is_waiting, is_live, is_unbroken, conn_at}
 use Rattle.gateway_core.specs.Job.{JobValue}
@@ -50,7 +50,7 @@ refused_stays a b text more given new r h g settled a_is =
         absurd (let clash : Closed ≡ Broken r = (requests_unique 0 (text ++ more) (given ++ new) given Closed (Broken r) there later).1 in cc)
 
 -- what has come on the connection, by what occurred
-entries_of : (core : CoreValue) (taken : List Reply) (handed : List JobValue) (occurred : List Occurrence) → StandsFor core taken handed occurred
+entries_of : (core : CoreValue) (taken : List ReplyBytes) (handed : List JobValue) (occurred : List Occurrence) → StandsFor core taken handed occurred
     → entries 0 (marked occurred) ≡ (if (conn_of core).arrived then 1 else 0)
 entries_of core taken handed occurred h = h.conn_stands.entries_are
 
@@ -58,7 +58,7 @@ one_entry : (x : Entering) (occurred : List Occurrence) → entries 0 (marked oc
 one_entry x occurred e = rw e refl
 
 -- bytes that come in two parts: what occurs by the first, and then by the second, is what occurs by both
-occurs_both : (plans : List PlanRecord) (old : ConnValue) (mid new : CoreValue) (taken : List Reply) (handed : List JobValue) (occurred : List Occurrence) (text more : List ℕ) (given first second : List HttpRequest) (b : Bool)
+occurs_both : (plans : List PlanRecord) (old : ConnValue) (mid new : CoreValue) (taken : List ReplyBytes) (handed : List JobValue) (occurred : List Occurrence) (text more : List ℕ) (given first second : List HttpRequest) (b : Bool)
     → old.arrived ≡ b → entries 0 (marked occurred) ≡ (if old.arrived then 1 else 0)
     → HasRead (conn_of mid).reader text (given ++ first) → is_waiting (conn_of mid).reader.reading ≡ false
     → HasRead (conn_of new).reader (text ++ more) ((given ++ first) ++ second) → is_waiting (conn_of new).reader.reading ≡ false
@@ -98,7 +98,7 @@ occurs_both plans old mid new taken handed occurred text more given [] second fa
     by_mid Done x_is s = quiet s
 
 -- two parts of a piece
-pub after_both : (plans : List PlanRecord) (old : ConnValue) (mid new : CoreValue) (taken : List Reply) (handed : List JobValue) (occurred : List Occurrence) (text more : List ℕ) (given : List HttpRequest)
+pub after_both : (plans : List PlanRecord) (old : ConnValue) (mid new : CoreValue) (taken : List ReplyBytes) (handed : List JobValue) (occurred : List Occurrence) (text more : List ℕ) (given : List HttpRequest)
     → entries 0 (marked occurred) ≡ (if old.arrived then 1 else 0)
     → (a : StandsAfter plans text given old mid taken handed occurred)
     → StandsAfter plans (text ++ more) (given ++ a.0) (conn_of mid) new taken handed (occurred_by plans old.arrived a.0 (conn_of mid).reader.reading occurred)
@@ -112,7 +112,7 @@ after_both plans old mid new taken handed occurred text more given entries_are a
 -- what the core stands for where these bytes were delivered
 abbrev pub Delivers : CoreValue → CoreValue → ℕ → List ℕ → Type 0
 Delivers initial core conn bytes =
-    (was : ConnValue) (stream : List ℕ) (given : List HttpRequest) (taken : List Reply) (handed : List JobValue) (occurred : List Occurrence)
+    (was : ConnValue) (stream : List ℕ) (given : List HttpRequest) (taken : List ReplyBytes) (handed : List JobValue) (occurred : List Occurrence)
     → conn_at conn initial ≡ Some was → HasRead was.reader stream given → StandsFor initial taken handed occurred
     → StandsAfter initial.plans (stream ++ bytes) given was core taken handed occurred
 

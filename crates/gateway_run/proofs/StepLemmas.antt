@@ -10,7 +10,7 @@ use Rattle.http_pieces.specs.Reader.{Reading, ReaderValue, Partial, Waiting, Sto
 use Rattle.connect_codec.specs.declared.answer.Outcome.{Outcome}
 use Rattle.connect_codec.specs.declared.answer.Outcome.TheVariants.{Answer, Fail}
 use Rattle.call_plan.specs.Plan.{PlanRecord}
-use Rattle.gateway_core.specs.declared.reply.Reply.{Reply}
+use Rattle.gateway_core.specs.declared.reply_bytes.ReplyBytes.{ReplyBytes}
 use Rattle.gateway_core.specs.Arrival.{arrival_of}
 use Rattle.std.specs.Option.{option_map_or}
 use Rattle.std.specs.Result.{OnOk}
@@ -218,7 +218,7 @@ conn_same : (old new : CoreValue) → new.conn ≡ old.conn → conn_of new ≡ 
 conn_same old new e = ap (λ (o : Option ConnValue). option_map_or (λ (c : ConnValue). c) o new_conn) e
 
 -- a connection is opened
-pub opening_event : (old new : CoreValue) (taken : List Reply) (handed : List JobValue) (opened : List ℕ) (events : Before) (occurred : List Placed)
+pub opening_event : (old new : CoreValue) (taken : List ReplyBytes) (handed : List JobValue) (opened : List ℕ) (events : Before) (occurred : List Placed)
     → old.conn ≡ None → new ≡ core_value old.plans (Some new_conn) old.jobs → StandsFor new taken handed (Opens ∷ occurrences (first_only occurred))
     → StandsForEvents old taken handed opened events occurred
     → (os : List Occurrence) × StandsForEvents new taken handed (opened ++ length events ∷ []) (Opening ∷ events) (onto (length events) os occurred)
@@ -264,7 +264,7 @@ none_open r conn (Some c) ok full = absurd (let clash : Ok conn ≡ Err Full = s
 
 -- ---- an event by which nothing occurs
 
-nothing_event : (core : CoreValue) (taken : List Reply) (handed : List JobValue) (opened : List ℕ) (e : GatewayEvent) (events : Before) (occurred : List Placed)
+nothing_event : (core : CoreValue) (taken : List ReplyBytes) (handed : List JobValue) (opened : List ℕ) (e : GatewayEvent) (events : Before) (occurred : List Placed)
     → IsPlain opened e events → stream opened 0 (e ∷ events) ≡ stream opened 0 events → OccursAt core.plans opened e events []
     → StandsForEvents core taken handed opened events occurred
     → (os : List Occurrence) × StandsForEvents core taken handed opened (e ∷ events) (onto (length events) os occurred)
@@ -291,7 +291,7 @@ unlisted opened n below =
     (λ (other : succeeds opened n ≡ false). other) (cases_Bool (succeeds opened n))
 
 -- an opening that does not succeed
-pub full_event : (core : CoreValue) (taken : List Reply) (handed : List JobValue) (opened : List ℕ) (events : Before) (occurred : List Placed)
+pub full_event : (core : CoreValue) (taken : List ReplyBytes) (handed : List JobValue) (opened : List ℕ) (events : Before) (occurred : List Placed)
     → StandsForEvents core taken handed opened events occurred
     → (os : List Occurrence) × StandsForEvents core taken handed opened (Opening ∷ events) (onto (length events) os occurred)
 full_event core taken handed opened events occurred h =
@@ -306,7 +306,7 @@ plain_piece : (opened : List ℕ) (conn : ℕ) (bytes : List ℕ) (events : Befo
 plain_piece opened conn bytes events = record { connections_are = refl; closes_nothing = λ c. refl; hangs_up_nothing = λ c. refl }
 
 -- a piece of no open connection
-stray_piece : (core : CoreValue) (taken : List Reply) (handed : List JobValue) (opened : List ℕ) (conn : ℕ) (bytes : List ℕ) (events : Before) (occurred : List Placed)
+stray_piece : (core : CoreValue) (taken : List ReplyBytes) (handed : List JobValue) (opened : List ℕ) (conn : ℕ) (bytes : List ℕ) (events : Before) (occurred : List Placed)
     → is_live conn core ≡ false → is_broken_conn core.conn ≡ false → StandsForEvents core taken handed opened events occurred
     → (os : List Occurrence) × StandsForEvents core taken handed opened (Piece conn bytes ∷ events) (onto (length events) os occurred)
 stray_piece core taken handed opened conn bytes events occurred dead fine h =
@@ -330,7 +330,7 @@ stray_piece core taken handed opened conn bytes events occurred dead fine h =
         (cases_eq conn 0)
 
 -- the piece that the connection takes
-taken_piece : (old new : CoreValue) (taken : List Reply) (handed : List JobValue) (opened : List ℕ) (bytes : List ℕ) (events : Before) (occurred : List Placed)
+taken_piece : (old new : CoreValue) (taken : List ReplyBytes) (handed : List JobValue) (opened : List ℕ) (bytes : List ℕ) (events : Before) (occurred : List Placed)
     → is_some old.conn ≡ true → is_some new.conn ≡ true → new.plans ≡ old.plans
     → (h : StandsForEvents old taken handed opened events occurred)
     → StandsAfter old.plans (stream opened 0 events ++ bytes) h.given (conn_of old) new taken handed (occurrences (first_only occurred))
@@ -390,7 +390,7 @@ there_is core e = by_conn core.conn refl e
     by_conn (Some c) o_is e = rw o_is refl
 
 piece_event : (old new : CoreValue) (conn : ℕ) (bytes : List ℕ) → is_live conn old ≡ true → is_live conn new ≡ true → new.plans ≡ old.plans → Delivers old new conn bytes
-    → (taken : List Reply) (handed : List JobValue) (opened : List ℕ) (events : Before) (occurred : List Placed)
+    → (taken : List ReplyBytes) (handed : List JobValue) (opened : List ℕ) (events : Before) (occurred : List Placed)
     → StandsForEvents old taken handed opened events occurred
     → (os : List Occurrence) × StandsForEvents new taken handed opened (Piece conn bytes ∷ events) (onto (length events) os occurred)
 piece_event old new conn bytes live live_new plans_are delivers taken handed opened events occurred h =
@@ -407,10 +407,10 @@ broken_there number core e = cond_both (number == 0) core.conn None (λ o. is_br
 pub delivered_event : {T : Type 0} (r : Result T StepFault) (old new : CoreValue) (conn : ℕ) (bytes : List ℕ)
     → (r ≡ Err Gone) ↔ (is_live conn old ≡ false) → (r ≡ Err Gone → new ≡ old) → (r ≡ Err Memory → is_broken_conn (conn_at conn new) ≡ true)
     → OnOk r (is_live conn new ≡ true) → new.plans ≡ old.plans
-    → ((was : ConnValue) (text : List ℕ) (given : List HttpRequest) (taken : List Reply) (handed : List JobValue) (past : List Occurrence)
+    → ((was : ConnValue) (text : List ℕ) (given : List HttpRequest) (taken : List ReplyBytes) (handed : List JobValue) (past : List Occurrence)
     → conn_at conn old ≡ Some was → HasRead was.reader text given → StandsFor old taken handed past
     → OnOk r (StandsAfter old.plans (text ++ bytes) given was new taken handed past))
-    → (taken : List Reply) (handed : List JobValue) (opened : List ℕ) (events : Before) (occurred : List Placed)
+    → (taken : List ReplyBytes) (handed : List JobValue) (opened : List ℕ) (events : Before) (occurred : List Placed)
     → StandsForEvents old taken handed opened events occurred → is_broken_conn new.conn ≡ false
     → (os : List Occurrence) × StandsForEvents new taken handed opened (Piece conn bytes ∷ events) (onto (length events) os occurred)
 delivered_event (Ok u) old new conn bytes gone unchanged breaks live plans_are stands taken handed opened events occurred h fine =
@@ -634,9 +634,9 @@ result_waits old new id branch outcome took r = by_seen took.seen refl
         }
 
 pub result_event : (old new : CoreValue) (id : CallId) (branch : ℕ) (outcome : Outcome) (took : Took) → Results old new id branch outcome took → new.plans ≡ old.plans
-    → ((taken : List Reply) (handed : List JobValue) (past : List Occurrence) → StandsFor old taken handed past → took.broke ≡ false
+    → ((taken : List ReplyBytes) (handed : List JobValue) (past : List Occurrence) → StandsFor old taken handed past → took.broke ≡ false
     → StandsFor new taken handed (Ends id branch outcome ∷ past))
-    → (taken : List Reply) (handed : List JobValue) (opened : List ℕ) (events : Before) (occurred : List Placed)
+    → (taken : List ReplyBytes) (handed : List JobValue) (opened : List ℕ) (events : Before) (occurred : List Placed)
     → StandsForEvents old taken handed opened events occurred → is_broken_conn new.conn ≡ false
     → (os : List Occurrence) × StandsForEvents new taken handed opened (BranchResult id.conn id.request branch outcome ∷ events) (onto (length events) os occurred)
 result_event old new id branch outcome took r plans_are stands taken handed opened events occurred h fine =

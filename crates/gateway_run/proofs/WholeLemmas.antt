@@ -9,7 +9,7 @@ use Rattle.std.proofs.lemmas.List.FromFn.{map-range_with_len_more}
 use Rattle.std.proofs.lemmas.List.Elements.{filter-append}
 use Rattle.call_plan.specs.Plan.{PlanRecord}
 use Rattle.gateway_core.specs.declared.fault.OpenError.TheVariants.{Full}
-use Rattle.gateway_core.specs.declared.reply.Reply.{Reply}
+use Rattle.gateway_core.specs.declared.reply_bytes.ReplyBytes.{ReplyBytes}
 use Rattle.gateway_core.specs.Core.{ConnValue, CoreValue, core_value, conn_at, is_broken_conn, untaken_of}
 use Rattle.gateway_core.specs.Job.{JobValue}
 use Rattle.gateway_core.specs.Occurrence.{Occurrence}
@@ -183,7 +183,7 @@ pub record Steps (old mid : CoreValue) (e : Event) (r : Stepped) : Type 0 where
   pub plans_are : mid.plans ≡ old.plans
   pub connection : is_some mid.conn ≡ (is_some old.conn || is_opening (gateway_event e))
   pub stays_broken : is_broken_conn old.conn ≡ true → is_broken_conn mid.conn ≡ true
-  pub stands : (taken : List Reply) (handed : List JobValue) (opened : List ℕ) (events : Before) (occurred : List Placed)
+  pub stands : (taken : List ReplyBytes) (handed : List JobValue) (opened : List ℕ) (events : Before) (occurred : List Placed)
       → StandsForEvents old taken handed opened events occurred → is_broken_conn mid.conn ≡ false
       → (os : List Occurrence) × StandsForEvents mid taken handed (opened_by r (length events) opened) (gateway_event e ∷ events) (onto (length events) os occurred)
 

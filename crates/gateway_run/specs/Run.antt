@@ -2,7 +2,7 @@
 use Rattle.std.specs.Prelude.{◌≡◌, ℕ, Bool, false, ◌==◌, is_some, List, [], map, reverse, option_to_list}
 use Rattle.std.specs.List.{flat_map, list_any, range_with_len}
 use Rattle.call_plan.specs.Plan.{PlanRecord}
-use Rattle.gateway_core.specs.declared.reply.Reply.{Reply}
+use Rattle.gateway_core.specs.declared.reply_bytes.ReplyBytes.{ReplyBytes}
 use Rattle.gateway_core.specs.Core.{CoreValue, is_broken_conn}
 use Rattle.gateway_core.specs.Job.{JobValue}
 use Rattle.gateway_core.specs.Past.{marked}
@@ -19,7 +19,7 @@ abbrev pub start_at : ℕ → JobValue → Start
 start_at event job = record { event = event; conn = job.call.conn; request = job.call.request; branch = job.branch }
 
 -- the bytes of the replies, one behind another
-abbrev pub joined : List Reply → List ℕ
+abbrev pub joined : List ReplyBytes → List ℕ
 joined replies = flat_map (λ reply. reply.bytes) replies
 
 -- the number is in the list

@@ -3,7 +3,7 @@ use Rattle.std.specs.Prelude.{◌≡◌, ℕ, ◌<◌, Bool, true, false, is_som
 use Rattle.http_pieces.specs.declared.state.State.TheVariants.{More}
 use Rattle.http_pieces.specs.Reader.{state_of, HasRead}
 use Rattle.http_pieces.specs.Request.{HttpRequest}
-use Rattle.gateway_core.specs.declared.reply.Reply.{Reply}
+use Rattle.gateway_core.specs.declared.reply_bytes.ReplyBytes.{ReplyBytes}
 use Rattle.gateway_core.specs.Core.{CoreValue, is_waiting}
 use Rattle.gateway_core.specs.Job.{JobValue}
 use Rattle.gateway_core.specs.Stands.{StandsFor, conn_of}
@@ -17,7 +17,7 @@ use Rattle.gateway_run.specs.Today.{first_only}
 -- the core stands for these events, newest first, of which the openings at those places succeeded, where these replies and jobs were
 -- taken: this has occurred by them, and the core stands for what the gateway takes of it; the connection's stream was read, and goes on
 -- where nothing came on it yet
-pub record StandsForEvents (core : CoreValue) (taken : List Reply) (handed : List JobValue) (opened : List ℕ) (events : Before) (occurred : List Placed) : Type 0 where
+pub record StandsForEvents (core : CoreValue) (taken : List ReplyBytes) (handed : List JobValue) (opened : List ℕ) (events : Before) (occurred : List Placed) : Type 0 where
   pub occurs : Occurs core.plans opened events occurred
   pub stands : StandsFor core taken handed (occurrences (first_only occurred))
   pub given : List HttpRequest

@@ -4,7 +4,7 @@ ghost use Rattle.gateway_core.specs.Job.{JobValue};
 ghost use Rattle.gateway_core.specs.Occurrence.{Occurrence};
 ghost use Rattle.gateway_core.specs.Queue.{IsPrefixOf};
 ghost use Rattle.gateway_core.specs.Stands.{StandsFor, StandsAfter};
-ghost use Rattle.gateway_core.specs.declared.reply.Reply.{Reply};
+ghost use Rattle.gateway_core.specs.declared.reply_bytes.ReplyBytes.{ReplyBytes};
 ghost use Rattle.http_pieces.specs.Reader.{HasRead, is_over};
 ghost use Rattle.http_pieces.specs.Request.{HttpRequest};
 
@@ -26,7 +26,7 @@ pub fn deliver(core: &mut Core, conn: ConnId, piece: &[u8]) -> Result<(), StepFa
         → IsOk result × (core.new ≡ core.old) }
 
     // The core stands for what occurs by the piece.
-    ensures stands { (was : ConnValue) (stream : List ℕ) (given : List HttpRequest) (taken : List Reply) (handed : List JobValue) (occurred : List Occurrence)
+    ensures stands { (was : ConnValue) (stream : List ℕ) (given : List HttpRequest) (taken : List ReplyBytes) (handed : List JobValue) (occurred : List Occurrence)
         → conn_at conn core.old ≡ Some was → HasRead was.reader stream given → StandsFor core.old taken handed occurred
         → OnOk result (StandsAfter core.old.plans (stream ++ piece.now) given was core.new taken handed occurred) }
 {

@@ -2,7 +2,7 @@ ghost use Rattle.std.specs.Prelude.{◌≡◌, ℕ, ◌↔◌, ◌∷◌, ◌||�
 ghost use Rattle.connect_codec.specs.declared.answer.Outcome.{Outcome};
 ghost use Rattle.gateway_core.specs.Occurrence.{Occurrence};
 ghost use Rattle.gateway_core.specs.Past.{call_id};
-ghost use Rattle.gateway_core.specs.declared.reply.Reply.{Reply};
+ghost use Rattle.gateway_core.specs.declared.reply_bytes.ReplyBytes.{ReplyBytes};
 ghost use Rattle.gateway_core.specs.Core.{is_live, core_sees, is_broken_conn, replies_of};
 ghost use Rattle.gateway_core.specs.Job.{JobValue};
 ghost use Rattle.gateway_core.specs.Queue.{IsPrefixOf};
@@ -57,7 +57,7 @@ pub fn step(core: &mut Core, event: Event) -> Stepped
     ensures starts_no_more { is_broken_conn core.old.conn ≡ true → core.new.jobs ≡ core.old.jobs }
 
     // The core stands for the events with this one added, and for what occurs by it, if its connection did not break.
-    ensures stands { (taken : List Reply) (handed : List JobValue) (opened : List ℕ) (events : Before) (occurred : List Placed)
+    ensures stands { (taken : List ReplyBytes) (handed : List JobValue) (opened : List ℕ) (events : Before) (occurred : List Placed)
         → StandsForEvents core.old taken handed opened events occurred → is_broken_conn core.new.conn ≡ false
         → (os : List Occurrence) × StandsForEvents core.new taken handed (opened_by result (length events) opened) (gateway_event event ∷ events) (onto (length events) os occurred) }
 {

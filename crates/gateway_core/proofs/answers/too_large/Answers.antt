@@ -1,6 +1,6 @@
 use Rattle.std.proofs.Common.{refl}
 use Rattle.gateway_core.specs.Arrival.{refusal_reply}
-use Rattle.gateway_core.proofs.connection.too_large.Goals as goal
+use Rattle.gateway_core.proofs.answers.too_large.Goals as goal
 
 pub returns : goal.returns
 unfolding refusal_reply

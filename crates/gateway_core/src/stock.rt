@@ -1,0 +1,54 @@
+ghost use Rattle.std.specs.Prelude.{◌≡◌, ◌∷◌, ◌==◌, [], length, is_ok, IfOk, IfErr, IfSome, IfNone};
+ghost use Rattle.http_pieces.specs.Request.{most_requests};
+
+use std::marker::Model;
+
+/// How many hooks a connection brings: one for each request that it may make.
+const HOOKS: usize = 100;
+
+/// The hooks of a connection, one for each request that it may make.
+#[derive(Drop)]
+pub struct Stock<H> {
+    hooks: Vec<H>,
+}
+
+impl<H> Model for Stock<H> {
+    ghost use Rattle.std.specs.Prelude.{List};
+
+    ghost Value = { List H };
+
+    ghost view = { λ s. s.hooks.items };
+}
+
+impl<H> Stock<H> {
+    /// A stock of these hooks, where they are exactly 100; else they come back.
+    pub fn of(hooks: Vec<H>) -> Result<Stock<H>, Vec<H>>
+        ensures enough { is_ok result ≡ (length hooks.items == most_requests) }
+        ensures all { IfOk result (λ stock. stock ≡ hooks.items) }
+        ensures back { IfErr result (λ back. back.items ≡ hooks.items) }
+    {
+        if hooks.len() == HOOKS {
+            Ok(Stock { hooks })
+        } else {
+            Err(hooks)
+        }
+    }
+
+    /// Takes the first hook.
+    pub(crate) fn take(&mut self) -> Option<H>
+        ensures first { IfSome result (λ hook. self.old ≡ hook ∷ self.new) }
+        ensures none { IfNone result ((self.old ≡ []) × (self.new ≡ [])) }
+    {
+        if self.hooks.is_empty() {
+            return None;
+        }
+        Some(self.hooks.remove(0))
+    }
+
+    /// How many hooks there are yet.
+    pub(crate) fn left(&self) -> usize
+        ensures { result ≡ length self.now }
+    {
+        self.hooks.len()
+    }
+}
