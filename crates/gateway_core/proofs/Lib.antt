@@ -32,3 +32,13 @@ pub mod Readings
 pub mod RecordLemmas
 pub mod PlacesOfStarts
 pub mod ReplyLemmas
+pub mod LivesTrees
+pub mod LivesMaking
+pub mod LivesApart
+pub mod LivesSeeing
+pub mod LivesCancelling
+pub mod LivesFraming
+pub mod LivesLists
+pub mod LivesHooking
+pub mod LivesBeginning
+pub mod LivesLeaving

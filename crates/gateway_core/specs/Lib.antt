@@ -23,3 +23,5 @@ pub mod Fate
 pub mod Fated
 pub mod Breaks
 pub mod Duty
+pub mod Lives
+pub mod LivesSound

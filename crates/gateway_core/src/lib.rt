@@ -15,6 +15,7 @@ mod id;
 mod job;
 mod joined;
 pub mod laws;
+mod lives;
 pub mod machine_laws;
 mod record;
 mod reply;
