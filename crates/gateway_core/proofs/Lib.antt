@@ -31,6 +31,11 @@ pub mod GivingUp
 pub mod Readings
 pub mod RecordLemmas
 pub mod PlacesOfStarts
+pub mod KeptLemmas
+pub mod StoreLemmas
+pub mod EndLemmas
+pub mod GroupLemmas
+pub mod ResultLemmas
 pub mod ReplyLemmas
 pub mod LivesTrees
 pub mod LivesMaking
@@ -42,3 +47,4 @@ pub mod LivesLists
 pub mod LivesHooking
 pub mod LivesBeginning
 pub mod LivesLeaving
+pub mod AnsweringLemmas

@@ -313,12 +313,12 @@ pub record NextStarts (id : CallId) (l : Live) (m : Mark) (past : Past) : Type 0
   pub one_more : started id (m ∷ past) ≡ started id past + 1
   pub within : started id past < length l.asked.plan.branches
 
-tasks_none : (k : ℕ) (id : CallId) (a : Asked) → k ≡ length a.plan.branches → tasks_from k id a ≡ []
+pub tasks_none : (k : ℕ) (id : CallId) (a : Asked) → k ≡ length a.plan.branches → tasks_from k id a ≡ []
 tasks_none k id a e =
     let none : length a.plan.branches - k ≡ 0 = omega (arith, e) in
     ap (λ n. map (task_of id a) (range_with_len k n)) none
 
-tasks_next : (k : ℕ) (id : CallId) (a : Asked) → k < length a.plan.branches → tasks_from k id a ≡ task_of id a k ∷ tasks_from (k + 1) id a
+pub tasks_next : (k : ℕ) (id : CallId) (a : Asked) → k < length a.plan.branches → tasks_from k id a ≡ task_of id a k ∷ tasks_from (k + 1) id a
 tasks_next k id a lt =
     let some : length a.plan.branches - k ≡ suc (length a.plan.branches - (k + 1)) = omega (arith, lt) in
     ap (λ n. map (task_of id a) (range_with_len k n)) some

@@ -1,5 +1,5 @@
 -- A job: one branch of a call, and what its backend is asked.
-use Rattle.std.specs.Prelude.{ℕ, ◌-◌, List, Option, option_map}
+use Rattle.std.specs.Prelude.{ℕ, ◌-◌, Bool, List, Option, option_map}
 use Rattle.call_plan.specs.Plan.{PlanRecord}
 use Rattle.http_pieces.specs.Request.{HttpRequest}
 use Rattle.gateway_core.specs.declared.id.CallId.{CallId}
@@ -48,3 +48,8 @@ task_of call asked i = record { call = call; branch = i; asked = asked }
 -- its job, where it starts at this moment
 abbrev pub job_at : ℕ → TaskValue → JobValue
 job_at moment t = job_of t.call t.branch t.asked moment
+
+-- a job as it is handed out, and whether its answer was still wanted then
+pub record HandedJob : Type 0 where
+  pub job : JobValue
+  pub wanted : Bool

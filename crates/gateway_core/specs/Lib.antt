@@ -22,6 +22,11 @@ pub mod Standing
 pub mod Fate
 pub mod Fated
 pub mod Breaks
+pub mod Kept
+pub mod Conn
+pub mod Store
+pub mod Ends
+pub mod Results
 pub mod Duty
 pub mod Lives
 pub mod LivesSound

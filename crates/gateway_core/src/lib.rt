@@ -16,6 +16,7 @@ mod job;
 mod joined;
 pub mod laws;
 mod lives;
+mod machine;
 pub mod machine_laws;
 mod record;
 mod reply;

@@ -1,0 +1,7 @@
+use Rattle.std.proofs.Common.{ap, arith}
+use Rattle.gateway_core.specs.Store.{waiting}
+use Rattle.gateway_core.proofs.StoreLemmas.{waiting_less}
+use Rattle.gateway_core.proofs.machine.store.Machine.break_conn.Goals as goal
+
+pub invariant_of-self : goal.invariant_of-self
+invariant_of-self c = omega (arith, c.self.invariant, waiting_less c.args.number c.self.inside.calls.items, ap waiting c.give_up.ensures)

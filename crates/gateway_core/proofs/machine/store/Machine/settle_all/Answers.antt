@@ -1,0 +1,17 @@
+use Rattle.std.proofs.Common.{ap, arith, length}
+use Rattle.gateway_core.specs.Store.{MachineValue}
+use Rattle.gateway_core.proofs.EndLemmas.{settles_start, settles_next, settles_end}
+use Rattle.gateway_core.proofs.machine.store.Machine.settle_all.Goals as goal
+
+pub loop-index-init : goal.loop-index-init
+loop-index-init c = settles_start c.args.self.now
+
+pub loop-index-preserved : goal.loop-index-preserved
+loop-index-preserved c =
+    settles_next c.loop-index.index c.args.self.now c.loop-index.self c.settle.new.self c.loop-index.invariant
+    (omega (arith, c.loop-index-test.true, c.len-index-end.ensures, c.loop-index.invariant.size_is, ap (λ (m : MachineValue). length m.calls) c.self.view_is)) c.settle.ensures
+
+pub returns : goal.returns
+returns c =
+    settles_end c.loop-index.index c.args.self.now c.loop-index.self c.loop-index.invariant
+    (omega (arith, c.loop-index-test.false, c.len-index-end.ensures, ap (λ (m : MachineValue). length m.calls) c.self.view_is))

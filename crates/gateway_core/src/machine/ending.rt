@@ -1,0 +1,79 @@
+ghost use Rattle.std.specs.Prelude.{◌≡◌, ◌<◌, length};
+ghost use Rattle.gateway_core.specs.Ends.{AreApart, CallsEnd, caused, EndedAt, IsSettled, settled_at, SettledBelow};
+ghost use Rattle.gateway_core.specs.Past.{is_due};
+
+use crate::event::CallEvent;
+use crate::id::CallId;
+use crate::machine::asked::Asked;
+use crate::machine::cause::Cause;
+use crate::machine::store::Machine;
+use std::alloc::Global;
+
+impl Asked {
+    /// Whether the moment has reached the deadline.
+    pub(crate) fn is_due(&self, moment: u64) -> bool
+        ensures { result ≡ is_due moment self.now.deadline }
+    {
+        match self.deadline {
+            Some(deadline) => deadline <= moment,
+            None => false,
+        }
+    }
+
+    /// The event by which this ends the call, if it does.
+    pub(crate) fn ending(&self, cause: &Cause, id: &CallId) -> Option<CallEvent>
+        ensures { result ≡ caused cause.now id.now self.now }
+    {
+        match cause {
+            Cause::Reached(moment) if self.is_due(*moment) => Some(CallEvent::Expired(*moment)),
+            Cause::HungUp(conn) if *conn == id.conn.number() => Some(CallEvent::HungUp),
+            Cause::Drained => Some(CallEvent::Drained),
+            _ => None,
+        }
+    }
+}
+
+impl Machine {
+    /// Ends the call at that place, if this does; its connection breaks where memory is refused to its reply.
+    pub(crate) fn end_call(&mut self, alloc: Global, index: usize, cause: &Cause)
+        requires { index < length self.old.calls }
+        ensures { EndedAt cause.now index self.old self.new }
+    {
+        if self.calls[index].end_by(alloc, cause).is_err() {
+            let id = self.calls[index].id();
+            self.break_conn(id.conn.number());
+        }
+    }
+
+    /// Puts the reply of the call at that place into its slot.
+    pub(crate) fn settle(&mut self, index: usize)
+        requires { index < length self.old.calls }
+        ensures { self.new ≡ settled_at index self.old }
+    {
+        let reply = self.calls[index].take_reply();
+        self.fill(reply);
+    }
+}
+
+impl Machine {
+    /// Ends all calls that this ends: their replies go into their slots. Where memory is refused to one of them, its connection breaks.
+    pub(crate) fn end_calls(&mut self, alloc: Global, cause: &Cause)
+        requires settled { IsSettled self.old }
+        requires apart { AreApart self.old.calls }
+        ensures { CallsEnd cause.now self.old self.new }
+    {
+        for index in 0..self.calls.len() {
+            self.end_call(alloc, index, cause);
+        }
+        self.settle_all();
+    }
+
+    /// Puts the replies that were made into their slots.
+    fn settle_all(&mut self)
+        ensures { SettledBelow (length self.old.calls) self.old self.new }
+    {
+        for index in 0..self.calls.len() {
+            self.settle(index);
+        }
+    }
+}

@@ -1,0 +1,43 @@
+ghost use Rattle.std.specs.Prelude.{◌≡◌, IfOk, option_and_then, option_map};
+ghost use Rattle.gateway_core.specs.CallRecord.{last_event};
+ghost use Rattle.gateway_core.specs.Errors.{cause_of, ending_with};
+ghost use Rattle.gateway_core.specs.Queue.{call_reply};
+ghost use Rattle.gateway_core.specs.Reply.{reply_with};
+ghost use Rattle.gateway_core.specs.declared.entry.ReplyEntry.{ReplyEntry};
+
+use crate::ending::{Ending, ending_of, ending_reply};
+use crate::id::CallId;
+use crate::joined::joined;
+use crate::record::CallRecord;
+use crate::reply::Reply;
+use http_pieces::Bytes;
+use std::alloc::{AllocError, Global};
+
+/// The reply to a decided call.
+pub(crate) fn reply_to(alloc: Global, id: CallId, call: CallRecord) -> Result<Reply, AllocError>
+    ensures { IfOk result (λ reply. reply ≡ reply_with id (ReplyEntry.Call call)) }
+{
+    let bytes = bytes_of(alloc, &call)?;
+    Ok(Reply::of_call(id, call, bytes))
+}
+
+/// Its bytes: the error of its last event, or the answers joined.
+fn bytes_of(alloc: Global, call: &CallRecord) -> Result<Bytes, AllocError>
+    ensures { IfOk result (λ bytes. bytes ≡ (call_reply call.now).bytes) }
+{
+    match last_ending(alloc, call)? {
+        Some(ending) => ending_reply(alloc, ending),
+        None => joined(alloc, &call.plan, &call.events, call.last),
+    }
+}
+
+/// How its last event ends it; an answer does not.
+fn last_ending(alloc: Global, call: &CallRecord) -> Result<Option<Ending>, AllocError>
+    ensures { IfOk result (λ ending. ending
+        ≡ option_map (λ cause. ending_with cause call.now.last) (option_and_then (cause_of call.now.plan) (last_event call.now.events))) }
+{
+    match call.events.last() {
+        Some(event) => ending_of(alloc, &call.plan, event, call.last),
+        None => Ok(None),
+    }
+}

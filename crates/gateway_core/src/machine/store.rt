@@ -1,0 +1,111 @@
+ghost use Rattle.std.specs.Prelude.{◌≡◌, false, map, []};
+ghost use Rattle.gateway_core.specs.Store.{IsFound, broken_at, broken_if, given_up_if, fill_first, filled_in, machine_value};
+
+use crate::id::CallId;
+use crate::machine::conn::Conn;
+use crate::machine::job::Job;
+use crate::machine::kept::Kept;
+use crate::reply::Reply;
+use std::alloc::Global;
+use std::collections::VecDeque;
+use std::marker::Model;
+
+/// The connections that are open, and the calls that are kept: those that can be decided, and those of which a branch is out.
+#[derive(Drop)]
+pub struct Machine {
+    pub(crate) moment: u64,
+    pub(crate) drained: bool,
+    /// By rising number.
+    pub(crate) conns: Vec<Conn>,
+    /// By beginning.
+    pub(crate) calls: Vec<Kept>,
+    /// The jobs not taken yet, with room for those of all branches that wait for their start.
+    pub(crate) jobs: VecDeque<Job>,
+}
+
+impl Model for Machine {
+    ghost use Rattle.std.specs.Prelude.{◌+◌, ◌≤◌, map, length};
+    ghost use Rattle.std.specs.VecDeque.{deque_capacity};
+    ghost use Rattle.gateway_core.specs.Store.{MachineValue, machine_value, waiting};
+
+    ghost Value = { MachineValue };
+
+    ghost view = { λ m. machine_value m.moment m.drained m.conns.items m.calls.items (map (λ j. j.job) m.jobs.items) };
+
+    ghost invariant = { λ m. length m.jobs.items + waiting m.calls.items ≤ deque_capacity m.jobs };
+}
+
+impl Machine {
+    /// No connection and no call.
+    pub fn new(alloc: Global) -> Machine
+        ensures { result ≡ machine_value 0 false [] [] [] }
+    {
+        Machine {
+            moment: 0,
+            drained: false,
+            conns: Vec::new(alloc),
+            calls: Vec::new(alloc),
+            jobs: VecDeque::new(alloc),
+        }
+    }
+
+    /// Where the call is kept.
+    pub(crate) fn find(&self, id: &CallId) -> Option<usize>
+        ensures { IsFound id.now self.now.calls result }
+    {
+        for index in 0..self.calls.len() {
+            if self.calls[index].is_of(id) {
+                return Some(index);
+            }
+        }
+        None
+    }
+
+    /// Memory was refused in a step of the connection: it breaks, and its calls can't be decided any more.
+    pub(crate) fn break_conn(&mut self, number: u64)
+        ensures { self.new ≡ broken_at number self.old }
+    {
+        give_up(&mut self.calls, number);
+        break_in(&mut self.conns, number);
+    }
+
+    /// Fills the slot of a reply.
+    pub(crate) fn fill(&mut self, reply: Option<Reply>)
+        ensures { self.new ≡ record self.old { conns = filled_in reply self.old.conns } }
+    {
+        if let Some(reply) = reply {
+            fill_in(&mut self.conns, reply);
+        }
+    }
+}
+
+/// Gives up the calls of the connection.
+fn give_up(calls: &mut Vec<Kept>, number: u64)
+    ensures { calls.new.items ≡ map (given_up_if number) calls.old.items }
+{
+    for index in 0..calls.len() {
+        calls[index].give_up_if(number);
+    }
+}
+
+/// Breaks the connection of that number.
+fn break_in(conns: &mut Vec<Conn>, number: u64)
+    ensures { conns.new.items ≡ map (broken_if number) conns.old.items }
+{
+    for index in 0..conns.len() {
+        conns[index].break_if(number);
+    }
+}
+
+/// Fills the slot of the reply in its connection.
+fn fill_in(conns: &mut Vec<Conn>, reply: Reply)
+    ensures { conns.new.items ≡ fill_first reply conns.old.items }
+{
+    let number = reply.id().conn.number();
+    for index in 0..conns.len() {
+        if conns[index].is_of(number) {
+            conns[index].fill(reply);
+            return;
+        }
+    }
+}
