@@ -2,15 +2,18 @@
 use Rattle.std.proofs.Common.{◌≡◌, ℕ, zero, suc, ◌+◌, ◌<◌, ◌≤◌, Bool, true, false, List, [], ◌∷◌, ◌++◌, Option, None, Some, map, length, reverse, refl, sym, ap, ◌∙◌, subst, arith, append_assoc, ⊎_elim}
 use Rattle.std.specs.Prelude.{min, is_some, ◌||◌, ◌==◌, if◌then◌else◌, filter, option_to_list}
 use Rattle.std.specs.List.{range_with_len}
-use Rattle.std.specs.Option.{option_or}
+use Rattle.std.specs.Option.{option_or, option_map_or}
 use Rattle.std.proofs.lemmas.Bool.{cond_both, cases_Bool, cases_eq, eqb-true, ne_eqb}
 use Rattle.std.proofs.lemmas.List.{append-nil, append_cancel_left, map-append, reverse-append, length-append, length-reverse, length-map}
 use Rattle.std.proofs.lemmas.List.FromFn.{map-range_with_len_more}
 use Rattle.std.proofs.lemmas.List.Elements.{filter-append}
+use Rattle.http_pieces.specs.Reader.{HasRead}
+use Rattle.http_pieces.specs.Requests.{unfinished}
+use Rattle.http_pieces.proofs.RequestsLemmas.{cut_empty}
 use Rattle.call_plan.specs.Plan.{PlanRecord}
 use Rattle.gateway_core.specs.declared.fault.OpenError.TheVariants.{Full}
 use Rattle.gateway_core.specs.declared.reply_bytes.ReplyBytes.{ReplyBytes}
-use Rattle.gateway_core.specs.Core.{ConnValue, CoreValue, core_value, conn_at, is_broken_conn, untaken_of}
+use Rattle.gateway_core.specs.Core.{ConnValue, CoreValue, core_value, new_conn, conn_at, is_broken_conn, untaken_of}
 use Rattle.gateway_core.specs.Job.{JobValue}
 use Rattle.gateway_core.specs.Occurrence.{Occurrence}
 use Rattle.gateway_core.specs.Past.{Past, entries, mark_of, marked}
@@ -386,3 +389,56 @@ pushed_if false items new n yes_broken e = absurd (cc)
 pub kept_if : (b : Bool) (items new : List ℕ) (n : ℕ) → b ≡ false → new ≡ items → new ≡ (if b then items ++ n ∷ [] else items)
 kept_if false items new n fine e = e
 kept_if true items new n fine e = absurd (cc)
+
+-- a new core stands for no events: of a stream that has not begun nothing was read, and nothing was looked at
+nothing_read : HasRead new_conn.reader [] []
+nothing_read = record {
+  count = refl;
+  reads = unfinished (cut_empty 0) refl;
+  looked = record {
+    twice = omega arith;
+    once = λ text e none. omega (arith, ap (λ (o : Option (List ℕ)). option_map_or (λ t. length t) o 0) e);
+  };
+}
+
+nothing_run : (plans : List PlanRecord) → HasRun plans (core_value plans None []) [] [] []
+nothing_run plans = record {
+  plans_are = refl;
+  jobs_are = refl;
+  opened_are = refl;
+  connected = refl;
+  stands = λ fine. (
+    [],
+    record {
+      occurs = refl;
+      stands = record {
+        unbroken = refl;
+        conn_stands = record {
+          now_is = refl;
+          undrained = refl;
+          unclosed = refl;
+          entries_are = refl;
+          alone = λ other ne. refl;
+          call_stands = refl;
+          replies_are = refl;
+        };
+        jobs_are = refl;
+      };
+      given = [];
+      reads = nothing_read;
+      settled = refl;
+      fresh = λ e. (refl, refl);
+      below = λ place e. absurd (let clash : false ≡ true = e in cc);
+      connections_are = refl;
+      open_is = refl;
+      listening = refl;
+    },
+    refl,
+  );
+}
+
+pub run_start : (core : CoreValue) (opened : List ℕ) (started : List Start) → core ≡ core_value core.plans None [] → opened ≡ [] → started ≡ [] → HasRun core.plans core opened started []
+run_start core opened started core_is opened_is started_is =
+    subst (λ (c : CoreValue). HasRun core.plans c opened started []) (sym core_is)
+    (subst (λ o. HasRun core.plans (core_value core.plans None []) o started []) (sym opened_is)
+    (subst (λ t. HasRun core.plans (core_value core.plans None []) [] t []) (sym started_is) (nothing_run core.plans)))

@@ -1,6 +1,6 @@
 use Rattle.std.proofs.Common.{◌≡◌, ◌++◌, ◌∷◌, [], ◌∙◌, sym, ap, refl, append_assoc}
 use Rattle.gateway_run.specs.Stands.{opened_by}
-use Rattle.gateway_run.proofs.WholeLemmas.{place_next, unopened, newest_next, newest_length, run_next}
+use Rattle.gateway_run.proofs.WholeLemmas.{place_next, unopened, newest_next, newest_length, run_next, run_start}
 use Rattle.gateway_run.proofs.whole.take_events.Goals as goal
 use Rattle.gateway_run.proofs.whole.take_events.Goals.{in-Opened+in_ok-push, in_default}
 
@@ -12,6 +12,13 @@ all c =
 -- the places of the openings after this event
 grown : (c : goal.After-saturating_add-place) → c.match-step.opened.items ≡ opened_by c.step.result c.loop-event.place c.loop-event.opened.items
 grown c = elim c.match-step.branch [ in-Opened+in_ok-push w ↦ ap (λ v. v.items) w.opened-is ∙ w.in_ok-push.ensures.items ∙ sym (rw w.in-Opened.is refl) | in_default w ↦ ap (λ v. v.items) w.opened-is ∙ sym (unopened c.step.result c.loop-event.place c.loop-event.opened.items w.in_default.not-Opened) ]
+
+pub loop-event-init : goal.loop-event-init
+loop-event-init c = record {
+  place_is = refl;
+  all = search;
+  ran = run_start c.args.core.now c.args.opened.now.items c.args.starts.now.items;
+}
 
 pub loop-event-preserved : goal.loop-event-preserved
 loop-event-preserved c = record {
