@@ -27,7 +27,7 @@ out_ended : (e : Option CallEvent) (l : Live) (out : List Bool) → (ended_by e 
 out_ended None l out = refl
 out_ended (Some e) l out = refl
 
-out_same : (cause : Cause) (id : CallId) (out : List Bool) (live : Option Live) → (ended_if cause id out live).call.out ≡ out
+pub out_same : (cause : Cause) (id : CallId) (out : List Bool) (live : Option Live) → (ended_if cause id out live).call.out ≡ out
 out_same cause id out None = refl
 out_same cause id out (Some l) = out_ended (caused cause id l.asked) l out
 
@@ -42,7 +42,7 @@ not_live : (cause : Cause) (id : CallId) (out : List Bool) (live : Option Live) 
 not_live cause id out None e = absurd (cc)
 not_live cause id out (Some l) e = refl
 
-id_below : (cause : Cause) (stopped passed : Bool) (k : KeptValue) → (ended_below cause stopped passed k).id ≡ k.id
+pub id_below : (cause : Cause) (stopped passed : Bool) (k : KeptValue) → (ended_below cause stopped passed k).id ≡ k.id
 id_below cause true passed k = refl
 id_below cause false true k = refl
 id_below cause false false k = refl
@@ -61,7 +61,7 @@ breaks_then (Some x) None c p q = absurd p
 breaks_then (Some x) (Some y) None p q = absurd q
 breaks_then (Some x) (Some y) (Some z) p q = (q.0 ∙ ap (λ (k : ConnValue). record k { broken = z.broken }) p.0, λ e. q.1 (p.1 e))
 
-break_one : (d c : ℕ) (conns : List ConnValue) → MayBreak (conn_of d conns) (conn_of d (map (broken_if c) conns))
+pub break_one : (d c : ℕ) (conns : List ConnValue) → MayBreak (conn_of d conns) (conn_of d (map (broken_if c) conns))
 break_one d c conns = subst (λ o. MayBreak (conn_of d conns) o) (sym (conn_broken d c conns)) (by_it (d == c) (conn_of d conns))
   where
     by_it : (b : Bool) (o : Option ConnValue) → MayBreak o (if b then option_map broken_conn o else o)
@@ -70,12 +70,12 @@ break_one d c conns = subst (λ o. MayBreak (conn_of d conns) o) (sym (conn_brok
     by_it false o = stays_same o
 
 -- whether a connection is stopped, where one broke
-stopped_then : (d c : ℕ) (conns : List ConnValue) → (d == c) ≡ false → is_stopped_in d (map (broken_if c) conns) ≡ is_stopped_in d conns
+pub stopped_then : (d c : ℕ) (conns : List ConnValue) → (d == c) ≡ false → is_stopped_in d (map (broken_if c) conns) ≡ is_stopped_in d conns
 stopped_then d c conns ne =
     let same : (if d == c then option_map broken_conn (conn_of d conns) else conn_of d conns) ≡ conn_of d conns = rw ne refl in
     ap (λ o. option_map_or (λ (k : ConnValue). k.broken) o false) (conn_broken d c conns ∙ same)
 
-stopped_now : (d c : ℕ) (conns : List ConnValue) → (d == c) ≡ true → is_some (conn_of d conns) ≡ true → is_stopped_in d (map (broken_if c) conns) ≡ true
+pub stopped_now : (d c : ℕ) (conns : List ConnValue) → (d == c) ≡ true → is_some (conn_of d conns) ≡ true → is_stopped_in d (map (broken_if c) conns) ≡ true
 stopped_now d c conns it there =
     let same : (if d == c then option_map broken_conn (conn_of d conns) else conn_of d conns) ≡ option_map broken_conn (conn_of d conns) = rw it refl in
     ap (λ o. option_map_or (λ (k : ConnValue). k.broken) o false) (conn_broken d c conns ∙ same) ∙ by_it (conn_of d conns) there
@@ -258,13 +258,13 @@ reply_more id (x ∷ calls) k = ap (λ o. option_or (if is_call x.id id then x.r
     or_assoc (Some e) b c = refl
 
 -- a reply goes into its slot
-abbrev MayFill : CallId → Option ReplyEntry → Option ConnValue → Option ConnValue → Type 0
+abbrev pub MayFill : CallId → Option ReplyEntry → Option ConnValue → Option ConnValue → Type 0
 MayFill id reply None None = ⊤
 MayFill id reply None (Some l) = ⊥
 MayFill id reply (Some k) None = ⊥
 MayFill id reply (Some k) (Some l) = Fills id reply k l
 
-open_number : (d : ℕ) (conns : List ConnValue) (k : ConnValue) → conn_of d conns ≡ Some k → k.number ≡ d
+pub open_number : (d : ℕ) (conns : List ConnValue) (k : ConnValue) → conn_of d conns ≡ Some k → k.number ≡ d
 open_number d [] k e = absurd (cc)
 open_number d (x ∷ conns) k e = ⊎_elim
     (λ (here : (x.number == d) ≡ true).
@@ -277,7 +277,7 @@ none_fills : (id : CallId) (o : Option ConnValue) → MayFill id None o o
 none_fills id None = tt
 none_fills id (Some k) = untouched id None k (λ j lt. cond_both (is_call id (call_id k.number (k.taken + j))) None None (λ x. x ≡ None) (λ _. refl) (λ _. refl))
 
-fills_in : (id : CallId) (reply : Option ReplyEntry) (conns : List ConnValue) (d : ℕ)
+pub fills_in : (id : CallId) (reply : Option ReplyEntry) (conns : List ConnValue) (d : ℕ)
     → MayFill id reply (conn_of d conns) (conn_of d (filled_in (option_map (reply_with id) reply) conns))
 fills_in id None conns d = none_fills id (conn_of d conns)
 fills_in id (Some e) conns d =

@@ -48,3 +48,5 @@ pub mod LivesHooking
 pub mod LivesBeginning
 pub mod LivesLeaving
 pub mod AnsweringLemmas
+pub mod EndSteps
+pub mod ResultSteps

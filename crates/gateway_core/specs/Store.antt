@@ -4,6 +4,7 @@ use Rattle.std.specs.Option.{option_map_or}
 use Rattle.std.specs.List.{sum_by}
 use Rattle.gateway_core.specs.declared.id.CallId.{CallId}
 use Rattle.gateway_core.specs.Job.{JobValue}
+use Rattle.gateway_core.specs.Fate.{Fate, is_broken}
 use Rattle.gateway_core.specs.Past.{is_call}
 use Rattle.gateway_core.specs.Step.{CallState, Live, call_state, gone}
 use Rattle.gateway_core.specs.Kept.{KeptValue}
@@ -90,3 +91,11 @@ fill_first r (k ∷ conns) = if k.number == r.id.conn then filled r.id.request r
 abbrev pub filled_in : Option ReplyValue → List ConnValue → List ConnValue
 filled_in None conns = conns
 filled_in (Some r) conns = fill_first r conns
+
+-- ---- how it stands for what has occurred
+
+-- the connections that are open have their fates, and of one that is broken or not open no call can be decided
+pub record HasFates (fates : ℕ → Fate) (v : MachineValue) : Type 0 where
+  pub open_are : (c : ℕ) (k : ConnValue) → conn_of c v.conns ≡ Some k → k.broken ≡ is_broken (fates c)
+  pub none_live : (id : CallId) → conn_of id.conn v.conns ≡ None → (call_at id v.calls).live ≡ None
+  pub broken_none : (id : CallId) → is_broken (fates id.conn) ≡ true → (call_at id v.calls).live ≡ None

@@ -1,11 +1,17 @@
 //! What an occurrence makes of the machine's value, and what the value then stands for. The functions do nothing.
-ghost use Rattle.std.specs.Prelude.{◌≡◌, ℕ, None, List, false, ◌∷◌, ◌==◌, ◌+◌, if◌then◌else◌, Option, Bool, Some, true, ◌++◌, [], map};
+ghost use Rattle.std.specs.Prelude.{◌≡◌, ◌||◌, max, ℕ, None, List, false, ◌∷◌, ◌==◌, ◌+◌, if◌then◌else◌, Option, Bool, Some, true, ◌++◌, [], map};
 ghost use Rattle.gateway_core.specs.declared.id.CallId.{CallId};
-ghost use Rattle.gateway_core.specs.Occurrence.{Occurrence, Entry, Entering};
-ghost use Rattle.gateway_core.specs.Past.{Past, entering_now, mark_of, marked, now, entries, is_closed, is_drained, crowds, call_id};
+ghost use Rattle.gateway_core.specs.Occurrence.{Occurrence, Entry, Entering, Result};
+ghost use Rattle.gateway_core.specs.Ends.{ended_call, is_stopped_in, CallsEnd};
+ghost use Rattle.connect_codec.specs.declared.answer.Outcome.{Outcome};
+ghost use Rattle.gateway_core.specs.Results.{ResultTaken};
+ghost use Rattle.gateway_core.specs.declared.fault.Took.{Took};
+ghost use Rattle.gateway_core.specs.Store.{MachineValue, machine_value, machine, HasFates};
+ghost use Rattle.gateway_core.specs.declared.machine.cause.Cause.{Cause};
+ghost use Rattle.gateway_core.specs.Past.{is_closing_of, is_drain, is_result_of, moment_of, Past, entering_now, mark_of, marked, now, entries, is_closed, is_drained, crowds, call_id};
 ghost use Rattle.gateway_core.specs.Step.{CallState, gone, step};
 ghost use Rattle.gateway_core.specs.Begins.{arrive};
-ghost use Rattle.gateway_core.specs.Machine.{MachineState, new_conn, After, AfterEntry, is_entry};
+ghost use Rattle.gateway_core.specs.Machine.{ConnState, MachineState, new_conn, After, AfterEntry, is_entry, starting};
 ghost use Rattle.gateway_core.specs.declared.entry.ReplyEntry.{ReplyEntry};
 ghost use Rattle.gateway_core.specs.Job.{JobValue};
 ghost use Rattle.gateway_core.specs.LiveStands.{CallStands, Stepped};
@@ -111,4 +117,21 @@ pub fn event_law()
 pub fn seen_law()
     ensures { (id : CallId) (i : ℕ) (c : CallState) (fate : Fate) (os : List Occurrence) → CallFated id c fate os → (is_broken fate ≡ true → c.live ≡ None)
         → seen_by c i ≡ judged_fated id i fate os }
+{}
+
+/// What a moment, a hang-up or the drain makes of the machine that ends the calls which it ends.
+pub fn ends_law()
+    ensures { (o : Occurrence) (cause : Cause) (s v w : MachineValue) (closed : ℕ → ConnState) (fates : ℕ → Fate)
+        → ((d : ℕ) → is_closing_of d o ≡ false) → ((id : CallId) (i : ℕ) → is_result_of id i o ≡ false) → starting o (machine closed s) ≡ []
+        → ((id : CallId) (c : CallState) → step s.moment id o c ≡ ended_call cause id c)
+        → v ≡ machine_value (max s.moment (moment_of o)) (is_drain o || s.drained) s.conns s.calls s.jobs
+        → HasFates fates s → CallsEnd cause v w
+        → AfterBreaks (λ c. is_stopped_in c w.conns) fates o (machine closed s) (machine closed w) }
+{}
+
+/// What a result makes of the machine, also where its connection breaks.
+pub fn result_law()
+    ensures { (v w : MachineValue) (closed : ℕ → ConnState) (fates : ℕ → Fate) (id : CallId) (branch : ℕ) (outcome : Outcome) (took : Took) → HasFates fates v
+        → ResultTaken id branch outcome v w took
+        → AfterBreaks (λ c. is_stopped_in c w.conns) fates (Result id branch outcome) (machine closed v) (machine closed w) }
 {}
