@@ -4,3 +4,4 @@ pub mod VerdictLemmas
 pub mod MessageLemmas
 pub mod FieldLineLemmas
 pub mod ReadBackLemmas
+pub mod TimeoutLemmas

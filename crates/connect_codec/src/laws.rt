@@ -1,5 +1,9 @@
 //! What follows from the definitions alone. The functions are empty: their clauses are the laws.
-ghost use Rattle.std.specs.Prelude.{ℕ, ◌<◌, ◌^◌, List, [], length, Bool, None, Some, IsTrue};
+ghost use Rattle.std.specs.Prelude.{◌≡◌, ℕ, ◌<◌, ◌≤◌, ◌^◌, List, [], length, Bool, Option, None, Some, IsTrue};
+ghost use Rattle.http_pieces.specs.Request.{HttpRequest};
+ghost use Rattle.http_pieces.specs.declared.largest.TheConstants.{MAX_DECIMAL};
+ghost use Rattle.connect_codec.specs.Verdict.{verdict_of};
+ghost use Rattle.connect_codec.specs.declared.verdict.Verdict.TheVariants.{Ask};
 ghost use Rattle.error_document.specs.Codes.{code_status};
 ghost use Rattle.error_document.specs.Documents.{error_text};
 ghost use Rattle.error_document.specs.declared.document.RpcError.{RpcError};
@@ -28,4 +32,10 @@ pub fn replies_read_back()
 pub fn branch_requests_read_back()
     ensures { (call : BranchCall) (more : List ℕ) → IsSendable call
         → ReadsAsCall (branch_request call) call more }
+{}
+
+/// A timeout that a request asks for has ten digits at most.
+pub fn timeout_law()
+    ensures { (q : HttpRequest) (known : Bool) (timeout : ℕ) (id : Option (List ℕ))
+        → verdict_of q known ≡ Ask (Some timeout) id → timeout ≤ MAX_DECIMAL }
 {}

@@ -1,8 +1,9 @@
 -- A request whose path names no plan is no call.
-use Rattle.std.proofs.Common.{◌≡◌, ℕ, Bool, false, List, Option}
-use Rattle.std.specs.Prelude.{not, codes, bytes_eq}
+use Rattle.std.proofs.Common.{◌≡◌, ℕ, ◌≤◌, Bool, false, List, Option, None, Some, sym, ◌∙◌}
+use Rattle.std.specs.Prelude.{IfSome, not, codes, bytes_eq}
 use Rattle.std.proofs.lemmas.Bool.{cond_both}
 use Rattle.http_pieces.specs.Request.{HttpRequest}
+use Rattle.http_pieces.specs.declared.largest.TheConstants.{MAX_DECIMAL}
 use Rattle.connect_codec.specs.Verdict.{verdict_of}
 use Rattle.connect_codec.specs.declared.verdict.Verdict.{Verdict}
 use Rattle.connect_codec.specs.declared.verdict.Verdict.TheVariants.{Ask, Bare}
@@ -17,3 +18,9 @@ pub no_call : (q : HttpRequest) (known : Bool) (v : Verdict) (timeout : Option �
     → v ≡ verdict_of q known → v ≡ Ask timeout id → known ≡ false → ⊥
 no_call q known v timeout id judged ask unknown =
     unknown_no_call q timeout id (rw (← unknown, ← judged) ask)
+
+-- a call's own timeout is in its range, by the law of verdicts
+pub timely : ((q : HttpRequest) (known : Bool) (timeout : ℕ) (id : Option (List ℕ)) → verdict_of q known ≡ Ask (Some timeout) id → timeout ≤ MAX_DECIMAL)
+    → (q : HttpRequest) (known : Bool) (v : Verdict) (timeout : Option ℕ) (id : Option (List ℕ)) → v ≡ verdict_of q known → v ≡ Ask timeout id → IfSome timeout (λ t. t ≤ MAX_DECIMAL)
+timely law q known v None id judged ask = tt
+timely law q known v (Some t) id judged ask = law q known t id (sym judged ∙ ask)

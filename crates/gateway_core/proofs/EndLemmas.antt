@@ -1,5 +1,5 @@
 -- Many calls end at one occurrence, in the order of the store, or their connections break.
-use Rattle.std.proofs.Common.{◌≡◌, ℕ, suc, ◌+◌, ◌≤◌, ◌<◌, Bool, true, false, List, [], ◌∷◌, ◌++◌, map, length, take, Option, None, Some, refl, sym, ap, ◌∙◌, subst, arith, ⊎_elim, inl, inr}
+use Rattle.std.proofs.Common.{◌≡◌, ℕ, suc, ◌+◌, ◌-◌, ◌≤◌, ◌<◌, Bool, true, false, List, [], ◌∷◌, ◌++◌, map, length, take, Option, None, Some, refl, sym, ap, ◌∙◌, subst, arith, ⊎_elim, inl, inr}
 use Rattle.std.specs.Prelude.{◌⊎◌, ⊤, is_some, if◌then◌else◌, ◌==◌, nat_lt, option_map, slice_set}
 use Rattle.std.specs.Option.{option_or, option_map_or}
 use Rattle.std.proofs.lemmas.Bool.{cond_both, cases_Bool, cases_eq, cases_lt, lt-ltb, le-ltb, eq-eqb, ne_eqb, eqb-true}
@@ -13,9 +13,9 @@ use Rattle.gateway_core.specs.Past.{call_id, is_call}
 use Rattle.gateway_core.specs.Step.{CallState, Live, call_state, ended_by}
 use Rattle.gateway_core.specs.Machine.{slot_at}
 use Rattle.gateway_core.specs.Kept.{KeptValue}
-use Rattle.gateway_core.specs.Conn.{ConnValue, filled}
-use Rattle.gateway_core.specs.Reply.{reply_with}
-use Rattle.gateway_core.specs.Store.{MachineValue, call_at, conn_of, kept_at, no_call, given_up, given_up_if, broken_conn, broken_if, broken_at, filled_in}
+use Rattle.gateway_core.specs.Conn.{ConnValue, fill_at, filled}
+use Rattle.gateway_core.specs.Reply.{ReplyValue, reply_with}
+use Rattle.gateway_core.specs.Store.{MachineValue, call_at, conn_of, kept_at, no_call, given_up, given_up_if, broken_conn, broken_if, broken_at, fill_first, filled_in, numbers}
 use Rattle.gateway_core.specs.Ends.{caused, ended_if, ended_call, ended_kept, EndedAt, without_reply, settled_at, is_stopped_in, ended_below, MayBreak, EndsOn, EndedBelow, IsSettled, AreApart, reply_in, MayTakeIn, SettledBelow, MayEnd, CallsEnd}
 use Rattle.gateway_core.proofs.LimitLemmas.{same_call}
 use Rattle.gateway_core.proofs.Frame.{or_none}
@@ -89,6 +89,27 @@ some_still None b m e = absurd (cc)
 some_still (Some k) None m e = absurd m
 some_still (Some k) (Some l) m e = refl
 
+pub numbers_broken : (c : ℕ) (conns : List ConnValue) → numbers (map (broken_if c) conns) ≡ numbers conns
+numbers_broken c [] = refl
+numbers_broken c (k ∷ conns) =
+    ap (λ n. n ∷ numbers (map (broken_if c) conns)) (cond_both (k.number == c) (broken_conn k) k (λ x. x.number ≡ k.number) (λ _. refl) (λ _. refl))
+    ∙ ap (λ ns. k.number ∷ ns) (numbers_broken c conns)
+
+fill_numbers : (r : ReplyValue) (conns : List ConnValue) → numbers (fill_first r conns) ≡ numbers conns
+fill_numbers r [] = refl
+fill_numbers r (k ∷ conns) = by_it (k.number == r.id.conn) (fill_numbers r conns)
+  where
+    its : (filled r.id.request r.entry k).number ≡ k.number
+    its = cond_both (nat_lt r.id.request k.taken) k (record k { slots = fill_at (r.id.request - k.taken) r.entry k.slots }) (λ x. x.number ≡ k.number) (λ _. refl) (λ _. refl)
+
+    by_it : (b : Bool) → numbers (fill_first r conns) ≡ numbers conns → numbers (if b then filled r.id.request r.entry k ∷ conns else k ∷ fill_first r conns) ≡ k.number ∷ numbers conns
+    by_it true rest = ap (λ n. n ∷ numbers conns) its
+    by_it false rest = ap (λ ns. k.number ∷ ns) rest
+
+pub numbers_filled : (id : CallId) (reply : Option ReplyEntry) (conns : List ConnValue) → numbers (filled_in (option_map (reply_with id) reply) conns) ≡ numbers conns
+numbers_filled id None conns = refl
+numbers_filled id (Some e) conns = fill_numbers (reply_with id e) conns
+
 -- ---- the first loop
 
 kept_past : (calls : List KeptValue) (j : ℕ) → length calls ≤ j → kept_at j calls ≡ no_call
@@ -108,6 +129,7 @@ ends_start cause v s = record {
   moment_is = refl;
   drained_is = refl;
   jobs_are = refl;
+  numbers_are = refl;
   conns_are = λ c. stays_same (conn_of c v.conns);
   size_is = refl;
   calls_are = λ j. rw (le-ltb j 0 (omega arith)) (by_stop j (is_stopped_in (kept_at j v.calls).id.conn v.conns) refl);
@@ -140,6 +162,7 @@ ended_one cause i v u t h lt t_is = subst (λ x. EndedBelow cause (i + 1) v x) (
   moment_is = h.moment_is;
   drained_is = h.drained_is;
   jobs_are = h.jobs_are;
+  numbers_are = h.numbers_are;
   conns_are = h.conns_are;
   size_is = length-set u.calls i (ended_kept cause (kept_at i u.calls)) ∙ h.size_is;
   calls_are = λ j. ⊎_elim (λ (here : j ≡ i).
@@ -171,6 +194,7 @@ broke_one cause i v u t h s lt ends t_is = subst (λ x. EndedBelow cause (i + 1)
   moment_is = h.moment_is;
   drained_is = h.drained_is;
   jobs_are = h.jobs_are;
+  numbers_are = numbers_broken c u.conns ∙ h.numbers_are;
   conns_are = λ d. breaks_then (conn_of d v.conns) (conn_of d u.conns) (conn_of d (map (broken_if c) u.conns)) (h.conns_are d) (break_one d c u.conns);
   size_is = length-map u.calls (given_up_if c) ∙ h.size_is;
   calls_are = λ j. given_at c j u.calls ∙ by_conn j (cases_Bool ((kept_at j v.calls).id.conn == c));
@@ -239,6 +263,7 @@ settles_start u = record {
   moment_is = refl;
   drained_is = refl;
   jobs_are = refl;
+  numbers_are = refl;
   conns_are = λ c. by_conn (conn_of c u.conns);
   size_is = refl;
   calls_are = λ j. rw (le-ltb j 0 (omega arith)) refl;
@@ -326,6 +351,7 @@ settles_next i u t w h lt w_is = subst (λ x. SettledBelow (i + 1) u x) (sym w_i
   moment_is = h.moment_is;
   drained_is = h.drained_is;
   jobs_are = h.jobs_are;
+  numbers_are = numbers_filled k.id k.reply t.conns ∙ h.numbers_are;
   conns_are = λ d.
       subst (λ calls. MayTakeIn calls (conn_of d u.conns) (conn_of d (settled_at i t).conns)) (sym (take_more u.calls i no_call (omega (arith, lt, h.size_is))))
       (takes_more k.id k.reply (take i u.calls) (kept_at i u.calls) (conn_of d u.conns) (conn_of d t.conns) (conn_of d (settled_at i t).conns)
@@ -435,6 +461,7 @@ ends_all cause i n v u w s apart h all g done = record {
       ∙ ap without_reply (at_end j (omega (arith, lt, g.size_is)))
       ∙ ap (λ b. without_reply (ended_below cause b true (kept_at j v.calls))) (sym (stops (kept_at j v.calls).id.conn))
       ∙ sym (get_or-map (λ k. without_reply (ended_below cause (is_stopped_in k.id.conn w.conns) true k)) v.calls j no_call no_call (omega (arith, lt, g.size_is, h.size_is))));
+  numbers_are = g.numbers_are ∙ h.numbers_are;
   conns_are = λ c. conn_ends cause v.calls u.calls (conn_of c v.conns) (conn_of c u.conns) (conn_of c w.conns) (h.conns_are c) (takes c)
       (λ k l j k_is l_is.
       let here : k.number ≡ c = open_number c v.conns k k_is in
@@ -465,6 +492,7 @@ settles_end i u w h all = record {
   moment_is = h.moment_is;
   drained_is = h.drained_is;
   jobs_are = h.jobs_are;
+  numbers_are = h.numbers_are;
   conns_are = λ c.
       subst (λ calls. MayTakeIn calls (conn_of c u.conns) (conn_of c w.conns)) (take_all i u.calls all ∙ sym (take_all (length u.calls) u.calls (omega arith))) (h.conns_are c);
   size_is = h.size_is;

@@ -1,10 +1,9 @@
 -- Calls that end at one occurrence, as the machine's value takes it.
-use Rattle.std.proofs.Common.{◌≡◌, ℕ, ◌+◌, ◌<◌, max, Bool, true, false, List, [], ◌∷◌, ◌++◌, map, length, Option, None, Some, refl, sym, ap, ◌∙◌, subst, arith, ⊎_elim, append-nil}
-use Rattle.std.specs.Prelude.{if◌then◌else◌, ◌&&◌, ◌||◌, not, ◌==◌}
+use Rattle.std.proofs.Common.{◌≡◌, ℕ, ◌+◌, max, Bool, true, false, List, [], ◌∷◌, ◌++◌, map, Option, None, Some, refl, sym, ap, ◌∙◌, subst, arith, ⊎_elim, append-nil}
+use Rattle.std.specs.Prelude.{if◌then◌else◌, ◌&&◌, ◌||◌, not}
 use Rattle.std.specs.Option.{option_or, option_map_or}
 use Rattle.std.proofs.lemmas.Bool.{cond_both, cases_Bool}
 use Rattle.std.proofs.lemmas.List.{ext_get_or}
-use Rattle.gateway_core.specs.declared.entry.ReplyEntry.{ReplyEntry}
 use Rattle.gateway_core.specs.declared.id.CallId.{CallId}
 use Rattle.gateway_core.specs.declared.machine.cause.Cause.{Cause}
 use Rattle.gateway_core.specs.Breaks.{is_stopped, CallStays, ConnStays, CallAfter, ConnOn, AfterBreaks}
@@ -12,11 +11,11 @@ use Rattle.gateway_core.specs.Conn.{ConnValue, state_of}
 use Rattle.gateway_core.specs.Ends.{ended_if, ended_call, without_reply, is_stopped_in, ended_below, ConnEnds, MayEnd, CallsEnd}
 use Rattle.gateway_core.specs.Fate.{Fate, is_broken, starting_conn}
 use Rattle.gateway_core.specs.Kept.{KeptValue}
-use Rattle.gateway_core.specs.Machine.{ConnState, MachineState, ConnAfter, slot_at, step_of, starting, is_entry}
+use Rattle.gateway_core.specs.Machine.{ConnState, MachineState, ConnAfter, slot_at, step_of, starting}
 use Rattle.gateway_core.specs.Occurrence.{Occurrence}
 use Rattle.gateway_core.specs.Past.{call_id, is_call, is_closing_of, is_drain, is_result_of, moment_of}
-use Rattle.gateway_core.specs.Step.{CallState, Live, Step, call_state, gone, has_out, step}
-use Rattle.gateway_core.specs.Store.{MachineValue, machine_value, machine, call_at, conn_of, conn_state, HasFates}
+use Rattle.gateway_core.specs.Step.{CallState, Step, call_state, gone, has_out, step}
+use Rattle.gateway_core.specs.Store.{MachineValue, machine_value, machine, call_at, conn_of, HasFates}
 use Rattle.gateway_core.proofs.Cases.{and_true}
 use Rattle.gateway_core.proofs.EndLemmas.{id_below, out_same, open_number}
 use Rattle.gateway_core.proofs.Frame.{or_none}

@@ -50,3 +50,15 @@ pub mod LivesLeaving
 pub mod AnsweringLemmas
 pub mod EndSteps
 pub mod ResultSteps
+pub mod EnterLemmas
+pub mod StoreMore
+pub mod EnterSteps
+pub mod OpenSteps
+pub mod OrderLemmas
+pub mod OrderSteps
+pub mod StarveSteps
+pub mod Concerned
+pub mod FeedLemmas
+pub mod FeedSteps
+pub mod EndingSteps
+pub mod GatewaySteps

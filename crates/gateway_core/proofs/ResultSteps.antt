@@ -1,6 +1,6 @@
 -- A result, as the machine's value takes it.
-use Rattle.std.proofs.Common.{◌≡◌, ℕ, ◌+◌, ◌<◌, max, Bool, true, false, List, [], ◌∷◌, ◌++◌, map, length, Option, None, Some, refl, sym, ap, ◌∙◌, subst, arith, ⊎_elim, inl, inr, append-nil}
-use Rattle.std.specs.Prelude.{◌⊎◌, is_some, if◌then◌else◌, ◌&&◌, ◌||◌, not, ◌==◌, option_map, slice_set}
+use Rattle.std.proofs.Common.{◌≡◌, ℕ, ◌+◌, Bool, true, false, List, [], ◌∷◌, ◌++◌, map, length, Option, None, Some, refl, sym, ap, ◌∙◌, subst, arith, ⊎_elim, inl, inr, append-nil}
+use Rattle.std.specs.Prelude.{is_some, if◌then◌else◌, ◌&&◌, ◌==◌, option_map, slice_set}
 use Rattle.std.specs.Option.{option_or, option_map_or}
 use Rattle.std.proofs.lemmas.Bool.{cases_Bool, eq-eqb, eqb-true}
 use Rattle.connect_codec.specs.declared.answer.Outcome.{Outcome}
@@ -8,33 +8,32 @@ use Rattle.connect_codec.specs.declared.answer.Outcome.TheVariants.{Answer, Fail
 use Rattle.gateway_core.specs.declared.entry.ReplyEntry.{ReplyEntry}
 use Rattle.gateway_core.specs.declared.fault.Took.{Took}
 use Rattle.gateway_core.specs.declared.id.CallId.{CallId}
-use Rattle.gateway_core.specs.Breaks.{is_stopped, AfterBreaks, GivenUp, NoneLive}
+use Rattle.gateway_core.specs.Breaks.{AfterBreaks, GivenUp, NoneLive}
 use Rattle.gateway_core.specs.Conn.{ConnValue, state_of}
 use Rattle.gateway_core.specs.Ends.{is_stopped_in, MayBreak}
 use Rattle.gateway_core.specs.Fate.{Fate, is_broken}
-use Rattle.gateway_core.specs.Job.{JobValue, TaskValue}
-use Rattle.gateway_core.specs.Kept.{KeptValue}
-use Rattle.gateway_core.specs.Machine.{ConnState, MachineState, ConnAfter, After, slot_at, step_of, starting}
+use Rattle.gateway_core.specs.Job.{TaskValue}
+use Rattle.gateway_core.specs.Machine.{ConnState, MachineState, ConnAfter, After, slot_at, step_of}
 use Rattle.gateway_core.specs.Occurrence.{Result}
 use Rattle.gateway_core.specs.Past.{call_id, is_call}
 use Rattle.gateway_core.specs.Reply.{reply_with}
-use Rattle.gateway_core.specs.Results.{result_at, stepped_kept, stepped_at, settled_by, StepsAt, ResultTaken}
-use Rattle.gateway_core.specs.Step.{CallState, Live, Step, call_state, kept, has_out, result_on, first_of, next_out, is_last_answer}
-use Rattle.gateway_core.specs.Store.{MachineValue, machine_value, machine, call_at, conn_of, conn_state, kept_at, broken_at, broken_if, given_up_if, filled_in, IsFound, HasFates}
+use Rattle.gateway_core.specs.Results.{result_at, stepped_kept, stepped_at, settled_by, ResultTaken}
+use Rattle.gateway_core.specs.Step.{CallState, Live, Step, call_state, kept, has_out, result_on, first_of, next_out}
+use Rattle.gateway_core.specs.Store.{MachineValue, machine, call_at, conn_of, conn_state, kept_at, broken_at, broken_if, filled_in, IsFound, HasFates}
 use Rattle.gateway_core.proofs.EndLemmas.{open_number, MayFill, fills_in, break_one, stopped_then, stopped_now}
 use Rattle.gateway_core.proofs.Frame.{or_none}
 use Rattle.gateway_core.proofs.GivingUp.{given_up}
 use Rattle.gateway_core.proofs.LimitLemmas.{same_call}
 use Rattle.gateway_core.proofs.Readings.{quiet}
-use Rattle.gateway_core.proofs.StoreLemmas.{call_itself, call_found, call_set, call_given_up, Fills}
+use Rattle.gateway_core.proofs.StoreLemmas.{call_itself, call_found, call_set, call_given_up}
 
 -- ---- one call
 
-step_here : (id : CallId) (i : ℕ) (outcome : Outcome) (s : MachineState) → has_out (s.calls id) i ≡ true
+pub step_here : (id : CallId) (i : ℕ) (outcome : Outcome) (s : MachineState) → has_out (s.calls id) i ≡ true
     → step_of id (Result id i outcome) s ≡ result_on s.moment i outcome (slice_set (s.calls id).out i false) (s.calls id).live
 step_here id i outcome s out = rw (call_itself id, out) refl
 
-step_other : (id other : CallId) (i : ℕ) (outcome : Outcome) (s : MachineState) → (is_call id other && has_out (s.calls other) i) ≡ false
+pub step_other : (id other : CallId) (i : ℕ) (outcome : Outcome) (s : MachineState) → (is_call id other && has_out (s.calls other) i) ≡ false
     → step_of other (Result id i outcome) s ≡ kept (s.calls other)
 step_other id other i outcome s apart = rw apart refl
 
@@ -127,11 +126,11 @@ taken_after v w closed fates id branch outcome i h f out w_is = subst (λ x. Aft
 
 -- ---- what is given up
 
-eta_none : (c : CallState) → c.live ≡ None → c ≡ call_state c.out None
+pub eta_none : (c : CallState) → c.live ≡ None → c ≡ call_state c.out None
 eta_none c none = ap (λ (l : Option Live). call_state c.out l) none
 
 -- no call of a connection that is broken can be decided
-stop_none : (v : MachineValue) (fates : ℕ → Fate) (id : CallId) → HasFates fates v → is_stopped_in id.conn v.conns ≡ true → (call_at id v.calls).live ≡ None
+pub stop_none : (v : MachineValue) (fates : ℕ → Fate) (id : CallId) → HasFates fates v → is_stopped_in id.conn v.conns ≡ true → (call_at id v.calls).live ≡ None
 stop_none v fates id h stopped = by_conn (conn_of id.conn v.conns) refl
   where
     by_conn : (o : Option ConnValue) → conn_of id.conn v.conns ≡ o → (call_at id v.calls).live ≡ None
@@ -153,10 +152,10 @@ stays_given v fates closed stop h same = record {
     by_stop id true b_is = rw b_is (eta_none (call_at id v.calls) (stop_none v fates id h (sym (same id.conn) ∙ b_is)))
     by_stop id false b_is = rw b_is refl
 
-none_broken : (v : MachineValue) (fates : ℕ → Fate) (closed : ℕ → ConnState) → HasFates fates v → NoneLive (λ c. is_broken (fates c)) (machine closed v)
+pub none_broken : (v : MachineValue) (fates : ℕ → Fate) (closed : ℕ → ConnState) → HasFates fates v → NoneLive (λ c. is_broken (fates c)) (machine closed v)
 none_broken v fates closed h = λ id e. h.broken_none id e
 
-fills_stop : (id : CallId) (reply : Option ReplyEntry) (a b : Option ConnValue) → MayFill id reply a b
+pub fills_stop : (id : CallId) (reply : Option ReplyEntry) (a b : Option ConnValue) → MayFill id reply a b
     → option_map_or (λ (k : ConnValue). k.broken) b false ≡ option_map_or (λ (k : ConnValue). k.broken) a false
 fills_stop id reply None None f = refl
 fills_stop id reply None (Some l) f = absurd f
@@ -178,7 +177,7 @@ decided_out moment i (Answer body) out (Some l) some none = by_waiting l.waiting
 not_live : (moment i : ℕ) (outcome : Outcome) (out : List Bool) (live : Option Live) → is_some (result_on moment i outcome out live).reply ≡ true → live ≡ None → ⊥
 not_live moment i outcome out live some none = let clash : false ≡ true = sym (ap (λ l. is_some (result_on moment i outcome out l).reply) none) ∙ some in cc
 
-conn_breaks : (u : MachineState) (id : CallId) (i : ℕ) (outcome : Outcome) (c : ℕ) (closed : ConnState) (a b : Option ConnValue) → MayBreak a b
+pub conn_breaks : (u : MachineState) (id : CallId) (i : ℕ) (outcome : Outcome) (c : ℕ) (closed : ConnState) (a b : Option ConnValue) → MayBreak a b
     → ((other : CallId) → (step_of other (Result id i outcome) u).reply ≡ None) → ConnAfter (Result id i outcome) u c (option_map_or state_of a closed) (option_map_or state_of b closed)
 conn_breaks u id i outcome c closed None None m none = record {
   taken_is = refl;
@@ -197,7 +196,7 @@ conn_breaks u id i outcome c closed (Some k) (Some l) m none = record {
 }
 
 -- the machine, in which the calls of stopped connections were given up
-abbrev given : (ℕ → Bool) → MachineState → MachineState
+abbrev pub given : (ℕ → Bool) → MachineState → MachineState
 given stop m = record m { calls = λ id. if stop id.conn then call_state (m.calls id).out None else m.calls id }
 
 broke_after : (v w : MachineValue) (closed : ℕ → ConnState) (fates : ℕ → Fate) (id : CallId) (branch : ℕ) (outcome : Outcome) (i : ℕ) → HasFates fates v → IsFound id v.calls (Some i)

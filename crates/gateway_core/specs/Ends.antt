@@ -1,5 +1,5 @@
 -- Calls that end at a moment, a hang-up or the drain: each is ended and its reply made, or its connection breaks; then the replies go into their slots.
-use Rattle.std.specs.Prelude.{◌≡◌, ◌⊎◌, ⊤, ℕ, ◌+◌, ◌<◌, Bool, true, false, if◌then◌else◌, ◌==◌, nat_lt, List, [], ◌∷◌, map, take, length, Option, None, Some, is_some, slice_set, option_map}
+use Rattle.std.specs.Prelude.{◌≡◌, ◌⊎◌, ⊤, ℕ, ◌+◌, ◌<◌, max, ◌||◌, Bool, true, false, if◌then◌else◌, ◌==◌, nat_lt, List, [], ◌∷◌, map, take, length, Option, None, Some, is_some, slice_set, option_map}
 use Rattle.std.specs.Option.{option_or, option_map_or}
 use Rattle.gateway_core.specs.declared.entry.ReplyEntry.{ReplyEntry}
 use Rattle.gateway_core.specs.declared.id.CallId.{CallId}
@@ -7,13 +7,14 @@ use Rattle.gateway_core.specs.declared.event.CallEvent.{CallEvent}
 use Rattle.gateway_core.specs.declared.event.CallEvent.TheVariants.{Expired, HungUp as HungUpNow, Drained as DrainedNow}
 use Rattle.gateway_core.specs.declared.machine.cause.Cause.{Cause}
 use Rattle.gateway_core.specs.declared.machine.cause.Cause.TheVariants.{Reached, HungUp, Drained}
-use Rattle.gateway_core.specs.Past.{Asked, is_due, is_call, call_id}
-use Rattle.gateway_core.specs.Step.{CallState, Live, Step, call_state, kept, ended_by}
+use Rattle.gateway_core.specs.Occurrence.{Occurrence}
+use Rattle.gateway_core.specs.Past.{Asked, is_due, is_call, call_id, is_closing_of, is_drain, is_result_of, moment_of}
+use Rattle.gateway_core.specs.Step.{CallState, Live, Step, call_state, kept, ended_by, step}
 use Rattle.gateway_core.specs.Kept.{KeptValue}
 use Rattle.gateway_core.specs.Conn.{ConnValue}
-use Rattle.gateway_core.specs.Machine.{slot_at}
+use Rattle.gateway_core.specs.Machine.{ConnState, is_entry, slot_at, starting}
 use Rattle.gateway_core.specs.Reply.{reply_with}
-use Rattle.gateway_core.specs.Store.{MachineValue, call_at, conn_of, kept_at, given_up, broken_at, filled_in}
+use Rattle.gateway_core.specs.Store.{MachineValue, machine, machine_value, call_at, conn_of, kept_at, given_up, broken_at, filled_in, numbers}
 
 -- the event by which this ends a call
 abbrev pub caused : Cause → CallId → Asked → Option CallEvent
@@ -84,6 +85,7 @@ pub record EndedBelow (cause : Cause) (i : ℕ) (v u : MachineValue) : Type 0 wh
   pub moment_is : u.moment ≡ v.moment
   pub drained_is : u.drained ≡ v.drained
   pub jobs_are : u.jobs ≡ v.jobs
+  pub numbers_are : numbers u.conns ≡ numbers v.conns
   pub conns_are : (c : ℕ) → MayBreak (conn_of c v.conns) (conn_of c u.conns)
   pub size_is : length u.calls ≡ length v.calls
   pub calls_are : (j : ℕ) → kept_at j u.calls ≡ ended_below cause (is_stopped_in (kept_at j v.calls).id.conn u.conns) (nat_lt j i) (kept_at j v.calls)
@@ -124,6 +126,7 @@ pub record SettledBelow (i : ℕ) (u w : MachineValue) : Type 0 where
   pub moment_is : w.moment ≡ u.moment
   pub drained_is : w.drained ≡ u.drained
   pub jobs_are : w.jobs ≡ u.jobs
+  pub numbers_are : numbers w.conns ≡ numbers u.conns
   pub conns_are : (c : ℕ) → MayTakeIn (take i u.calls) (conn_of c u.conns) (conn_of c w.conns)
   pub size_is : length w.calls ≡ length u.calls
   pub calls_are : (j : ℕ) → kept_at j w.calls ≡ (if nat_lt j i then without_reply (kept_at j u.calls) else kept_at j u.calls)
@@ -150,5 +153,17 @@ pub record CallsEnd (cause : Cause) (v w : MachineValue) : Type 0 where
   pub drained_is : w.drained ≡ v.drained
   pub jobs_are : w.jobs ≡ v.jobs
   pub calls_are : w.calls ≡ map (λ k. without_reply (ended_below cause (is_stopped_in k.id.conn w.conns) true k)) v.calls
+  pub numbers_are : numbers w.conns ≡ numbers v.conns
   pub conns_are : (c : ℕ) → MayEnd cause v.calls (conn_of c v.conns) (conn_of c w.conns)
   pub breaks_are : (c : ℕ) → is_stopped_in c w.conns ≡ true → is_stopped_in c v.conns ≡ false → EndsOn cause c v.calls
+
+-- ---- as occurrences
+
+-- the calls end by the cause as they do at the occurrence
+pub record EndsBy (o : Occurrence) (cause : Cause) (s v : MachineValue) : Type 0 where
+  pub plain : is_entry o ≡ false
+  pub no_closing : (d : ℕ) → is_closing_of d o ≡ false
+  pub no_result : (id : CallId) (i : ℕ) → is_result_of id i o ≡ false
+  pub no_start : (closed : ℕ → ConnState) → starting o (machine closed s) ≡ []
+  pub steps : (id : CallId) (c : CallState) → step s.moment id o c ≡ ended_call cause id c
+  pub machine_is : v ≡ machine_value (max s.moment (moment_of o)) (is_drain o || s.drained) s.conns s.calls s.jobs

@@ -30,3 +30,8 @@ pub mod Results
 pub mod Duty
 pub mod Lives
 pub mod LivesSound
+pub mod Enters
+pub mod Opens
+pub mod Orderly
+pub mod Events
+pub mod Gateway

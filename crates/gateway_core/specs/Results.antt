@@ -1,5 +1,6 @@
 -- A result of a branch, as the machine takes it.
-use Rattle.std.specs.Prelude.{◌≡◌, ◌⊎◌, ℕ, Bool, true, false, [], ◌++◌, Option, Some, is_some, option_map, slice_set}
+use Rattle.std.specs.Prelude.{◌≡◌, ◌⊎◌, ℕ, Bool, true, false, ◌&&◌, not, if◌then◌else◌, [], ◌++◌, filter, Option, Some, None, is_some, is_none, option_map, slice_set}
+use Rattle.std.specs.List.{list_any}
 use Rattle.connect_codec.specs.declared.answer.Outcome.{Outcome}
 use Rattle.gateway_core.specs.declared.entry.ReplyEntry.TheVariants.{Call as Calling}
 use Rattle.gateway_core.specs.declared.fault.Took.{Took}
@@ -9,7 +10,8 @@ use Rattle.gateway_core.specs.Breaks.{seen_by}
 use Rattle.gateway_core.specs.CallRecord.{CallRecord}
 use Rattle.gateway_core.specs.Kept.{KeptValue}
 use Rattle.gateway_core.specs.Reply.{reply_with}
-use Rattle.gateway_core.specs.Step.{Step, has_out, result_on}
+use Rattle.gateway_core.specs.Past.{is_call}
+use Rattle.gateway_core.specs.Step.{CallState, Step, call_state, has_out, result_on}
 use Rattle.gateway_core.specs.Store.{MachineValue, call_at, kept_at, broken_at, filled_in, IsFound}
 
 -- what a result makes of the call at a place
@@ -45,3 +47,29 @@ ResultTaken id branch outcome v w took =
     ((has_out (call_at id v.calls) branch ≡ false) × (took ≡ record { seen = Unknown; broke = false }) × (w ≡ v))
     ⊎ ((i : ℕ) × IsFound id v.calls (Some i) × (has_out (kept_at i v.calls).call branch ≡ true) × (took.seen ≡ seen_by (kept_at i v.calls).call branch)
     × StepsAt i (result_at i branch outcome v) v w took.broke)
+
+-- no branch of the call is out, and it can't be decided any more
+abbrev pub is_spent : CallState → Bool
+is_spent c = is_none c.live && not (list_any (λ b. b) c.out)
+
+abbrev pub without_call : CallId → MachineValue → MachineValue
+without_call id v = record v { calls = filter (λ k. not (is_call k.id id)) v.calls }
+
+-- the call is forgotten, if nothing is left of it
+abbrev pub Forgets : CallId → MachineValue → MachineValue → Type 0
+Forgets id v w = (w ≡ v) ⊎ ((is_spent (call_at id v.calls) ≡ true) × (w ≡ without_call id v))
+
+-- a branch of a call that can't be decided any more comes back
+abbrev pub back_kept : ℕ → KeptValue → KeptValue
+back_kept branch k = record { id = k.id; call = call_state (slice_set k.call.out branch false) None; reply = k.reply }
+
+abbrev pub back_at : ℕ → ℕ → MachineValue → MachineValue
+back_at i branch v = record v { calls = slice_set v.calls i (back_kept branch (kept_at i v.calls)) }
+
+-- for want of memory nothing is known of how a branch ended: where that counts, its connection breaks
+abbrev pub Starved : CallId → ℕ → MachineValue → MachineValue → Took → Type 0
+Starved id branch v w took =
+    ((has_out (call_at id v.calls) branch ≡ false) × (took ≡ record { seen = Unknown; broke = false }) × (w ≡ v))
+    ⊎ ((i : ℕ) × IsFound id v.calls (Some i) × (has_out (kept_at i v.calls).call branch ≡ true) × (took.seen ≡ seen_by (kept_at i v.calls).call branch)
+    × (took.broke ≡ is_some (kept_at i v.calls).call.live)
+    × (w ≡ back_at i branch (if is_some (kept_at i v.calls).call.live then broken_at id.conn v else v)))

@@ -52,6 +52,16 @@ no_call = record { id = record { conn = 0; request = 0 }; call = gone; reply = N
 abbrev pub kept_at : ℕ → List KeptValue → KeptValue
 kept_at i calls = slice_index_or calls i no_call
 
+-- what stands for a connection that is not there
+abbrev pub no_conn : ConnValue
+no_conn = record { number = 0; taken = 0; slots = []; broken = false }
+
+abbrev pub conn_at : ℕ → List ConnValue → ConnValue
+conn_at i conns = slice_index_or conns i no_conn
+
+abbrev pub numbers : List ConnValue → List ℕ
+numbers conns = map (λ k. k.number) conns
+
 -- the first call of that id stands at this place, or none does
 abbrev pub IsFound : CallId → List KeptValue → Option ℕ → Type 0
 IsFound id calls None = (j : ℕ) → j < length calls → is_call (kept_at j calls).id id ≡ false

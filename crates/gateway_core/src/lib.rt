@@ -10,6 +10,7 @@ mod entry;
 mod event;
 mod fault;
 mod gateway;
+pub mod gateway_laws;
 mod hook;
 mod id;
 mod job;

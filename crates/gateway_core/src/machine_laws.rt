@@ -1,15 +1,21 @@
 //! What an occurrence makes of the machine's value, and what the value then stands for. The functions do nothing.
-ghost use Rattle.std.specs.Prelude.{◌≡◌, ◌||◌, max, ℕ, None, List, false, ◌∷◌, ◌==◌, ◌+◌, if◌then◌else◌, Option, Bool, Some, true, ◌++◌, [], map};
+ghost use Rattle.std.specs.Prelude.{◌≡◌, ◌<◌, length, All, slice_set, ◌||◌, max, ℕ, None, List, false, ◌∷◌, ◌==◌, ◌+◌, if◌then◌else◌, Option, Bool, Some, true, ◌++◌, [], map};
 ghost use Rattle.gateway_core.specs.declared.id.CallId.{CallId};
-ghost use Rattle.gateway_core.specs.Occurrence.{Occurrence, Entry, Entering, Result};
-ghost use Rattle.gateway_core.specs.Ends.{ended_call, is_stopped_in, CallsEnd};
+ghost use Rattle.gateway_core.specs.Occurrence.{Occurrence, Closing, Entry, Entering, Opening, Result};
+ghost use Rattle.gateway_core.specs.Ends.{ended_call, is_stopped_in, CallsEnd, IsSettled};
 ghost use Rattle.connect_codec.specs.declared.answer.Outcome.{Outcome};
-ghost use Rattle.gateway_core.specs.Results.{ResultTaken};
+ghost use Rattle.gateway_core.specs.Results.{Forgets, ResultTaken, Starved};
+ghost use Rattle.gateway_core.specs.Conn.{ConnValue, next_of, without_first};
+ghost use Rattle.gateway_core.specs.Enters.{Enters, entered_at};
+ghost use Rattle.gateway_core.specs.Opens.{ReplyTaken, closed_at, closed_with, opened_as};
+ghost use Rattle.gateway_core.specs.Orderly.{ConnsApart, FatesAre, IsOrderly};
+ghost use Rattle.gateway_core.specs.Reply.{ReplyValue};
+ghost use Rattle.gateway_core.specs.Kept.{KeptValue};
 ghost use Rattle.gateway_core.specs.declared.fault.Took.{Took};
-ghost use Rattle.gateway_core.specs.Store.{MachineValue, machine_value, machine, HasFates};
+ghost use Rattle.gateway_core.specs.Store.{MachineValue, machine_value, machine, broken_at, conn_at, conn_of, HasFates, IsFound};
 ghost use Rattle.gateway_core.specs.declared.machine.cause.Cause.{Cause};
 ghost use Rattle.gateway_core.specs.Past.{is_closing_of, is_drain, is_result_of, moment_of, Past, entering_now, mark_of, marked, now, entries, is_closed, is_drained, crowds, call_id};
-ghost use Rattle.gateway_core.specs.Step.{CallState, gone, step};
+ghost use Rattle.gateway_core.specs.Step.{CallState, Step, gone, step};
 ghost use Rattle.gateway_core.specs.Begins.{arrive};
 ghost use Rattle.gateway_core.specs.Machine.{ConnState, MachineState, new_conn, After, AfterEntry, is_entry, starting};
 ghost use Rattle.gateway_core.specs.declared.entry.ReplyEntry.{ReplyEntry};
@@ -134,4 +140,102 @@ pub fn result_law()
     ensures { (v w : MachineValue) (closed : ℕ → ConnState) (fates : ℕ → Fate) (id : CallId) (branch : ℕ) (outcome : Outcome) (took : Took) → HasFates fates v
         → ResultTaken id branch outcome v w took
         → AfterBreaks (λ c. is_stopped_in c w.conns) fates (Result id branch outcome) (machine closed v) (machine closed w) }
+{}
+
+/// What comes on a stream is an occurrence of the machine, also where its connection breaks.
+pub fn enter_law()
+    ensures { (i : ℕ) (x : Entering) (v w : MachineValue) (closed : ℕ → ConnState) (fates : ℕ → Fate)
+        → i < length v.conns → ConnsApart v.conns → (conn_at i v.conns).broken ≡ false → IsFound (next_of (conn_at i v.conns)) v.calls None
+        → HasFates fates v → Enters i x v w
+        → EntryBreaks (λ c. is_stopped_in c w.conns) fates (conn_at i v.conns).number x (machine closed v) (machine closed w) }
+{}
+
+/// A connection that opens.
+pub fn open_law()
+    ensures { (n : ℕ) (v w : MachineValue) (closed : ℕ → ConnState) (fates : ℕ → Fate)
+        → conn_of n v.conns ≡ None → closed n ≡ new_conn → HasFates fates v → w ≡ opened_as n v
+        → AfterBreaks (λ c. is_stopped_in c w.conns) fates Opening (machine closed v) (machine closed w) }
+{}
+
+/// A connection that closes: its slots stand on beside the machine.
+pub fn close_law()
+    ensures { (n : ℕ) (v w : MachineValue) (closed : ℕ → ConnState) (fates : ℕ → Fate) (k : ConnValue)
+        → conn_of n v.conns ≡ Some k → HasFates fates v → w ≡ closed_at n v
+        → AfterBreaks (λ c. is_stopped_in c w.conns) fates (Closing n) (machine closed v) (machine (closed_with n v.conns closed) w) }
+{}
+
+/// A connection that breaks at a piece of its stream that brings no request.
+pub fn refused_law()
+    ensures { (n : ℕ) (v w : MachineValue) (closed : ℕ → ConnState) → w ≡ broken_at n v → AfterRefusal n (machine closed v) (machine closed w) }
+{}
+
+/// A reply that is handed out.
+pub fn handed_law()
+    ensures { (i : ℕ) (r : ReplyValue) (v w : MachineValue) (closed : ℕ → ConnState) (fates : ℕ → Fate)
+        (taken : ℕ → List ReplyEntry) (handed : List JobValue) (os : List Occurrence)
+        → i < length v.conns → ConnsApart v.conns → ReplyTaken i v w (Some r) → FatedStands (machine closed v) fates taken handed os
+        → FatedStands (machine closed w) fates (λ d. if d == (conn_at i v.conns).number then taken d ++ r.entry ∷ [] else taken d) handed os }
+{}
+
+/// What is kept is orderly after each step, if it was before.
+pub fn order_law()
+    ensures first { (moment : ℕ) (drained : Bool) → IsOrderly (machine_value moment drained [] [] []) }
+    ensures opens { (n : ℕ) (v w : MachineValue) → conn_of n v.conns ≡ None → All (λ (k : KeptValue). (k.id.conn == n) ≡ false) v.calls
+        → w ≡ opened_as n v → IsOrderly v → IsOrderly w }
+    ensures closes { (n : ℕ) (v w : MachineValue) → w ≡ closed_at n v → IsOrderly v → IsOrderly w }
+    ensures breaks { (n : ℕ) (v w : MachineValue) → w ≡ broken_at n v → IsOrderly v → IsOrderly w }
+    ensures enters { (i : ℕ) (s : Step) (v w : MachineValue) → i < length v.conns → (conn_at i v.conns).broken ≡ false
+        → w ≡ entered_at i s v → IsOrderly v → IsOrderly w }
+    ensures takes { (i : ℕ) (v w : MachineValue) → i < length v.conns → 0 < length (conn_at i v.conns).slots
+        → w ≡ record v { conns = slice_set v.conns i (without_first (conn_at i v.conns)) } → IsOrderly v → IsOrderly w }
+    ensures ends { (cause : Cause) (v w : MachineValue) → CallsEnd cause v w → IsOrderly v → IsOrderly w }
+    ensures results { (id : CallId) (branch : ℕ) (outcome : Outcome) (v w : MachineValue) (took : Took)
+        → ResultTaken id branch outcome v w took → IsOrderly v → IsOrderly w }
+    ensures starves { (id : CallId) (branch : ℕ) (v w : MachineValue) (took : Took) → Starved id branch v w took → IsOrderly v → IsOrderly w }
+    ensures forgets { (id : CallId) (v w : MachineValue) → Forgets id v w → IsOrderly v → IsOrderly w }
+{}
+
+/// What follows where the machine is orderly.
+pub fn orderly_law()
+    ensures fates { (fates : ℕ → Fate) (v : MachineValue) → IsOrderly v → FatesAre fates v.conns → HasFates fates v }
+    ensures settled { (v : MachineValue) → IsOrderly v → IsSettled v }
+    ensures fresh { (i : ℕ) (v : MachineValue) → i < length v.conns → IsOrderly v → IsFound (next_of (conn_at i v.conns)) v.calls None }
+    ensures next { (o : Occurrence) (os : List Occurrence) (fates : ℕ → Fate) (w : MachineValue)
+        → ((c : ℕ) (k : ConnValue) → conn_of c w.conns ≡ Some k → k.broken ≡ false → is_broken (fates c) ≡ false)
+        → FatesAre (fates_after (λ c. is_stopped_in c w.conns) o os fates) w.conns }
+{}
+
+/// A branch of which no more is known than that it ended, however it did.
+pub fn starved_law()
+    ensures { (id : CallId) (branch : ℕ) (outcome : Outcome) (v w : MachineValue) (closed : ℕ → ConnState) (fates : ℕ → Fate) (took : Took)
+        → HasFates fates v → Starved id branch v w took
+        → AfterBreaks (λ c. is_stopped_in c w.conns) fates (Result id branch outcome) (machine closed v) (machine closed w) }
+{}
+
+/// A call of which nothing is left can be forgotten.
+pub fn forgotten_law()
+    ensures { (id : CallId) (v w : MachineValue) (closed : ℕ → ConnState) (fates : ℕ → Fate)
+        (taken : ℕ → List ReplyEntry) (handed : List JobValue) (os : List Occurrence)
+        → Forgets id v w → FatedStands (machine closed v) fates taken handed os → FatedStands (machine closed w) fates taken handed os }
+{}
+
+/// A connection breaks only at an occurrence that concerns it.
+pub fn concerned_law()
+    ensures ends { (o : Occurrence) (cause : Cause) (s v w : MachineValue) (closed : ℕ → ConnState) (fates : ℕ → Fate)
+        (taken : ℕ → List ReplyEntry) (handed : List JobValue) (os : List Occurrence)
+        → v.conns ≡ s.conns → v.calls ≡ s.calls → ((id : CallId) (c : CallState) → step s.moment id o c ≡ ended_call cause id c)
+        → IsOrderly s → FatesAre fates s.conns → FatedStands (machine closed s) fates taken handed os → CallsEnd cause v w
+        → AreConcerned (λ c. is_stopped_in c w.conns) fates o os }
+    ensures results { (id : CallId) (branch : ℕ) (outcome : Outcome) (v w : MachineValue) (took : Took) (closed : ℕ → ConnState) (fates : ℕ → Fate)
+        (taken : ℕ → List ReplyEntry) (handed : List JobValue) (os : List Occurrence)
+        → FatesAre fates v.conns → FatedStands (machine closed v) fates taken handed os → ResultTaken id branch outcome v w took
+        → AreConcerned (λ c. is_stopped_in c w.conns) fates (Result id branch outcome) os }
+    ensures starves { (id : CallId) (branch : ℕ) (outcome : Outcome) (v w : MachineValue) (took : Took) (closed : ℕ → ConnState) (fates : ℕ → Fate)
+        (taken : ℕ → List ReplyEntry) (handed : List JobValue) (os : List Occurrence)
+        → FatesAre fates v.conns → FatedStands (machine closed v) fates taken handed os → Starved id branch v w took
+        → AreConcerned (λ c. is_stopped_in c w.conns) fates (Result id branch outcome) os }
+    ensures enters { (i : ℕ) (x : Entering) (v w : MachineValue) (closed : ℕ → ConnState) (fates : ℕ → Fate)
+        (taken : ℕ → List ReplyEntry) (handed : List JobValue) (os : List Occurrence)
+        → i < length v.conns → IsOrderly v → FatesAre fates v.conns → FatedStands (machine closed v) fates taken handed os → Enters i x v w
+        → AreConcerned (λ c. is_stopped_in c w.conns) fates (Entry (conn_at i v.conns).number x) os }
 {}

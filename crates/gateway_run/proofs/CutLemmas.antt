@@ -13,7 +13,7 @@ use Rattle.gateway_run.proofs.EventLemmas.{at_unique}
 use Rattle.gateway_core.specs.Job.{JobValue}
 use Rattle.gateway_core.specs.Starts.{Placed, start, occurrences, job_started, jobs_by, jobs, starts}
 use Rattle.gateway_core.specs.Past.{Past, mark_of, marked}
-use Rattle.gateway_run.specs.Events.{GatewayEvent, Opening, Piece, HangUp, Moment, BranchResult, Drain, Closing, Before, succeeds, connections, is_closing_of, is_open, hung_up, listens, stream, piece_of, Gains, requests_gained, refusal_gained, OccursAt, Occurs, onto, IsShifted}
+use Rattle.gateway_core.specs.Events.{GatewayEvent, Opening, Piece, HangUp, Moment, BranchResult, Drain, Closing, Before, succeeds, connections, is_closing_of, is_open, hung_up, listens, stream, piece_of, Gains, requests_gained, refusal_gained, OccursAt, Occurs, onto, IsShifted}
 use Rattle.gateway_core.proofs.Cases.{or_false, and_true, and_false}
 
 -- ---- connections

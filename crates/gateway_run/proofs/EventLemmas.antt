@@ -9,7 +9,7 @@ use Rattle.gateway_core.specs.Past.{Past, mark_of, marked}
 use Rattle.gateway_core.specs.Starts.{Placed, occurrences}
 use Rattle.gateway_core.specs.Queue.{queued, IsPrefixOf}
 use Rattle.gateway_core.proofs.PastLemmas.{nothing_later}
-use Rattle.gateway_run.specs.Events.{GatewayEvent, Opening, Piece, HangUp, Moment, BranchResult, Drain, Closing, Before, Gains, OccursAt, Occurs, has_no_effect, once, onto, is_open, listens, stream, succeeds}
+use Rattle.gateway_core.specs.Events.{GatewayEvent, Opening, Piece, HangUp, Moment, BranchResult, Drain, Closing, Before, Gains, OccursAt, Occurs, has_no_effect, once, onto, is_open, listens, stream, succeeds}
 use Rattle.gateway_core.proofs.Cases.{not_so}
 
 gains_unique : (plans : List PlanRecord) (text longer : List ℕ) (a b : List Entering) → Gains plans text longer a → Gains plans text longer b → a ≡ b

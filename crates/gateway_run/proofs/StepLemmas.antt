@@ -29,7 +29,7 @@ use Rattle.gateway_core.specs.Occurrence.{Occurrence, Opening as Opens, Entry, R
 use Rattle.gateway_core.specs.Past.{entries, marked}
 use Rattle.gateway_core.specs.Stands.{StandsFor, StandsAfter, conn_of, occurred_by, refusal_of}
 use Rattle.gateway_core.specs.Starts.{Placed, occurrences}
-use Rattle.gateway_run.specs.Events.{GatewayEvent, Opening, Piece, BranchResult, Before, succeeds, connections, is_closing_of, is_hang_up_of, is_open, hung_up, listens, stream, piece_of, Gains, requests_gained, refusal_gained, OccursAt, Occurs, onto, once}
+use Rattle.gateway_core.specs.Events.{GatewayEvent, Opening, Piece, BranchResult, Before, succeeds, connections, is_closing_of, is_hang_up_of, is_open, hung_up, listens, stream, piece_of, Gains, requests_gained, refusal_gained, OccursAt, Occurs, onto, once}
 use Rattle.gateway_run.specs.Today.{first_only}
 use Rattle.gateway_run.specs.Stands.{StandsForEvents}
 use Rattle.gateway_run.proofs.DeliverLemmas.{Delivers}

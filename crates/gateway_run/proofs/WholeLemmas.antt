@@ -26,7 +26,7 @@ use Rattle.gateway_run.specs.declared.event.Event.TheVariants as taken
 use Rattle.gateway_run.specs.declared.outcome.Start.{Start}
 use Rattle.gateway_run.specs.declared.stepping.Stepped.{Stepped}
 use Rattle.gateway_run.specs.declared.stepping.Stepped.TheVariants.{Done, Opened, NotOpened, Saw, Fault}
-use Rattle.gateway_run.specs.Events.{GatewayEvent, Opening, Piece, HangUp, Moment, BranchResult, Drain, Closing, Before, IsOpened, IsRising, OpensAt, Occurs, connections, open_connections, onto}
+use Rattle.gateway_core.specs.Events.{GatewayEvent, Opening, Piece, HangUp, Moment, BranchResult, Drain, Closing, Before, IsOpened, IsRising, OpensAt, Occurs, connections, open_connections, onto}
 use Rattle.gateway_run.specs.Run.{HasRun, is_listed, joined, newest_first, queues, start_at, starts_of}
 use Rattle.gateway_run.specs.Stands.{StandsForEvents, opened_by}
 use Rattle.gateway_run.specs.Today.{gateway_event, is_opening, first_opening, first_only, is_behind}

@@ -10,7 +10,7 @@ use Rattle.gateway_core.specs.Queue.{queued}
 use Rattle.gateway_core.specs.Starts.{Placed, occurrences, jobs, starts}
 use Rattle.gateway_run.specs.declared.event.Event.{Event}
 use Rattle.gateway_run.specs.declared.outcome.Start.{Start}
-use Rattle.gateway_run.specs.Events.{Before}
+use Rattle.gateway_core.specs.Events.{Before}
 use Rattle.gateway_run.specs.Stands.{StandsForEvents}
 use Rattle.gateway_run.specs.Today.{gateway_event, first_opening, first_only}
 

@@ -11,7 +11,7 @@ use Rattle.gateway_core.specs.Starts.{Placed, occurrences}
 use Rattle.gateway_core.specs.declared.fault.StepFault.TheVariants.{Gone, Memory}
 use Rattle.gateway_run.specs.declared.stepping.Stepped.{Stepped}
 use Rattle.gateway_run.specs.declared.stepping.Stepped.TheVariants.{Done, Opened, NotOpened, Saw, Fault}
-use Rattle.gateway_run.specs.Events.{Before, Occurs, connections, is_open, hung_up, stream, succeeds}
+use Rattle.gateway_core.specs.Events.{Before, Occurs, connections, is_open, hung_up, stream, succeeds}
 use Rattle.gateway_run.specs.Today.{first_only}
 
 -- the core stands for these events, newest first, of which the openings at those places succeeded, where these replies and jobs were

@@ -6,7 +6,7 @@ use Rattle.gateway_core.specs.Past.{entries, marked}
 use Rattle.gateway_core.specs.Starts.{Placed, occurrences}
 use Rattle.gateway_run.specs.declared.event.Event.{Event}
 use Rattle.gateway_run.specs.declared.event.Event.TheVariants as taken
-use Rattle.gateway_run.specs.Events.{GatewayEvent, Opening, Piece, BranchResult, Before}
+use Rattle.gateway_core.specs.Events.{GatewayEvent, Opening, Piece, BranchResult, Before}
 
 -- the event
 abbrev pub gateway_event : Event → GatewayEvent

@@ -5,7 +5,7 @@ ghost use Rattle.gateway_core.specs.declared.id.CallId.{CallId};
 ghost use Rattle.gateway_core.specs.Past.{Asked, call, outs, marked};
 ghost use Rattle.gateway_core.specs.Starts.{Placed, occurrences, job_started, starts};
 ghost use Rattle.gateway_core.specs.Queue.{queued, IsPrefixOf};
-ghost use Rattle.gateway_run.specs.Events.{GatewayEvent, Piece, Occurs, has_no_effect, IsShifted};
+ghost use Rattle.gateway_core.specs.Events.{GatewayEvent, Piece, Occurs, has_no_effect, IsShifted};
 
 use http_pieces::laws::{existence_law, requests_law};
 

@@ -7,7 +7,7 @@ ghost use Rattle.gateway_core.specs.Core.{is_live, core_sees, is_broken_conn, re
 ghost use Rattle.gateway_core.specs.Job.{JobValue};
 ghost use Rattle.gateway_core.specs.Queue.{IsPrefixOf};
 ghost use Rattle.gateway_core.specs.Starts.{Placed};
-ghost use Rattle.gateway_run.specs.Events.{Before, onto};
+ghost use Rattle.gateway_core.specs.Events.{Before, onto};
 ghost use Rattle.gateway_run.specs.Stands.{StandsForEvents, opened_by, tells_break, tells_piece};
 ghost use Rattle.gateway_run.specs.Today.{gateway_event, is_opening};
 

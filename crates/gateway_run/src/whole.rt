@@ -2,7 +2,7 @@ ghost use Rattle.std.specs.Prelude.{◌≡◌, ℕ, ◌<◌, ◌++◌, [], false
 ghost use Rattle.std.specs.List.{range_with_len};
 ghost use Rattle.gateway_core.specs.Core.{conn_at, core_value, is_broken_conn, untaken_of};
 ghost use Rattle.gateway_core.specs.Starts.{Placed};
-ghost use Rattle.gateway_run.specs.Events.{IsOpened, IsRising, Occurs};
+ghost use Rattle.gateway_core.specs.Events.{IsOpened, IsRising, Occurs};
 ghost use Rattle.gateway_run.specs.Run.{HasRun, is_listed, joined, newest_first, queues, start_at, starts_of};
 ghost use Rattle.gateway_run.specs.Today.{first_only, first_opening};
 

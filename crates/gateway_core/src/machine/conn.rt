@@ -1,9 +1,10 @@
-ghost use Rattle.std.specs.Prelude.{◌≡◌, ◌+◌, ◌<◌, ◌==◌, IfOk, IfSome, OnErr, [], false, if◌then◌else◌, option_map, is_some};
+ghost use Rattle.std.specs.Prelude.{◌≡◌, ◌+◌, ◌<◌, ◌==◌, length, IfOk, IfSome, OnErr, [], false, if◌then◌else◌, option_map, is_some};
 ghost use Rattle.gateway_core.specs.Conn.{added, entry_in, filled, next_of, without_first, conn_value};
 ghost use Rattle.gateway_core.specs.Machine.{is_full, slot_at};
 ghost use Rattle.gateway_core.specs.Past.{call_id};
 ghost use Rattle.gateway_core.specs.Store.{broken_if};
 
+use crate::id::{CallId, ConnId};
 use crate::reply::Reply;
 use std::alloc::{AllocError, Global};
 use std::collections::VecDeque;
@@ -11,6 +12,9 @@ use std::marker::Model;
 
 /// Undecided calls that a connection may have.
 const MOST_CALLS: usize = 8;
+
+/// Requests that a connection may make.
+const MOST_REQUESTS: u64 = 100;
 
 /// An open connection: how many of its replies were taken, and a slot for each request behind them.
 #[derive(Drop)]
@@ -23,13 +27,15 @@ pub struct Conn {
 }
 
 impl Model for Conn {
+    ghost use Rattle.std.specs.Prelude.{◌+◌, ◌≤◌, length};
     ghost use Rattle.gateway_core.specs.Conn.{ConnValue, conn_value, AreInPlace};
+    ghost use Rattle.http_pieces.specs.Request.{most_requests};
 
     ghost Value = { ConnValue };
 
     ghost view = { λ c. conn_value c.number c.taken c.slots.items c.broken };
 
-    ghost invariant = { λ c. AreInPlace c.number c.taken c.slots.items };
+    ghost invariant = { λ c. AreInPlace c.number c.taken c.slots.items × (c.taken + length c.slots.items ≤ most_requests) };
 }
 
 impl Conn {
@@ -68,12 +74,26 @@ impl Conn {
         self.slots.iter().filter(|slot| slot.is_none()).count() >= MOST_CALLS
     }
 
+    /// The id of its next request.
+    pub(crate) fn next_id(&self) -> CallId
+        ensures { result ≡ next_of self.now }
+    {
+        CallId {
+            conn: ConnId::of(self.number),
+            request: self.taken + self.slots.len() as u64,
+        }
+    }
+
     /// A slot for its next request.
     pub(crate) fn add(&mut self, reply: Option<Reply>) -> Result<(), AllocError>
         requires { IfSome reply (λ r. r.id ≡ next_of self.old) }
         ensures ok { IfOk result (λ _. self.new ≡ added (entry_in reply) self.old) }
         ensures err { OnErr result (self.new ≡ self.old) }
     {
+        // A stream brings no more: its reader ends behind the last.
+        if self.taken + self.slots.len() as u64 >= MOST_REQUESTS {
+            return Err(AllocError);
+        }
         self.slots.push_back(reply)?;
         Ok(())
     }
@@ -95,7 +115,6 @@ impl Conn {
 
     /// Gives the first reply, if it is there.
     pub(crate) fn take(&mut self) -> Option<Reply>
-        requires { self.old.taken + 1 < 18446744073709551616 }
         ensures first { option_map (λ r. r.entry) result ≡ slot_at 0 self.old.slots }
         ensures ids { IfSome result (λ r. r.id ≡ call_id self.old.number self.old.taken) }
         ensures rest { self.new ≡ (if is_some result then without_first self.old else self.old) }

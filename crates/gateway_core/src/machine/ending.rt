@@ -1,6 +1,5 @@
 ghost use Rattle.std.specs.Prelude.{◌≡◌, ◌<◌, length};
 ghost use Rattle.gateway_core.specs.Ends.{AreApart, CallsEnd, caused, EndedAt, IsSettled, settled_at, SettledBelow};
-ghost use Rattle.gateway_core.specs.Past.{is_due};
 
 use crate::event::CallEvent;
 use crate::id::CallId;
@@ -10,16 +9,6 @@ use crate::machine::store::Machine;
 use std::alloc::Global;
 
 impl Asked {
-    /// Whether the moment has reached the deadline.
-    pub(crate) fn is_due(&self, moment: u64) -> bool
-        ensures { result ≡ is_due moment self.now.deadline }
-    {
-        match self.deadline {
-            Some(deadline) => deadline <= moment,
-            None => false,
-        }
-    }
-
     /// The event by which this ends the call, if it does.
     pub(crate) fn ending(&self, cause: &Cause, id: &CallId) -> Option<CallEvent>
         ensures { result ≡ caused cause.now id.now self.now }
@@ -53,9 +42,7 @@ impl Machine {
         let reply = self.calls[index].take_reply();
         self.fill(reply);
     }
-}
 
-impl Machine {
     /// Ends all calls that this ends: their replies go into their slots. Where memory is refused to one of them, its connection breaks.
     pub(crate) fn end_calls(&mut self, alloc: Global, cause: &Cause)
         requires settled { IsSettled self.old }

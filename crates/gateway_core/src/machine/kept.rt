@@ -1,9 +1,11 @@
 ghost use Rattle.std.specs.Prelude.{◌≡◌, ℕ, OnOk, OnErr, true, false, if◌then◌else◌, is_some, None as Nothing, Some, option_map, option_to_list, slice_set};
+ghost use Rattle.std.specs.List.{list_any};
 ghost use Rattle.gateway_core.specs.Kept.{IsStep};
 ghost use Rattle.gateway_core.specs.Ends.{ended_call, ended_kept, unanswered, without_reply};
 ghost use Rattle.gateway_core.specs.Reply.{reply_with};
+ghost use Rattle.gateway_core.specs.Results.{back_kept, is_spent};
 ghost use Rattle.gateway_core.specs.Past.{is_call};
-ghost use Rattle.gateway_core.specs.Store.{given_up_if};
+ghost use Rattle.gateway_core.specs.Store.{given_up_if, waiting_in};
 ghost use Rattle.gateway_core.specs.declared.fault.Seen.{Seen};
 ghost use Rattle.gateway_core.specs.Step.{has_out, next_out, result_on};
 
@@ -63,12 +65,33 @@ impl Kept {
         self.id == *id
     }
 
+    /// Whether it can still be decided.
+    pub(crate) fn is_live(&self) -> bool
+        ensures { result ≡ is_some self.now.call.live }
+    {
+        self.live.is_some()
+    }
+
+    /// Whether no branch of it is out, and it can't be decided any more.
+    pub(crate) fn is_spent(&self) -> bool
+        ensures { result ≡ is_spent self.now.call }
+    {
+        self.live.is_none() && !is_any_out(&self.out)
+    }
+
     /// Whether the branch is out.
     pub(crate) fn is_out(&self, branch: u32) -> bool
         ensures { result ≡ has_out self.now.call branch }
     {
         let index = branch as usize;
         index < self.out.len() && self.out[index]
+    }
+
+    /// How many branches wait for their start.
+    pub(crate) fn waiting(&self) -> usize
+        ensures { result ≡ waiting_in self.now }
+    {
+        self.group.queued()
     }
 
     /// How a result of a branch that is out is seen.
@@ -120,6 +143,16 @@ impl Kept {
                 }
             }
         }
+    }
+
+    /// A branch comes back, of a call that can't be decided any more.
+    pub(crate) fn come_back(&mut self, branch: u32)
+        requires out { has_out self.old.call branch ≡ true }
+        requires over { self.old.call.live ≡ Nothing }
+        ensures { self.new ≡ back_kept branch self.old }
+    {
+        self.out[branch as usize] = false;
+        self.group.done(Err(()));
     }
 
     /// The call's id.
@@ -190,4 +223,11 @@ fn mark_out(out: &mut Vec<bool>, next: &Option<Task>)
     if index < out.len() {
         out[index] = true;
     }
+}
+
+/// Whether a branch is out.
+fn is_any_out(out: &Vec<bool>) -> bool
+    ensures { result ≡ list_any (λ b. b) out.now.items }
+{
+    out.iter().any(|out| *out)
 }

@@ -1,12 +1,16 @@
-ghost use Rattle.std.specs.Prelude.{◌≡◌, ◌+◌, ◌≤◌, ◌++◌, false, length, map, option_to_list};
+ghost use Rattle.std.specs.Prelude.{◌≡◌, ◌+◌, ◌<◌, ◌≤◌, ◌++◌, None as Nothing, false, true, if◌then◌else◌, filter, length, map, not, option_to_list};
+ghost use Rattle.gateway_core.specs.Past.{is_call};
 ghost use Rattle.std.specs.VecDeque.{deque_capacity};
 ghost use Rattle.gateway_core.specs.Job.{job_at};
-ghost use Rattle.gateway_core.specs.Results.{DecidedBy, ResultTaken};
+ghost use Rattle.gateway_core.specs.Results.{back_at, DecidedBy, Forgets, ResultTaken, Starved};
+ghost use Rattle.gateway_core.specs.Step.{has_out};
+ghost use Rattle.gateway_core.specs.Store.{MachineValue, broken_at, kept_at};
 ghost use Rattle.gateway_core.specs.declared.fault.Seen.{Seen};
 
 use crate::fault::{Seen, Took};
 use crate::id::CallId;
 use crate::machine::job::Job;
+use crate::machine::kept::Kept;
 use crate::machine::reply::reply_to;
 use crate::machine::store::Machine;
 use crate::machine::task::Task;
@@ -17,13 +21,7 @@ use std::collections::VecDeque;
 
 impl Machine {
     /// A branch of a call ends with that outcome.
-    pub(crate) fn result(
-        &mut self,
-        alloc: Global,
-        id: &CallId,
-        branch: u32,
-        outcome: Outcome,
-    ) -> Took
+    fn result(&mut self, alloc: Global, id: &CallId, branch: u32, outcome: Outcome) -> Took
         ensures { ResultTaken id.now branch outcome self.old self.new result }
     {
         let Some(index) = self.find(id) else {
@@ -37,6 +35,78 @@ impl Machine {
         start(&mut self.jobs, taken.next, self.moment);
         let broke = self.decide(alloc, id, taken.decided);
         Took { seen, broke }
+    }
+
+    /// A branch of a call ends with that outcome. A call that is over, and of which no branch is out, is forgotten.
+    pub(crate) fn take_result(
+        &mut self,
+        alloc: Global,
+        id: &CallId,
+        branch: u32,
+        outcome: Outcome,
+    ) -> Took
+        ensures { (between : MachineValue) × ResultTaken id.now branch outcome self.old between result × Forgets id.now between self.new }
+    {
+        let took = self.result(alloc, id, branch, outcome);
+        self.forget(id);
+        took
+    }
+
+    /// A worker found no memory for what a branch ended with: where that counts, its connection breaks.
+    pub(crate) fn starve(&mut self, id: &CallId, branch: u32) -> Took
+        ensures { (between : MachineValue) × Starved id.now branch self.old between result × Forgets id.now between self.new }
+    {
+        let took = self.come_back(id, branch);
+        self.forget(id);
+        took
+    }
+
+    /// A branch comes back with nothing: where that counts, its connection breaks.
+    fn come_back(&mut self, id: &CallId, branch: u32) -> Took
+        ensures { Starved id.now branch self.old self.new result }
+    {
+        let Some(index) = self.find(id) else {
+            return Took::unknown();
+        };
+        if !self.calls[index].is_out(branch) {
+            return Took::unknown();
+        }
+        let seen = self.calls[index].seen();
+        let broke = self.calls[index].is_live();
+        self.break_if(broke, id.conn.number());
+        self.give_back(index, branch);
+        Took { seen, broke }
+    }
+
+    /// Breaks the connection, if that is so.
+    fn break_if(&mut self, broke: bool, number: u64)
+        ensures { self.new ≡ (if broke then broken_at number self.old else self.old) }
+    {
+        if broke {
+            self.break_conn(number);
+        }
+    }
+
+    /// A branch of the call at that place comes back, which can't be decided any more.
+    fn give_back(&mut self, index: usize, branch: u32)
+        requires kept { index < length self.old.calls }
+        requires out { has_out (kept_at index self.old.calls).call branch ≡ true }
+        requires over { (kept_at index self.old.calls).call.live ≡ Nothing }
+        ensures { self.new ≡ back_at index branch self.old }
+    {
+        self.calls[index].come_back(branch);
+    }
+
+    /// Forgets the call, if it can't be decided any more and no branch of it is out.
+    fn forget(&mut self, id: &CallId)
+        ensures { Forgets id.now self.old self.new }
+    {
+        let Some(index) = self.find(id) else {
+            return;
+        };
+        if self.calls[index].is_spent() {
+            forget_in(&mut self.calls, id);
+        }
     }
 
     /// Puts the reply to a call into its slot, if it was decided. True where memory is refused to the reply: its connection breaks.
@@ -57,6 +127,13 @@ impl Machine {
             }
         }
     }
+}
+
+/// Leaves the calls of other ids.
+fn forget_in(calls: &mut Vec<Kept>, id: &CallId)
+    ensures { calls.new.items ≡ filter (λ k. not (is_call k.id id.now)) calls.old.items }
+{
+    calls.retain(|call| !call.is_of(id));
 }
 
 /// Queues the job of the branch that starts, whose room was made as its call began.

@@ -24,7 +24,7 @@ pub struct Machine {
 }
 
 impl Model for Machine {
-    ghost use Rattle.std.specs.Prelude.{◌+◌, ◌≤◌, map, length};
+    ghost use Rattle.std.specs.Prelude.{◌+◌, ◌≤◌, ◌^◌, map, length};
     ghost use Rattle.std.specs.VecDeque.{deque_capacity};
     ghost use Rattle.gateway_core.specs.Store.{MachineValue, machine_value, waiting};
 
@@ -32,7 +32,7 @@ impl Model for Machine {
 
     ghost view = { λ m. machine_value m.moment m.drained m.conns.items m.calls.items (map (λ j. j.job) m.jobs.items) };
 
-    ghost invariant = { λ m. length m.jobs.items + waiting m.calls.items ≤ deque_capacity m.jobs };
+    ghost invariant = { λ m. (length m.jobs.items + waiting m.calls.items ≤ deque_capacity m.jobs) × (m.moment ≤ 2 ^ 62) };
 }
 
 impl Machine {
@@ -80,7 +80,7 @@ impl Machine {
 }
 
 /// Gives up the calls of the connection.
-fn give_up(calls: &mut Vec<Kept>, number: u64)
+pub(crate) fn give_up(calls: &mut Vec<Kept>, number: u64)
     ensures { calls.new.items ≡ map (given_up_if number) calls.old.items }
 {
     for index in 0..calls.len() {

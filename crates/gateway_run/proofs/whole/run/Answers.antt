@@ -4,7 +4,7 @@ use Rattle.std.specs.List.{range_with_len}
 use Rattle.std.proofs.lemmas.List.FromFn.{length-map-range_with_len}
 use Rattle.gateway_core.specs.Core.{conn_at, is_broken_conn, untaken_of}
 use Rattle.gateway_core.specs.Starts.{Placed}
-use Rattle.gateway_run.specs.Events.{Occurs}
+use Rattle.gateway_core.specs.Events.{Occurs}
 use Rattle.gateway_run.specs.Run.{HasRun, is_listed, joined, newest_first, queues, starts_of}
 use Rattle.gateway_run.specs.Today.{first_only}
 use Rattle.gateway_run.proofs.WholeLemmas.{as_new, of_plans, run_opened, run_result, run_queues, filter_rising, listed_below}

@@ -32,7 +32,7 @@ start-requires c =
     item_is c.self.inside.calls.items c.self.inside.calls.items c.in-Some.index c.index_mut.result.now refl (subst (λ xs. c.in-Some.index < length xs) (sym items) c.in-Some.ensures.0) c.index_mut.ensures.value in
     omega (
       arith,
-      c.self.invariant,
+      c.self.invariant.0,
       waits_then c.self.inside.calls.items c.in-Some.index (length (option_to_list c.take_result-taken.result.next)) c.index_mut.result.now c.take_result-taken.new.self
           (subst (λ xs. c.in-Some.index < length xs) (sym items) c.in-Some.ensures.0) x_is
           (next_waits c.self.inside.moment c.args.branch c.args.outcome c.index_mut.result.now c.take_result-taken.new.self c.take_result-taken.result.decided c.take_result-taken.result.next
@@ -43,16 +43,18 @@ pub invariant_of-self : goal.invariant_of-self
 invariant_of-self c =
     let items : c.self.inside.calls.items ≡ c.args.self.now.calls = ap (λ (m : MachineValue). m.calls) c.self.view_is in
     let x_is : c.index_mut.result.now ≡ kept_at c.in-Some.index c.self.inside.calls.items =
-    item_is c.self.inside.calls.items c.self.inside.calls.items c.in-Some.index c.index_mut.result.now refl (subst (λ xs. c.in-Some.index < length xs) (sym items) c.in-Some.ensures.0) c.index_mut.ensures.value in
-    omega (
-      arith,
-      c.self.invariant,
-      c.start.ensures.size,
-      c.start.ensures.room,
-      waits_then c.self.inside.calls.items c.in-Some.index (length (option_to_list c.take_result-taken.result.next)) c.index_mut.result.now c.take_result-taken.new.self
-          (subst (λ xs. c.in-Some.index < length xs) (sym items) c.in-Some.ensures.0) x_is
-          (next_waits c.self.inside.moment c.args.branch c.args.outcome c.index_mut.result.now c.take_result-taken.new.self c.take_result-taken.result.decided c.take_result-taken.result.next
-          (c.take_result-taken.ensures c.self.inside.moment)),
+    item_is c.self.inside.calls.items c.self.inside.calls.items c.in-Some.index c.index_mut.result.now refl (subst (λ xs. c.in-Some.index < length xs) (sym items) c.in-Some.ensures.0) c.index_mut.ensures.value in (
+      omega (
+        arith,
+        c.self.invariant.0,
+        c.start.ensures.size,
+        c.start.ensures.room,
+        waits_then c.self.inside.calls.items c.in-Some.index (length (option_to_list c.take_result-taken.result.next)) c.index_mut.result.now c.take_result-taken.new.self
+            (subst (λ xs. c.in-Some.index < length xs) (sym items) c.in-Some.ensures.0) x_is
+            (next_waits c.self.inside.moment c.args.branch c.args.outcome c.index_mut.result.now c.take_result-taken.new.self c.take_result-taken.result.decided c.take_result-taken.result.next
+            (c.take_result-taken.ensures c.self.inside.moment)),
+      ),
+      c.self.invariant.1,
     )
 
 pub returns : goal.returns

@@ -1,0 +1,11 @@
+use crate::machine::asked::Asked;
+use crate::reply::Reply;
+
+/// What a request comes to as it comes.
+#[derive(Drop)]
+pub enum Arriving {
+    /// It is answered at once.
+    Answered(Reply),
+    /// It begins a call.
+    Begins(Asked),
+}

@@ -1,0 +1,155 @@
+ghost use Rattle.std.specs.Prelude.{[], ◌≡◌, ◌+◌, ◌<◌, ◌≤◌, ◌++◌, Some, None as Nothing, IfOk, OnOk, OnErr, length, map};
+ghost use Rattle.std.specs.VecDeque.{deque_capacity};
+ghost use Rattle.gateway_core.specs.Arrival.{arrival_of};
+ghost use Rattle.gateway_core.specs.Begins.{begins};
+ghost use Rattle.gateway_core.specs.Conn.{next_of};
+ghost use Rattle.gateway_core.specs.Enters.{arriving_at, asking_at, entered_at, ComesTo};
+ghost use Rattle.gateway_core.specs.Job.{job_at};
+ghost use Rattle.gateway_core.specs.Occurrence.{Entering};
+ghost use Rattle.gateway_core.specs.Step.{gone, step_to};
+ghost use Rattle.gateway_core.specs.Store.{conn_at, waiting};
+
+use crate::machine::arriving::Arriving;
+use crate::machine::asked::Asked;
+use crate::machine::begin::begin;
+use crate::machine::job::Job;
+use crate::machine::kept::Kept;
+use crate::machine::reply::reply_to;
+use crate::machine::store::Machine;
+use crate::machine::task::Task;
+use crate::reply::Reply;
+use call_plan::Plans;
+use connect_codec::laws::timeout_law;
+use connect_codec::{Verdict, judge, target_path};
+use http_pieces::{Refusal, Request};
+use std::alloc::{AllocError, Global};
+use std::collections::VecDeque;
+
+impl Machine {
+    /// What a request comes to on the connection at that place. It changes nothing.
+    pub(crate) fn arriving(
+        &self,
+        alloc: Global,
+        plans: &Plans,
+        index: usize,
+        request: Request,
+    ) -> Result<Arriving, AllocError>
+        requires { index < length self.now.conns }
+        ensures { IfOk result (λ arriving. ComesTo arriving (next_of (conn_at index self.now.conns)) self.now.moment
+            (arriving_at index (Entering.Request request (arrival_of plans.now request)) self.now)) }
+    {
+        timeout_law();
+        let plan = match target_path(&request) {
+            Some(path) => plans.find(path),
+            None => None,
+        };
+        match judge(alloc, &request, plan.is_some())? {
+            Verdict::Ask {
+                timeout,
+                request_id,
+            } => match plan {
+                Some(plan) => {
+                    let asked = Asked::new(alloc, plan, request, timeout, request_id, self.moment)?;
+                    self.asking(alloc, index, asked)
+                }
+                None => unreachable!(),
+            },
+            verdict => {
+                let id = self.conns[index].next_id();
+                let reply = Reply::judged(alloc, id, verdict, request.closes())?;
+                Ok(Arriving::Answered(reply))
+            }
+        }
+    }
+
+    /// What a call that is asked for on the connection at that place comes to: it is crowded out, ends as it comes, or begins.
+    fn asking(&self, alloc: Global, index: usize, asked: Asked) -> Result<Arriving, AllocError>
+        requires { index < length self.now.conns }
+        ensures { IfOk result (λ arriving. ComesTo arriving (next_of (conn_at index self.now.conns)) self.now.moment (asking_at index asked self.now)) }
+    {
+        let conn = &self.conns[index];
+        if conn.is_full() {
+            let reply = Reply::crowded(alloc, conn.next_id(), asked.request.closes())?;
+            return Ok(Arriving::Answered(reply));
+        }
+        match asked.ends_first(self.moment, self.drained) {
+            Some(event) => {
+                let reply = reply_to(alloc, conn.next_id(), asked.end(alloc, event)?)?;
+                Ok(Arriving::Answered(reply))
+            }
+            None => Ok(Arriving::Begins(asked)),
+        }
+    }
+
+    /// The stream of the connection at that place is refused.
+    pub(crate) fn refuse(
+        &mut self,
+        alloc: Global,
+        index: usize,
+        refusal: Refusal,
+    ) -> Result<(), AllocError>
+        requires { index < length self.old.conns }
+        ensures ok { OnOk result (self.new ≡ entered_at index (arriving_at index (Entering.Refused refusal) self.old) self.old) }
+        ensures err { OnErr result (self.new ≡ self.old) }
+    {
+        let reply = Reply::refused(alloc, self.conns[index].next_id(), refusal)?;
+        self.answer(index, reply)
+    }
+
+    /// What comes on the connection at that place is answered at once.
+    pub(crate) fn answer(&mut self, index: usize, reply: Reply) -> Result<(), AllocError>
+        requires opened { index < length self.old.conns }
+        requires its { reply.id ≡ next_of (conn_at index self.old.conns) }
+        ensures ok { OnOk result (self.new ≡ entered_at index (step_to gone (Some reply.entry) []) self.old) }
+        ensures err { OnErr result (self.new ≡ self.old) }
+    {
+        self.conns[index].add(Some(reply))
+    }
+
+    /// A call begins on the connection at that place. All growths come before the first change.
+    pub(crate) fn begin(
+        &mut self,
+        alloc: Global,
+        index: usize,
+        asked: Asked,
+    ) -> Result<(), AllocError>
+        requires { index < length self.old.conns }
+        ensures ok { OnOk result (self.new
+            ≡ entered_at index (begins self.old.moment Nothing (next_of (conn_at index self.old.conns)) asked) self.old) }
+        ensures err { OnErr result (self.new ≡ self.old) }
+    {
+        let id = self.conns[index].next_id();
+        let (call, first) = begin(alloc, id, asked)?;
+        let room = waiting(&self.calls) + call.waiting() + first.len();
+        self.calls.reserve(1)?;
+        self.jobs.reserve(room)?;
+        self.conns[index].add(None)?;
+        self.calls.push_reserved(call);
+        start_all(&mut self.jobs, first, self.moment);
+        Ok(())
+    }
+}
+
+/// How many branches wait for their start.
+fn waiting(calls: &Vec<Kept>) -> usize
+    requires { waiting calls.now.items < 18446744073709551616 }
+    ensures { result ≡ waiting calls.now.items }
+{
+    let mut count = 0;
+    for index in 0..calls.len() {
+        count += calls[index].waiting();
+    }
+    count
+}
+
+/// Queues the jobs of the branches that start as their call begins.
+fn start_all(jobs: &mut VecDeque<Job>, mut first: VecDeque<Task>, moment: u64)
+    requires { length jobs.old.items + length first.items ≤ deque_capacity jobs.old }
+    ensures jobs_are { map (λ j. j.job) jobs.new.items ≡ map (λ j. j.job) jobs.old.items ++ map (job_at moment) first.items }
+    ensures size { length jobs.new.items ≡ length jobs.old.items + length first.items }
+    ensures room { deque_capacity jobs.new ≡ deque_capacity jobs.old }
+{
+    while let Some(task) = first.pop_front() {
+        jobs.push_back_reserved(Job::new(task, moment));
+    }
+}
