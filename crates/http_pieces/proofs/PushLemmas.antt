@@ -12,8 +12,8 @@ use Rattle.http_pieces.specs.Form as form
 use Rattle.http_pieces.specs.Head.{request_kind}
 use Rattle.http_pieces.specs.Request.{HttpRequest}
 use Rattle.std.specs.Prelude.{Bool, if◌then◌else◌}
-use Rattle.http_pieces.specs.Reader.{Partial, Waiting, Stopped, Done, Reading, ReaderValue, HasRead, IsShortest, is_over, left_of}
-use Rattle.http_pieces.specs.Looked.{HasLooked}
+use Rattle.http_pieces.specs.Reader.{Partial, Waiting, Stopped, Done, Reading, ReaderValue, HasRead, IsShortest, TakesShortest, is_over, left_of}
+use Rattle.http_pieces.specs.Looked.{Counts, HasLooked}
 use Rattle.http_pieces.specs.Layout.{request_of, request_form, request_single, reading_of, value_of}
 use Rattle.http_pieces.proofs.PhaseLemmas.{advance_shortest}
 use Rattle.http_pieces.proofs.ReaderLemmas.{ReadsTo, read_on, read_refusal, read_request, read_stopped, read_done}
@@ -82,7 +82,7 @@ module _ (k looked more : ℕ) (before piece after : List ℕ) (self : ReaderVal
         looked = subst (λ l. HasLooked more l (bytes ++ take n piece)) (sym (left_is after new k)) looks;
       }
 
-  pub push_shortest : {E : Type 0} (r : Result ℕ E) → IfOk r (Pushes request_form before was piece after new) → (left : List ℕ) → self.reading ≡ Partial left
+  push_shortest : {E : Type 0} (r : Result ℕ E) → IfOk r (Pushes request_form before was piece after new) → (left : List ℕ) → self.reading ≡ Partial left
       → IfOk r (IsShortest self left piece)
   push_shortest r p left is =
       IfOk-weaker r (Pushes request_form before was piece after new) (IsShortest self left piece) (λ n x. by_phase n was (sym reading_is ∙ is) x) p
@@ -101,6 +101,44 @@ module _ (k looked more : ℕ) (before piece after : List ℕ) (self : ReaderVal
       by_phase n (phase.Complete head body) e a m q rest lt cut = cc
       by_phase n (phase.Refused r) e a m q rest lt cut = cc
       by_phase n phase.Ended e a m q rest lt cut = cc
+
+  push_all : (n : ℕ) → Pushes request_form before was piece after new n → (n ≡ length piece) ⊎ ((q : HttpRequest) × (reading_of after new k ≡ Waiting q))
+  push_all n p = by_phase was new p
+    where
+      grown : (x : Phase Head Refusal) → Grows request_form before piece after n x → (n ≡ length piece) ⊎ ((q : HttpRequest) × (reading_of after x k ≡ Waiting q))
+      grown (phase.Head matched) g = inl g.to.0
+      grown (phase.Body head body missing) g = inl g.to.0
+      grown (phase.Complete head body) g = inr (request_of after head body k, refl)
+      grown (phase.Refused r) g = inl g.to.0
+      grown phase.Ended g = absurd g.to
+
+      by_phase : (w x : Phase Head Refusal) → Pushes request_form before w piece after x n → (n ≡ length piece) ⊎ ((q : HttpRequest) × (reading_of after x k ≡ Waiting q))
+      by_phase (phase.Head matched) x p = grown x p.grows
+      by_phase (phase.Body head body missing) x p = grown x p.grows
+      by_phase (phase.Complete head body) x p = inr (request_of after head body k, ap (λ y. reading_of after y k) p.2)
+      by_phase (phase.Refused r) x p = inl p.0
+      by_phase phase.Ended x p = inl p.0
+
+  pub push_takes : {E : Type 0} (r : Result ℕ E) → IfOk r (Pushes request_form before was piece after new) → IfOk r (TakesShortest self (value_of after new k more) piece)
+  push_takes (Err e) p = tt
+  push_takes {E = E} (Ok n) p = record { shortest = λ left is. push_shortest {E = E} (Ok n) p left is; all = push_all n p }
+
+  pub push_looks : {E : Type 0} (r : Result ℕ E) → (form.is_more was ≡ true → IfOk r (λ n. Counts looked more before (before ++ take n piece)))
+      → (left : List ℕ) → self.reading ≡ Partial left → IfOk r (λ n. Counts self.looked more left (left ++ take n piece))
+  push_looks r counts left is = by_phase was (sym reading_is ∙ is) counts
+    where
+      at : (l : List ℕ) → l ≡ before → IfOk r (λ n. Counts looked more before (before ++ take n piece)) → IfOk r (λ n. Counts self.looked more l (l ++ take n piece))
+      at l same h =
+          let looked_is : looked ≡ self.looked = ap (λ x. x.looked) view in
+          subst (λ m. IfOk r (λ n. Counts m more l (l ++ take n piece))) looked_is (subst (λ b. IfOk r (λ n. Counts looked more b (b ++ take n piece))) (sym same) h)
+
+      by_phase : (w : Phase Head Refusal) → reading_of before w k ≡ Partial left → (form.is_more w ≡ true → IfOk r (λ n. Counts looked more before (before ++ take n piece)))
+          → IfOk r (λ n. Counts self.looked more left (left ++ take n piece))
+      by_phase (phase.Head matched) e h = at left (let same : left ≡ before = cc in same) (h refl)
+      by_phase (phase.Body head body missing) e h = at left (let same : left ≡ before = cc in same) (h refl)
+      by_phase (phase.Complete head body) e h = absurd (cc)
+      by_phase (phase.Refused r') e h = absurd (cc)
+      by_phase phase.Ended e h = absurd (cc)
 
   pub push_moves : {E : Type 0} (r : Result ℕ E) → IfOk r (Pushes request_form before was piece after new) → 0 < length piece
       → IfOk r (λ n. (0 < n) ⊎ ((q : HttpRequest) × (self.reading ≡ Waiting q)))

@@ -19,10 +19,10 @@ use Rattle.http_pieces.specs.Fields.{values_of, IsFieldOf}
 use Rattle.http_pieces.specs.Form.{IsHeadOf, IsPhaseSound, IsMore, Grows, Advances, Pushes, unread}
 use Rattle.http_pieces.specs.Form as form
 use Rattle.http_pieces.specs.Head.{stated_length}
-use Rattle.http_pieces.specs.Looked.{HasLooked}
+use Rattle.http_pieces.specs.Looked.{Counts, HasLooked}
 use Rattle.http_pieces.specs.ReplyHead.{length_by_number, length_by_fields, reply_length, one_value, reply_with, asks_by_length, reply_kind}
 use Rattle.http_pieces.specs.ReplyLayout.{IsReplyHeadAt, reply_of, reply_form, reply_single, reply_reading_of, reply_value_of}
-use Rattle.http_pieces.specs.ReplyReader.{ReplyReading, ReplyReaderValue, Partial, Waiting, Stopped, Done, HasReadReply, HasReadReplyTo, IsShortestReply, is_over_reply, left_of_reply}
+use Rattle.http_pieces.specs.ReplyReader.{ReplyReading, ReplyReaderValue, Partial, Waiting, Stopped, Done, HasReadReply, HasReadReplyTo, IsShortestReply, TakesShortestReply, is_over_reply, left_of_reply}
 use Rattle.http_pieces.proofs.CutLemmas.{skip_append, kind_unique, kind_complete_append, kind_refused_append}
 use Rattle.http_pieces.proofs.LookedLemmas.{left_in, looked_push}
 use Rattle.http_pieces.proofs.PhaseLemmas.{advance_shortest}
@@ -139,7 +139,7 @@ module _ (looked more : ℕ) (before piece after : List ℕ) (self : ReplyReader
         looked = subst (λ l. HasLooked more l (bytes ++ take n piece)) (sym (left_is after new)) looks;
       }
 
-  pub reply_shortest : {E : Type 0} (r : Result ℕ E) → IfOk r (Pushes reply_form before was piece after new) → (left : List ℕ) → self.reading ≡ Partial left
+  reply_shortest : {E : Type 0} (r : Result ℕ E) → IfOk r (Pushes reply_form before was piece after new) → (left : List ℕ) → self.reading ≡ Partial left
       → IfOk r (IsShortestReply left piece)
   reply_shortest r p left is =
       IfOk-weaker r (Pushes reply_form before was piece after new) (IsShortestReply left piece) (λ n x. by_phase n was (reading_is ∙ is) x) p
@@ -155,6 +155,44 @@ module _ (looked more : ℕ) (before piece after : List ℕ) (self : ReplyReader
       by_phase n (phase.Complete head body) e a m q rest lt cut = cc
       by_phase n (phase.Refused f) e a m q rest lt cut = cc
       by_phase n phase.Ended e a m q rest lt cut = cc
+
+  reply_all : (n : ℕ) → Pushes reply_form before was piece after new n → (n ≡ length piece) ⊎ ((q : HttpReply) × (reply_reading_of after new ≡ Waiting q))
+  reply_all n p = by_phase was new p
+    where
+      grown : (x : Phase ReplyHead ReplyFault) → Grows reply_form before piece after n x → (n ≡ length piece) ⊎ ((q : HttpReply) × (reply_reading_of after x ≡ Waiting q))
+      grown (phase.Head matched) g = inl g.to.0
+      grown (phase.Body head body missing) g = inl g.to.0
+      grown (phase.Complete head body) g = inr (reply_of after head body, refl)
+      grown (phase.Refused f) g = inl g.to.0
+      grown phase.Ended g = absurd g.to
+
+      by_phase : (w x : Phase ReplyHead ReplyFault) → Pushes reply_form before w piece after x n → (n ≡ length piece) ⊎ ((q : HttpReply) × (reply_reading_of after x ≡ Waiting q))
+      by_phase (phase.Head matched) x p = grown x p.grows
+      by_phase (phase.Body head body missing) x p = grown x p.grows
+      by_phase (phase.Complete head body) x p = inr (reply_of after head body, ap (λ y. reply_reading_of after y) p.2)
+      by_phase (phase.Refused f) x p = inl p.0
+      by_phase phase.Ended x p = inl p.0
+
+  pub reply_takes : {E : Type 0} (r : Result ℕ E) → IfOk r (Pushes reply_form before was piece after new) → IfOk r (TakesShortestReply self (reply_value_of after new more) piece)
+  reply_takes (Err e) p = tt
+  reply_takes {E = E} (Ok n) p = record { shortest = λ left is. reply_shortest {E = E} (Ok n) p left is; all = reply_all n p }
+
+  pub reply_looks : {E : Type 0} (r : Result ℕ E) → (form.is_more was ≡ true → IfOk r (λ n. Counts looked more before (before ++ take n piece)))
+      → (left : List ℕ) → self.reading ≡ Partial left → IfOk r (λ n. Counts self.looked more left (left ++ take n piece))
+  reply_looks r counts left is = by_phase was (reading_is ∙ is) counts
+    where
+      at : (l : List ℕ) → l ≡ before → IfOk r (λ n. Counts looked more before (before ++ take n piece)) → IfOk r (λ n. Counts self.looked more l (l ++ take n piece))
+      at l same h =
+          let looked_is : looked ≡ self.looked = ap (λ x. x.looked) view in
+          subst (λ m. IfOk r (λ n. Counts m more l (l ++ take n piece))) looked_is (subst (λ b. IfOk r (λ n. Counts looked more b (b ++ take n piece))) (sym same) h)
+
+      by_phase : (w : Phase ReplyHead ReplyFault) → reply_reading_of before w ≡ Partial left → (form.is_more w ≡ true → IfOk r (λ n. Counts looked more before (before ++ take n piece)))
+          → IfOk r (λ n. Counts self.looked more left (left ++ take n piece))
+      by_phase (phase.Head matched) e h = at left (let same : left ≡ before = cc in same) (h refl)
+      by_phase (phase.Body head body missing) e h = at left (let same : left ≡ before = cc in same) (h refl)
+      by_phase (phase.Complete head body) e h = absurd (cc)
+      by_phase (phase.Refused f) e h = absurd (cc)
+      by_phase phase.Ended e h = absurd (cc)
 
   pub reply_moves : {E : Type 0} (r : Result ℕ E) → IfOk r (Pushes reply_form before was piece after new) → 0 < length piece
       → IfOk r (λ n. (0 < n) ⊎ ((q : HttpReply) × (self.reading ≡ Waiting q)))

@@ -1,5 +1,5 @@
 -- A reader of requests, and what it has read.
-use Rattle.std.specs.Prelude.{◌≡◌, ℕ, ◌<◌, Bool, true, false, if◌then◌else◌, List, [], ◌∷◌, ◌++◌, length, take, Option, None, Some}
+use Rattle.std.specs.Prelude.{◌≡◌, ℕ, ◌<◌, ◌⊎◌, Bool, true, false, if◌then◌else◌, List, [], ◌∷◌, ◌++◌, length, take, Option, None, Some}
 use Rattle.http_pieces.specs.declared.refusal.Refusal.{Refusal}
 use Rattle.http_pieces.specs.declared.state.State.{State}
 use Rattle.http_pieces.specs.declared.state.State.TheVariants as state
@@ -71,3 +71,8 @@ pub record HasRead (reader : ReaderValue) (bytes : List ℕ) (given : List HttpR
 abbrev pub IsShortest : ReaderValue → List ℕ → List ℕ → ℕ → Type 0
 IsShortest reader left piece n =
     (m : ℕ) (q : HttpRequest) (rest : List ℕ) → m < n → ¬ (IsCut (request_kind reader.taken) (left ++ take m piece) (Complete q rest))
+
+-- in `More` a push takes the shortest prefix of its piece that makes a whole request, and else all of it
+pub record TakesShortest (was new : ReaderValue) (piece : List ℕ) (n : ℕ) : Type 0 where
+  pub shortest : (left : List ℕ) → was.reading ≡ Partial left → IsShortest was left piece n
+  pub all : (n ≡ length piece) ⊎ ((q : HttpRequest) × (new.reading ≡ Waiting q))

@@ -1,5 +1,5 @@
 -- A reader of one reply, and what it has read.
-use Rattle.std.specs.Prelude.{◌≡◌, ℕ, ◌<◌, Bool, true, false, List, [], ◌++◌, take, Option, Some, None}
+use Rattle.std.specs.Prelude.{◌≡◌, ℕ, ◌<◌, ◌⊎◌, Bool, true, false, List, [], ◌++◌, length, take, Option, Some, None}
 use Rattle.http_pieces.specs.Looked.{HasLooked}
 use Rattle.http_pieces.specs.declared.reply.HttpReply.{HttpReply}
 use Rattle.http_pieces.specs.declared.reply_fault.ReplyFault.{ReplyFault}
@@ -61,3 +61,8 @@ pub record HasReadReply (reader : ReplyReaderValue) (bytes : List ℕ) (given : 
 abbrev pub IsShortestReply : List ℕ → List ℕ → ℕ → Type 0
 IsShortestReply left piece n =
     (m : ℕ) (q : HttpReply) (rest : List ℕ) → m < n → ¬ (IsCut reply_kind (left ++ take m piece) (Complete q rest))
+
+-- in `More` a push takes the shortest prefix of its piece that makes the whole reply, and else all of it
+pub record TakesShortestReply (was new : ReplyReaderValue) (piece : List ℕ) (n : ℕ) : Type 0 where
+  pub shortest : (left : List ℕ) → was.reading ≡ Partial left → IsShortestReply left piece n
+  pub all : (n ≡ length piece) ⊎ ((q : HttpReply) × (new.reading ≡ Waiting q))

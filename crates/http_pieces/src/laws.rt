@@ -1,8 +1,11 @@
 //! What the definitions of this crate come to, as facts on all texts. The functions do nothing.
-ghost use Rattle.std.specs.Prelude.{◌≡◌, ℕ, ◌+◌, List, ◌++◌, length};
+ghost use Rattle.std.specs.Prelude.{◌≡◌, ℕ, ◌+◌, ◌*◌, ◌≤◌, List, [], ◌++◌, length, None};
 ghost use Rattle.http_pieces.specs.Cut.{Cut, Refused, Complete, IsBlock, IsCut};
 ghost use Rattle.http_pieces.specs.Head.{request_kind};
+ghost use Rattle.http_pieces.specs.Looked.{IsLookedAt};
+ghost use Rattle.http_pieces.specs.Reader.{HasRead, reader_value, Partial};
 ghost use Rattle.http_pieces.specs.ReplyHead.{reply_kind};
+ghost use Rattle.http_pieces.specs.ReplyReader.{HasReadReply, reply_reader_value, Partial as ReplyPartial};
 ghost use Rattle.http_pieces.specs.Request.{HttpRequest};
 ghost use Rattle.http_pieces.specs.Requests.{Ending, Open, Broken, Closed, Requests};
 ghost use Rattle.http_pieces.specs.declared.refusal.Refusal.{Refusal};
@@ -50,6 +53,18 @@ pub fn requests_law()
         → Requests k text given (Broken r) → Requests k (text ++ more) given (Broken r) }
     ensures closed_stays { (k : ℕ) (text more : List ℕ) (given : List HttpRequest)
         → Requests k text given Closed → Requests k (text ++ more) given Closed }
+{}
+
+/// So many bytes of a text are looked at, and at most twice as many as it has.
+pub fn looked_law()
+    ensures unique { (text : List ℕ) (m n : ℕ) → IsLookedAt text m → IsLookedAt text n → m ≡ n }
+    ensures twice { (text : List ℕ) (n : ℕ) → IsLookedAt text n → n ≤ 2 * length text }
+{}
+
+/// A reader of a stream that has not begun has read nothing of it, and has looked at nothing.
+pub fn fresh_law()
+    ensures requests { HasRead (reader_value 0 (Partial [])) [] [] }
+    ensures reply { HasReadReply (reply_reader_value (ReplyPartial [])) [] None }
 {}
 
 /// Every text is cut into something, and has a list of requests. (There can't be none: a head's grammar is a relation, so

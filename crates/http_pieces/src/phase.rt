@@ -1,7 +1,7 @@
-ghost use Rattle.std.specs.Prelude.{◌≡◌, ◌+◌, ◌*◌, ◌<◌, ◌≤◌, ◌++◌, ℕ, length, drop, take, min, IfOk, IsOk, OnErr, false};
+ghost use Rattle.std.specs.Prelude.{◌≡◌, ◌+◌, ◌*◌, ◌<◌, ◌≤◌, ◌++◌, ℕ, length, drop, take, min, IfOk, IsOk, OnErr, false, true};
 ghost use Rattle.http_pieces.specs.Cut.{IsBlock, skip_pairs};
 ghost use Rattle.http_pieces.specs.Form.{Advances, Grows, IsPhaseSound, Pushes, filled, is_more, unread};
-ghost use Rattle.http_pieces.specs.Looked.{most_looked};
+ghost use Rattle.http_pieces.specs.Looked.{Counts, IsLookedAt, most_looked};
 ghost use Rattle.http_pieces.specs.Scan.{IsScanned, IsScannedTo, held};
 
 use crate::looked::looked_on;
@@ -54,7 +54,8 @@ pub(crate) fn push_into<M: Message>(
     // Each byte is looked at twice at most: in the scan for its head's end, and with the whole block.
     ensures looks { IfOk result (λ n. looked.new + unread bytes.new.items phase.new
         ≤ looked.old + unread bytes.old.items phase.old + 2 * n) }
-    ensures rises { looked.old ≤ looked.new }
+    ensures counts { is_more phase.old ≡ true
+        → IfOk result (λ n. Counts looked.old looked.new bytes.old.items (bytes.old.items ++ take n piece.now)) }
     ensures still { looked.new ≤ most_looked }
     ensures idle { is_more phase.old ≡ false → looked.new ≡ looked.old }
 {
@@ -90,6 +91,8 @@ fn advance<M: Message>(
     ensures ok { IfOk result (λ r. Advances M.form bytes.old.items piece.now bytes.new.items r.taken r.phase) }
     ensures looks { IfOk result (λ r. r.looked + unread bytes.new.items r.phase
         ≤ length bytes.old.items + 2 * r.taken) }
+    ensures counts { IfOk result (λ r. IsLookedAt (bytes.old.items ++ take r.taken piece.now)
+        (length bytes.old.items + r.looked)) }
     ensures err { OnErr result (bytes.new.items ≡ bytes.old.items) }
 {
     let scan = scan_piece(bytes, matched, piece);
@@ -125,6 +128,8 @@ fn read_head<M: Message>(
     ensures seen { IfOk result (λ r. scan.seen ≤ r.taken) }
     ensures looks { IfOk result (λ r. r.looked + unread bytes.new.items r.phase
         ≤ length bytes.old.items + 2 * r.taken) }
+    ensures counts { IfOk result (λ r. IsLookedAt (bytes.old.items ++ take r.taken piece.now)
+        (length bytes.old.items + r.looked)) }
     ensures err { OnErr result (bytes.new.items ≡ bytes.old.items) }
 {
     let before = bytes.len();

@@ -1,6 +1,6 @@
 ghost use Rattle.std.specs.Prelude.{◌≡◌, ◌<◌, ◌≤◌, ◌++◌, ◌∷◌, [], ℕ, List, length, take, IfOk, IfSome, OnErr, Ok, Some, IfNone, true, MatchOption, ◌⊎◌, ◌+◌};
-ghost use Rattle.http_pieces.specs.Reader.{HasRead, IsShortest, is_over, state_of, after_request, reader_value, Partial, Waiting};
-ghost use Rattle.http_pieces.specs.Looked.{most_looked};
+ghost use Rattle.http_pieces.specs.Reader.{HasRead, TakesShortest, is_over, state_of, after_request, reader_value, Partial, Waiting};
+ghost use Rattle.http_pieces.specs.Looked.{Counts, most_looked};
 ghost use Rattle.http_pieces.specs.Request.{HttpRequest};
 
 use crate::head::{Head, Requests};
@@ -58,10 +58,7 @@ impl Reader {
             → IfOk result (λ n. HasRead self.new (bytes ++ take n piece.now) given) }
 
         // In `More` it takes the shortest prefix that makes a whole request, and else all.
-        ensures shortest { (left : List ℕ) → self.old.reading ≡ Partial left
-            → IfOk result (IsShortest self.old left piece.now) }
-        ensures all { IfOk result (λ n. (n ≡ length piece.now) ⊎ ((q : HttpRequest) × (self.new.reading ≡ Waiting q))) }
-
+        ensures takes { IfOk result (TakesShortest self.old self.new piece.now) }
         ensures moves { 0 < length piece.now
             → IfOk result (λ n. (0 < n) ⊎ ((q : HttpRequest) × (self.old.reading ≡ Waiting q))) }
         ensures err { OnErr result (self.new ≡ self.old) }
@@ -70,8 +67,9 @@ impl Reader {
         ensures waits { (q : HttpRequest) → self.old.reading ≡ Waiting q → (result ≡ Ok 0) × (self.new ≡ self.old) }
         ensures over { is_over self.old.reading ≡ true → (result ≡ Ok (length piece.now)) × (self.new ≡ self.old) }
 
-        // `reads` says that at most twice the bytes taken were looked at.
-        ensures looks { self.old.looked ≤ self.new.looked }
+        // Each byte that is looked at is counted. `reads` says that they are at most twice those taken.
+        ensures looks { (left : List ℕ) → self.old.reading ≡ Partial left
+            → IfOk result (λ n. Counts self.old.looked self.new.looked left (left ++ take n piece.now)) }
     {
         push_into::<Requests>(&mut self.bytes, &mut self.phase, &mut self.looked, piece)
     }

@@ -1,7 +1,7 @@
 ghost use Rattle.std.specs.Prelude.{◌≡◌, ◌<◌, ◌≤◌, ◌++◌, [], ℕ, List, length, take, IfOk, IfSome, OnErr, Ok, true, Option, Some, None, IfNone, MatchOption, ◌⊎◌};
 ghost use Rattle.http_pieces.specs.declared.reply.HttpReply.{HttpReply};
-ghost use Rattle.http_pieces.specs.Looked.{most_looked};
-ghost use Rattle.http_pieces.specs.ReplyReader.{HasReadReply, IsShortestReply, is_over_reply, reply_reader_value, state_of_reply, Partial, Waiting, Done};
+ghost use Rattle.http_pieces.specs.Looked.{Counts, most_looked};
+ghost use Rattle.http_pieces.specs.ReplyReader.{HasReadReply, TakesShortestReply, is_over_reply, reply_reader_value, state_of_reply, Partial, Waiting, Done};
 
 use crate::bytes::Bytes;
 use crate::phase::{Phase, drop_front, push_into};
@@ -56,10 +56,7 @@ impl ReplyReader {
             → IfOk result (λ n. HasReadReply self.new (bytes ++ take n piece.now) given) }
 
         // In `More` it takes the shortest prefix that makes the whole reply, and else all.
-        ensures shortest { (left : List ℕ) → self.old.reading ≡ Partial left
-            → IfOk result (IsShortestReply left piece.now) }
-        ensures all { IfOk result (λ n. (n ≡ length piece.now) ⊎ ((q : HttpReply) × (self.new.reading ≡ Waiting q))) }
-
+        ensures takes { IfOk result (TakesShortestReply self.old self.new piece.now) }
         ensures moves { 0 < length piece.now
             → IfOk result (λ n. (0 < n) ⊎ ((q : HttpReply) × (self.old.reading ≡ Waiting q))) }
         ensures err { OnErr result (self.new ≡ self.old) }
@@ -69,8 +66,9 @@ impl ReplyReader {
         ensures over { is_over_reply self.old.reading ≡ true
             → (result ≡ Ok (length piece.now)) × (self.new ≡ self.old) }
 
-        // `reads` says that at most twice the bytes taken were looked at.
-        ensures looks { self.old.looked ≤ self.new.looked }
+        // Each byte that is looked at is counted. `reads` says that they are at most twice those taken.
+        ensures looks { (left : List ℕ) → self.old.reading ≡ Partial left
+            → IfOk result (λ n. Counts self.old.looked self.new.looked left (left ++ take n piece.now)) }
     {
         push_into::<Replies>(&mut self.bytes, &mut self.phase, &mut self.looked, piece)
     }

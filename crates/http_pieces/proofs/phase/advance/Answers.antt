@@ -3,6 +3,7 @@ use Rattle.std.specs.Result.{IfOk}
 use Rattle.http_pieces.specs.Form.{Grows}
 use Rattle.http_pieces.specs.declared.phase.Phase.TheVariants as phase
 use Rattle.http_pieces.proofs.ScanLemmas.{scan_moves, scan_ends}
+use Rattle.http_pieces.proofs.CountLemmas.{limit_looked, open_looked}
 use Rattle.http_pieces.proofs.PhaseLemmas.{too_large_grows, head_grows}
 use Rattle.http_pieces.proofs.phase.advance.Goals as goal
 
@@ -40,3 +41,15 @@ returns-clause-ok g c =
       grows = subst (λ b. Grows form before piece b (length piece) (phase.Head scan.matched)) (sym (c.drop_front.ensures ∙ c.in_ok-front.ensures.held)) grows;
       moves = λ some. some;
     }
+
+pub returns-then-scan-eq-MAX_HEAD-clause-counts : goal.returns-then-scan-eq-MAX_HEAD-clause-counts
+returns-then-scan-eq-MAX_HEAD-clause-counts g c =
+    let scans = rw c.deref.ensures.value at c.scan_piece-scan.ensures in
+    limit_looked c.args.bytes.now.items c.args.piece.now c.scan_piece-scan.result scans.to c.if-scan-eq4.false c.if-scan-eq-MAX_HEAD.true
+
+pub returns-clause-counts : goal.returns-clause-counts
+returns-clause-counts g c =
+    let before = c.args.bytes.now.items in
+    let scan = c.scan_piece-scan.result in
+    let scans = rw c.deref.ensures.value at c.scan_piece-scan.ensures in
+    open_looked before c.args.piece.now scan scans.to c.if-scan-eq4.false (scan_ends before c.args.piece.now scan scans c.if-scan-eq4.false c.if-scan-eq-MAX_HEAD.false)

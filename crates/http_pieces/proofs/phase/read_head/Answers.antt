@@ -3,6 +3,7 @@ use Rattle.std.proofs.lemmas.List.{take_rest}
 use Rattle.http_pieces.specs.Cut.{IsBlock}
 use Rattle.http_pieces.specs.Scan.{held}
 use Rattle.http_pieces.proofs.ScanLemmas.{head_block}
+use Rattle.http_pieces.proofs.CountLemmas.{ended_looked}
 use Rattle.http_pieces.proofs.PhaseLemmas.{grows_behind}
 use Rattle.http_pieces.proofs.phase.read_head.Goals as goal
 
@@ -18,3 +19,7 @@ returns-in-Ok-clause-ok g c =
     let piece = c.args.piece.now in
     let grows = rw (c.in_ok-front.ensures.held, take_rest piece c.args.scan.seen) at c.in-Ok.ensures.ok in
     grows_behind form before piece (held before piece c.args.scan) _ c.args.scan.seen c.in-Ok.taken c.in-Ok.phase (sym c.requires.scanned.text_is) c.requires.scanned.within grows
+
+pub returns-in-Ok-clause-counts : goal.returns-in-Ok-clause-counts
+returns-in-Ok-clause-counts g c =
+    ended_looked c.args.bytes.now.items c.args.piece.now c.args.scan c.requires.scanned c.requires.whole c.in-Ok.taken
