@@ -4,6 +4,7 @@ use Rattle.std.specs.List.{list_any}
 use Rattle.std.specs.Option.{option_map_or}
 use Rattle.timer_heap.specs.Timers.{Timing}
 use Rattle.context_tree.specs.Timed.{Timed}
+use Rattle.context_tree.specs.Links.{no_links, bare}
 use Rattle.context_tree.specs.declared.error.CtxError.{CtxError}
 use Rattle.context_tree.specs.declared.error.CtxError.TheVariants.{Unknown, Exhausted, Memory}
 use Rattle.context_tree.specs.declared.node.Kind.{Kind}
@@ -63,11 +64,11 @@ module _ {C V : Type 0} where
   abbrev pub deadline_in : List (Option (Node C V)) → Id → Option ℕ
   deadline_in slots x = option_and_then (λ n. n.deadline) (node_at slots x)
 
-  -- the node of a context that is held
+  -- the node of a context that is held, without its links
   abbrev pub context : Id → List (TreeOp C V) → Option (Node C V)
   context x past =
       option_map
-      (λ kind. record { number = x.0; kind = kind; ending = option_map told (ending x past); deadline = deadline x past })
+      (λ kind. record { number = x.0; kind = kind; ending = option_map told (ending x past); deadline = deadline x past; links = no_links })
       (held x past)
 
   -- the parent, if there is one, is held
@@ -94,7 +95,7 @@ module _ {C V : Type 0} where
   pub record KnowsContexts (t : TreeValue C V) (past : List (TreeOp C V)) : Type 0 where
     pub lawful : IsLawful past
     pub made_is : t.made ≡ makes past
-    pub nodes_are : (x : Id) → node_at t.slots x ≡ context x past
+    pub nodes_are : (x : Id) → bare (node_at t.slots x) ≡ context x past
     pub live_are : (x : Id) → is_among x t.live ≡ (is_some (held x past) && is_none (ending x past))
     pub live_rise : EachBefore (λ x y. x.0 < y.0) t.live
 
@@ -119,13 +120,6 @@ module _ {C V : Type 0} where
     pub keeps : Keeps slots past
     pub kind : Kind C V
     pub is_held : held x past ≡ Some kind
-
-  -- the node of some id derives from it
-  pub record IsParent (slots : List (Option (Node C V))) (x : Id) : Type 0 where
-    pub child : Id
-    pub node : Node C V
-    pub node_is : node_at slots child ≡ Some node
-    pub derives : parent_of node.kind ≡ Some x
 
   -- the operation that ends contexts in this way
   abbrev pub op_of : Ender C → TreeOp C V

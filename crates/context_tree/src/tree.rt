@@ -8,9 +8,9 @@ ghost use Rattle.context_tree.specs.Tree.{StandsFor, StandsAsBefore, IsMade, IsR
 
 use crate::error::{Cause, CtxErr, CtxError, Unknown};
 use crate::id::CtxId;
-use crate::node::{Ender, Kind, Node};
+use crate::node::{Ender, Kind, Links, Node};
 use crate::released::Released;
-use crate::{ended, walk};
+use crate::{ended, links, walk};
 use slab::Slab;
 use std::alloc::Global;
 use std::collections::VecDeque;
@@ -38,6 +38,7 @@ impl<C, V> Model for Tree<C, V> {
     ghost use Rattle.std.specs.Prelude.{◌≤◌, ◌+◌};
     ghost use Rattle.std.specs.Vec.{vec_len};
     ghost use Rattle.std.specs.VecDeque.{deque_len, deque_capacity};
+    ghost use Rattle.context_tree.specs.Links.{IsLinked};
     ghost use Rattle.context_tree.specs.Tree.{TreeValue, IsReached};
 
     ghost Value = { TreeValue C V };
@@ -47,6 +48,7 @@ impl<C, V> Model for Tree<C, V> {
     ghost invariant = { λ t. record {
       reached : IsReached (record { slots = t.nodes.slots; live = t.live.items; done = t.done.items; timers = t.timers; made = t.made });
       room : deque_len t.done + vec_len t.live ≤ deque_capacity t.done;
+      linked : IsLinked t.nodes.slots;
     } };
 }
 
@@ -160,12 +162,14 @@ impl<C: Copy, V: Drop> Tree<C, V> {
         if ended::set_timer(&mut self.timers, time, self.made).is_err() {
             return Err((kind, CtxError::Memory));
         }
-        self.nodes.insert_reserved(Node {
+        let node = Node {
             number: self.made,
             kind,
             ending,
             deadline,
-        });
+            links: Links::after(None),
+        };
+        links::insert(&mut self.nodes, node);
         ended::add_new(&mut self.live, &mut self.done, id, ending);
         self.made += 1;
         Ok(id)
@@ -240,10 +244,10 @@ impl<C: Copy, V: Drop> Tree<C, V> {
         if walk::node(&self.nodes, id).is_none() {
             return Released::Unknown;
         }
-        if walk::has_children(&self.nodes, id) {
+        if links::has_children(&self.nodes, id.slot) {
             return Released::HasChildren;
         }
-        let _ = self.nodes.try_remove(id.slot);
+        links::remove(&mut self.nodes, id.slot);
         self.timers.stop(id.number);
         self.live.retain(|other| *other != id);
         self.done.retain(|other| *other != id);
