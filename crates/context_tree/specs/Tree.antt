@@ -1,5 +1,5 @@
 -- What a tree stands for.
-use Rattle.std.specs.Prelude.{◌≡◌, ◌<◌, ℕ, ◌^◌, not, nat_le, ◌&&◌, ◌==◌, Bool, true, false, is_some, is_none, if◌then◌else◌, List, [], ◌∷◌, length, slice_index_or, Option, Some, None, option_map, option_and_then}
+use Rattle.std.specs.Prelude.{◌≡◌, ◌<◌, ℕ, ◌^◌, not, nat_le, ◌&&◌, ◌==◌, Bool, true, false, is_some, is_none, if◌then◌else◌, List, [], ◌∷◌, length, slice_index_or, Option, Some, None, option_map, option_and_then, Result, IfOk, IfErr, OnErr}
 use Rattle.std.specs.List.{list_any}
 use Rattle.std.specs.Option.{option_map_or}
 use Rattle.timer_heap.specs.Timers.{Timing}
@@ -173,6 +173,14 @@ module _ {C V : Type 0} where
   -- it was not made, for this error
   abbrev pub IsRefused : TreeValue C V → Kind C V → CtxError → Type 0
   IsRefused old kind e = (past : List (TreeOp C V)) → StandsFor old past → IsFault (make_fault (parent_of kind) past) e
+
+-- What a call answers that makes a context in that way, at that moment where it is made with a deadline: its id, or in the
+-- error why none is made; then the tree is as it was.
+pub record Answers {C V E : Type 0} (old new : TreeValue C V) (kind : Kind C V) (now : ℕ) (error_of : E → CtxError) (result : Result Id E) : Type 0 where
+  pub made : IfOk result (IsMade old new kind now)
+  pub refused : IfErr result (λ e. IsRefused old kind (error_of e))
+  pub unchanged : OnErr result (new ≡ old)
+  pub keeps : OnErr result (StandsAsBefore old new)
 
 -- how many ended contexts are still to be handed out
 abbrev pub left_to_hand_out : {C V : Type 0} → TreeValue C V → ℕ
