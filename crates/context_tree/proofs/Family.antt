@@ -1,17 +1,15 @@
 -- What a tree that stands for operations tells of its slots: parents and children are there.
-use Rattle.std.proofs.Common.{◌≡◌, refl, sym, ap, subst, ◌∙◌, arith, ℕ, ◌<◌, List, Option, Some, None, true, option_map, slice_index_or}
+use Rattle.std.proofs.Common.{◌≡◌, refl, sym, ap, ◌∙◌, ℕ, ◌<◌, List, Option, Some, None, true, option_map}
 use Rattle.std.specs.Prelude.{is_some, option_and_then}
 use Rattle.std.specs.Option.{option_map_or}
-use Rattle.context_tree.specs.declared.node.Kind.{Kind}
 use Rattle.context_tree.specs.declared.node.Node.{Node}
-use Rattle.context_tree.specs.Context.{Id, TreeOp, makes, held, parent_of, HasChild}
+use Rattle.context_tree.specs.Context.{Id, TreeOp, makes, parent_of, HasChild}
 use Rattle.context_tree.specs.Links.{slot_of, parent_in, number_in, links_in, IsLinked, IsThere, ArePlaced}
 use Rattle.context_tree.specs.Tree.{TreeValue, node_at, KnowsContexts}
 use Rattle.context_tree.proofs.Lineage.{held_low, born, some_same}
 use Rattle.context_tree.proofs.Linking.{no_child}
 use Rattle.context_tree.proofs.Marking.{in_slot, node_in_slot}
 use Rattle.context_tree.proofs.Standing.{is_some_of}
-use Rattle.context_tree.proofs.Slots.{placed_there}
 use Rattle.context_tree.proofs.Whole.{kind_held, node_there}
 
 module _ {C V : Type 0} where

@@ -1,9 +1,9 @@
 -- A node comes in behind the last child of its parent, and a node with no children goes.
-use Rattle.std.proofs.Common.{◌≡◌, refl, sym, ap, subst, ◌∙◌, arith, ℕ, zero, suc, ◌+◌, ◌<◌, Option, Some, None, true, false, inl, inr, ⊎_elim}
+use Rattle.std.proofs.Common.{◌≡◌, refl, sym, ap, subst, ◌∙◌, arith, ℕ, zero, suc, ◌+◌, ◌<◌, ◌≤◌, Option, Some, None, true, false, inl, inr, ⊎_elim}
 use Rattle.std.specs.Prelude.{◌⊎◌, ◌==◌, is_some, option_and_then}
-use Rattle.std.proofs.lemmas.Bool.{cases_Bool, eqb-true, eq-eqb}
+use Rattle.std.proofs.lemmas.Bool.{cases_Bool, cases_lt, eqb-true, eq-eqb}
 use Rattle.context_tree.specs.declared.node.Links.{Links}
-use Rattle.context_tree.specs.Links.{no_links, AreNext, AreLinked, is_at, put, where_none}
+use Rattle.context_tree.specs.Links.{no_links, child_at, AreNext, AreLinked, is_at, put, where_none}
 use Rattle.context_tree.proofs.Lineage.{some_same, option_cases}
 
 -- ---- keys that may be there
@@ -78,6 +78,52 @@ module _ (up : ℕ → Option ℕ) (number : ℕ → ℕ) (links : ℕ → Links
 
   pub no_child : (k j : ℕ) → (links k).first ≡ None → up j ≡ Some k → ⊥
   no_child k j none = childless (number j + 1) k j none (omega arith)
+
+  -- each child is reached from the first one
+  reached : (n k j : ℕ) → number j < n → up j ≡ Some k → (i : ℕ) × (child_at links k i ≡ Some j)
+  reached zero k j low is = absurd (omega (arith, low))
+  reached (suc n) k j low is = ⊎_elim
+      (λ (first : (links j).prev ≡ None). (zero, linked.begins j k is first))
+      (λ (some : (i : ℕ) × ((links j).prev ≡ Some i)).
+      let on = linked.prev_is j some.0 some.1 in
+      let next = linked.next_is some.0 j on in
+      let same_parent : next.parent ≡ k = some_same next.parent k (sym next.second_up ∙ is) in
+      let less : number some.0 < number j = next.rises in
+      let before = reached n k some.0 (omega (arith, less, low)) (next.first_up ∙ ap Some same_parent) in
+      (suc before.0, ap (option_and_then (λ m. (links m).next)) before.1 ∙ on))
+      (option_cases (links j).prev)
+
+  pub all_reached : (k j : ℕ) → up j ≡ Some k → (i : ℕ) × (child_at links k i ≡ Some j)
+  all_reached k j is = reached (number j + 1) k j (omega arith) is
+
+  -- the child before one that is reached, by a step
+  pub step_before : (k i j : ℕ) → child_at links k (suc i) ≡ Some j → (m : ℕ) × (child_at links k i ≡ Some m) × ((links m).next ≡ Some j)
+  step_before k i j is = ⊎_elim
+      (λ (none : child_at links k i ≡ None). let bad : None ≡ Some j = rw none at is in cc)
+      (λ (some : (m : ℕ) × (child_at links k i ≡ Some m)). (some.0, some.1, rw some.1 at is))
+      (option_cases (child_at links k i))
+
+  -- what is reached is a child
+  pub only_children : (k i j : ℕ) → child_at links k i ≡ Some j → up j ≡ Some k
+  only_children k zero j is = (linked.first_is k j is).0
+  only_children k (suc i) j is =
+      let b = step_before k i j is in
+      let next = linked.next_is b.0 j b.2 in
+      next.second_up ∙ sym next.first_up ∙ only_children k i b.0 b.1
+
+  -- later places have higher numbers
+  pub places_rise : (k i l a b : ℕ) → i < l → child_at links k i ≡ Some a → child_at links k l ≡ Some b → number a < number b
+  places_rise k i zero a b lt ia lb = absurd (omega (arith, lt))
+  places_rise k i (suc l) a b lt ia lb =
+      let before = step_before k l b lb in
+      let less : number before.0 < number b = (linked.next_is before.0 b before.2).rises in
+      ⊎_elim
+      (λ (earlier : i < l). let low : number a < number before.0 = places_rise k i l a before.0 earlier ia before.1 in omega (arith, low, less))
+      (λ (not_earlier : l ≤ i).
+      let e : i ≡ l = omega (arith, lt, not_earlier) in
+      let same_child : a ≡ before.0 = some_same a before.0 (sym ia ∙ ap (child_at links k) e ∙ before.1) in
+      rw same_child less)
+      (cases_lt i l)
 
 -- links that say the same of the same nodes
 pub same_linked : (up up2 : ℕ → Option ℕ) (number number2 : ℕ → ℕ) (links links2 : ℕ → Links) → ((k : ℕ) → up2 k ≡ up k) → ((k : ℕ) → number2 k ≡ number k)

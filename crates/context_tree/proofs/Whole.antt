@@ -1,5 +1,5 @@
 -- What a tree stands for after each call.
-use Rattle.std.proofs.Common.{◌≡◌, ◌≢◌, refl, sym, ap, subst, ◌∙◌, arith, rules, ℕ, ◌+◌, List, [], ◌∷◌, ◌++◌, Option, Some, None, true, false, inl, inr, ⊎_elim, option_map, slice_index_or}
+use Rattle.std.proofs.Common.{◌≡◌, refl, sym, ap, subst, ◌∙◌, arith, rules, ℕ, ◌+◌, List, [], ◌∷◌, ◌++◌, Option, Some, None, true, false, inl, inr, ⊎_elim, option_map}
 use Rattle.std.specs.Prelude.{Result, Ok, Err, option_copied, ◌⊎◌, ◌&&◌, ◌==◌, if◌then◌else◌, is_some, is_none, not, filter, option_and_then}
 use Rattle.std.specs.Borrow.{Bor}
 use Rattle.std.specs.Result.{OnOk, is_err}
@@ -11,7 +11,7 @@ use Rattle.context_tree.specs.declared.node.Ending.{Ending}
 use Rattle.context_tree.specs.declared.node.Kind.{Kind}
 use Rattle.context_tree.specs.declared.node.Node.{Node}
 use Rattle.context_tree.specs.declared.node.Ender.{Ender}
-use Rattle.context_tree.specs.Context.{Id, same, TreeOp, Makes, Advances, HandsOut, Releases, Ended, held, parent_of, follows, line, nearest, value, ending, deadline, expiry, own_due, own_deadline, sooner, handed, is_waiting, precedes, HasChild, IsFirstDone}
+use Rattle.context_tree.specs.Context.{Id, same, TreeOp, Makes, Advances, HandsOut, Releases, Ended, held, parent_of, follows, line, nearest, value, ending, deadline, expiry, own_due, own_deadline, sooner, handed, is_waiting, precedes, IsFirstDone}
 use Rattle.context_tree.specs.Links.{no_links, bare, slot_of, KeepsOthers}
 use Rattle.context_tree.specs.Tree.{TreeValue, numbered, node_at, ending_in, deadline_in, is_live, told, context, is_among, is_gone, op_of, IsLawful, IsReached, ParentHeld, Keeps, if_held, Marked, ComesFirst, KnowsContexts, QueuesDone, StandsFor}
 use Rattle.context_tree.specs.Timed.{Timed, with_timer}

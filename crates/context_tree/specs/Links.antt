@@ -1,5 +1,5 @@
 -- How the nodes of a tree are linked, by the keys of their slots.
-use Rattle.std.specs.Prelude.{◌≡◌, ◌<◌, ℕ, Bool, true, false, ◌==◌, is_some, if◌then◌else◌, List, slice_index_or, Option, Some, None, option_map, option_and_then}
+use Rattle.std.specs.Prelude.{◌≡◌, ◌<◌, ℕ, zero, suc, Bool, true, false, ◌==◌, is_some, if◌then◌else◌, List, slice_index_or, Option, Some, None, option_map, option_and_then}
 use Rattle.std.specs.Option.{option_map_or}
 use Rattle.context_tree.specs.declared.node.Links.{Links}
 use Rattle.context_tree.specs.declared.node.Node.{Node}
@@ -28,6 +28,11 @@ pub record AreLinked (up : ℕ → Option ℕ) (number : ℕ → ℕ) (links : �
   pub begins : (k p : ℕ) → up k ≡ Some p → (links k).prev ≡ None → (links p).first ≡ Some k
   pub ends : (k p : ℕ) → up k ≡ Some p → (links k).next ≡ None → (links p).last ≡ Some k
   pub both : (k j : ℕ) → (links k).first ≡ Some j → is_some (links k).last ≡ true
+
+-- the child at a place, counted from the first, by the links
+abbrev pub child_at : (ℕ → Links) → ℕ → ℕ → Option ℕ
+child_at links k zero = (links k).first
+child_at links k (suc i) = option_and_then (λ j. (links j).next) (child_at links k i)
 
 -- the key is this one, if there is one
 abbrev pub is_at : Option ℕ → ℕ → Bool
