@@ -1,4 +1,7 @@
 pub mod Lineage
+pub mod Bare
+pub mod Linking
+pub mod Slots
 pub mod Walking
 pub mod Marking
 pub mod Ordering
@@ -9,3 +12,4 @@ pub mod Timing
 pub mod Whole
 pub mod LawLemmas
 pub mod Framing
+pub mod Family

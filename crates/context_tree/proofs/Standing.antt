@@ -1,9 +1,9 @@
 -- What a tree knows of the contexts after each call.
-use Rattle.std.proofs.Common.{◌≡◌, ◌≢◌, refl, sym, ap, subst, ◌∙◌, arith, rules, ℕ, ◌+◌, ◌^◌, ◌<◌, List, [], ◌∷◌, ◌++◌, length, Option, Some, None, Bool, true, false, ⊎_elim, option_map, slice_index_or}
+use Rattle.std.proofs.Common.{◌≡◌, refl, sym, ap, subst, ◌∙◌, arith, rules, ℕ, ◌+◌, ◌^◌, ◌<◌, List, [], ◌∷◌, ◌++◌, length, Option, Some, None, Bool, true, false, ⊎_elim, option_map}
 use Rattle.std.specs.Prelude.{◌&&◌, ◌||◌, ◌==◌, if◌then◌else◌, is_some, is_none, filter, option_and_then}
 use Rattle.std.specs.Option.{option_or, option_map_or}
 use Rattle.std.proofs.lemmas.Bool.{cases_Bool, lt-leb}
-use Rattle.slab.specs.Slab.{Slab, get, Updates}
+use Rattle.slab.specs.Slab.{Slab, get}
 use Rattle.context_tree.specs.declared.node.Ending.{Ending}
 use Rattle.context_tree.specs.declared.node.Due.{Due}
 use Rattle.context_tree.specs.declared.node.Kind.{Kind}
@@ -12,8 +12,10 @@ use Rattle.context_tree.specs.declared.node.Node.{Node}
 use Rattle.context_tree.specs.declared.node.Ender.{Ender}
 use Rattle.context_tree.specs.declared.node.Ender.TheVariants.{ByCancel, ByMoment}
 use Rattle.context_tree.specs.Context.{Id, same, TreeOp, Makes, Ended, makes, held, chain, parent_of, follows, ends, ending, deadline, inherited, expiry, own_due, own_deadline, sooner, least}
-use Rattle.context_tree.specs.Tree.{TreeValue, EachBefore, node_at, ending_in, deadline_in, is_live, told, context, is_among, with_ending, op_of, IsLawful, ParentHeld, Keeps, IsKept, Marked, KnowsContexts, StandsFor, make_fault}
+use Rattle.context_tree.specs.Links.{no_links, bare, slot_of, KeepsOthers}
+use Rattle.context_tree.specs.Tree.{TreeValue, EachBefore, numbered, node_at, ending_in, deadline_in, is_live, told, context, is_among, with_ending, op_of, IsLawful, ParentHeld, Keeps, IsKept, Marked, KnowsContexts, StandsFor, make_fault}
 use Rattle.context_tree.proofs.Lineage.{held_low, same_true, same_refl, option_cases}
+use Rattle.context_tree.proofs.Bare.{bare_numbered, bare_kind, bare_ending, bare_deadline, bare_some, bare_marked}
 use Rattle.context_tree.proofs.Marking.{among_push}
 use Rattle.context_tree.proofs.Ordering.{among_filter, each-append, each-filter, or_none}
 
@@ -59,10 +61,10 @@ module _ {C V : Type 0} where
   kind_of_context None f is = refl
   kind_of_context (Some k) f is = ap Some (is k)
 
-  keeps_of : (t : TreeValue C V) (past : List (TreeOp C V)) → KnowsContexts t past → Keeps t.slots past
+  pub keeps_of : (t : TreeValue C V) (past : List (TreeOp C V)) → KnowsContexts t past → Keeps t.slots past
   keeps_of t past s = record {
     lawful = s.lawful;
-    kinds_are = λ x. ap (option_map (λ n. n.kind)) (s.nodes_are x) ∙ kind_of_context (held x past) _ (λ k. refl);
+    kinds_are = λ x. sym (bare_kind (node_at t.slots x)) ∙ ap (option_map (λ n. n.kind)) (s.nodes_are x) ∙ kind_of_context (held x past) _ (λ k. refl);
   }
 
   pub live_kept : (t : TreeValue C V) (past : List (TreeOp C V)) → StandsFor t past → (x : Id) → is_among x t.live ≡ true → IsKept t.slots x
@@ -99,7 +101,7 @@ module _ {C V : Type 0} where
 
   -- the node that a context of this kind has
   abbrev node_of : Id → Option (Ended C) → Option ℕ → Kind C V → Node C V
-  node_of x e d k = record { number = x.0; kind = k; ending = option_map told e; deadline = d }
+  node_of x e d k = record { number = x.0; kind = k; ending = option_map told e; deadline = d; links = no_links }
 
   mark_node : (o : Option (Kind C V)) (x : Id) (a e : Option (Ended C)) (d : Option ℕ) → option_map (with_ending e) (option_map (node_of x a d) o) ≡ option_map (node_of x e d) o
   mark_node None x a e d = refl
@@ -130,14 +132,14 @@ module _ {C V : Type 0} where
       → KnowsContexts u (op_of e ∷ past)
   ended_known t u past e s ids ids_are marked_ids live_is made_is =
       let m : Marked t.slots u.slots t.live (op_of e) = subst (λ l. Marked t.slots u.slots l (op_of e)) ids_are marked_ids in
-      let nodes : (x : Id) → node_at u.slots x ≡ context x (op_of e ∷ past) = λ x. ⊎_elim
+      let nodes : (x : Id) → bare (node_at u.slots x) ≡ context x (op_of e ∷ past) = λ x. ⊎_elim
       (λ (yes' : is_among x t.live ≡ true).
       let un = unended (held x past) (ending x past) (sym (s.live_are x) ∙ yes') in
-      m.marked past (length past) (keeps_of t past s) x yes' ∙ ap (option_map (with_ending (ends (length past) (chain x past) (op_of e)))) (s.nodes_are x)
+      ap bare (m.marked past (length past) (keeps_of t past s) x yes') ∙ bare_marked (node_at t.slots x) (ends (length past) (chain x past) (op_of e)) ∙ ap (option_map (with_ending (ends (length past) (chain x past) (op_of e)))) (s.nodes_are x)
       ∙ mark_node (held x past) x (ending x past) (ends (length past) (chain x past) (op_of e)) (deadline x past)
       ∙ rw (held_op e x past, deadline_op e x past, ending_op e x past, un.1) refl)
       (λ (no' : is_among x t.live ≡ false).
-      m.others x no' ∙ s.nodes_are x ∙ same_node (held x past) x (ending x past) (ends (length past) (chain x past) (op_of e)) (deadline x past) (sym (s.live_are x) ∙ no')
+      ap bare (m.others x no') ∙ s.nodes_are x ∙ same_node (held x past) x (ending x past) (ends (length past) (chain x past) (op_of e)) (deadline x past) (sym (s.live_are x) ∙ no')
       ∙ rw (held_op e x past, deadline_op e x past, ending_op e x past) refl)
       (cases_Bool (is_among x t.live)) in
       record {
@@ -148,7 +150,7 @@ module _ {C V : Type 0} where
             (λ (yes' : is_among x t.live ≡ true).
             let un = unended (held x past) (ending x past) (sym (s.live_are x) ∙ yes') in
             let here : is_some (held x (op_of e ∷ past)) ≡ true = rw (held_op e x past) un.0 in
-            rw (yes', here) (ap is_none (ap (option_and_then (λ n. n.ending)) (nodes x) ∙ ending_of_node (held x (op_of e ∷ past)) x (ending x (op_of e ∷ past)) (deadline x (op_of e ∷ past)) here) ∙ told_none (ending x (op_of e ∷ past))))
+            rw (yes', here) (ap is_none (sym (bare_ending (node_at u.slots x)) ∙ ap (option_and_then (λ n. n.ending)) (nodes x) ∙ ending_of_node (held x (op_of e ∷ past)) x (ending x (op_of e ∷ past)) (deadline x (op_of e ∷ past)) here) ∙ told_none (ending x (op_of e ∷ past))))
             (λ (no' : is_among x t.live ≡ false). rw (no', held_op e x past, ending_op e x past) (sym (not_live (held x past) (ending x past) (ends (length past) (chain x past) (op_of e)) (sym (s.live_are x) ∙ no'))))
             (cases_Bool (is_among x t.live)));
         live_rise = rw live_is (each-filter _ (is_live u.slots) t.live s.live_rise);
@@ -167,7 +169,7 @@ module _ {C V : Type 0} where
       → option_and_then (λ p. ending_in t.slots p) o ≡ option_map told (option_and_then (λ p. ending p past) o)
   ending_there t past s None held_is = refl
   ending_there t past s (Some p) held_is =
-      ap (option_and_then (λ n. n.ending)) (s.nodes_are p) ∙ ending_of_node (held p past) p (ending p past) (deadline p past) (rw held_is.1 refl)
+      sym (bare_ending (node_at t.slots p)) ∙ ap (option_and_then (λ n. n.ending)) (s.nodes_are p) ∙ ending_of_node (held p past) p (ending p past) (deadline p past) (rw held_is.1 refl)
 
   deadline_of_node : (o : Option (Kind C V)) (x : Id) (e : Option (Ended C)) (d : Option ℕ) → is_some o ≡ true → option_and_then (λ (n : Node C V). n.deadline) (option_map (node_of x e d) o) ≡ d
   deadline_of_node None x e d is = cc
@@ -177,7 +179,7 @@ module _ {C V : Type 0} where
       → option_and_then (λ p. deadline_in t.slots p) o ≡ least (option_map_or (λ p. chain p past) o [])
   deadline_there t past s None held_is = refl
   deadline_there t past s (Some p) held_is =
-      ap (option_and_then (λ n. n.deadline)) (s.nodes_are p) ∙ deadline_of_node (held p past) p (ending p past) (deadline p past) (rw held_is.1 refl)
+      sym (bare_deadline (node_at t.slots p)) ∙ ap (option_and_then (λ n. n.deadline)) (s.nodes_are p) ∙ deadline_of_node (held p past) p (ending p past) (deadline p past) (rw held_is.1 refl)
 
   follows_held : (kind : Kind C V) (past : List (TreeOp C V)) → ParentHeld (parent_of kind) past → ParentHeld (follows kind) past
   follows_held Background past h = tt
@@ -186,35 +188,35 @@ module _ {C V : Type 0} where
   follows_held (Value parent key value) past h = h
   follows_held (WithoutCancel parent) past h = tt
 
-  -- what is in the slots after a node was put in a vacant one
-  node_put : (old new : List (Option (Node C V))) (id : Id) (n : Node C V) → n.number ≡ id.0 → slice_index_or old id.1 None ≡ None
-      → slice_index_or new id.1 None ≡ Some n → ((k : ℕ) → k ≢ id.1 → slice_index_or new k None ≡ slice_index_or old k None)
-      → (x : Id) → node_at new x ≡ (if same id x then Some n else node_at old x)
+  -- what an id finds after a node was put in a vacant slot
+  node_put : (old new : ℕ → Option (Node C V)) (id : Id) (n : Node C V) → n.number ≡ id.0 → old id.1 ≡ None
+      → new id.1 ≡ Some n → ((k : ℕ) → (k ≡ id.1 → ⊥) → new k ≡ old k)
+      → (x : Id) → numbered x.0 (new x.1) ≡ (if same id x then Some n else numbered x.0 (old x.1))
   node_put old new id n number vacant put others x = ⊎_elim
       (λ (slot : (id.1 == x.1) ≡ true).
       let e : id.1 ≡ x.1 = eqb_true _ _ slot in
-      let new_is : slice_index_or new x.1 None ≡ Some n = rw (← e) put in
-      let old_is : slice_index_or old x.1 None ≡ None = rw (← e) vacant in
+      let new_is : new x.1 ≡ Some n = rw (← e) put in
+      let old_is : old x.1 ≡ None = rw (← e) vacant in
       ⊎_elim
       (λ (num : (id.0 == x.0) ≡ true). let ne : (n.number == x.0) ≡ true = rw number num in rw (new_is, num, slot, ne) refl)
       (λ (num : (id.0 == x.0) ≡ false). let ne : (n.number == x.0) ≡ false = rw number num in rw (new_is, num, ne, old_is) refl)
       (cases_Bool (id.0 == x.0)))
       (λ (slot : (id.1 == x.1) ≡ false).
-      let other : x.1 ≢ id.1 = λ e. let same_slot : (id.1 == x.1) ≡ true = rw e (grind (arith, rules)) in let bad : true ≡ false = sym same_slot ∙ slot in cc in
+      let other : x.1 ≡ id.1 → ⊥ = λ e. let same_slot : (id.1 == x.1) ≡ true = rw e (grind (arith, rules)) in let bad : true ≡ false = sym same_slot ∙ slot in cc in
       let differ : same id x ≡ false = ⊎_elim (λ (a : (id.0 == x.0) ≡ true). rw (a, slot) refl) (λ (a : (id.0 == x.0) ≡ false). rw a refl) (cases_Bool (id.0 == x.0)) in
       rw (differ, others x.1 other) refl)
       (cases_Bool (id.1 == x.1))
 
   pub made_known : (t u : TreeValue C V) (past : List (TreeOp C V)) (id : Id) (kind : Kind C V) (now : ℕ) (e : Option (Ending C)) (d : Option ℕ)
       → KnowsContexts t past → ParentHeld (parent_of kind) past → id.0 ≡ t.made
-      → slice_index_or t.slots id.1 None ≡ None → slice_index_or u.slots id.1 None ≡ Some (record { number = id.0; kind = kind; ending = e; deadline = d })
-      → ((k : ℕ) → k ≢ id.1 → slice_index_or u.slots k None ≡ slice_index_or t.slots k None)
+      → slot_of t.slots id.1 ≡ None → bare (slot_of u.slots id.1) ≡ Some (record { number = id.0; kind = kind; ending = e; deadline = d; links = no_links })
+      → KeepsOthers t.slots u.slots id.1
       → e ≡ option_or (option_and_then (λ p. ending_in t.slots p) (follows kind)) (option_map (λ x. told (expiry 0 x)) (own_due now (id, kind)))
       → d ≡ sooner (own_deadline kind) (option_and_then (λ p. deadline_in t.slots p) (follows kind))
       → u.live ≡ (if is_none e then t.live ++ id ∷ [] else t.live) → u.made ≡ t.made + 1
       → KnowsContexts u (Makes id kind now ∷ past)
   made_known t u past id kind now e d s parent number vacant put others e_is d_is live_is made_is =
-      let n : Node C V = record { number = id.0; kind = kind; ending = e; deadline = d } in
+      let n : Node C V = record { number = id.0; kind = kind; ending = e; deadline = d; links = no_links } in
       let ended = option_or (option_map (inherited (length past) id) (option_and_then (λ p. ending p past) (follows kind))) (option_map (expiry (length past)) (own_due now (id, kind))) in
       let e_told : e ≡ option_map told ended =
       e_is ∙ rw (ending_there t past s (follows kind) (follows_held kind past parent)) (told_or (option_and_then (λ p. ending p past) (follows kind)) (own_due now (id, kind)) (length past) id) in
@@ -222,9 +224,9 @@ module _ {C V : Type 0} where
       record {
         lawful = (number ∙ s.made_is, parent, s.lawful);
         made_is = rw (made_is, s.made_is) refl;
-        nodes_are = λ x. node_put t.slots u.slots id n refl vacant put others x ∙ ⊎_elim
+        nodes_are = λ x. bare_numbered x.0 (slot_of u.slots x.1) ∙ node_put (λ k. bare (slot_of t.slots k)) (λ k. bare (slot_of u.slots k)) id n refl (ap bare vacant) put others x ∙ ⊎_elim
             (λ (yes' : same id x ≡ true). let same_id : id ≡ x = same_true id x yes' in rw (← same_id) (rw (same_refl id, e_told, d_told) refl))
-            (λ (no' : same id x ≡ false). rw no' (s.nodes_are x))
+            (λ (no' : same id x ≡ false). rw no' (sym (bare_numbered x.0 (slot_of t.slots x.1)) ∙ s.nodes_are x))
             (cases_Bool (same id x));
         live_are = λ x. ⊎_elim
             (λ (yes' : same id x ≡ true). let same_id : id ≡ x = same_true id x yes' in
@@ -259,7 +261,7 @@ module _ {C V : Type 0} where
       new_live t past s id (Some e) (Some x) number is = not_yet t past s id number
 
   known_held : (t : TreeValue C V) (past : List (TreeOp C V)) → KnowsContexts t past → (p : Id) → is_some (node_at t.slots p) ≡ is_some (held p past)
-  known_held t past s p = ap is_some (s.nodes_are p) ∙ some_map (held p past)
+  known_held t past s p = sym (bare_some (node_at t.slots p)) ∙ ap is_some (s.nodes_are p) ∙ some_map (held p past)
     where
       some_map : (o : Option (Kind C V)) → is_some (option_map (node_of p (ending p past) (deadline p past)) o) ≡ is_some o
       some_map None = refl
@@ -279,14 +281,20 @@ module _ {C V : Type 0} where
   -- The slab made room, and then the node was put in its vacant slot.
   pub put_known : (t u : TreeValue C V) (past : List (TreeOp C V)) → KnowsContexts t past → (roomy put : Slab (Node C V)) (slot key : ℕ) (live : List Id) (kind : Kind C V) (now : ℕ) (e : Option (Ending C)) (d : Option ℕ)
       → roomy.slots ≡ t.slots → live ≡ t.live → key ≡ slot → get roomy slot ≡ None
-      → Updates roomy put key (Some (record { number = t.made; kind = kind; ending = e; deadline = d }))
+      → bare (slot_of put.slots key) ≡ Some (record { number = t.made; kind = kind; ending = e; deadline = d; links = no_links }) → KeepsOthers roomy.slots put.slots key
       → ParentHeld (parent_of kind) past
       → e ≡ option_or (option_and_then (λ p. ending_in roomy.slots p) (follows kind)) (option_map (λ x. told (expiry 0 x)) (own_due now ((t.made, slot), kind)))
       → d ≡ sooner (own_deadline kind) (option_and_then (λ p. deadline_in roomy.slots p) (follows kind))
       → u.slots ≡ put.slots → u.live ≡ (if is_none e then live ++ (t.made, slot) ∷ [] else live) → u.made ≡ t.made + 1
       → KnowsContexts u (Makes (t.made, slot) kind now ∷ past)
-  put_known t u past s roomy put slot key live kind now e d slots_are live_is key_is vacant updates parent e_is d_is put_is added made_is =
+  put_known t u past s roomy put slot key live kind now e d slots_are live_is key_is vacant here others parent e_is d_is put_is added made_is =
       made_known (record { slots = roomy.slots; live = live; done = t.done; timers = t.timers; made = t.made }) u past (t.made, slot) kind now e d (rw (slots_are, live_is) s) parent refl vacant
-      (rw (put_is, ← key_is) updates.changed)
-      (λ k other. rw put_is (updates.others k (rw key_is other)))
+      (rw (put_is, ← key_is) here)
+      (rw (put_is, ← key_is) others)
       e_is d_is added made_is
+
+  -- ---- links change
+
+  -- the node of an id, where only links changed
+  pub same_at : (old new : List (Option (Node C V))) → ((k : ℕ) → bare (slot_of new k) ≡ bare (slot_of old k)) → (x : Id) → bare (node_at new x) ≡ bare (node_at old x)
+  same_at old new same_slots x = bare_numbered x.0 (slot_of new x.1) ∙ ap (numbered x.0) (same_slots x.1) ∙ sym (bare_numbered x.0 (slot_of old x.1))

@@ -1,24 +1,26 @@
 -- What a tree stands for after each call.
-use Rattle.std.proofs.Common.{◌≡◌, ◌≢◌, refl, sym, ap, subst, ◌∙◌, arith, rules, ℕ, ◌+◌, List, [], ◌∷◌, ◌++◌, Option, Some, None, true, false, inl, inr, ⊎_elim, option_map, slice_index_or}
+use Rattle.std.proofs.Common.{◌≡◌, refl, sym, ap, subst, ◌∙◌, arith, rules, ℕ, ◌+◌, List, [], ◌∷◌, ◌++◌, Option, Some, None, true, false, inl, inr, ⊎_elim, option_map}
 use Rattle.std.specs.Prelude.{Result, Ok, Err, option_copied, ◌⊎◌, ◌&&◌, ◌==◌, if◌then◌else◌, is_some, is_none, not, filter, option_and_then}
 use Rattle.std.specs.Borrow.{Bor}
 use Rattle.std.specs.Result.{OnOk, is_err}
 use Rattle.std.specs.Option.{IfSome, option_or, option_to_list}
 use Rattle.std.proofs.lemmas.Bool.{cases_Bool, eq-eqb}
-use Rattle.slab.specs.Slab.{Slab, get, Updates}
+use Rattle.slab.specs.Slab.{Slab, get}
 use Rattle.timer_heap.specs.Timers.{Timing, popped, without}
 use Rattle.context_tree.specs.declared.node.Ending.{Ending}
 use Rattle.context_tree.specs.declared.node.Kind.{Kind}
 use Rattle.context_tree.specs.declared.node.Node.{Node}
 use Rattle.context_tree.specs.declared.node.Ender.{Ender}
-use Rattle.context_tree.specs.Context.{Id, same, TreeOp, Makes, Advances, HandsOut, Releases, Ended, held, parent_of, follows, ending, deadline, expiry, own_due, own_deadline, sooner, handed, is_waiting, precedes, HasChild, IsFirstDone}
-use Rattle.context_tree.specs.Tree.{TreeValue, node_at, ending_in, deadline_in, is_live, told, context, is_among, is_gone, op_of, IsLawful, IsReached, ParentHeld, Marked, IsParent, ComesFirst, KnowsContexts, QueuesDone, StandsFor}
+use Rattle.context_tree.specs.Context.{Id, same, TreeOp, Makes, Advances, HandsOut, Releases, Ended, held, parent_of, follows, line, nearest, value, ending, deadline, expiry, own_due, own_deadline, sooner, handed, is_waiting, precedes, IsFirstDone}
+use Rattle.context_tree.specs.Links.{no_links, bare, slot_of, KeepsOthers}
+use Rattle.context_tree.specs.Tree.{TreeValue, numbered, node_at, ending_in, deadline_in, is_live, told, context, is_among, is_gone, op_of, IsLawful, IsReached, ParentHeld, Keeps, if_held, Marked, ComesFirst, KnowsContexts, QueuesDone, StandsFor}
 use Rattle.context_tree.specs.Timed.{Timed, with_timer}
 use Rattle.context_tree.proofs.Lineage.{same_true, same_refl, some_same, option_cases}
-use Rattle.context_tree.proofs.Marking.{InSlot, in_slot}
+use Rattle.context_tree.proofs.Bare.{bare_numbered, bare_ending, bare_there}
+use Rattle.context_tree.proofs.Marking.{in_slot}
 use Rattle.context_tree.proofs.Ordering.{among_first, among_filter, any_of, each-filter, each-turns, filter_on, none_of}
 use Rattle.context_tree.proofs.Queueing.{and_false, and_true, first_done, make_queue, now_ended, end_queue, hand_queue, held_op, release_queue, waits_so}
-use Rattle.context_tree.proofs.Standing.{and_left, is_some_of, new_known, put_known, ended_known, same_false_sym}
+use Rattle.context_tree.proofs.Standing.{and_left, is_some_of, keeps_of, new_known, put_known, ended_known, same_false_sym}
 use Rattle.context_tree.proofs.Timing.{end_timed, hand_timed, make_timed, make_untimed, new_timed, one_number, quiet_context, quiet_ending, quiet_live, quiet_timed, release_timed}
 
 told_some : {C : Type 0} (e : Option (Ended C)) → is_none (option_map told e) ≡ is_none e
@@ -53,9 +55,9 @@ module _ {C V : Type 0} where
   -- ---- a context is made
 
   -- a node that is there tells how its context is ended
-  told_ending : (t : TreeValue C V) (past : List (TreeOp C V)) (x : Id) (n : Node C V) (kind : Kind C V) → KnowsContexts t past → node_at t.slots x ≡ Some n → held x past ≡ Some kind → n.ending ≡ option_map told (ending x past)
+  told_ending : (t : TreeValue C V) (past : List (TreeOp C V)) (x : Id) (n : Node C V) (kind : Kind C V) → KnowsContexts t past → bare (node_at t.slots x) ≡ Some n → held x past ≡ Some kind → n.ending ≡ option_map told (ending x past)
   told_ending t past x n kind s is held_is =
-      let here : Some n ≡ Some (record { number = x.0; kind = kind; ending = option_map told (ending x past); deadline = deadline x past }) = sym is ∙ s.nodes_are x ∙ rw held_is refl in
+      let here : Some n ≡ Some (record { number = x.0; kind = kind; ending = option_map told (ending x past); deadline = deadline x past; links = no_links }) = sym is ∙ s.nodes_are x ∙ rw held_is refl in
       ap (λ (m : Node C V). m.ending) (some_same n _ here)
 
   -- the timer of a new context
@@ -67,19 +69,19 @@ module _ {C V : Type 0} where
 
   pub put_stands : (t u : TreeValue C V) (past : List (TreeOp C V)) → StandsFor t past → (roomy put : Slab (Node C V)) (slot key : ℕ) (live done : List Id) (kind : Kind C V) (now : ℕ) (e : Option (Ending C)) (d : Option ℕ)
       → roomy.slots ≡ t.slots → live ≡ t.live → done ≡ t.done → key ≡ slot → get roomy slot ≡ None
-      → Updates roomy put key (Some (record { number = t.made; kind = kind; ending = e; deadline = d }))
+      → bare (slot_of put.slots key) ≡ Some (record { number = t.made; kind = kind; ending = e; deadline = d; links = no_links }) → KeepsOthers roomy.slots put.slots key
       → ParentHeld (parent_of kind) past
       → e ≡ option_or (option_and_then (λ p. ending_in roomy.slots p) (follows kind)) (option_map (λ x. told (expiry 0 x)) (own_due now ((t.made, slot), kind)))
       → d ≡ sooner (own_deadline kind) (option_and_then (λ p. deadline_in roomy.slots p) (follows kind))
       → u.slots ≡ put.slots → u.live ≡ (if is_none e then live ++ (t.made, slot) ∷ [] else live) → u.done ≡ (if is_none e then done else done ++ (t.made, slot) ∷ []) → u.made ≡ t.made + 1
       → u.timers ≡ with_timer (if is_none e then own_deadline kind else None) t.made t.timers
       → StandsFor u (Makes (t.made, slot) kind now ∷ past)
-  put_stands t u past s roomy put slot key live done kind now e d slots_are live_is done_is key_is vacant updates parent e_is d_is put_is added queued made_is timed_is =
+  put_stands t u past s roomy put slot key live done kind now e d slots_are live_is done_is key_is vacant here others parent e_is d_is put_is added queued made_is timed_is =
       let id : Id = (t.made, slot) in
-      let known = put_known t u past s.contexts roomy put slot key live kind now e d slots_are live_is key_is vacant updates parent e_is d_is put_is added made_is in
-      let n : Node C V = record { number = t.made; kind = kind; ending = e; deadline = d } in
-      let in_the_slot : slice_index_or u.slots slot None ≡ Some n = rw (put_is, ← key_is) updates.changed in
-      let node_is : node_at u.slots id ≡ Some n = rw (in_the_slot, eq-eqb t.made t.made refl) refl in
+      let known = put_known t u past s.contexts roomy put slot key live kind now e d slots_are live_is key_is vacant here others parent e_is d_is put_is added made_is in
+      let n : Node C V = record { number = t.made; kind = kind; ending = e; deadline = d; links = no_links } in
+      let in_the_slot : bare (slot_of u.slots slot) ≡ Some n = rw (put_is, ← key_is) here in
+      let node_is : bare (node_at u.slots id) ≡ Some n = bare_numbered t.made (slot_of u.slots slot) ∙ ap (numbered t.made) in_the_slot ∙ rw (eq-eqb t.made t.made refl) refl in
       let told_is : e ≡ option_map told (ending id (Makes id kind now ∷ past)) = told_ending u (Makes id kind now ∷ past) id n kind known node_is (rw (same_refl id) refl) in
       let same_case : is_none e ≡ is_none (ending id (Makes id kind now ∷ past)) = ap is_none told_is ∙ told_some (ending id (Makes id kind now ∷ past)) in
       record {
@@ -104,10 +106,10 @@ module _ {C V : Type 0} where
 
   pub live_told : (u : TreeValue C V) (past : List (TreeOp C V)) (x : Id) → KnowsContexts u past → is_some (held x past) ≡ true → is_live u.slots x ≡ is_none (ending x past)
   live_told u past x s held_is =
-      ap is_none (ap (option_and_then (λ (n : Node C V). n.ending)) (s.nodes_are x)) ∙ by_kind (held x past) held_is (ending x past)
+      ap is_none (sym (bare_ending (node_at u.slots x)) ∙ ap (option_and_then (λ (n : Node C V). n.ending)) (s.nodes_are x)) ∙ by_kind (held x past) held_is (ending x past)
     where
       by_kind : (o : Option (Kind C V)) → is_some o ≡ true → (e : Option (Ended C))
-          → is_none (option_and_then (λ (n : Node C V). n.ending) (option_map (λ kind. record { number = x.0; kind = kind; ending = option_map told e; deadline = deadline x past }) o)) ≡ is_none e
+          → is_none (option_and_then (λ (n : Node C V). n.ending) (option_map (λ kind. record { number = x.0; kind = kind; ending = option_map told e; deadline = deadline x past; links = no_links }) o)) ≡ is_none e
       by_kind None is e = cc
       by_kind (Some k) is e = told_some e
 
@@ -193,42 +195,39 @@ module _ {C V : Type 0} where
 
   -- ---- one is released
 
-  -- what is in the slots after the node of an id was taken out
-  node_gone : (old new : List (Option (Node C V))) (id : Id) (n : Node C V) → InSlot old id n → slice_index_or new id.1 None ≡ None
-      → ((k : ℕ) → k ≢ id.1 → slice_index_or new k None ≡ slice_index_or old k None) → (x : Id) → node_at new x ≡ (if same id x then None else node_at old x)
-  node_gone old new id n here gone others x = ⊎_elim
+  -- what an id finds after the node of one was taken out
+  node_gone : (old new : ℕ → Option (Node C V)) (id : Id) (n : Node C V) → old id.1 ≡ Some n → n.number ≡ id.0 → new id.1 ≡ None
+      → ((k : ℕ) → (k ≡ id.1 → ⊥) → new k ≡ old k) → (x : Id) → numbered x.0 (new x.1) ≡ (if same id x then None else numbered x.0 (old x.1))
+  node_gone old new id n here number gone others x = ⊎_elim
       (λ (slot : (id.1 == x.1) ≡ true).
       let e : id.1 ≡ x.1 = eqb_true _ _ slot in
-      let new_is : slice_index_or new x.1 None ≡ None = rw (← e) gone in
-      let old_is : slice_index_or old x.1 None ≡ Some n = rw (← e) here.slot_is in
+      let new_is : new x.1 ≡ None = rw (← e) gone in
+      let old_is : old x.1 ≡ Some n = rw (← e) here in
       ⊎_elim
       (λ (num : (id.0 == x.0) ≡ true). rw (new_is, num, slot) refl)
-      (λ (num : (id.0 == x.0) ≡ false). let ne : (n.number == x.0) ≡ false = rw here.number_is num in rw (new_is, num, old_is, ne) refl)
+      (λ (num : (id.0 == x.0) ≡ false). let ne : (n.number == x.0) ≡ false = rw number num in rw (new_is, num, old_is, ne) refl)
       (cases_Bool (id.0 == x.0)))
       (λ (slot : (id.1 == x.1) ≡ false).
-      let other : x.1 ≢ id.1 = λ e. let same_slot : (id.1 == x.1) ≡ true = rw e (grind (arith, rules)) in let bad : true ≡ false = sym same_slot ∙ slot in cc in
+      let other : x.1 ≡ id.1 → ⊥ = λ e. let same_slot : (id.1 == x.1) ≡ true = rw e (grind (arith, rules)) in let bad : true ≡ false = sym same_slot ∙ slot in cc in
       let differ : same id x ≡ false = ⊎_elim (λ (a : (id.0 == x.0) ≡ true). rw (a, slot) refl) (λ (a : (id.0 == x.0) ≡ false). rw a refl) (cases_Bool (id.0 == x.0)) in
       rw (differ, others x.1 other) refl)
       (cases_Bool (id.1 == x.1))
 
   -- the kind of a node that is there is that of its context
-  kind_held : (t : TreeValue C V) (past : List (TreeOp C V)) (x : Id) (n : Node C V) → KnowsContexts t past → node_at t.slots x ≡ Some n → held x past ≡ Some n.kind
-  kind_held t past x n s is = by_kind (held x past) (sym (s.nodes_are x) ∙ is)
+  pub kind_held : (t : TreeValue C V) (past : List (TreeOp C V)) (x : Id) (n : Node C V) → KnowsContexts t past → node_at t.slots x ≡ Some n → held x past ≡ Some n.kind
+  kind_held t past x n s is = by_kind (held x past) (sym (s.nodes_are x) ∙ ap bare is)
     where
-      by_kind : (o : Option (Kind C V)) → option_map (λ kind. record { number = x.0; kind = kind; ending = option_map told (ending x past); deadline = deadline x past }) o ≡ Some n → o ≡ Some n.kind
+      by_kind : (o : Option (Kind C V)) → option_map (λ kind. record { number = x.0; kind = kind; ending = option_map told (ending x past); deadline = deadline x past; links = no_links }) o ≡ bare (Some n) → o ≡ Some n.kind
       by_kind None bad = cc
-      by_kind (Some k) e = ap (λ (m : Node C V). Some m.kind) (some_same _ n e)
+      by_kind (Some k) e = ap (λ (m : Node C V). Some m.kind) (some_same _ (record n { links = no_links }) e)
 
-  node_there : (t : TreeValue C V) (past : List (TreeOp C V)) (x : Id) (k : Kind C V) → KnowsContexts t past → held x past ≡ Some k → (n : Node C V) × (node_at t.slots x ≡ Some n) × (n.kind ≡ k)
-  node_there t past x k s is = (record { number = x.0; kind = k; ending = option_map told (ending x past); deadline = deadline x past }, s.nodes_are x ∙ rw is refl, refl)
-
-  -- a child that is held, where a node derives from the context's
-  pub child_held : (t : TreeValue C V) (past : List (TreeOp C V)) (id : Id) → StandsFor t past → IsParent t.slots id → HasChild id past
-  child_held t past id s p = record { child = p.child; kind = p.node.kind; is_held = kind_held t past p.child p.node s.contexts p.node_is; derives = p.derives }
+  pub node_there : (t : TreeValue C V) (past : List (TreeOp C V)) (x : Id) (k : Kind C V) → KnowsContexts t past → held x past ≡ Some k → (n : Node C V) × (node_at t.slots x ≡ Some n) × (n.kind ≡ k)
+  node_there t past x k s is =
+      bare_there (node_at t.slots x) (record { number = x.0; kind = k; ending = option_map told (ending x past); deadline = deadline x past; links = no_links }) (s.nodes_are x ∙ rw is refl)
 
   pub release_stands : (t u : TreeValue C V) (past : List (TreeOp C V)) (id : Id) (n : Node C V) → StandsFor t past → node_at t.slots id ≡ Some n
       → ((child : Id) (node : Node C V) → node_at t.slots child ≡ Some node → parent_of node.kind ≡ Some id → ⊥)
-      → slice_index_or u.slots id.1 None ≡ None → ((k : ℕ) → k ≢ id.1 → slice_index_or u.slots k None ≡ slice_index_or t.slots k None)
+      → slot_of u.slots id.1 ≡ None → KeepsOthers t.slots u.slots id.1
       → u.live ≡ filter (λ x. not (same x id)) t.live → u.done ≡ filter (λ x. not (same x id)) t.done
       → u.timers ≡ record t.timers { entries = without id.0 t.timers.entries } → u.made ≡ t.made → StandsFor u (Releases id ∷ past)
   release_stands t u past id n s here childless gone others live_is done_is timers_are made_is =
@@ -237,7 +236,8 @@ module _ {C V : Type 0} where
         contexts = record {
           lawful = (λ x kind held_is derives. let there = node_there t past x kind known held_is in childless x there.0 there.1 (ap parent_of there.2 ∙ derives), known.lawful);
           made_is = made_is ∙ known.made_is;
-          nodes_are = λ x. node_gone t.slots u.slots id n (in_slot t.slots id n here) gone others x ∙ left_context x;
+          nodes_are = λ x. bare_numbered x.0 (slot_of u.slots x.1) ∙ node_gone (λ k. bare (slot_of t.slots k)) (λ k. bare (slot_of u.slots k)) id (record n { links = no_links })
+              (ap bare (in_slot t.slots id n here).slot_is) (in_slot t.slots id n here).number_is (ap bare gone) others x ∙ left_context x;
           live_are = λ x. rw live_is (among_filter (λ y. not (same y id)) x t.live ∙ left_live x);
           live_rise = rw live_is (each-filter _ (λ x. not (same x id)) t.live known.live_rise);
         };
@@ -245,10 +245,10 @@ module _ {C V : Type 0} where
         timers = rw timers_are (release_timed t.timers past id n.kind known.lawful (kind_held t past id n known here) s.timers);
       }
     where
-      left_context : (x : Id) → (if same id x then None else node_at t.slots x) ≡ context x (Releases id ∷ past)
+      left_context : (x : Id) → (if same id x then None else numbered x.0 (bare (slot_of t.slots x.1))) ≡ context x (Releases id ∷ past)
       left_context x = ⊎_elim
           (λ (yes' : same id x ≡ true). rw yes' refl)
-          (λ (no' : same id x ≡ false). rw no' (s.contexts.nodes_are x))
+          (λ (no' : same id x ≡ false). rw no' (sym (bare_numbered x.0 (slot_of t.slots x.1)) ∙ s.contexts.nodes_are x))
           (cases_Bool (same id x))
 
       left_live : (x : Id) → (is_among x t.live && not (same x id)) ≡ (is_some (held x (Releases id ∷ past)) && is_none (ending x (Releases id ∷ past)))
@@ -256,3 +256,8 @@ module _ {C V : Type 0} where
           (λ (yes' : same id x ≡ true). let e : id ≡ x = same_true id x yes' in rw (yes', ← e, same_refl id) (and_false (is_among id t.live)))
           (λ (no' : same id x ≡ false). rw (no', same_false_sym id x no') (and_true (is_among x t.live) ∙ s.contexts.live_are x))
           (cases_Bool (same id x))
+
+  -- the value of a context that is known, where the nearest one of its line is told
+  pub value_told : (t : TreeValue C V) (past : List (TreeOp C V)) → StandsFor t past → (id : Id) (n : Node C V) (key : ℕ) (found : Option V) → Some n ≡ node_at t.slots id
+      → ((past : List (TreeOp C V)) → Keeps t.slots past → found ≡ nearest key (line id past)) → Some found ≡ if_held id past (value id key past)
+  value_told t past s id n key found here is = rw (kind_held t past id n s.contexts (sym here)) (ap Some (is past (keeps_of t past s.contexts)))

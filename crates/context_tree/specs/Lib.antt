@@ -1,4 +1,5 @@
 pub mod Context
 pub mod Frames
+pub mod Links
 pub mod Timed
 pub mod Tree

@@ -1,9 +1,10 @@
 -- What a tree stands for.
-use Rattle.std.specs.Prelude.{◌≡◌, ◌<◌, ℕ, ◌^◌, not, nat_le, ◌&&◌, ◌==◌, Bool, true, false, is_some, is_none, if◌then◌else◌, List, [], ◌∷◌, length, slice_index_or, Option, Some, None, option_map, option_and_then}
+use Rattle.std.specs.Prelude.{◌≡◌, ◌<◌, ℕ, ◌^◌, not, nat_le, ◌&&◌, ◌==◌, Bool, true, false, is_some, is_none, if◌then◌else◌, List, [], ◌∷◌, length, slice_index_or, Option, Some, None, option_map, option_and_then, Result, IfOk, IfErr, OnErr}
 use Rattle.std.specs.List.{list_any}
 use Rattle.std.specs.Option.{option_map_or}
 use Rattle.timer_heap.specs.Timers.{Timing}
 use Rattle.context_tree.specs.Timed.{Timed}
+use Rattle.context_tree.specs.Links.{no_links, bare}
 use Rattle.context_tree.specs.declared.error.CtxError.{CtxError}
 use Rattle.context_tree.specs.declared.error.CtxError.TheVariants.{Unknown, Exhausted, Memory}
 use Rattle.context_tree.specs.declared.node.Kind.{Kind}
@@ -63,11 +64,11 @@ module _ {C V : Type 0} where
   abbrev pub deadline_in : List (Option (Node C V)) → Id → Option ℕ
   deadline_in slots x = option_and_then (λ n. n.deadline) (node_at slots x)
 
-  -- the node of a context that is held
+  -- the node of a context that is held, without its links
   abbrev pub context : Id → List (TreeOp C V) → Option (Node C V)
   context x past =
       option_map
-      (λ kind. record { number = x.0; kind = kind; ending = option_map told (ending x past); deadline = deadline x past })
+      (λ kind. record { number = x.0; kind = kind; ending = option_map told (ending x past); deadline = deadline x past; links = no_links })
       (held x past)
 
   -- the parent, if there is one, is held
@@ -94,7 +95,7 @@ module _ {C V : Type 0} where
   pub record KnowsContexts (t : TreeValue C V) (past : List (TreeOp C V)) : Type 0 where
     pub lawful : IsLawful past
     pub made_is : t.made ≡ makes past
-    pub nodes_are : (x : Id) → node_at t.slots x ≡ context x past
+    pub nodes_are : (x : Id) → bare (node_at t.slots x) ≡ context x past
     pub live_are : (x : Id) → is_among x t.live ≡ (is_some (held x past) && is_none (ending x past))
     pub live_rise : EachBefore (λ x y. x.0 < y.0) t.live
 
@@ -119,13 +120,6 @@ module _ {C V : Type 0} where
     pub keeps : Keeps slots past
     pub kind : Kind C V
     pub is_held : held x past ≡ Some kind
-
-  -- the node of some id derives from it
-  pub record IsParent (slots : List (Option (Node C V))) (x : Id) : Type 0 where
-    pub child : Id
-    pub node : Node C V
-    pub node_is : node_at slots child ≡ Some node
-    pub derives : parent_of node.kind ≡ Some x
 
   -- the operation that ends contexts in this way
   abbrev pub op_of : Ender C → TreeOp C V
@@ -179,6 +173,14 @@ module _ {C V : Type 0} where
   -- it was not made, for this error
   abbrev pub IsRefused : TreeValue C V → Kind C V → CtxError → Type 0
   IsRefused old kind e = (past : List (TreeOp C V)) → StandsFor old past → IsFault (make_fault (parent_of kind) past) e
+
+-- What a call answers that makes a context in that way, at that moment where it is made with a deadline: its id, or in the
+-- error why none is made; then the tree is as it was.
+pub record Answers {C V E : Type 0} (old new : TreeValue C V) (kind : Kind C V) (now : ℕ) (error_of : E → CtxError) (result : Result Id E) : Type 0 where
+  pub made : IfOk result (IsMade old new kind now)
+  pub refused : IfErr result (λ e. IsRefused old kind (error_of e))
+  pub unchanged : OnErr result (new ≡ old)
+  pub keeps : OnErr result (StandsAsBefore old new)
 
 -- how many ended contexts are still to be handed out
 abbrev pub left_to_hand_out : {C V : Type 0} → TreeValue C V → ℕ

@@ -1,10 +1,12 @@
 //! What the definitions come to, as facts on all contexts. The functions do nothing.
-ghost use Rattle.std.specs.Prelude.{◌≡◌, ◌∷◌, [], ◌<◌, ◌≤◌, ℕ, List, None, Some, IfSome, true, false, is_none, is_some};
+ghost use Rattle.std.specs.Prelude.{◌≡◌, ◌∷◌, [], ◌<◌, ◌≤◌, ℕ, List, Option, None, Some, IfSome, true, false, is_none, is_some};
 ghost use Rattle.std.specs.Option.{option_map_or};
 ghost use Rattle.context_tree.specs.declared.error.CtxErr.TheVariants.{DeadlineExceeded};
 ghost use Rattle.context_tree.specs.declared.node.Kind.{Kind};
+ghost use Rattle.context_tree.specs.declared.node.Links.{Links};
 ghost use Rattle.context_tree.specs.Context.{Id, same, TreeOp, Makes, Advances, Ended, HasChild, makes, held, parent_of, follows, line, chain, has_cancel, ending, deadline, value, handed};
 ghost use Rattle.context_tree.specs.Frames.{is_due, was_made, makes_or_releases, releases, may_end};
+ghost use Rattle.context_tree.specs.Links.{AreLinked, child_at};
 ghost use Rattle.context_tree.specs.Tree.{TreeValue, StandsFor, IsLawful, is_live};
 
 /// What ended a context first stays, whatever comes later.
@@ -89,4 +91,15 @@ pub fn frame_law<C, V>()
 pub fn live_law<C, V>()
     ensures { (t : TreeValue C V) (past : List (TreeOp C V)) (x : Id) (kind : Kind C V) → StandsFor t past → held x past ≡ Some kind
         → is_live t.slots x ≡ is_none (ending x past) }
+{}
+
+/// The links of a tree make a list of the children of each: from the first on each child is reached, and nothing else, and
+/// a later one was made later, so each is reached once.
+pub fn links_law()
+    ensures all { (up : ℕ → Option ℕ) (number : ℕ → ℕ) (links : ℕ → Links) → AreLinked up number links
+        → (k j : ℕ) → up j ≡ Some k → (i : ℕ) × (child_at links k i ≡ Some j) }
+    ensures only { (up : ℕ → Option ℕ) (number : ℕ → ℕ) (links : ℕ → Links) → AreLinked up number links
+        → (k i j : ℕ) → child_at links k i ≡ Some j → up j ≡ Some k }
+    ensures once { (up : ℕ → Option ℕ) (number : ℕ → ℕ) (links : ℕ → Links) → AreLinked up number links
+        → (k i l a b : ℕ) → i < l → child_at links k i ≡ Some a → child_at links k l ≡ Some b → number a < number b }
 {}

@@ -8,6 +8,7 @@ mod ended;
 mod error;
 mod id;
 pub mod laws;
+mod links;
 mod node;
 mod released;
 #[cfg(test)]

@@ -1,4 +1,4 @@
-ghost use Rattle.std.specs.Prelude.{◌≡◌};
+ghost use Rattle.std.specs.Prelude.{◌≡◌, None, option_map};
 ghost use Rattle.std.specs.Option.{option_copied};
 ghost use Rattle.context_tree.specs.Context.{parent_of, follows, can_cancel, own_deadline, own_value, own_due, cause_or};
 
@@ -43,6 +43,16 @@ impl<C, V> Kind<C, V> {
             Kind::Deadline { parent, .. } => Some(*parent),
             Kind::Value { parent, .. } => Some(*parent),
             Kind::WithoutCancel { parent } => Some(*parent),
+        }
+    }
+
+    /// The slot of the context that it derives from.
+    pub(crate) fn parent_key(&self) -> Option<usize>
+        ensures { result ≡ option_map (λ p. p.1) (parent_of self.now) }
+    {
+        match self.parent() {
+            Some(parent) => Some(parent.slot),
+            None => None,
         }
     }
 
@@ -141,12 +151,37 @@ impl<C: Copy> Ending<C> {
     }
 }
 
-/// A context: its number by creation, how it was made, its ending if it is ended, and the least deadline that it has
-/// by itself or through a context that it follows.
+/// The contexts next to one in the tree, by their keys: the first and the last that derive from it, and, of those that
+/// derive from the same one, the one made before it and the one made after it.
+#[derive(Clone, Copy, Debug)]
+pub(crate) struct Links {
+    pub(crate) first: Option<usize>,
+    pub(crate) last: Option<usize>,
+    pub(crate) prev: Option<usize>,
+    pub(crate) next: Option<usize>,
+}
+
+impl Links {
+    /// The links of a new context, made after this sibling.
+    pub(crate) fn after(prev: Option<usize>) -> Links
+        ensures { result ≡ record { first = None; last = None; prev = prev; next = None } }
+    {
+        Links {
+            first: None,
+            last: None,
+            prev,
+            next: None,
+        }
+    }
+}
+
+/// A context: its number by creation, how it was made, its ending if it is ended, the least deadline that it has by
+/// itself or through a context that it follows, and the contexts next to it.
 #[derive(Debug, Drop)]
 pub(crate) struct Node<C, V> {
     pub(crate) number: u64,
     pub(crate) kind: Kind<C, V>,
     pub(crate) ending: Option<Ending<C>>,
     pub(crate) deadline: Option<u64>,
+    pub(crate) links: Links,
 }

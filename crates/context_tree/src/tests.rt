@@ -129,3 +129,25 @@ fn values_and_without_cancel(rt: HostRuntime) -> Result<(), Fail> {
     assert_eq!(rt; tree.cause(c), Ok(Some(Cause::Plain(CtxErr::Canceled))));
     Ok(())
 }
+
+// The siblings of one that is released are linked past it, whichever of them goes first.
+#[test]
+fn siblings(rt: HostRuntime) -> Result<(), Fail> {
+    let mut tree: Tree<u32, u8> = Tree::new(rt.alloc());
+    let b = tree.background()?;
+    let p = tree.with_cancel(b)?;
+    let first = tree.with_cancel(p)?;
+    let middle = tree.without_cancel(p)?;
+    let last = tree.with_cancel(p)?;
+    assert_eq!(rt; tree.release(middle), Released::Gone);
+    assert_eq!(rt; tree.release(p), Released::HasChildren);
+    assert_eq!(rt; tree.release(first), Released::Gone);
+    assert_eq!(rt; tree.release(p), Released::HasChildren);
+    let new = tree.with_cancel(p)?;
+    assert_eq!(rt; tree.release(last), Released::Gone);
+    assert_eq!(rt; tree.release(p), Released::HasChildren);
+    assert_eq!(rt; tree.release(new), Released::Gone);
+    assert_eq!(rt; tree.release(p), Released::Gone);
+    assert_eq!(rt; tree.release(b), Released::Gone);
+    Ok(())
+}

@@ -4,13 +4,13 @@ ghost use Rattle.timer_heap.specs.Timers.{popped};
 ghost use Rattle.context_tree.specs.declared.node.Kind.{Kind};
 ghost use Rattle.context_tree.specs.declared.node.Kind.TheVariants.{Background, Cancel, Deadline, Value, WithoutCancel};
 ghost use Rattle.context_tree.specs.Context.{Id, TreeOp, Makes, Cancels, Advances, HandsOut, Releases, HasChild, IsFirstDone, held, is_waiting, parent_of, ending, deadline, value};
-ghost use Rattle.context_tree.specs.Tree.{StandsFor, StandsAsBefore, IsMade, IsRefused, left_to_hand_out, op_of, if_held, is_ended_by_cancel};
+ghost use Rattle.context_tree.specs.Tree.{StandsFor, StandsAsBefore, Answers, IsMade, IsRefused, left_to_hand_out, op_of, if_held, is_ended_by_cancel};
 
 use crate::error::{Cause, CtxErr, CtxError, Unknown};
 use crate::id::CtxId;
-use crate::node::{Ender, Kind, Node};
+use crate::node::{Ender, Kind, Links, Node};
 use crate::released::Released;
-use crate::{ended, walk};
+use crate::{ended, links, walk};
 use slab::Slab;
 use std::alloc::Global;
 use std::collections::VecDeque;
@@ -38,6 +38,7 @@ impl<C, V> Model for Tree<C, V> {
     ghost use Rattle.std.specs.Prelude.{◌≤◌, ◌+◌};
     ghost use Rattle.std.specs.Vec.{vec_len};
     ghost use Rattle.std.specs.VecDeque.{deque_len, deque_capacity};
+    ghost use Rattle.context_tree.specs.Links.{IsLinked};
     ghost use Rattle.context_tree.specs.Tree.{TreeValue, IsReached};
 
     ghost Value = { TreeValue C V };
@@ -47,6 +48,7 @@ impl<C, V> Model for Tree<C, V> {
     ghost invariant = { λ t. record {
       reached : IsReached (record { slots = t.nodes.slots; live = t.live.items; done = t.done.items; timers = t.timers; made = t.made });
       room : deque_len t.done + vec_len t.live ≤ deque_capacity t.done;
+      linked : IsLinked t.nodes.slots;
     } };
 }
 
@@ -66,20 +68,14 @@ impl<C: Copy, V: Drop> Tree<C, V> {
 
     /// A context with no parent, which is never ended.
     pub fn background(&mut self) -> Result<CtxId, CtxError>
-        ensures made { IfOk result (IsMade self.old self.new Background 0) }
-        ensures refused { IfErr result (IsRefused self.old Background) }
-        ensures unchanged { OnErr result (self.new ≡ self.old) }
-        ensures keeps { OnErr result (StandsAsBefore self.old self.new) }
+        ensures { Answers self.old self.new Background 0 (λ e. e) result }
     {
         self.make(Kind::Background, 0).map_err(|refused| refused.1)
     }
 
     /// A context that ends with its parent, or once it is cancelled.
     pub fn with_cancel(&mut self, parent: CtxId) -> Result<CtxId, CtxError>
-        ensures made { IfOk result (IsMade self.old self.new (Cancel parent) 0) }
-        ensures refused { IfErr result (IsRefused self.old (Cancel parent)) }
-        ensures unchanged { OnErr result (self.new ≡ self.old) }
-        ensures keeps { OnErr result (StandsAsBefore self.old self.new) }
+        ensures { Answers self.old self.new (Cancel parent) 0 (λ e. e) result }
     {
         self.make(Kind::Cancel { parent }, 0)
             .map_err(|refused| refused.1)
@@ -94,10 +90,7 @@ impl<C: Copy, V: Drop> Tree<C, V> {
         now: u64,
         cause: Option<C>,
     ) -> Result<CtxId, CtxError>
-        ensures made { IfOk result (IsMade self.old self.new (Deadline parent at cause) now) }
-        ensures refused { IfErr result (IsRefused self.old (Deadline parent at cause)) }
-        ensures unchanged { OnErr result (self.new ≡ self.old) }
-        ensures keeps { OnErr result (StandsAsBefore self.old self.new) }
+        ensures { Answers self.old self.new (Deadline parent at cause) now (λ e. e) result }
     {
         self.make(Kind::Deadline { parent, at, cause }, now)
             .map_err(|refused| refused.1)
@@ -105,10 +98,7 @@ impl<C: Copy, V: Drop> Tree<C, V> {
 
     /// A context that ends with its parent and has a value at a key. The value is given back beside an error.
     pub fn with_value(&mut self, parent: CtxId, key: u32, value: V) -> Result<CtxId, (V, CtxError)>
-        ensures made { IfOk result (IsMade self.old self.new (Value parent key value) 0) }
-        ensures refused { IfErr result (λ e. IsRefused self.old (Value parent key value) e.1) }
-        ensures unchanged { OnErr result (self.new ≡ self.old) }
-        ensures keeps { OnErr result (StandsAsBefore self.old self.new) }
+        ensures answers { Answers self.old self.new (Value parent key value) 0 (λ e. e.1) result }
         ensures given_back { IfErr result (λ e. e.0 ≡ value) }
     {
         match self.make(Kind::Value { parent, key, value }, 0) {
@@ -122,10 +112,7 @@ impl<C: Copy, V: Drop> Tree<C, V> {
 
     /// A context that has the values of its parent and is never ended.
     pub fn without_cancel(&mut self, parent: CtxId) -> Result<CtxId, CtxError>
-        ensures made { IfOk result (IsMade self.old self.new (WithoutCancel parent) 0) }
-        ensures refused { IfErr result (IsRefused self.old (WithoutCancel parent)) }
-        ensures unchanged { OnErr result (self.new ≡ self.old) }
-        ensures keeps { OnErr result (StandsAsBefore self.old self.new) }
+        ensures { Answers self.old self.new (WithoutCancel parent) 0 (λ e. e) result }
     {
         self.make(Kind::WithoutCancel { parent }, 0)
             .map_err(|refused| refused.1)
@@ -160,12 +147,14 @@ impl<C: Copy, V: Drop> Tree<C, V> {
         if ended::set_timer(&mut self.timers, time, self.made).is_err() {
             return Err((kind, CtxError::Memory));
         }
-        self.nodes.insert_reserved(Node {
+        let node = Node {
             number: self.made,
             kind,
             ending,
             deadline,
-        });
+            links: Links::after(None),
+        };
+        links::insert(&mut self.nodes, node);
         ended::add_new(&mut self.live, &mut self.done, id, ending);
         self.made += 1;
         Ok(id)
@@ -240,10 +229,10 @@ impl<C: Copy, V: Drop> Tree<C, V> {
         if walk::node(&self.nodes, id).is_none() {
             return Released::Unknown;
         }
-        if walk::has_children(&self.nodes, id) {
+        if links::has_children(&self.nodes, id.slot) {
             return Released::HasChildren;
         }
-        let _ = self.nodes.try_remove(id.slot);
+        links::remove(&mut self.nodes, id.slot);
         self.timers.stop(id.number);
         self.live.retain(|other| *other != id);
         self.done.retain(|other| *other != id);

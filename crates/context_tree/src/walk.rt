@@ -2,7 +2,8 @@ ghost use Rattle.std.specs.Prelude.{◌≡◌, List, IsTrue, true, false, ℕ, o
 ghost use Rattle.std.specs.Option.{option_copied, option_or, option_map_or};
 ghost use Rattle.context_tree.specs.Context.{Id, same, can_cancel, TreeOp, line, chain, nearest, has_cancel, first_due, first_of, ends, follows, own_due, own_deadline, sooner, expiry, parent_of};
 ghost use Rattle.context_tree.specs.declared.node.Node.{Node};
-ghost use Rattle.context_tree.specs.Tree.{node_at, ending_in, deadline_in, told, Keeps, IsKept, Marked, is_among, op_of, IsParent};
+ghost use Rattle.context_tree.specs.Links.{IsLinked};
+ghost use Rattle.context_tree.specs.Tree.{node_at, ending_in, deadline_in, told, Keeps, IsKept, Marked, is_among, op_of};
 
 use crate::error::CtxErr;
 use crate::id::CtxId;
@@ -173,29 +174,11 @@ fn deadline_at<C, V>(nodes: &Slab<Node<C, V>>, id: CtxId) -> Option<u64>
 /// Gives each of these contexts that is not ended the ending that its chain gives it.
 pub(crate) fn mark<C: Copy, V>(nodes: &mut Slab<Node<C, V>>, live: &[CtxId], ender: &Ender<C>)
     requires { (x : Id) → is_among x live.now ≡ true → IsKept nodes.old.slots x }
-    ensures { Marked nodes.old.slots nodes.new.slots live.now (op_of ender.now) }
+    ensures marked { Marked nodes.old.slots nodes.new.slots live.now (op_of ender.now) }
+    ensures linked { IsLinked nodes.old.slots → IsLinked nodes.new.slots }
 {
     for id in live {
         let ending = ending_by(nodes, *id, ender);
         nodes[id.slot].ending = ending;
     }
-}
-
-/// Whether some context derives from this one.
-pub(crate) fn has_children<C, V>(nodes: &Slab<Node<C, V>>, id: CtxId) -> bool
-    ensures some { result ≡ true → IsParent nodes.now.slots id }
-    ensures none { result ≡ false → (child : Id) (node : Node C V) → node_at nodes.now.slots child ≡ Some node → parent_of node.kind ≡ Some id → ⊥ }
-{
-    for entry in nodes.iter() {
-        if derives_from(entry.1, id) {
-            return true;
-        }
-    }
-    false
-}
-
-fn derives_from<C, V>(node: &Node<C, V>, id: CtxId) -> bool
-    ensures { (result ≡ true) ↔ (parent_of node.now.kind ≡ Some id) }
-{
-    node.kind.parent() == Some(id)
 }

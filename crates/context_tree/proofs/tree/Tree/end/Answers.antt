@@ -18,20 +18,21 @@ invariant_of-self g c =
       reached = (
         op_of c.args.ender.now ∷ c.self.invariant.reached.0,
         ended_stands _ _ c.self.invariant.reached.0 c.args.ender.now c.self.invariant.reached.1
-            (subst (λ l. Marked c.self.inside.nodes.slots slots l (op_of c.args.ender.now)) c.deref.ensures.value c.mark.ensures)
+            (subst (λ l. Marked c.self.inside.nodes.slots slots l (op_of c.args.ender.now)) c.deref.ensures.value c.mark.ensures.marked)
             (subst (λ l. c.add_done.new.done.items ≡ c.self.inside.done.items ++ filter (λ x. not (is_live slots x)) l) c.deref-2.ensures.value c.add_done.ensures.items)
             c.keep_live.ensures
             (subst (λ l. c.stop_timers.new.timers ≡ record c.self.inside.timers { entries = filter (λ n. not (is_gone slots l n.id)) c.self.inside.timers.entries }) c.deref-3.ensures.value c.stop_timers.ensures)
             refl,
       );
       room = rw c.add_done.ensures.capacity (omega (arith, added, parts, kept, were, room, ap length c.keep_live.ensures));
+      linked = c.mark.ensures.linked c.self.invariant.linked;
     }
 
 pub returns : goal.returns
 returns g c = λ past s.
     let slots = c.mark.new.nodes.slots in
     ended_stands _ _ past c.args.ender.now (subst (λ t. StandsFor t past) (sym c.self.view_is) s)
-    (subst (λ l. Marked c.self.inside.nodes.slots slots l (op_of c.args.ender.now)) c.deref.ensures.value c.mark.ensures)
+    (subst (λ l. Marked c.self.inside.nodes.slots slots l (op_of c.args.ender.now)) c.deref.ensures.value c.mark.ensures.marked)
     (subst (λ l. c.add_done.new.done.items ≡ c.self.inside.done.items ++ filter (λ x. not (is_live slots x)) l) c.deref-2.ensures.value c.add_done.ensures.items)
     c.keep_live.ensures
     (subst (λ l. c.stop_timers.new.timers ≡ record c.self.inside.timers { entries = filter (λ n. not (is_gone slots l n.id)) c.self.inside.timers.entries }) c.deref-3.ensures.value c.stop_timers.ensures)

@@ -9,6 +9,7 @@ invariant_of-self g c =
     record {
       reached = popped_reached c.pop_front.result _ c.pop_front.new.self.items c.pop_front.ensures.items c.self.invariant.reached;
       room = rw c.pop_front.ensures.capacity (omega (arith, len, room));
+      linked = c.self.invariant.linked;
     }
 
 pub returns-clause-first : goal.returns-clause-first

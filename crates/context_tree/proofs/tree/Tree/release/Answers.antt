@@ -2,12 +2,32 @@ use Rattle.std.proofs.Common.{◌∙◌, ◌∷◌, ap, rules, subst, sym, arith
 use Rattle.std.proofs.lemmas.Fn.{filter_same}
 use Rattle.context_tree.specs.Context.{Releases}
 use Rattle.context_tree.specs.Tree.{StandsFor}
-use Rattle.context_tree.proofs.Whole.{child_held, copied_some, release_stands}
+use Rattle.context_tree.proofs.Family.{first_derives, key_there, none_derives, places_of}
+use Rattle.context_tree.proofs.Whole.{copied_some, none_popped, release_stands}
 use Rattle.context_tree.proofs.tree.Tree.release.Goals as goal
+
+pub has_children-requires : goal.has_children-requires
+has_children-requires g c =
+    let node = copied_some c.node.result (c.is_none.ensures ∙ ap not c.if-is_none.false) in
+    key_there c.self.inside.nodes.slots c.args.id (c.id.inside.number, c.id.inside.slot) node.0 c.id.view_is (sym c.node.ensures ∙ node.1)
+
+pub remove-requires : goal.remove-requires
+remove-requires g c =
+    let past = c.self.invariant.reached.0 in
+    let s = c.self.invariant.reached.1 in
+    let node = copied_some c.node.result (c.is_none.ensures ∙ ap not c.if-is_none.false) in
+    record {
+      there = key_there c.self.inside.nodes.slots c.args.id (c.id.inside.number, c.id.inside.slot) node.0 c.id.view_is (sym c.node.ensures ∙ node.1);
+      linked = c.self.invariant.linked;
+      parent_there = λ k is. (places_of _ past s.contexts).parents _ k is;
+      childless = none_popped _ (sym c.has_children.ensures ∙ c.if-has_children.false);
+    }
 
 pub returns-then-has_children-clause-has_children : goal.returns-then-has_children-clause-has_children
 returns-then-has_children-clause-has_children g c = λ yes' past stood.
-    child_held _ past c.args.id (subst (λ t. StandsFor t past) (sym c.self.view_is) stood) (c.has_children.ensures.some c.if-has_children.true)
+    let node = copied_some c.node.result (c.is_none.ensures ∙ ap not c.if-is_none.false) in
+    first_derives _ past c.args.id node.0 (subst (λ t. StandsFor t past) (sym c.self.view_is) stood).contexts c.self.invariant.linked (sym c.node.ensures ∙ node.1)
+    (rw (← c.id.view_is) (sym c.has_children.ensures ∙ c.if-has_children.true))
 
 pub invariant_of-self : goal.invariant_of-self
 invariant_of-self g c =
@@ -19,18 +39,21 @@ invariant_of-self g c =
     record {
       reached = (
         Releases c.args.id ∷ past,
-        release_stands _ _ past c.args.id node.0 c.self.invariant.reached.1 (sym c.node.ensures ∙ node.1) (c.has_children.ensures.none c.if-has_children.false)
-            (rw (← c.id.view_is) c.try_remove.ensures.updates.changed) (rw (← c.id.view_is) c.try_remove.ensures.updates.others)
+        release_stands _ _ past c.args.id node.0 c.self.invariant.reached.1 (sym c.node.ensures ∙ node.1)
+            (none_derives c.self.inside.nodes.slots c.args.id c.self.invariant.linked (rw (← c.id.view_is) (none_popped _ (sym c.has_children.ensures ∙ c.if-has_children.false))))
+            (rw (← c.id.view_is) c.remove.ensures.gone) (rw (← c.id.view_is) c.remove.ensures.others)
             (filter_same _ _ _ (λ x b f' k. search rules) _ _ c.retain.ensures.filtered) (filter_same _ _ _ (λ x b f' k. search rules) _ _ c.retain-2.ensures.filtered)
             (rw (← c.id.view_is) c.stop.ensures.left) refl,
       );
       room = rw c.retain-2.ensures.capacity (omega (arith, room, fewer, fewer_done));
+      linked = c.remove.ensures.linked;
     }
 
 pub returns-clause-gone : goal.returns-clause-gone
 returns-clause-gone g c = λ yes' past stood.
     let node = copied_some c.node.result (c.is_none.ensures ∙ ap not c.if-is_none.false) in
-    release_stands _ _ past c.args.id node.0 (subst (λ t. StandsFor t past) (sym c.self.view_is) stood) (sym c.node.ensures ∙ node.1) (c.has_children.ensures.none c.if-has_children.false)
-    (rw (← c.id.view_is) c.try_remove.ensures.updates.changed) (rw (← c.id.view_is) c.try_remove.ensures.updates.others)
+    release_stands _ _ past c.args.id node.0 (subst (λ t. StandsFor t past) (sym c.self.view_is) stood) (sym c.node.ensures ∙ node.1)
+    (none_derives c.self.inside.nodes.slots c.args.id c.self.invariant.linked (rw (← c.id.view_is) (none_popped _ (sym c.has_children.ensures ∙ c.if-has_children.false))))
+    (rw (← c.id.view_is) c.remove.ensures.gone) (rw (← c.id.view_is) c.remove.ensures.others)
     (filter_same _ _ _ (λ x b f' k. search rules) _ _ c.retain.ensures.filtered) (filter_same _ _ _ (λ x b f' k. search rules) _ _ c.retain-2.ensures.filtered)
     (rw (← c.id.view_is) c.stop.ensures.left) refl

@@ -1,0 +1,106 @@
+-- What a tree that stands for operations tells of its slots: parents and children are there.
+use Rattle.std.proofs.Common.{◌≡◌, refl, sym, ap, ◌∙◌, ℕ, ◌<◌, List, Option, Some, None, true, option_map}
+use Rattle.std.specs.Prelude.{is_some, option_and_then}
+use Rattle.std.specs.Option.{option_map_or}
+use Rattle.context_tree.specs.declared.node.Node.{Node}
+use Rattle.context_tree.specs.Context.{Id, TreeOp, makes, parent_of, HasChild}
+use Rattle.context_tree.specs.Links.{slot_of, parent_in, number_in, links_in, IsLinked, IsThere, ArePlaced}
+use Rattle.context_tree.specs.Tree.{TreeValue, node_at, KnowsContexts}
+use Rattle.context_tree.proofs.Lineage.{held_low, born, some_same}
+use Rattle.context_tree.proofs.Linking.{no_child}
+use Rattle.context_tree.proofs.Marking.{in_slot, node_in_slot}
+use Rattle.context_tree.proofs.Standing.{is_some_of}
+use Rattle.context_tree.proofs.Whole.{kind_held, node_there}
+
+module _ {C V : Type 0} where
+  -- the node at a key derives from a context of the slot
+  pub record Derived (slots : List (Option (Node C V))) (k p : ℕ) : Type 0 where
+    pub node : Node C V
+    pub slot_is : slot_of slots k ≡ Some node
+    pub parent : Id
+    pub parent_is : parent_of node.kind ≡ Some parent
+    pub slot_of_parent : parent.1 ≡ p
+
+  pub derived : (slots : List (Option (Node C V))) (k p : ℕ) → parent_in slots k ≡ Some p → Derived slots k p
+  derived slots k p is = by_slot (slot_of slots k) refl is
+    where
+      by_parent : (n : Node C V) → slot_of slots k ≡ Some n → (o : Option Id) → parent_of n.kind ≡ o → option_map (λ q. q.1) o ≡ Some p → Derived slots k p
+      by_parent n slot_is None o_is e = cc
+      by_parent n slot_is (Some q) o_is e = record { node = n; slot_is = slot_is; parent = q; parent_is = o_is; slot_of_parent = some_same q.1 p e }
+
+      by_slot : (o : Option (Node C V)) → slot_of slots k ≡ o → option_and_then (λ n. option_map (λ q. q.1) (parent_of n.kind)) o ≡ Some p → Derived slots k p
+      by_slot None o_is e = cc
+      by_slot (Some n) o_is e = by_parent n o_is (parent_of n.kind) refl e
+
+  -- its parent is held, and has a node
+  pub record WithParent (t : TreeValue C V) (past : List (TreeOp C V)) (d : Id) (parent : Id) : Type 0 where
+    pub low : d.0 < makes past
+    pub node : Node C V
+    pub node_is : node_at t.slots parent ≡ Some node
+
+  pub with_parent : (t : TreeValue C V) (past : List (TreeOp C V)) (k p : ℕ) → KnowsContexts t past → (d : Derived t.slots k p) → WithParent t past (d.node.number, k) d.parent
+  with_parent t past k p s d =
+      let h = kind_held t past (d.node.number, k) d.node s (node_in_slot t.slots k d.node d.slot_is) in
+      let b = born past s.lawful (d.node.number, k) d.node.kind h in
+      let ph = b.parent_held d.parent d.parent_is in
+      let there = node_there t past d.parent ph.0 s ph.1 in
+      record { low = held_low past s.lawful (d.node.number, k) d.node.kind h; node = there.0; node_is = there.1 }
+
+  pub places_of : (t : TreeValue C V) (past : List (TreeOp C V)) → KnowsContexts t past → ArePlaced t.slots t.made
+  places_of t past s = record {
+    newest = λ k p is.
+        let d = derived t.slots k p is in
+        let low : d.node.number < makes past = (with_parent t past k p s d).low in
+        rw (d.slot_is, s.made_is) low;
+    parents = λ k p is.
+        let d = derived t.slots k p is in
+        let w = with_parent t past k p s d in
+        let at : slot_of t.slots d.parent.1 ≡ Some w.node = (in_slot t.slots d.parent w.node w.node_is).slot_is in
+        rw (← d.slot_of_parent, at) refl;
+  }
+
+  -- a parent that is known has a node
+  pub known_there : (slots : List (Option (Node C V))) (o : Option Id) → option_map_or (λ p. is_some (node_at slots p)) o true ≡ true → IsThere slots (option_map (λ p. p.1) o)
+  known_there slots None known = λ k is. absurd (none_is k is)
+    where
+      none_is : (k : ℕ) → None ≡ Some k → ⊥
+      none_is k is = cc
+  known_there slots (Some p) known = λ k is.
+      let n = is_some_of (node_at slots p) known in
+      let at : slot_of slots p.1 ≡ Some n.0 = (in_slot slots p n.0 n.1).slot_is in
+      rw (← some_same p.1 k is, at) refl
+
+  -- the first child of a context derives from it
+  pub first_derives : (t : TreeValue C V) (past : List (TreeOp C V)) (id : Id) (n : Node C V) → KnowsContexts t past → IsLinked t.slots → node_at t.slots id ≡ Some n
+      → is_some (links_in t.slots id.1).first ≡ true → HasChild id past
+  first_derives t past id n s linked here some =
+      let first = is_some_of (links_in t.slots id.1).first some in
+      let d = derived t.slots first.0 id.1 (linked.first_is id.1 first.0 first.1).0 in
+      let w = with_parent t past first.0 id.1 s d in
+      let in_id = in_slot t.slots id n here in
+      let in_parent = in_slot t.slots d.parent w.node w.node_is in
+      let same_node : w.node ≡ n = some_same w.node n (sym in_parent.slot_is ∙ ap (λ k. slot_of t.slots k) d.slot_of_parent ∙ in_id.slot_is) in
+      let number : d.parent.0 ≡ id.0 = sym in_parent.number_is ∙ ap (λ (m : Node C V). m.number) same_node ∙ in_id.number_is in
+      record {
+        child = (d.node.number, first.0);
+        kind = d.node.kind;
+        is_held = kind_held t past (d.node.number, first.0) d.node s (node_in_slot t.slots first.0 d.node d.slot_is);
+        derives = d.parent_is ∙ ap Some (same_id d.parent id number d.slot_of_parent);
+      }
+    where
+      same_id : (a b : Id) → a.0 ≡ b.0 → a.1 ≡ b.1 → a ≡ b
+      same_id a b first second = ap (λ n. (n, a.1)) first ∙ ap (λ n. (b.0, n)) second
+
+  -- where it has no first child, none does
+  pub none_derives : (slots : List (Option (Node C V))) (id : Id) → IsLinked slots → (links_in slots id.1).first ≡ None
+      → (child : Id) (node : Node C V) → node_at slots child ≡ Some node → parent_of node.kind ≡ Some id → ⊥
+  none_derives slots id linked none child node is derives =
+      let at : slot_of slots child.1 ≡ Some node = (in_slot slots child node is).slot_is in
+      let up : parent_in slots child.1 ≡ Some id.1 = rw (at, derives) refl in
+      no_child (parent_in slots) (number_in slots) (links_in slots) linked id.1 child.1 none up
+
+  -- the slot of an id that is known has a node
+  pub key_there : (slots : List (Option (Node C V))) (id shown : Id) (n : Node C V) → shown ≡ id → node_at slots id ≡ Some n → is_some (slot_of slots shown.1) ≡ true
+  key_there slots id shown n same_id is =
+      let at : slot_of slots id.1 ≡ Some n = (in_slot slots id n is).slot_is in
+      rw (same_id, at) refl
