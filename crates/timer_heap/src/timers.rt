@@ -56,7 +56,10 @@ impl Timers {
     ///
     /// A refusal is the first that applies of `Waiting`, `Exhausted` and `Memory`, and it changes nothing.
     pub fn set(&mut self, at: u64, id: u64) -> Result<(), SetError>
-        ensures added { OnOk result (timing self.new ≡ record { entries = self.old.entries ++ record { at = at; id = id } ∷ []; sets = self.old.sets + 1 }) }
+        ensures added { OnOk result (timing self.new ≡ record {
+          entries = self.old.entries ++ record { at = at; id = id } ∷ [];
+          sets = self.old.sets + 1;
+        }) }
         ensures set { OnOk result ((past : List TimerOp) → StandsFor self.old past → StandsFor self.new (Set at id ∷ past)) }
         ensures refused { MatchOption (set_fault id self.old) (IsOkUnless result Memory) (λ e. result ≡ Err e) }
         ensures unchanged { OnErr result (timing self.new ≡ timing self.old) }
@@ -102,7 +105,9 @@ impl Timers {
     /// time is not above `now`. The answer is its time and its id.
     pub fn pop_due(&mut self, now: u64) -> Option<(u64, u64)>
         ensures answer { result ≡ option_map (λ e. (e.at, e.id)) (popped now self.old.entries) }
-        ensures left { timing self.new ≡ record (timing self.old) { entries = left_by (popped now self.old.entries) self.old.entries } }
+        ensures left { timing self.new ≡ record (timing self.old) {
+          entries = left_by (popped now self.old.entries) self.old.entries;
+        } }
         ensures popped { (past : List TimerOp) → StandsFor self.old past → StandsFor self.new (PopDue now ∷ past) }
         ensures moves { MovesWithin (is_some result) self.old self.new }
     {
