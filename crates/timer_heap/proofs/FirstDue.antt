@@ -93,7 +93,7 @@ earlier_stays e (x ∷ xs) low =
     (cases_Bool (nat_le x.at some.0.at)))
     (option_cases (earliest xs))
 
-earliest_only : (before after : List Timer) (e : Timer) → All (λ d. e.at < d.at) before → All (λ d. e.at ≤ d.at) after → earliest (before ++ e ∷ after) ≡ Some e
+pub earliest_only : (before after : List Timer) (e : Timer) → All (λ d. e.at < d.at) before → All (λ d. e.at ≤ d.at) after → earliest (before ++ e ∷ after) ≡ Some e
 earliest_only [] after e later no_sooner = ap Some (earlier_stays e after no_sooner)
 earliest_only (x ∷ xs) after e later no_sooner = rw (earliest_only xs after e (All-tail (After e.at) x xs later) no_sooner, lt-leb _ _ (All-head (After e.at) x xs later)) refl
 

@@ -1,2 +1,9 @@
-mod Earliest
+mod Changes
+mod Counting
 pub mod FirstDue
+mod Heaps
+mod Places
+mod Ranks
+mod Sifts
+mod Sound
+mod Standing

@@ -1,1 +1,2 @@
+pub mod Heap
 pub mod Timers

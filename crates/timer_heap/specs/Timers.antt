@@ -1,6 +1,7 @@
 -- Timers over the list of operations, newest first. Times are milliseconds.
-use Rattle.std.specs.Prelude.{◌≡◌, ℕ, ◌+◌, ◌^◌, ◌<◌, ◌≤◌, List, All, [], ◌∷◌, ◌++◌, filter, Bool, not, ◌==◌, nat_le, if◌then◌else◌, Option, Some, None, option_map}
+use Rattle.std.specs.Prelude.{◌≡◌, ℕ, ◌+◌, ◌^◌, ◌<◌, ◌≤◌, List, All, [], ◌∷◌, ◌++◌, filter, Bool, not, ◌==◌, nat_le, if◌then◌else◌, Option, Some, None, option_map, length, max}
 use Rattle.std.specs.List.{list_any}
+use Rattle.std.specs.Int.Digits.{digits_of}
 use Rattle.timer_heap.specs.declared.error.SetError.{SetError}
 use Rattle.timer_heap.specs.declared.error.SetError.TheVariants.{Waiting, Exhausted}
 
@@ -75,16 +76,35 @@ sets (Set at id ∷ past) = sets past + 1
 sets (Stop id ∷ past) = sets past
 sets (PopDue now ∷ past) = sets past
 
--- what contracts see of timers: those that wait, in the order of setting, and how many were ever set
+-- those that wait, in the order of setting, and how many were ever set
 pub record Timing : Type 0 where
   pub entries : List Timer
   pub sets : ℕ
 
+-- what contracts see of timers: the same, and how many exchanges the last call made
+pub record Counted : Type 0 where
+  pub entries : List Timer
+  pub sets : ℕ
+  pub moves : ℕ
+
+-- all but the exchanges
+abbrev pub timing : Counted → Timing
+timing t = record { entries = t.entries; sets = t.sets }
+
 -- The timers stand for the operations: those wait that the operations left waiting, and as many were set.
-pub record StandsFor (t : Timing) (past : List TimerOp) : Type 0 where
+pub record StandsFor (t : Counted) (past : List TimerOp) : Type 0 where
   pub waiting_is : t.entries ≡ waiting past
   pub sets_is : t.sets ≡ sets past
 
 -- why a timer of that id is not set, but for want of memory
-unfoldable pub set_fault : ℕ → Timing → Option SetError
+unfoldable pub set_fault : ℕ → Counted → Option SetError
 set_fault id t = if is_set id t.entries then Some Waiting else (if nat_le (2 ^ 62) t.sets then Some Exhausted else None)
+
+-- how many digits a number has in base two
+unfoldable pub binary_digits : ℕ → ℕ
+binary_digits n = length (digits_of 2 n)
+
+-- A call that changed what waits made at most as many exchanges as the greater of the counts of timers, before it and
+-- after it, has binary digits. Any other call made none.
+abbrev pub MovesWithin : Bool → Counted → Counted → Type 0
+MovesWithin changed old new = new.moves ≤ (if changed then binary_digits (max (length old.entries) (length new.entries)) else 0)

@@ -5,6 +5,7 @@
 #![tactic(auto)]
 
 mod error;
+mod heap;
 pub mod laws;
 #[cfg(test)]
 mod tests;

@@ -60,3 +60,42 @@ fn equal_times_by_order_of_setting(rt: HostRuntime) -> Result<(), Fail> {
     assert_eq!(rt; timers.next(), None);
     Ok(())
 }
+
+#[test]
+fn heap_moves(rt: HostRuntime) -> Result<(), Fail> {
+    let mut timers = Timers::new(rt.alloc());
+    for id in 1..9 {
+        timers.set(9 - id, id)?;
+    }
+    assert_eq!(rt; timers.last_moves(), 3);
+    assert_eq!(rt; timers.len(), 8);
+    assert_eq!(rt; timers.stop(1), true);
+    assert_eq!(rt; timers.len(), 7);
+    Ok(())
+}
+
+const MANY: u64 = 10_000;
+
+// The most exchanges of a call, where so many are set in falling order, and then stopped in an order of no heap's.
+fn most_moves(timers: &mut Timers) -> Result<u32, SetError> {
+    let mut most = 0;
+    for id in 0..MANY {
+        timers.set(MANY - id, id)?;
+        most = most.max(timers.last_moves());
+    }
+    for step in 0..MANY {
+        timers.stop(step * 7_919 % MANY);
+        most = most.max(timers.last_moves());
+    }
+    Ok(most)
+}
+
+#[test]
+fn ten_thousand(rt: HostRuntime) -> Result<(), Fail> {
+    let mut timers = Timers::new(rt.alloc());
+    let most = most_moves(&mut timers)?;
+    assert_eq!(rt; timers.len(), 0);
+    assert!(rt; most <= 14, "{most}");
+    assert!(rt; most > 10, "{most}");
+    Ok(())
+}
