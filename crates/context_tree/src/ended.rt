@@ -4,6 +4,7 @@ ghost use Rattle.std.specs.Vec.{vec_len, vec_capacity};
 ghost use Rattle.std.specs.VecDeque.{deque_len, deque_capacity};
 ghost use Rattle.context_tree.specs.Tree.{is_live, is_gone};
 ghost use Rattle.context_tree.specs.Timed.{with_timer};
+ghost use Rattle.timer_heap.specs.Timers.{timing};
 ghost use Rattle.context_tree.specs.Context.{own_deadline};
 
 use crate::id::CtxId;
@@ -64,8 +65,8 @@ pub(crate) fn time_of_new<C: Copy, V>(kind: &Kind<C, V>, ending: Option<Ending<C
 
 /// Sets the timer of a new context, if a time is given.
 pub(crate) fn set_timer(timers: &mut Timers, time: Option<u64>, number: u64) -> Result<(), SetError>
-    ensures set { OnOk result (timers.new ≡ with_timer time number timers.old) }
-    ensures unchanged { OnErr result (timers.new ≡ timers.old) }
+    ensures set { OnOk result (timing timers.new ≡ with_timer time number (timing timers.old)) }
+    ensures unchanged { OnErr result (timing timers.new ≡ timing timers.old) }
 {
     match time {
         Some(at) => timers.set(at, number),
@@ -75,7 +76,9 @@ pub(crate) fn set_timer(timers: &mut Timers, time: Option<u64>, number: u64) -> 
 
 /// Stops the timers of those of these contexts that are ended.
 pub(crate) fn stop_timers<C: Copy, V>(nodes: &Slab<Node<C, V>>, live: &[CtxId], timers: &mut Timers)
-    ensures { timers.new ≡ record timers.old { entries = filter (λ e. not (is_gone nodes.now.slots live.now e.id)) timers.old.entries } }
+    ensures { timing timers.new ≡ record (timing timers.old) {
+      entries = filter (λ e. not (is_gone nodes.now.slots live.now e.id)) timers.old.entries;
+    } }
 {
     for id in live {
         if walk::ending_at(nodes, *id).is_some() {

@@ -38,15 +38,16 @@ impl<C, V> Model for Tree<C, V> {
     ghost use Rattle.std.specs.Prelude.{◌≤◌, ◌+◌};
     ghost use Rattle.std.specs.Vec.{vec_len};
     ghost use Rattle.std.specs.VecDeque.{deque_len, deque_capacity};
+    ghost use Rattle.timer_heap.specs.Timers.{timing};
     ghost use Rattle.context_tree.specs.Links.{IsLinked};
     ghost use Rattle.context_tree.specs.Tree.{TreeValue, IsReached};
 
     ghost Value = { TreeValue C V };
 
-    ghost view = { λ t. record { slots = t.nodes.slots; live = t.live.items; done = t.done.items; timers = t.timers; made = t.made } };
+    ghost view = { λ t. record { slots = t.nodes.slots; live = t.live.items; done = t.done.items; timers = timing t.timers; made = t.made } };
 
     ghost invariant = { λ t. record {
-      reached : IsReached (record { slots = t.nodes.slots; live = t.live.items; done = t.done.items; timers = t.timers; made = t.made });
+      reached : IsReached (record { slots = t.nodes.slots; live = t.live.items; done = t.done.items; timers = timing t.timers; made = t.made });
       room : deque_len t.done + vec_len t.live ≤ deque_capacity t.done;
       linked : IsLinked t.nodes.slots;
     } };

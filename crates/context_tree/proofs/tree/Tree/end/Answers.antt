@@ -1,6 +1,7 @@
 use Rattle.std.proofs.Common.{◌≡◌, ◌∷◌, ◌+◌, ◌++◌, ap, arith, filter, length, not, refl, subst, sym}
 use Rattle.std.proofs.lemmas.List.Filters.{length-filter_both}
 use Rattle.std.specs.VecDeque.{deque_len}
+use Rattle.timer_heap.specs.Timers.{timing}
 use Rattle.context_tree.specs.Tree.{Marked, StandsFor, is_gone, is_live, op_of}
 use Rattle.context_tree.proofs.Whole.{ended_stands}
 use Rattle.context_tree.proofs.tree.Tree.end.Goals as goal
@@ -21,7 +22,7 @@ invariant_of-self g c =
             (subst (λ l. Marked c.self.inside.nodes.slots slots l (op_of c.args.ender.now)) c.deref.ensures.value c.mark.ensures.marked)
             (subst (λ l. c.add_done.new.done.items ≡ c.self.inside.done.items ++ filter (λ x. not (is_live slots x)) l) c.deref-2.ensures.value c.add_done.ensures.items)
             c.keep_live.ensures
-            (subst (λ l. c.stop_timers.new.timers ≡ record c.self.inside.timers { entries = filter (λ n. not (is_gone slots l n.id)) c.self.inside.timers.entries }) c.deref-3.ensures.value c.stop_timers.ensures)
+            (subst (λ l. timing c.stop_timers.new.timers ≡ record (timing c.self.inside.timers) { entries = filter (λ n. not (is_gone slots l n.id)) c.self.inside.timers.entries }) c.deref-3.ensures.value c.stop_timers.ensures)
             refl,
       );
       room = rw c.add_done.ensures.capacity (omega (arith, added, parts, kept, were, room, ap length c.keep_live.ensures));
@@ -35,5 +36,5 @@ returns g c = λ past s.
     (subst (λ l. Marked c.self.inside.nodes.slots slots l (op_of c.args.ender.now)) c.deref.ensures.value c.mark.ensures.marked)
     (subst (λ l. c.add_done.new.done.items ≡ c.self.inside.done.items ++ filter (λ x. not (is_live slots x)) l) c.deref-2.ensures.value c.add_done.ensures.items)
     c.keep_live.ensures
-    (subst (λ l. c.stop_timers.new.timers ≡ record c.self.inside.timers { entries = filter (λ n. not (is_gone slots l n.id)) c.self.inside.timers.entries }) c.deref-3.ensures.value c.stop_timers.ensures)
+    (subst (λ l. timing c.stop_timers.new.timers ≡ record (timing c.self.inside.timers) { entries = filter (λ n. not (is_gone slots l n.id)) c.self.inside.timers.entries }) c.deref-3.ensures.value c.stop_timers.ensures)
     refl

@@ -1,4 +1,5 @@
 use Rattle.std.proofs.Common.{◌∙◌, refl, sym, ap, subst, arith, option_map}
+use Rattle.timer_heap.specs.Timers.{timing}
 use Rattle.context_tree.specs.Context.{parent_of}
 use Rattle.context_tree.specs.Links.{IsLinked, IsThere, ArePlaced}
 use Rattle.context_tree.specs.Timed.{with_timer}
@@ -13,7 +14,7 @@ invariant_of-self-2 g c =
     let past = c.self.invariant.reached.0 in
     let s = c.self.invariant.reached.1 in
     let known = sym (known_parent _ past s.contexts (parent_of c.args.kind)) ∙ rw (← c.parent.ensures) (sym c.knows_parent.ensures ∙ c.if-not-knows_parent.false) in
-    let timed = unless_err c.set_timer.result _ c.set_timer.ensures.set (sym c.is_err-2.ensures.value ∙ c.if-is_err-4.false) ∙ ap (λ time. with_timer time c.self.inside.made c.self.inside.timers) c.time_of_new-time.ensures in
+    let timed = unless_err c.set_timer.result _ c.set_timer.ensures.set (sym c.is_err-2.ensures.value ∙ c.if-is_err-4.false) ∙ ap (λ time. with_timer time c.self.inside.made (timing c.self.inside.timers)) c.time_of_new-time.ensures in
     let roomy = unless_err c.reserve-else-is_err-2.result _ c.reserve-else-is_err-2.ensures.ok (sym c.is_err-else-is_err-2.ensures.value ∙ c.if-is_err-3.false) in
     let added = c.add_new.ensures.len in
     record {
@@ -33,7 +34,7 @@ pub returns-clause-made : goal.returns-clause-made
 returns-clause-made g c = λ past stood.
     let s = subst (λ t. StandsFor t past) (sym c.self.view_is) stood in
     let known = sym (known_parent _ past s.contexts (parent_of c.args.kind)) ∙ rw (← c.parent.ensures) (sym c.knows_parent.ensures ∙ c.if-not-knows_parent.false) in
-    let timed = unless_err c.set_timer.result _ c.set_timer.ensures.set (sym c.is_err-2.ensures.value ∙ c.if-is_err-4.false) ∙ ap (λ time. with_timer time c.self.inside.made c.self.inside.timers) c.time_of_new-time.ensures in (
+    let timed = unless_err c.set_timer.result _ c.set_timer.ensures.set (sym c.is_err-2.ensures.value ∙ c.if-is_err-4.false) ∙ ap (λ time. with_timer time c.self.inside.made (timing c.self.inside.timers)) c.time_of_new-time.ensures in (
       no_fault past (parent_of c.args.kind) known (rw (← s.contexts.made_is) c.if-self-ge-MOST_CONTEXTS.false),
       put_stands _ _ past s c.reserve.new.self c.insert.new.nodes c.vacant_key.result c.insert.result c.reserve-else-is_err.new.self.items c.reserve-else-is_err-2.new.self.items c.args.kind c.args.now
           c.ending_of_new-ending.result c.deadline_of_new-deadline.result
