@@ -59,7 +59,7 @@ replied s closed fates taken handed os o id h on replies =
     (ap (λ n. is_some (step n id o (call_at id s.calls)).reply) (sym h.moment_is) ∙ replies)
 
 -- a connection that is not broken by its fate is not broken
-not_stopped : (c : ℕ) (conns : List ConnValue) (fates : ℕ → Fate) → FatesAre fates conns → is_broken (fates c) ≡ false → is_stopped_in c conns ≡ false
+pub not_stopped : (c : ℕ) (conns : List ConnValue) (fates : ℕ → Fate) → FatesAre fates conns → is_broken (fates c) ≡ false → is_stopped_in c conns ≡ false
 not_stopped c conns fates are on = by_conn (conn_of c conns) refl
   where
     by_conn : (o : Option ConnValue) → conn_of c conns ≡ o → is_stopped_in c conns ≡ false
@@ -85,7 +85,7 @@ ends_concern o cause s v w closed fates taken handed os conns_are calls_are step
     ∙ replied s closed fates taken handed os o k.id h (ap (λ n. is_broken (fates n)) conn_is ∙ on) replies
 
 -- a connection that is broken afterwards, where one broke
-which_broke : (n c : ℕ) (conns new : List ConnValue) → is_stopped_in c new ≡ true → is_stopped_in c conns ≡ false → ((c == n) ≡ false → is_stopped_in c new ≡ is_stopped_in c conns) → c ≡ n
+pub which_broke : (n c : ℕ) (conns new : List ConnValue) → is_stopped_in c new ≡ true → is_stopped_in c conns ≡ false → ((c == n) ≡ false → is_stopped_in c new ≡ is_stopped_in c conns) → c ≡ n
 which_broke n c conns new stops before others = ⊎_elim
     (λ (its : (c == n) ≡ true). eqb-true c n its)
     (λ (ne : (c == n) ≡ false). absurd (let clash : true ≡ false = sym stops ∙ others ne ∙ before in cc))

@@ -1,8 +1,8 @@
 -- What the gateway stands for after each event that is no piece of a stream.
-use Rattle.std.proofs.Common.{◌≡◌, ℕ, zero, suc, ◌+◌, ◌≤◌, ◌<◌, Bool, true, false, List, [], ◌∷◌, ◌++◌, map, filter, length, Option, None, Some, refl, sym, ap, ◌∙◌, subst, arith, ⊎_elim, inl, inr, All}
-use Rattle.std.specs.Prelude.{◌⊎◌, if◌then◌else◌, ◌&&◌, not, ◌==◌, is_some, option_map, slice_set, slice_index_or}
+use Rattle.std.proofs.Common.{◌≡◌, ℕ, ◌+◌, ◌≤◌, ◌<◌, Bool, true, false, List, ◌∷◌, length, Option, None, Some, refl, sym, ap, ◌∙◌, subst, arith, inl, inr, All}
+use Rattle.std.specs.Prelude.{if◌then◌else◌, ◌&&◌, not, ◌==◌, is_some, option_map, slice_set, slice_index_or}
 use Rattle.std.specs.Option.{option_map_or}
-use Rattle.std.proofs.lemmas.Bool.{cond_both, cases_Bool}
+use Rattle.std.proofs.lemmas.Bool.{cond_both}
 use Rattle.std.proofs.lemmas.List.{length-map}
 use Rattle.std.proofs.lemmas.List.Elements.{All-map, All-filter, All-set}
 use Rattle.connect_codec.specs.declared.answer.Outcome.{Outcome}
@@ -13,16 +13,15 @@ use Rattle.gateway_core.specs.Conn.{ConnValue}
 use Rattle.gateway_core.specs.Ends.{is_stopped_in}
 use Rattle.gateway_core.specs.Fate.{Fate, Unbroken, BrokenAt, fate_after, fates_after, is_broken}
 use Rattle.gateway_core.specs.Fated.{FatedStands}
-use Rattle.gateway_core.specs.Gateway.{StreamValue, stream_of, GatewayValue, HasCome, goes_on, StreamsStand, Unopened, GatewayStands}
+use Rattle.gateway_core.specs.Gateway.{StreamValue, stream_of, GatewayValue, StreamsStand, Unopened, GatewayStands}
 use Rattle.gateway_core.specs.Job.{JobValue}
 use Rattle.gateway_core.specs.Kept.{KeptValue}
-use Rattle.gateway_core.specs.Machine.{ConnState}
 use Rattle.gateway_core.specs.Occurrence.{Occurrence, Result}
 use Rattle.gateway_core.specs.Orderly.{FatesAre, IsOrderly}
 use Rattle.gateway_core.specs.Past.{is_call}
 use Rattle.gateway_core.specs.Results.{back_at, back_kept, Forgets, result_at, ResultTaken, Starved, StepsAt, stepped_at, stepped_kept}
 use Rattle.gateway_core.specs.Reply.{reply_with}
-use Rattle.gateway_core.specs.Store.{MachineValue, machine, conn_of, filled_in, kept_at, no_call, broken_at, broken_conn, broken_if, given_up_if}
+use Rattle.gateway_core.specs.Store.{MachineValue, machine, conn_of, filled_in, kept_at, no_call, broken_at, broken_conn, given_up_if}
 use Rattle.gateway_core.proofs.Concerned.{result_concern, starved_concern}
 use Rattle.gateway_core.proofs.EndLemmas.{fills_in, MayFill}
 use Rattle.gateway_core.proofs.FateLemmas.{fated_after}
@@ -62,7 +61,7 @@ goes_then u v w a b = record {
   no_call = λ c all. b.no_call c (a.no_call c all);
 }
 
-goes_broken : (n : ℕ) (v : MachineValue) → Goes v (broken_at n v)
+pub goes_broken : (n : ℕ) (v : MachineValue) → Goes v (broken_at n v)
 goes_broken n v = record {
   back = λ c l l_is on. by_it c l on (c == n) (conn_of c v.conns) refl (sym (conn_broken c n v.conns) ∙ l_is);
   none = λ c e. conn_broken c n v.conns ∙ cond_both (c == n) (option_map broken_conn (conn_of c v.conns)) (conn_of c v.conns) (λ x. x ≡ None) (λ _. ap (option_map broken_conn) e) (λ _. e);
@@ -132,7 +131,7 @@ goes_forgotten id v w (inr spent) = subst (Goes v) (sym spent.1) (record {
 
 -- ---- what the gateway stands for then
 
-still_off : (w : MachineValue) (o : Occurrence) (os : List Occurrence) (fates : ℕ → Fate) (c : ℕ) → conn_of c w.conns ≡ None → is_broken (fates c) ≡ false
+pub still_off : (w : MachineValue) (o : Occurrence) (os : List Occurrence) (fates : ℕ → Fate) (c : ℕ) → conn_of c w.conns ≡ None → is_broken (fates c) ≡ false
     → is_broken (fates_after (λ c. is_stopped_in c w.conns) o os fates c) ≡ false
 still_off w o os fates c none on = by_fate (fates c) on
   where

@@ -62,3 +62,4 @@ pub mod FeedLemmas
 pub mod FeedSteps
 pub mod EndingSteps
 pub mod GatewaySteps
+pub mod GatewayEnds

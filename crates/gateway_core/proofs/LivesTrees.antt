@@ -6,10 +6,12 @@ use Rattle.context_tree.specs.declared.released.Released.{Released}
 use Rattle.context_tree.specs.declared.released.Released.TheVariants.{Gone, HasChildren, Unknown}
 use Rattle.context_tree.specs.declared.node.Kind.{Kind}
 use Rattle.context_tree.specs.declared.node.Kind.TheVariants.{Background, Cancel, Deadline, Value}
-use Rattle.context_tree.specs.Context.{Id, same, Makes, Cancels, Advances, Releases, HasChild, Ended, held, line, chain, least, nearest, sooner, has_cancel, ending, deadline}
+use Rattle.context_tree.specs.Context.{Id, own_value, same, Makes, Cancels, Advances, Releases, HasChild, Ended, held, line, chain, least, nearest, sooner, has_cancel, ending, deadline}
 use Rattle.context_tree.specs.Frames.{is_due}
-use Rattle.context_tree.specs.Tree.{TreeValue, StandsFor, IsLawful, is_live, is_among}
-use Rattle.gateway_core.specs.Lives.{value_in}
+use Rattle.context_tree.specs.declared.node.Node.{Node}
+use Rattle.context_tree.specs.Links.{bare}
+use Rattle.context_tree.specs.Tree.{TreeValue, StandsFor, IsLawful, is_live, is_among, node_at}
+use Rattle.gateway_core.specs.Lives.{value_in, request_id_key}
 use Rattle.gateway_core.specs.LivesSound.{Op, TreeLaws, IsFree, IsHolder, Touches, StandsAlike, kind_of}
 
 pub same_refl : (x : Id) → same x x ≡ true
@@ -74,9 +76,16 @@ module _ {V : Type 0} (laws : TreeLaws V) where
       (λ (some : (e : Ended (Unit {0})) × (ending x past ≡ Some e)). rw some.1 refl)
       (option_cases (ending x past))
 
+-- what a node has of its own is told by how it was made
+without_links : {V : Type 0} (o : Option (Node (Unit {0}) V))
+    → option_and_then (λ n. own_value request_id_key n.kind) o ≡ option_and_then (λ n. own_value request_id_key n.kind) (bare o)
+without_links None = refl
+without_links (Some n) = refl
+
 pub shown_request : {V : Type 0} (t : TreeValue (Unit {0}) V) (past : List (Op V)) (holder conn : Id) (request_id : V)
     → StandsFor t past → held holder past ≡ Some (Value conn 0 request_id) → value_in t.slots holder ≡ Some request_id
-shown_request t past holder conn request_id st is = rw (st.contexts.nodes_are holder, is) refl
+shown_request t past holder conn request_id st is =
+    without_links (node_at t.slots holder) ∙ ap (λ o. option_and_then (λ n. own_value request_id_key n.kind) o) (st.contexts.nodes_are holder) ∙ rw is refl
 
 hit : (b : Bool) (e : Ended (Unit {0})) → is_some (if b then Some e else None) ≡ b
 hit true e = refl

@@ -1,5 +1,5 @@
 -- The open connections with their streams, and what they stand for.
-use Rattle.std.specs.Prelude.{◌≡◌, ℕ, ◌+◌, ◌<◌, ◌≤◌, Bool, true, false, ◌&&◌, not, if◌then◌else◌, ◌==◌, All, List, [], ◌∷◌, ◌++◌, take, length, Option, None, Some, slice_set, slice_index_or}
+use Rattle.std.specs.Prelude.{◌≡◌, ◌⊎◌, ℕ, ◌+◌, ◌<◌, ◌≤◌, Bool, true, false, ◌&&◌, not, if◌then◌else◌, ◌==◌, All, List, [], ◌∷◌, ◌++◌, take, length, Option, None, Some, slice_set, slice_index_or}
 use Rattle.http_pieces.specs.Reader.{ReaderValue, Reading, reader_value, Partial, Waiting, Stopped, Done, HasRead, after_request}
 use Rattle.http_pieces.specs.Request.{HttpRequest}
 use Rattle.call_plan.specs.Plan.{PlanRecord}
@@ -7,12 +7,13 @@ use Rattle.gateway_core.specs.declared.entry.ReplyEntry.{ReplyEntry}
 use Rattle.gateway_core.specs.Arrival.{arrival_of}
 use Rattle.gateway_core.specs.Conn.{ConnValue}
 use Rattle.gateway_core.specs.Enters.{Enters}
+use Rattle.gateway_core.specs.Events.{Gains}
 use Rattle.gateway_core.specs.Fate.{Fate, is_broken}
 use Rattle.gateway_core.specs.Fated.{FatedStands}
 use Rattle.gateway_core.specs.Job.{JobValue}
 use Rattle.gateway_core.specs.Kept.{KeptValue}
 use Rattle.gateway_core.specs.Machine.{ConnState, new_conn}
-use Rattle.gateway_core.specs.Occurrence.{Occurrence, Request, Refused}
+use Rattle.gateway_core.specs.Occurrence.{Occurrence, Entering, Entry, Request, Refused}
 use Rattle.gateway_core.specs.Orderly.{FatesAre}
 use Rattle.gateway_core.specs.Store.{MachineValue, machine, conn_of}
 
@@ -111,3 +112,11 @@ pub record GatewayStands (v : GatewayValue) (texts : ℕ → List ℕ) (taken : 
 -- the text of that stream, with these bytes behind it
 abbrev pub with_bytes : ℕ → List ℕ → (ℕ → List ℕ) → ℕ → List ℕ
 with_bytes c bytes texts d = if d == c then texts d ++ bytes else texts d
+
+-- what the gateway stands for after these bytes of a stream: they bring what the stream gains by them, which is nothing, or one
+-- request or refusal
+abbrev pub StandsFed : ℕ → List ℕ → GatewayValue → GatewayValue → (ℕ → List ℕ) → (ℕ → List ReplyEntry) → List JobValue → List Occurrence → Type 0
+StandsFed c bytes v w texts taken handed os =
+    (gained : List Entering) × Gains v.plans (texts c) (texts c ++ bytes) gained
+    × (((gained ≡ []) × GatewayStands w (with_bytes c bytes texts) taken handed os)
+    ⊎ ((x : Entering) × (gained ≡ x ∷ []) × GatewayStands w (with_bytes c bytes texts) taken handed (Entry c x ∷ os)))

@@ -1,48 +1,52 @@
 //! What events make of the gateway's value, and what it then stands for. The functions do nothing.
-ghost use Rattle.std.specs.Prelude.{◌≡◌, ◌⊎◌, ℕ, ◌<◌, ◌∷◌, [], ◌++◌, false, length, List, take};
+ghost use Rattle.std.specs.Prelude.{◌≡◌, None, Some, ◌⊎◌, ℕ, ◌<◌, ◌∷◌, [], ◌++◌, false, length, List, take};
 ghost use Rattle.http_pieces.specs.Reader.{is_over};
 ghost use Rattle.gateway_core.specs.declared.entry.ReplyEntry.{ReplyEntry};
 ghost use Rattle.gateway_core.specs.declared.machine.cause.Cause.{Cause};
+ghost use Rattle.gateway_core.specs.Conn.{ConnValue};
+ghost use Rattle.gateway_core.specs.Opens.{closed_at};
 ghost use Rattle.gateway_core.specs.Ends.{CallsEnd, EndsBy, is_stopped_in};
-ghost use Rattle.gateway_core.specs.Events.{Gains};
 ghost use Rattle.gateway_core.specs.Fate.{Fate, fates_after};
 ghost use Rattle.gateway_core.specs.Fated.{FatedStands};
-ghost use Rattle.gateway_core.specs.Gateway.{Feeds, GatewayStands, GatewayValue, stream_at, StreamsApart, with_bytes};
+ghost use Rattle.gateway_core.specs.Gateway.{Feeds, GatewayStands, StandsFed, GatewayValue, StreamValue, stream_at, stream_of, StreamsApart, with_bytes};
 ghost use Rattle.gateway_core.specs.Job.{JobValue};
 ghost use Rattle.gateway_core.specs.Machine.{ConnState};
 ghost use Rattle.connect_codec.specs.declared.answer.Outcome.{Outcome};
 ghost use Rattle.gateway_core.specs.declared.fault.Took.{Took};
 ghost use Rattle.gateway_core.specs.declared.id.CallId.{CallId};
 ghost use Rattle.gateway_core.specs.Results.{Forgets, ResultTaken, Starved};
-ghost use Rattle.gateway_core.specs.Occurrence.{Entering, Entry, Occurrence, Result};
+ghost use Rattle.gateway_core.specs.Occurrence.{Closing, Entering, Entry, Occurrence, Result};
 ghost use Rattle.gateway_core.specs.Orderly.{FatesAre, IsOrderly};
-ghost use Rattle.gateway_core.specs.Store.{conn_at, machine, MachineValue};
+ghost use Rattle.gateway_core.specs.Store.{conn_at, conn_of, machine, MachineValue};
 
 /// Bytes of a stream that goes on bring what the stream gains by them: nothing, or one request or refusal.
 pub fn fed_law()
-    ensures { (i n : ℕ) (bytes : List ℕ) (v w : GatewayValue) (texts : ℕ → List ℕ) (taken : ℕ → List ReplyEntry) (handed : List JobValue) (os : List Occurrence)
+    ensures { (i n : ℕ) (bytes : List ℕ) (v w : GatewayValue) (texts : ℕ → List ℕ)
+        (taken : ℕ → List ReplyEntry) (handed : List JobValue) (os : List Occurrence)
         → i < length v.machine.conns → i < length v.streams → IsOrderly v.machine → StreamsApart v.streams
-        → (stream_at i v.streams).number ≡ (conn_at i v.machine.conns).number → (conn_at i v.machine.conns).broken ≡ false
+        → (stream_at i v.streams).number ≡ (conn_at i v.machine.conns).number
+        → (conn_at i v.machine.conns).broken ≡ false
         → (stream_at i v.streams).hung_up ≡ false → is_over (stream_at i v.streams).reader.reading ≡ false
         → Feeds i n bytes v w → GatewayStands v texts taken handed os
-        → (gained : List Entering)
-        × Gains v.plans (texts (conn_at i v.machine.conns).number) (texts (conn_at i v.machine.conns).number ++ take n bytes) gained
-        × (((gained ≡ []) × GatewayStands w (with_bytes (conn_at i v.machine.conns).number (take n bytes) texts) taken handed os)
-        ⊎ ((x : Entering) × (gained ≡ x ∷ [])
-        × GatewayStands w (with_bytes (conn_at i v.machine.conns).number (take n bytes) texts) taken handed (Entry (conn_at i v.machine.conns).number x ∷ os))) }
+        → StandsFed (conn_at i v.machine.conns).number (take n bytes) v w texts taken handed os }
 {}
 
 /// A moment, a hang-up or the drain.
 pub fn ended_law()
-    ensures stands { (o : Occurrence) (cause : Cause) (s v w : MachineValue) (closed : ℕ → ConnState) (fates : ℕ → Fate)
+    ensures stands { (o : Occurrence) (cause : Cause) (s v w : MachineValue) (closed : ℕ → ConnState)
+        (fates : ℕ → Fate)
         (taken : ℕ → List ReplyEntry) (handed : List JobValue) (os : List Occurrence)
-        → EndsBy o cause s v → IsOrderly s → FatesAre fates s.conns → FatedStands (machine closed s) fates taken handed os → CallsEnd cause v w
+        → EndsBy o cause s v → IsOrderly s → FatesAre fates s.conns
+        → FatedStands (machine closed s) fates taken handed os → CallsEnd cause v w
         → FatedStands (machine closed w) (fates_after (λ c. is_stopped_in c w.conns) o os fates) taken handed (o ∷ os) }
-    ensures fates { (o : Occurrence) (cause : Cause) (s v w : MachineValue) (closed : ℕ → ConnState) (fates : ℕ → Fate)
+    ensures fates { (o : Occurrence) (cause : Cause) (s v w : MachineValue) (closed : ℕ → ConnState)
+        (fates : ℕ → Fate)
         (taken : ℕ → List ReplyEntry) (handed : List JobValue) (os : List Occurrence)
-        → EndsBy o cause s v → IsOrderly s → FatesAre fates s.conns → FatedStands (machine closed s) fates taken handed os → CallsEnd cause v w
+        → EndsBy o cause s v → IsOrderly s → FatesAre fates s.conns
+        → FatedStands (machine closed s) fates taken handed os → CallsEnd cause v w
         → FatesAre (fates_after (λ c. is_stopped_in c w.conns) o os fates) w.conns }
-    ensures orderly { (o : Occurrence) (cause : Cause) (s v w : MachineValue) → EndsBy o cause s v → IsOrderly s → CallsEnd cause v w → IsOrderly w }
+    ensures orderly { (o : Occurrence) (cause : Cause) (s v w : MachineValue) → EndsBy o cause s v → IsOrderly s
+        → CallsEnd cause v w → IsOrderly w }
 {}
 
 /// A result, and one of which no more is known than that it came.
@@ -57,4 +61,24 @@ pub fn taken_law()
         → w.streams ≡ v.streams → w.opened ≡ v.opened → IsOrderly v.machine → GatewayStands v texts taken handed os
         → Starved id branch v.machine u took → Forgets id u w.machine
         → GatewayStands w texts taken handed (Result id branch outcome ∷ os) }
+{}
+
+/// A moment, a hang-up or the drain, after which each stream that goes on is the same; and a closing.
+pub fn ends_law()
+    ensures ended { (o : Occurrence) (cause : Cause) (told : MachineValue) (v w : GatewayValue) (texts : ℕ → List ℕ)
+        (taken : ℕ → List ReplyEntry) (handed : List JobValue) (os : List Occurrence)
+        → ((c : ℕ) (t : StreamValue) → stream_of c w.streams ≡ Some t → t.hung_up ≡ false
+        → stream_of c v.streams ≡ Some t)
+        → ((c : ℕ) → stream_of c v.streams ≡ None → stream_of c w.streams ≡ None)
+        → w.opened ≡ v.opened → IsOrderly v.machine → GatewayStands v texts taken handed os
+        → EndsBy o cause v.machine told → CallsEnd cause told w.machine
+        → GatewayStands w texts taken handed (o ∷ os) }
+    ensures closed { (n : ℕ) (k : ConnValue) (v w : GatewayValue) (texts : ℕ → List ℕ)
+        (taken : ℕ → List ReplyEntry) (handed : List JobValue) (os : List Occurrence)
+        → ((c : ℕ) (t : StreamValue) → stream_of c w.streams ≡ Some t → t.hung_up ≡ false
+        → stream_of c v.streams ≡ Some t)
+        → ((c : ℕ) → stream_of c v.streams ≡ None → stream_of c w.streams ≡ None)
+        → w.opened ≡ v.opened → IsOrderly v.machine → GatewayStands v texts taken handed os
+        → conn_of n v.machine.conns ≡ Some k → w.machine ≡ closed_at n v.machine
+        → GatewayStands w texts taken handed (Closing n ∷ os) }
 {}

@@ -8,8 +8,6 @@ use Rattle.std.proofs.lemmas.List.{append-nil, append_cancel_left, map-append, r
 use Rattle.std.proofs.lemmas.List.FromFn.{map-range_with_len_more}
 use Rattle.std.proofs.lemmas.List.Elements.{filter-append}
 use Rattle.http_pieces.specs.Reader.{HasRead}
-use Rattle.http_pieces.specs.Requests.{unfinished}
-use Rattle.http_pieces.proofs.RequestsLemmas.{cut_empty}
 use Rattle.call_plan.specs.Plan.{PlanRecord}
 use Rattle.gateway_core.specs.declared.fault.OpenError.TheVariants.{Full}
 use Rattle.gateway_core.specs.declared.reply_bytes.ReplyBytes.{ReplyBytes}
@@ -390,19 +388,9 @@ pub kept_if : (b : Bool) (items new : List ℕ) (n : ℕ) → b ≡ false → ne
 kept_if false items new n fine e = e
 kept_if true items new n fine e = absurd (cc)
 
--- a new core stands for no events: of a stream that has not begun nothing was read, and nothing was looked at
-nothing_read : HasRead new_conn.reader [] []
-nothing_read = record {
-  count = refl;
-  reads = unfinished (cut_empty 0) refl;
-  looked = record {
-    twice = omega arith;
-    once = λ text e none. omega (arith, ap (λ (o : Option (List ℕ)). option_map_or (λ t. length t) o 0) e);
-  };
-}
-
-nothing_run : (plans : List PlanRecord) → HasRun plans (core_value plans None []) [] [] []
-nothing_run plans = record {
+-- a new core stands for no events, since of a stream that has not begun nothing was read
+nothing_run : HasRead new_conn.reader [] [] → (plans : List PlanRecord) → HasRun plans (core_value plans None []) [] [] []
+nothing_run nothing_read plans = record {
   plans_are = refl;
   jobs_are = refl;
   opened_are = refl;
@@ -437,8 +425,8 @@ nothing_run plans = record {
   );
 }
 
-pub run_start : (core : CoreValue) (opened : List ℕ) (started : List Start) → core ≡ core_value core.plans None [] → opened ≡ [] → started ≡ [] → HasRun core.plans core opened started []
-run_start core opened started core_is opened_is started_is =
+pub run_start : HasRead new_conn.reader [] [] → (core : CoreValue) (opened : List ℕ) (started : List Start) → core ≡ core_value core.plans None [] → opened ≡ [] → started ≡ [] → HasRun core.plans core opened started []
+run_start nothing_read core opened started core_is opened_is started_is =
     subst (λ (c : CoreValue). HasRun core.plans c opened started []) (sym core_is)
     (subst (λ o. HasRun core.plans (core_value core.plans None []) o started []) (sym opened_is)
-    (subst (λ t. HasRun core.plans (core_value core.plans None []) [] t []) (sym started_is) (nothing_run core.plans)))
+    (subst (λ t. HasRun core.plans (core_value core.plans None []) [] t []) (sym started_is) (nothing_run nothing_read core.plans)))

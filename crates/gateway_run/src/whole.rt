@@ -11,6 +11,7 @@ use crate::outcome::{Run, RunError, Start};
 use crate::stepping::{Stepped, step};
 use call_plan::Plans;
 use gateway_core::{ConnId, Core};
+use http_pieces::laws::fresh_law;
 use http_pieces::Bytes;
 use std::alloc::{AllocError, Global};
 
@@ -58,6 +59,7 @@ fn take_events(
     ensures { core.old ≡ core_value core.old.plans None [] → opened.old.items ≡ [] → starts.old.items ≡ []
         → OnOk result (HasRun core.old.plans core.new opened.new.items starts.new.items (newest_first events.items)) }
 {
+    fresh_law();
     let mut place = 0u64;
     for event in events {
         if let Stepped::Opened(_) = step(core, event) {

@@ -17,7 +17,7 @@ pub loop-event-init : goal.loop-event-init
 loop-event-init c = record {
   place_is = refl;
   all = search;
-  ran = run_start c.args.core.now c.args.opened.now.items c.args.starts.now.items;
+  ran = run_start c.fresh_law.ensures.requests c.args.core.now c.args.opened.now.items c.args.starts.now.items;
 }
 
 pub loop-event-preserved : goal.loop-event-preserved
