@@ -11,8 +11,8 @@ use crate::outcome::{Run, RunError, Start};
 use crate::stepping::{Stepped, step};
 use call_plan::Plans;
 use gateway_core::{ConnId, Core};
-use http_pieces::laws::fresh_law;
 use http_pieces::Bytes;
+use http_pieces::laws::fresh_law;
 use std::alloc::{AllocError, Global};
 
 /// Runs a whole list of events on a new gateway that serves these plans.
