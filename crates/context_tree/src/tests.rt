@@ -109,11 +109,11 @@ fn deadlines(rt: HostRuntime) -> Result<(), Fail> {
 fn values_and_without_cancel(rt: HostRuntime) -> Result<(), Fail> {
     let mut tree: Tree<u32, u8> = Tree::new(rt.alloc());
     let b = tree.background()?;
-    let v = tree.with_value(b, 1, 11).map_err(|refused| refused.1)?;
+    let v = with_value(&mut tree, b, 1, 11)?;
     let d = tree.with_deadline(v, 10, 0, None)?;
     let c = tree.with_cancel(d)?;
     let w = tree.without_cancel(c)?;
-    let x = tree.with_value(w, 2, 22).map_err(|refused| refused.1)?;
+    let x = with_value(&mut tree, w, 2, 22)?;
     assert_eq!(rt; tree.cancel(c, None), true);
     assert_eq!(rt; tree.err(w), Ok(None));
     assert_eq!(rt; tree.deadline(x), Ok(None));
@@ -128,6 +128,16 @@ fn values_and_without_cancel(rt: HostRuntime) -> Result<(), Fail> {
     assert_eq!(rt; tree.err(apart), Ok(None));
     assert_eq!(rt; tree.cause(c), Ok(Some(Cause::Plain(CtxErr::Canceled))));
     Ok(())
+}
+
+fn with_value(
+    tree: &mut Tree<u32, u8>,
+    parent: CtxId,
+    key: u32,
+    value: u8,
+) -> Result<CtxId, CtxError> {
+    tree.with_value(parent, key, value)
+        .map_err(|refused| refused.1)
 }
 
 // The siblings of one that is released are linked past it, whichever of them goes first.
