@@ -1,4 +1,3 @@
 pub mod Hooks
 pub mod Stands
 pub mod Whole
-pub mod Rows

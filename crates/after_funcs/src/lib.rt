@@ -8,10 +8,6 @@ mod hook;
 mod id;
 pub mod laws;
 mod registration;
-#[cfg(test)]
-mod rows;
-#[cfg(test)]
-mod tests;
 
 pub use callbacks::AfterFuncs;
 pub use error::AfterError;

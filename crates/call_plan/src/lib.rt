@@ -11,8 +11,6 @@ mod plan;
 mod plans;
 mod read;
 mod rules;
-#[cfg(test)]
-mod tests;
 
 pub use branch::Branch;
 pub use error::PlanError;

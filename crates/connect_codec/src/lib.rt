@@ -12,8 +12,6 @@ pub mod laws;
 mod meaning;
 mod path;
 mod reply;
-#[cfg(test)]
-mod tests;
 mod text;
 mod verdict;
 

@@ -1,4 +1,3 @@
 pub mod GroupState
 pub mod Group
 pub mod Fates
-pub mod Rows

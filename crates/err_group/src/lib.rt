@@ -6,10 +6,6 @@ mod error;
 mod freed;
 mod group;
 pub mod laws;
-#[cfg(test)]
-mod rows;
-#[cfg(test)]
-mod tests;
 mod waited;
 
 pub use error::Active;

@@ -11,8 +11,6 @@ mod document;
 mod json;
 pub mod laws;
 mod reply;
-#[cfg(test)]
-mod tests;
 
 pub use code::Code;
 pub use detail::Detail;

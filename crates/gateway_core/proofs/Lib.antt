@@ -12,9 +12,6 @@ pub mod ArriveLemmas
 pub mod JobLemmas
 pub mod UnknownLemmas
 pub mod CoreLemmas
-pub mod OnLiterals
-pub mod StreamLemmas
-pub mod RowLemmas
 pub mod Unborn
 pub mod Frame
 pub mod StepLemmas
@@ -37,16 +34,6 @@ pub mod EndLemmas
 pub mod GroupLemmas
 pub mod ResultLemmas
 pub mod ReplyLemmas
-pub mod LivesTrees
-pub mod LivesMaking
-pub mod LivesApart
-pub mod LivesSeeing
-pub mod LivesCancelling
-pub mod LivesFraming
-pub mod LivesLists
-pub mod LivesHooking
-pub mod LivesBeginning
-pub mod LivesLeaving
 pub mod AnsweringLemmas
 pub mod EndSteps
 pub mod ResultSteps

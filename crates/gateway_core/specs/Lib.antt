@@ -12,7 +12,6 @@ pub mod Finished
 pub mod Queue
 pub mod Starts
 pub mod Stands
-pub mod Rows
 pub mod Record
 pub mod Step
 pub mod LiveStands
@@ -28,8 +27,6 @@ pub mod Store
 pub mod Ends
 pub mod Results
 pub mod Duty
-pub mod Lives
-pub mod LivesSound
 pub mod Enters
 pub mod Opens
 pub mod Orderly

@@ -16,20 +16,11 @@ mod id;
 mod job;
 mod joined;
 pub mod laws;
-mod lives;
 mod machine;
 pub mod machine_laws;
 mod record;
 mod reply;
 mod reply_bytes;
-#[cfg(test)]
-mod rows;
-#[cfg(test)]
-mod rows_corners;
-#[cfg(test)]
-mod rows_replies;
-#[cfg(test)]
-mod rows_streams;
 mod stock;
 
 pub use ending::{EndCause, Ending, ending_reply};
@@ -44,8 +35,3 @@ pub use record::CallRecord;
 pub use reply::Reply;
 pub use reply_bytes::ReplyBytes;
 pub use stock::Stock;
-
-#[cfg(test)]
-mod tests;
-#[cfg(test)]
-mod tests_replies;

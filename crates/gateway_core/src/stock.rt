@@ -35,7 +35,7 @@ impl<H> Stock<H> {
     }
 
     /// Takes the first hook.
-    pub(crate) fn take(&mut self) -> Option<H>
+    pub fn take(&mut self) -> Option<H>
         ensures first { IfSome result (λ hook. self.old ≡ hook ∷ self.new) }
         ensures none { IfNone result ((self.old ≡ []) × (self.new ≡ [])) }
     {
@@ -46,7 +46,7 @@ impl<H> Stock<H> {
     }
 
     /// How many hooks there are yet.
-    pub(crate) fn left(&self) -> usize
+    pub fn left(&self) -> usize
         ensures { result ≡ length self.now }
     {
         self.hooks.len()

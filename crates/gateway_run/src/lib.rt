@@ -7,12 +7,8 @@ mod event;
 mod fault;
 pub mod laws;
 mod outcome;
-#[cfg(test)]
-mod rows;
 mod script;
 mod stepping;
-#[cfg(test)]
-mod tests_script;
 mod text;
 mod whole;
 

@@ -46,8 +46,3 @@ pub use request::Request;
 pub use state::State;
 pub use text::Text;
 pub use version::Version;
-
-#[cfg(test)]
-mod tests;
-#[cfg(test)]
-mod tests_reply;

@@ -4,8 +4,6 @@
 
 mod digits;
 mod error;
-#[cfg(test)]
-mod tests;
 mod value;
 
 pub use digits::Digits;

@@ -1,0 +1,204 @@
+-- The contexts that are kept are different ones, and from which others derive.
+use Rattle.std.proofs.Common.{◌≡◌, refl, sym, ap, ◌∙◌, ℕ, List, [], ◌∷◌, Option, Some, None, true, false, inl, inr, ⊎_elim, subst}
+use Rattle.std.specs.Prelude.{◌⊎◌, All, unwrap_or}
+use Rattle.std.specs.List.{list_any}
+use Rattle.std.proofs.lemmas.List.Elements.{All-head, All-tail}
+use Rattle.std.proofs.lemmas.Bool.{cases_Bool}
+use Rattle.context_tree.specs.declared.node.Kind.{Kind}
+use Rattle.context_tree.specs.declared.node.Kind.TheVariants.{Background, Cancel, Value}
+use Rattle.context_tree.specs.Context.{Id, same, held, parent_of}
+use Rattle.context_tree.specs.Tree.{TreeValue, is_among}
+use Rattle.after_funcs.specs.declared.callbacks.AfterFuncs.{AfterFuncs}
+use Rattle.call_contexts.specs.declared.life.Life.{Life}
+use Rattle.call_contexts.specs.Sound.{Op, IsSound, IsLife, IsConn, IsHolder, kind_of, contexts, owns, is_kept}
+use Rattle.call_contexts.proofs.Trees.{same_true, some_same, or_false, apart_kinds}
+
+pub kind_parent : (V : Type 0) (p q : Id) (d : Option ℕ) → parent_of (kind_of {V = V} p d) ≡ Some q → p ≡ q
+kind_parent V p q None e = cc
+kind_parent V p q (Some at) e = cc
+
+module _ {V : Type 0} where
+  pub kind_not_background : (p : Id) (d : Option ℕ) → kind_of {V = V} p d ≡ Background → ⊥
+  kind_not_background p None e = cc
+  kind_not_background p (Some at) e = cc
+
+  pub kind_not_value : (p : Id) (d : Option ℕ) (conn : Id) (r : V) → kind_of p d ≡ Value conn 0 r → ⊥
+  kind_not_value p None conn r e = cc
+  kind_not_value p (Some at) conn r e = cc
+
+  pub kind_cancel : (p q : Id) (d : Option ℕ) → kind_of {V = V} p d ≡ Cancel q → p ≡ q
+  kind_cancel p q None e = cc
+  kind_cancel p q (Some at) e = cc
+
+  pub differ : (x y : Id) (k l : Kind (Unit {0}) V) (past : List (Op V)) → held x past ≡ Some k → held y past ≡ Some l → (k ≡ l → ⊥) → x ≡ y → ⊥
+  differ x y k l past xs ys other e = other (some_same k l (sym xs ∙ subst (λ z. held z past ≡ Some l) (sym e) ys))
+
+module _ {V : Type 0} (past : List (Op V)) (root base : Id) (root_is : held root past ≡ Some Background) (base_is : held base past ≡ Some (Cancel root)) where
+  base_root : base ≡ root → ⊥
+  base_root = differ base root (Cancel root) Background past base_is root_is (λ e. cc)
+
+  roots_apart : (k l : Kind (Unit {0}) V) → k ≡ Cancel base → l ≡ Cancel root → k ≡ l → ⊥
+  roots_apart k l ks ls e = base_root (kind_cancel base root None (sym ks ∙ e ∙ ls))
+
+  pub conn_root : (c : Id) → IsConn base past c → c ≡ root → ⊥
+  conn_root c is = differ c root (Cancel base) Background past is root_is (λ e. cc)
+
+  pub conn_base : (c : Id) → IsConn base past c → c ≡ base → ⊥
+  conn_base c is = differ c base (Cancel base) (Cancel root) past is base_is (roots_apart (Cancel base) (Cancel root) refl refl)
+
+  pub base_far_conn : (c : Id) → IsConn base past c → same base c ≡ false
+  base_far_conn c is = apart_kinds base c (Cancel root) (Cancel base) past base_is is (λ e. roots_apart (Cancel base) (Cancel root) refl refl (sym e))
+
+  pub root_far_conn : (c : Id) → IsConn base past c → same root c ≡ false
+  root_far_conn c is = apart_kinds root c Background (Cancel base) past root_is is (λ e. cc)
+
+  module _ (x conn : Id) (r : V) (is : held x past ≡ Some (Value conn 0 r)) where
+    pub root_far_holder : same root x ≡ false
+    root_far_holder = apart_kinds root x Background (Value conn 0 r) past root_is is (λ e. cc)
+
+    pub base_far_holder : same base x ≡ false
+    base_far_holder = apart_kinds base x (Cancel root) (Value conn 0 r) past base_is is (λ e. cc)
+
+    pub conn_far_holder : (c : Id) → IsConn base past c → same c x ≡ false
+    conn_far_holder c c_is = apart_kinds c x (Cancel base) (Value conn 0 r) past c_is is (λ e. cc)
+
+    pub holder_far_conn : (c : Id) → IsConn base past c → same x c ≡ false
+    holder_far_conn c c_is = apart_kinds x c (Value conn 0 r) (Cancel base) past is c_is (λ e. cc)
+
+    pub holder_root : x ≡ root → ⊥
+    holder_root = differ x root (Value conn 0 r) Background past is root_is (λ e. cc)
+
+    pub holder_base : x ≡ base → ⊥
+    holder_base = differ x base (Value conn 0 r) (Cancel root) past is base_is (λ e. cc)
+
+    pub conn_holder : (c : Id) → IsConn base past c → c ≡ x → ⊥
+    conn_holder c c_is = differ c x (Cancel base) (Value conn 0 r) past c_is is (λ e. cc)
+
+  parent_root : (conn : Id) → IsConn base past conn → (holder : Option Id) → IsHolder past conn holder → unwrap_or holder conn ≡ root → ⊥
+  parent_root conn c None is e = conn_root conn c e
+  parent_root conn c (Some x) is e = holder_root x conn is.0 is.1 e
+
+  parent_base : (conn : Id) → IsConn base past conn → (holder : Option Id) → IsHolder past conn holder → unwrap_or holder conn ≡ base → ⊥
+  parent_base conn c None is e = conn_base conn c e
+  parent_base conn c (Some x) is e = holder_base x conn is.0 is.1 e
+
+  module _ (l : Life) (is : IsLife past base l) where
+    abbrev kind : Kind (Unit {0}) V
+    kind = kind_of (unwrap_or l.holder l.conn) l.deadline
+
+    not_cancel_root : kind ≡ Cancel root → ⊥
+    not_cancel_root e = parent_root l.conn is.conn_is l.holder is.holder_is (kind_cancel (unwrap_or l.holder l.conn) root l.deadline e)
+
+    not_cancel_base : kind ≡ Cancel base → ⊥
+    not_cancel_base e = parent_base l.conn is.conn_is l.holder is.holder_is (kind_cancel (unwrap_or l.holder l.conn) base l.deadline e)
+
+    pub root_far_call : same root l.ctx ≡ false
+    root_far_call = apart_kinds root l.ctx Background kind past root_is is.call_is (λ e. kind_not_background (unwrap_or l.holder l.conn) l.deadline (sym e))
+
+    pub base_far_call : same base l.ctx ≡ false
+    base_far_call = apart_kinds base l.ctx (Cancel root) kind past base_is is.call_is (λ e. not_cancel_root (sym e))
+
+    pub conn_far_call : (c : Id) → IsConn base past c → same c l.ctx ≡ false
+    conn_far_call c c_is = apart_kinds c l.ctx (Cancel base) kind past c_is is.call_is (λ e. not_cancel_base (sym e))
+
+    pub call_far_conn : (c : Id) → IsConn base past c → same l.ctx c ≡ false
+    call_far_conn c c_is = apart_kinds l.ctx c kind (Cancel base) past is.call_is c_is not_cancel_base
+
+    pub call_far_holder : (x conn : Id) (r : V) → held x past ≡ Some (Value conn 0 r) → same l.ctx x ≡ false
+    call_far_holder x conn r x_is = apart_kinds l.ctx x kind (Value conn 0 r) past is.call_is x_is (kind_not_value (unwrap_or l.holder l.conn) l.deadline conn r)
+
+    pub holder_far_call : (x conn : Id) (r : V) → held x past ≡ Some (Value conn 0 r) → same x l.ctx ≡ false
+    holder_far_call x conn r x_is = apart_kinds x l.ctx (Value conn 0 r) kind past x_is is.call_is (λ e. kind_not_value (unwrap_or l.holder l.conn) l.deadline conn r (sym e))
+
+    pub call_root : l.ctx ≡ root → ⊥
+    call_root = differ l.ctx root kind Background past is.call_is root_is (kind_not_background (unwrap_or l.holder l.conn) l.deadline)
+
+    pub call_base : l.ctx ≡ base → ⊥
+    call_base = differ l.ctx base kind (Cancel root) past is.call_is base_is not_cancel_root
+
+    pub conn_call : (c : Id) → IsConn base past c → c ≡ l.ctx → ⊥
+    conn_call c c_is = differ c l.ctx (Cancel base) kind past c_is is.call_is (λ e. not_cancel_base (sym e))
+
+    pub holder_call : (x conn : Id) (r : V) → held x past ≡ Some (Value conn 0 r) → x ≡ l.ctx → ⊥
+    holder_call x conn r x_is = differ x l.ctx (Value conn 0 r) kind past x_is is.call_is (λ e. kind_not_value (unwrap_or l.holder l.conn) l.deadline conn r (sym e))
+
+-- ---- what derives from what
+
+-- a call that derives from that context, by its connection or by the one that has its request id
+pub record Derives (P : Life → Type 0) (x y : Id) : Type 0 where
+  pub life : Life
+  pub which : P life
+  pub from : (life.conn ≡ x) ⊎ ((life.holder ≡ Some x) × (y ≡ life.ctx))
+
+among_in : (P : Id → Type 0) (y : Id) (xs : List Id) → All P xs → is_among y xs ≡ true → P y
+among_in P y [] all is = cc
+among_in P y (x ∷ xs) all is = ⊎_elim
+    (λ (h : same y x ≡ true). subst P (sym (same_true y x h)) (All-head P x xs all))
+    (λ (n : same y x ≡ false). among_in P y xs (All-tail P x xs all) (rw n at is))
+    (cases_Bool (same y x))
+
+owner_in : (P : Life → Type 0) (y : Id) (ls : List Life) → All P ls → list_any (owns y) ls ≡ true → (l : Life) × P l × (owns y l ≡ true)
+owner_in P y [] all is = cc
+owner_in P y (l ∷ ls) all is = ⊎_elim
+    (λ (h : owns y l ≡ true). (l, All-head P l ls all, h))
+    (λ (n : owns y l ≡ false). owner_in P y ls (All-tail P l ls all) (rw n at is))
+    (cases_Bool (owns y l))
+
+owned : (y ctx : Id) (holder : Option Id) → is_among y (contexts ctx holder) ≡ true → (y ≡ ctx) ⊎ (holder ≡ Some y)
+owned y ctx None is = inl (same_true y ctx (sym (or_false (same y ctx)) ∙ is))
+owned y ctx (Some x) is = ⊎_elim
+    (λ (h : same y ctx ≡ true). inl (same_true y ctx h))
+    (λ (n : same y ctx ≡ false). let e : y ≡ x = same_true y x (sym (or_false (same y x)) ∙ (rw n at is)) in inr (ap (λ z. Some z) (sym e)))
+    (cases_Bool (same y ctx))
+
+module _ {V H : Type 0} {f : AfterFuncs H} {base : Id} {conns : List Id} {calls : List Life} {old : TreeValue (Unit {0}) V} (s : IsSound old f base conns calls)
+    (P : Life → Type 0) (each : All (λ l. IsLife s.past base l × P l) calls) where
+  of_parent : (x : Id) (k : Kind (Unit {0}) V) (y : Id) (l : Kind (Unit {0}) V) → held y s.past ≡ Some k → held y s.past ≡ Some l → parent_of k ≡ Some x → parent_of l ≡ Some x
+  of_parent x k y l ks ls is = ap parent_of (some_same l k (sym ls ∙ ks)) ∙ is
+
+  by_holder : (x y : Id) (k : Kind (Unit {0}) V) → held y s.past ≡ Some k → parent_of k ≡ Some x → (conn : Id) → (holder : Option Id) → IsHolder s.past conn holder → holder ≡ Some y → conn ≡ x
+  by_holder x y k ks is conn None h e = cc
+  by_holder x y k ks is conn (Some z) h e =
+      let zy : z ≡ y = some_same z y e in
+      some_same conn x (of_parent x k y (Value conn 0 h.0) ks (subst (λ w. held w s.past ≡ Some (Value conn 0 h.0)) zy h.1) is)
+
+  by_call : (x y ctx conn : Id) → (holder : Option Id) → unwrap_or holder conn ≡ x → y ≡ ctx → (conn ≡ x) ⊎ ((holder ≡ Some x) × (y ≡ ctx))
+  by_call x y ctx conn None e same_ctx = inl e
+  by_call x y ctx conn (Some z) e same_ctx = inr (ap (λ w. Some w) e, same_ctx)
+
+  -- from the root derives the base, from it the connections, and from each of these its calls
+  pub origin : (x y : Id) (k : Kind (Unit {0}) V) → held y s.past ≡ Some k → parent_of k ≡ Some x → (x ≡ s.root) ⊎ ((x ≡ base) ⊎ Derives P x y)
+  origin x y k ks is = ⊎_elim
+      (λ (r : same y s.root ≡ true).
+      let bad : parent_of {C = Unit {0}} {V = V} Background ≡ Some x = of_parent x k y Background ks (subst (λ z. held z s.past ≡ Some Background) (sym (same_true y s.root r)) s.root_is) is in
+      cc)
+      (λ (nr : same y s.root ≡ false). ⊎_elim
+      (λ (b : same y base ≡ true).
+      let e : Some s.root ≡ Some x = of_parent x k y (Cancel s.root) ks (subst (λ z. held z s.past ≡ Some (Cancel s.root)) (sym (same_true y base b)) s.base_is) is in
+      inl (sym (some_same s.root x e)))
+      (λ (nb : same y base ≡ false). ⊎_elim
+      (λ (c : is_among y conns ≡ true).
+      let e : Some base ≡ Some x = of_parent x k y (Cancel base) ks (among_in (IsConn base s.past) y conns s.conns_are c) is in
+      inr (inl (sym (some_same base x e))))
+      (λ (nc : is_among y conns ≡ false). ⊎_elim
+      (λ (o : list_any (owns y) calls ≡ true). inr (inr (of_call (owner_in (λ l. IsLife s.past base l × P l) y calls each o))))
+      (λ (none : list_any (owns y) calls ≡ false).
+      let kept : is_kept s.root base conns calls y ≡ false = rw (nr, nb, nc, none) refl in
+      let bad : None ≡ Some k = sym (s.none_else y kept) ∙ ks in
+      cc)
+      (cases_Bool (list_any (owns y) calls)))
+      (cases_Bool (is_among y conns)))
+      (cases_Bool (same y base)))
+      (cases_Bool (same y s.root))
+    where
+      of_call : ((l : Life) × (IsLife s.past base l × P l) × (owns y l ≡ true)) → Derives P x y
+      of_call o = record {
+        life = o.0;
+        which = o.1.1;
+        from = ⊎_elim
+            (λ (c : y ≡ o.0.ctx). by_call x y o.0.ctx o.0.conn o.0.holder
+            (kind_parent V (unwrap_or o.0.holder o.0.conn) x o.0.deadline
+            (of_parent x k y (kind_of (unwrap_or o.0.holder o.0.conn) o.0.deadline) ks (subst (λ z. held z s.past ≡ Some (kind_of (unwrap_or o.0.holder o.0.conn) o.0.deadline)) (sym c) o.1.0.call_is) is)) c)
+            (λ (h : o.0.holder ≡ Some y). inl (by_holder x y k ks is o.0.conn o.0.holder o.1.0.holder_is h))
+            (owned y o.0.ctx o.0.holder o.2);
+      }

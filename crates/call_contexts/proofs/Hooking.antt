@@ -1,0 +1,227 @@
+-- The hooks of calls, which stand as the calls do.
+use Rattle.std.proofs.Common.{◌≡◌, refl, sym, ap, ◌∙◌, arith, ℕ, ◌<◌, suc, List, [], ◌∷◌, ◌++◌, drop, Option, Some, None, Bool, true, false, ⊎_elim, subst, nat_eq, eq-eqb}
+use Rattle.std.specs.Prelude.{not, is_some, map, filter, All, Result, IsSomeAnd, IfSome}
+use Rattle.std.specs.List.{list_any, AllPairs}
+use Rattle.std.specs.declared.alloc.AllocError.{AllocError}
+use Rattle.std.proofs.lemmas.Bool.{cases_Bool, eqb-true}
+use Rattle.std.proofs.lemmas.List.{map-append}
+use Rattle.std.proofs.lemmas.List.Elements.{All-nil, All-cons, All-head, All-tail, All-map, All-from_get_or}
+use Rattle.context_tree.specs.Context.{Id, same}
+use Rattle.after_funcs.specs.declared.callbacks.AfterFuncs.{AfterFuncs}
+use Rattle.after_funcs.specs.declared.registration.Registration.{Registration}
+use Rattle.after_funcs.specs.Hooks.{Operation, AfterFunc, Fire, RunNext, Stop, registered, waiting, due, is_on, IsAnswerOfFirst}
+use Rattle.after_funcs.specs.Stands.{StandsFor as HooksStand}
+use Rattle.call_contexts.specs.declared.life.Life.{Life}
+use Rattle.call_contexts.specs.Standing.{WithHooks, Slots, on_ctx, hook_for, seen_call}
+use Rattle.call_contexts.specs.Sound.{hook_of, kept_of, life_at, NoTwo, same_ctx}
+use Rattle.call_contexts.proofs.Trees.{same_true, some_same}
+use Rattle.call_contexts.proofs.Lists.{any_map, all_stay}
+
+pub pair_is : {V H : Type 0} (v w : WithHooks V H) → v.standing ≡ w.standing → v.hooks ≡ w.hooks → v ≡ w
+pair_is v w l h = ap (λ x. record { standing = x; hooks = v.hooks }) l ∙ ap (λ x. record { standing = w.standing; hooks = x }) h
+
+pub filter_map_swap : {A B : Type 0} (f : A → B) (p : B → Bool) (xs : List A) → filter p (map f xs) ≡ map f (filter (λ x. p (f x)) xs)
+filter_map_swap f p [] = refl
+filter_map_swap f p (x ∷ xs) = ⊎_elim
+    (λ (y : p (f x) ≡ true). rw y (ap (λ l. f x ∷ l) (filter_map_swap f p xs)))
+    (λ (n : p (f x) ≡ false). rw n (filter_map_swap f p xs))
+    (cases_Bool (p (f x)))
+
+-- lists of equal pictures have equal pictures after a filter that reads the picture
+filters_alike : {A B C : Type 0} (f : A → C) (g : B → C) (p : C → Bool) (xs : List A) (ys : List B) → map f xs ≡ map g ys
+    → map f (filter (λ x. p (f x)) xs) ≡ map g (filter (λ y. p (g y)) ys)
+filters_alike f g p xs ys is = sym (filter_map_swap f p xs) ∙ ap (filter p) is ∙ filter_map_swap g p ys
+
+filters_agree : {A : Type 0} (p q : A → Bool) (xs : List A) → All (λ x. p x ≡ q x) xs → filter (λ x. not (p x)) xs ≡ filter (λ x. not (q x)) xs
+filters_agree p q [] all = refl
+filters_agree p q (x ∷ xs) all =
+    let here : p x ≡ q x = All-head (λ y. p y ≡ q y) x xs all in
+    let rest = filters_agree p q xs (All-tail (λ y. p y ≡ q y) x xs all) in
+    ⊎_elim
+    (λ (y : q x ≡ true). rw (here, y) rest)
+    (λ (n : q x ≡ false). rw (here, n) (ap (λ l. x ∷ l) rest))
+    (cases_Bool (q x))
+
+unmap : {A B : Type 0} (P : B → Type 0) (f : A → B) (xs : List A) → All P (map f xs) → All (λ x. P (f x)) xs
+unmap P f [] all = All-nil (λ x. P (f x))
+unmap P f (x ∷ xs) all = All-cons (λ x. P (f x)) x xs (All-head P (f x) (map f xs) all) (unmap P f xs (All-tail P (f x) (map f xs) all))
+
+map_nil : {A B : Type 0} (f : A → B) (xs : List A) → map f xs ≡ [] → xs ≡ []
+map_nil f [] is = refl
+map_nil f (x ∷ xs) is = cc
+
+map_drop_one : {A B : Type 0} (f : A → B) (xs : List A) → map f (drop 1 xs) ≡ drop 1 (map f xs)
+map_drop_one f [] = refl
+map_drop_one f (x ∷ xs) = refl
+
+map_twice : {A B C : Type 0} (f : B → C) (g : A → B) (xs : List A) → map f (map g xs) ≡ map (λ x. f (g x)) xs
+map_twice f g [] = refl
+map_twice f g (x ∷ xs) = ap (λ l. f (g x) ∷ l) (map_twice f g xs)
+
+-- ---- the one call of a context
+
+none_left : (id : Id) (ls : List Life) → list_any (λ m. same m.ctx id) ls ≡ false → filter (λ m. same m.ctx id) ls ≡ []
+none_left id [] is = refl
+none_left id (l ∷ ls) is = ⊎_elim
+    (λ (y : same l.ctx id ≡ true). let bad : true ≡ false = rw y at is in cc)
+    (λ (n : same l.ctx id ≡ false). rw n (none_left id ls (rw n at is)))
+    (cases_Bool (same l.ctx id))
+
+one_left : (id : Id) (ls : List Life) → NoTwo same_ctx ls → drop 1 (filter (λ m. same m.ctx id) ls) ≡ []
+one_left id [] all = refl
+one_left id (l ∷ ls) all = ⊎_elim
+    (λ (y : same l.ctx id ≡ true). rw y (none_left id ls (subst (λ x. list_any (λ (m : Life). same m.ctx x) ls ≡ false) (same_true l.ctx id y) all.0)))
+    (λ (n : same l.ctx id ≡ false). rw n (one_left id ls all.1))
+    (cases_Bool (same l.ctx id))
+
+some_left : (id : Id) (ls : List Life) → list_any (λ m. same m.ctx id) ls ≡ true → filter (λ m. same m.ctx id) ls ≡ [] → ⊥
+some_left id [] is none = cc
+some_left id (l ∷ ls) is none = ⊎_elim
+    (λ (y : same l.ctx id ≡ true). let bad : l ∷ filter (λ m. same m.ctx id) ls ≡ [] = rw y at none in cc)
+    (λ (n : same l.ctx id ≡ false). some_left id ls (rw n at is) (rw n at none))
+    (cases_Bool (same l.ctx id))
+
+module _ {H : Type 0} (id : Id) (hooks : List (Operation H)) (calls : List Life) (waits : map hook_of (waiting hooks) ≡ map kept_of calls) (none : due hooks ≡ []) (distinct : NoTwo same_ctx calls) where
+  pub fired_waits : map hook_of (waiting (RunNext ∷ Fire id ∷ hooks)) ≡ map kept_of (filter (λ l. not (same l.ctx id)) calls)
+  fired_waits = filters_alike hook_of kept_of (λ (p : ℕ × Id). not (same p.1 id)) (waiting hooks) calls waits
+
+  those_on : map hook_of (filter (is_on id) (waiting hooks)) ≡ map kept_of (filter (λ l. same l.ctx id) calls)
+  those_on = filters_alike hook_of kept_of (λ (p : ℕ × Id). same p.1 id) (waiting hooks) calls waits
+
+  due_is : due (Fire id ∷ hooks) ≡ filter (is_on id) (waiting hooks)
+  due_is = ap (λ ds. ds ++ filter (is_on id) (waiting hooks)) none
+
+  pub fired_due : due (RunNext ∷ Fire id ∷ hooks) ≡ []
+  fired_due = map_nil hook_of _ (map_drop_one hook_of (due (Fire id ∷ hooks)) ∙ ap (λ ds. drop 1 (map hook_of ds)) due_is ∙ ap (drop 1) those_on ∙ sym (map_drop_one kept_of (filter (λ l. same l.ctx id) calls)) ∙ ap (map kept_of) (one_left id calls distinct))
+
+  pub fired_answer : {E O : Type 0} (gives : H → E → Result O AllocError → Type 0) (event : E) (answer : Option (ℕ × Result O AllocError))
+      → IsAnswerOfFirst gives event (due (Fire id ∷ hooks)) answer → list_any (λ m. same m.ctx id) calls ≡ true → is_some answer ≡ true
+  fired_answer {O = O} gives event answer is any = of_due (due (Fire id ∷ hooks)) answer is (λ e. some_left id calls any (map_nil kept_of _ (sym those_on ∙ ap (map hook_of) (sym due_is ∙ e))))
+    where
+      of_due : (ds : List (Registration H)) (answer : Option (ℕ × Result O AllocError)) → IsAnswerOfFirst gives event ds answer → (ds ≡ [] → ⊥) → is_some answer ≡ true
+      of_due [] answer is none = absurd (none refl)
+      of_due (d ∷ ds) None is none = absurd is
+      of_due (d ∷ ds) (Some a) is none = refl
+
+pub not_none : {A : Type 0} (o : Option A) → o ≡ None → is_some o ≡ true → ⊥
+not_none None is some = cc
+not_none (Some a) is some = cc
+
+-- ---- the hook that is stopped
+
+abbrev Rising : List ℕ → Type 0
+Rising [] = Unit {0}
+Rising (n ∷ ns) = All (λ m. n < m) ns × Rising ns
+
+above : {H : Type 0} (n : ℕ) (ss : List (Registration H)) → All (λ s. n < s.id) ss → All (λ m. n < m) (map (λ s. s.id) ss)
+above n [] a = All-nil (λ m. n < m)
+above n (s ∷ ss) a = All-cons (λ m. n < m) s.id (map (λ s. s.id) ss) (All-head (λ s. n < s.id) s ss a) (above n ss (All-tail (λ s. n < s.id) s ss a))
+
+rising_of : {H : Type 0} (rs : List (Registration H)) → AllPairs (λ r s. r.id < s.id) rs → Rising (map (λ r. r.id) rs)
+rising_of [] all = tt
+rising_of (r ∷ rs) all = (
+  above r.id rs (All-from_get_or (λ s. r.id < s.id) rs r (λ i low. all 0 (suc i) r (omega arith) (omega (arith, low)))),
+  rising_of rs (λ i j d lt low. all (suc i) (suc j) d (omega (arith, lt)) (omega (arith, low))),
+)
+
+unnamed : (a h : ℕ) → a < h → nat_eq a h ≡ false
+unnamed a h lt = ⊎_elim (λ (y : nat_eq a h ≡ true). let e : a ≡ h = eqb-true a h y in absurd (omega (arith, lt, e))) (λ (n : nat_eq a h ≡ false). n) (cases_Bool (nat_eq a h))
+
+unnamed' : (a h : ℕ) → h < a → nat_eq a h ≡ false
+unnamed' a h lt = ⊎_elim (λ (y : nat_eq a h ≡ true). let e : a ≡ h = eqb-true a h y in absurd (omega (arith, lt, e))) (λ (n : nat_eq a h ≡ false). n) (cases_Bool (nat_eq a h))
+
+numbers : {H : Type 0} (hooks : List (Operation H)) (calls : List Life) → map hook_of (waiting hooks) ≡ map kept_of calls → map (λ r. r.id) (waiting hooks) ≡ map (λ l. l.hook) calls
+numbers hooks calls waits = sym (map_twice (λ (p : ℕ × Id). p.0) hook_of (waiting hooks)) ∙ ap (map (λ (p : ℕ × Id). p.0)) waits ∙ map_twice (λ (p : ℕ × Id). p.0) kept_of calls
+
+module _ (id : Id) where
+  hook_above : (n : ℕ) (l : Life) (ls : List Life) → All (λ m. n < m) (map (λ l. l.hook) ls) → life_at id ls ≡ Some l → n < l.hook
+  hook_above n l [] all is = cc
+  hook_above n l (m ∷ ms) all is = ⊎_elim
+      (λ (y : same m.ctx id ≡ true). let e : m ≡ l = some_same m l (rw y at is) in subst (λ (k : Life). n < k.hook) e (All-head (λ m. n < m) m.hook (map (λ l. l.hook) ms) all))
+      (λ (o : same m.ctx id ≡ false). hook_above n l ms (All-tail (λ m. n < m) m.hook (map (λ l. l.hook) ms) all) (rw o at is))
+      (cases_Bool (same m.ctx id))
+
+  rest_apart : (h : ℕ) (ls : List Life) → All (λ m. h < m) (map (λ l. l.hook) ls) → list_any (λ m. same m.ctx id) ls ≡ false → All (λ l. nat_eq l.hook h ≡ same l.ctx id) ls
+  rest_apart h [] low none = All-nil (λ l. nat_eq l.hook h ≡ same l.ctx id)
+  rest_apart h (l ∷ ls) low none = ⊎_elim
+      (λ (y : same l.ctx id ≡ true). let bad : true ≡ false = rw y at none in cc)
+      (λ (n : same l.ctx id ≡ false). All-cons (λ l. nat_eq l.hook h ≡ same l.ctx id) l ls (unnamed' l.hook h (All-head (λ m. h < m) l.hook (map (λ l. l.hook) ls) low) ∙ sym n)
+      (rest_apart h ls (All-tail (λ m. h < m) l.hook (map (λ l. l.hook) ls) low) (rw n at none)))
+      (cases_Bool (same l.ctx id))
+
+  -- a call has that hook where it has that context
+  all_agree : (k : Life) (ls : List Life) → Rising (map (λ l. l.hook) ls) → NoTwo same_ctx ls → life_at id ls ≡ Some k → All (λ l. nat_eq l.hook k.hook ≡ same l.ctx id) ls
+  all_agree k [] rising distinct is = All-nil (λ l. nat_eq l.hook k.hook ≡ same l.ctx id)
+  all_agree k (l ∷ ls) rising distinct is = ⊎_elim
+      (λ (y : same l.ctx id ≡ true).
+      let e : l.hook ≡ k.hook = ap (λ (m : Life). m.hook) (some_same l k (rw y at is)) in
+      All-cons (λ l. nat_eq l.hook k.hook ≡ same l.ctx id) l ls (eq-eqb l.hook k.hook e ∙ sym y)
+      (rest_apart k.hook ls (subst (λ n. All (λ m. n < m) (map (λ l. l.hook) ls)) e rising.0) (subst (λ x. list_any (λ (m : Life). same m.ctx x) ls ≡ false) (same_true l.ctx id y) distinct.0)))
+      (λ (o : same l.ctx id ≡ false). All-cons (λ l. nat_eq l.hook k.hook ≡ same l.ctx id) l ls (unnamed l.hook k.hook (hook_above l.hook k ls rising.0 (rw o at is)) ∙ sym o)
+      (all_agree k ls rising.1 distinct.1 (rw o at is)))
+      (cases_Bool (same l.ctx id))
+
+  module _ {H : Type 0} (k : Life) (hooks : List (Operation H)) (calls : List Life) (pairs : AllPairs (λ r s. r.id < s.id) (waiting hooks)) (waits : map hook_of (waiting hooks) ≡ map kept_of calls)
+      (distinct : NoTwo same_ctx calls) (is : life_at id calls ≡ Some k) where
+    -- to stop the hook of a call is to take those of its context
+    stopped_is : waiting (Stop k.hook ∷ hooks) ≡ filter (λ r. not (same r.ctx id)) (waiting hooks)
+    stopped_is =
+        let P : ℕ × Id → Type 0 = λ p. nat_eq p.0 k.hook ≡ same p.1 id in
+        let on_calls : All P (map kept_of calls) = All-map P kept_of calls (all_agree k calls (subst Rising (numbers hooks calls waits) (rising_of (waiting hooks) pairs)) distinct is) in
+        let on_hooks : All (λ r. nat_eq r.id k.hook ≡ same r.ctx id) (waiting hooks) = unmap P hook_of (waiting hooks) (subst (All P) (sym waits) on_calls) in
+        filters_agree (λ r. nat_eq r.id k.hook) (λ r. same r.ctx id) (waiting hooks) on_hooks
+
+    pub stopped_waits : map hook_of (waiting (Stop k.hook ∷ hooks)) ≡ map kept_of (filter (λ l. not (same l.ctx id)) calls)
+    stopped_waits = ap (map hook_of) stopped_is ∙ filters_alike hook_of kept_of (λ (p : ℕ × Id). not (same p.1 id)) (waiting hooks) calls waits
+
+    pub stopped_hooks : (f f' : AfterFuncs H) → HooksStand f hooks → HooksStand f' (Stop k.hook ∷ hooks) → map on_ctx f'.waiting.items ≡ filter (λ p. not (same p.0 id)) (map on_ctx f.waiting.items)
+    stopped_hooks f f' hs now = ap (map on_ctx) (now.waiting_is ∙ stopped_is) ∙ sym (filter_map_swap on_ctx (λ p. not (same p.0 id)) (waiting hooks))
+        ∙ ap (λ rs. filter (λ p. not (same p.0 id)) (map on_ctx rs)) (sym hs.waiting_is)
+
+-- ---- the hooks that are seen
+
+module _ {H : Type 0} (f f' : AfterFuncs H) (hooks : List (Operation H)) (hs : HooksStand f hooks) where
+  pub kept_hooks : HooksStand f' hooks → map on_ctx f'.waiting.items ≡ map on_ctx f.waiting.items
+  kept_hooks now = ap (map on_ctx) (now.waiting_is ∙ sym hs.waiting_is)
+
+  pub more_hooks : (ctx : Id) (hook : H) → HooksStand f' (AfterFunc ctx false hook ∷ hooks) → map on_ctx f'.waiting.items ≡ map on_ctx f.waiting.items ++ (ctx, hook) ∷ []
+  more_hooks ctx hook now = ap (map on_ctx) now.waiting_is ∙ map-append on_ctx (waiting hooks) (record { id = registered hooks; ctx = ctx; hook = hook } ∷ [])
+      ∙ ap (λ rs. map on_ctx rs ++ (ctx, hook) ∷ []) (sym hs.waiting_is)
+
+  pub fewer_hooks : (id : Id) → HooksStand f' (RunNext ∷ Fire id ∷ hooks) → map on_ctx f'.waiting.items ≡ filter (λ p. not (same p.0 id)) (map on_ctx f.waiting.items)
+  fewer_hooks id now = ap (map on_ctx) now.waiting_is ∙ sym (filter_map_swap on_ctx (λ p. not (same p.0 id)) (waiting hooks))
+      ∙ ap (λ rs. filter (λ p. not (same p.0 id)) (map on_ctx rs)) (sym hs.waiting_is)
+
+-- the hooks are those of the calls, in their order
+pub hooks_of_calls : {V H : Type 0} (slots : Slots V) (f : AfterFuncs H) (hooks : List (Operation H)) (hs : HooksStand f hooks) (calls : List Life) → map hook_of (waiting hooks) ≡ map kept_of calls
+    → map (λ p. p.0) (map on_ctx f.waiting.items) ≡ map (λ c. c.id) (map (seen_call slots) calls)
+hooks_of_calls slots f hooks hs calls waits =
+    map_twice (λ p. p.0) on_ctx f.waiting.items ∙ ap (map (λ r. r.ctx)) hs.waiting_is ∙ sym (map_twice (λ (p : ℕ × Id). p.1) hook_of (waiting hooks)) ∙ ap (map (λ (p : ℕ × Id). p.1)) waits
+    ∙ map_twice (λ (p : ℕ × Id). p.1) kept_of calls ∙ sym (map_twice (λ c. c.id) (seen_call slots) calls)
+
+-- where no call has that context, no hook has it
+pub no_hook_gone : {H : Type 0} (f : AfterFuncs H) (hooks : List (Operation H)) (hs : HooksStand f hooks) (id : Id) (calls : List Life) → map hook_of (waiting hooks) ≡ map kept_of calls → list_any (λ l. same l.ctx id) calls ≡ false
+    → map on_ctx f.waiting.items ≡ filter (λ p. not (same p.0 id)) (map on_ctx f.waiting.items)
+no_hook_gone f hooks hs id calls waits none =
+    let on_hooks : list_any (λ (p : ℕ × Id). same p.1 id) (map hook_of (waiting hooks)) ≡ false = ap (list_any (λ (p : ℕ × Id). same p.1 id)) waits ∙ any_map (λ (p : ℕ × Id). same p.1 id) kept_of calls ∙ none in
+    sym (all_stay (λ p. same p.0 id) (map on_ctx f.waiting.items)
+    (any_map (λ p. same p.0 id) on_ctx f.waiting.items ∙ ap (list_any (λ r. same r.ctx id)) hs.waiting_is ∙ sym (any_map (λ (p : ℕ × Id). same p.1 id) hook_of (waiting hooks)) ∙ on_hooks))
+
+-- the hook that is called is that of the call
+module _ {H E O : Type 0} (gives : H → E → Result O AllocError → Type 0) (event : E) (id : Id) (h : H) where
+  first_gives : (rs : List (Registration H)) (answer : Option (ℕ × Result O AllocError)) → hook_for id (map on_ctx rs) ≡ Some h → IsAnswerOfFirst gives event (filter (is_on id) rs) answer → IfSome answer (λ ran. gives h event ran.1)
+  first_gives [] answer is of = cc
+  first_gives (r ∷ rs) answer is of = ⊎_elim
+      (λ (y : same r.ctx id ≡ true). taken answer r.hook (some_same r.hook h (rw y at is)) r.id (rw y at of))
+      (λ (n : same r.ctx id ≡ false). first_gives rs answer (rw n at is) (rw n at of))
+      (cases_Bool (same r.ctx id))
+    where
+      taken : (answer : Option (ℕ × Result O AllocError)) (g : H) → g ≡ h → (n : ℕ) → IsSomeAnd answer (λ ran. (ran.0 ≡ n) × gives g event ran.1) → IfSome answer (λ ran. gives h event ran.1)
+      taken None g e n of = absurd of
+      taken (Some a) g e n of = subst (λ x. gives x event a.1) e of.1
+
+  pub fired_gives : (f : AfterFuncs H) (hooks : List (Operation H)) → HooksStand f hooks → due hooks ≡ [] → (answer : Option (ℕ × Result O AllocError)) → hook_for id (map on_ctx f.waiting.items) ≡ Some h
+      → IsAnswerOfFirst gives event (due (Fire id ∷ hooks)) answer → IfSome answer (λ ran. gives h event ran.1)
+  fired_gives f hooks hs none answer is of =
+      first_gives (waiting hooks) answer (subst (λ rs. hook_for id (map on_ctx rs) ≡ Some h) hs.waiting_is is)
+      (subst (λ ds. IsAnswerOfFirst gives event ds answer) (ap (λ ds. ds ++ filter (is_on id) (waiting hooks)) none) of)

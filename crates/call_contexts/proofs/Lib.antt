@@ -1,0 +1,10 @@
+pub mod Trees
+pub mod Making
+pub mod Apart
+pub mod Seeing
+pub mod Cancelling
+pub mod Framing
+pub mod Lists
+pub mod Hooking
+pub mod Beginning
+pub mod Leaving

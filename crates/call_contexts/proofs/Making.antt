@@ -1,0 +1,159 @@
+-- The contexts of a call, as they are made.
+use Rattle.std.proofs.Common.{◌≡◌, refl, sym, ap, ◌∙◌, ℕ, List, [], ◌∷◌, Option, Some, None, Bool, true, false, ⊎_elim, subst}
+use Rattle.std.specs.Prelude.{◌||◌, is_some, nat_le, if◌then◌else◌, option_map, unwrap_or}
+use Rattle.std.specs.Option.{option_or}
+use Rattle.std.proofs.lemmas.Bool.{cases_Bool}
+use Rattle.context_tree.specs.declared.node.Kind.{Kind}
+use Rattle.context_tree.specs.declared.node.Kind.TheVariants.{Value}
+use Rattle.context_tree.specs.Context.{Id, same, Makes, Releases, held, ending}
+use Rattle.context_tree.specs.Frames.{is_due}
+use Rattle.context_tree.specs.Tree.{TreeValue, StandsFor, IsLawful, is_among}
+use Rattle.call_contexts.specs.Sound.{Op, TreeLaws, IsFree, AreFree, IsHolder, Touches, StandsAlike, contexts, kind_of, moment_of, with_holder, with_call, let_go, parent_of_call}
+use Rattle.call_contexts.proofs.Trees.{same_refl, same_true, same_turned, or_false, neither, far_one, far_new, touch_made, touch_released, touch_next, touch_more, touch_none, free_alike, made_held, released_held, alike, some_same, new_free, made_and_released}
+
+map_some : {A B : Type 0} (f : A → B) (o : Option A) → is_some (option_map f o) ≡ is_some o
+map_some f None = refl
+map_some f (Some a) = refl
+
+or_some : {A : Type 0} (a b : Option A) → is_some (option_or a b) ≡ (is_some a || is_some b)
+or_some None b = refl
+or_some (Some a) b = refl
+
+either_some : {A B C : Type 0} (g : A → C) (h : B → C) (x : Option A) (b : Bool) (d : B)
+    → is_some (option_or (option_map g x) (option_map h (if b then Some d else None))) ≡ (is_some x || b)
+either_some g h None true d = refl
+either_some g h None false d = refl
+either_some g h (Some a) b d = refl
+
+module _ {V : Type 0} (past : List (Op V)) where
+  -- a context has ended from the start where its parent had, or its deadline is reached
+  pub born_ended : (id parent : Id) (at : Option ℕ) (now : ℕ)
+      → is_some (ending id (Makes id (kind_of parent at) (moment_of at now) ∷ past)) ≡ (is_some (ending parent past) || is_due now at)
+  born_ended id parent None now = rw (same_refl id) (or_some _ None ∙ ap (λ b. b || false) (map_some _ (ending parent past)))
+  born_ended id parent (Some at) now = rw (same_refl id) (either_some _ _ (ending parent past) (nat_le at now) _)
+
+  -- one that has a request id has ended where its parent had
+  pub holder_ended : (id conn : Id) (request_id : V) → is_some (ending id (Makes id (Value conn 0 request_id) 0 ∷ past)) ≡ is_some (ending conn past)
+  holder_ended id conn request_id = rw (same_refl id) (or_some _ None ∙ ap (λ b. b || false) (map_some _ (ending conn past)) ∙ or_false _)
+
+module _ {V : Type 0} (laws : TreeLaws V) (ctx conn : Id) (at : Option ℕ) (now : ℕ) (past : List (Op V)) where
+  -- both contexts are new
+  pub call_new : (holder : Option Id) (request_id : Option V) → is_some holder ≡ is_some request_id → IsLawful (with_call ctx holder conn at now request_id past)
+      → (x : Id) (kind : Kind (Unit {0}) V) → held x past ≡ Some kind → is_among x (contexts ctx holder) ≡ false
+  call_new None request_id agree lawful x kind is =
+      far_one x ctx (far_new ctx x kind past (laws.new_unheld past ctx (kind_of conn at) (moment_of at now) lawful) is)
+  call_new (Some holder) None agree lawful x kind is = cc
+  call_new (Some holder) (Some r) agree lawful x kind is =
+      let h : same holder x ≡ false = far_new holder x kind past (laws.new_unheld past holder (Value conn 0 r) 0 lawful.2) is in
+      let c : same ctx x ≡ false =
+      far_new ctx x kind (Makes holder (Value conn 0 r) 0 ∷ past) (laws.new_unheld (Makes holder (Value conn 0 r) 0 ∷ past) ctx (kind_of holder at) (moment_of at now) lawful) (rw h is) in
+      rw (same_turned x ctx ∙ c) (far_one x holder h)
+
+  -- the other contexts stay
+  pub call_touches : (holder : Option Id) (request_id : Option V) → is_some holder ≡ is_some request_id → Touches (contexts ctx holder) past (with_call ctx holder conn at now request_id past)
+  call_touches None request_id agree = touch_made ctx (kind_of conn at) (moment_of at now) past
+  call_touches (Some holder) None agree = cc
+  call_touches (Some holder) (Some r) agree =
+      touch_next (ctx ∷ holder ∷ []) past (Makes holder (Value conn 0 r) 0 ∷ past) (with_call ctx (Some holder) conn at now (Some r) past)
+      (touch_more (holder ∷ []) (ctx ∷ holder ∷ []) past (Makes holder (Value conn 0 r) 0 ∷ past) (λ x far. (neither (same x ctx) (same x holder || false) far).1) (touch_made holder (Value conn 0 r) 0 past))
+      (touch_more (ctx ∷ []) (ctx ∷ holder ∷ []) (Makes holder (Value conn 0 r) 0 ∷ past) (with_call ctx (Some holder) conn at now (Some r) past)
+      (λ x far. or_false (same x ctx) ∙ (neither (same x ctx) (same x holder || false) far).0) (touch_made ctx (kind_of holder at) (moment_of at now) (Makes holder (Value conn 0 r) 0 ∷ past)))
+
+  -- what the call has
+  pub call_held : (holder : Option Id) (request_id : Option V) → held ctx (with_call ctx holder conn at now request_id past) ≡ Some (kind_of (parent_of_call holder conn) at)
+  call_held holder request_id = made_held (with_holder conn holder request_id past) ctx (kind_of (parent_of_call holder conn) at) (moment_of at now)
+
+  pub holder_held : (holder : Option Id) (request_id : Option V) → is_some holder ≡ is_some request_id → IsLawful (with_call ctx holder conn at now request_id past)
+      → IsHolder (with_call ctx holder conn at now request_id past) conn holder
+  holder_held None request_id agree lawful = tt
+  holder_held (Some holder) None agree lawful = cc
+  holder_held (Some holder) (Some r) agree lawful =
+      let mid : List (Op V) = Makes holder (Value conn 0 r) 0 ∷ past in
+      let was : held holder mid ≡ Some (Value conn 0 r) = made_held past holder (Value conn 0 r) 0 in
+      (r, rw (far_new ctx holder (Value conn 0 r) mid (laws.new_unheld mid ctx (kind_of holder at) (moment_of at now) lawful) was) was)
+
+  -- the call has ended from the start where its connection had, or its deadline is reached
+  pub call_ended : (holder : Option Id) (request_id : Option V) → is_some holder ≡ is_some request_id
+      → is_some (ending ctx (with_call ctx holder conn at now request_id past)) ≡ (is_some (ending conn past) || is_due now at)
+  call_ended None request_id agree = born_ended past ctx conn at now
+  call_ended (Some holder) None agree = cc
+  call_ended (Some holder) (Some r) agree =
+      born_ended (Makes holder (Value conn 0 r) 0 ∷ past) ctx holder at now ∙ ap (λ b. b || is_due now at) (holder_ended past holder conn r)
+
+  -- the contexts of a call that were just made are free, and all is as before once they are let go of
+  pub call_free : (holder : Option Id) (request_id : Option V) → is_some holder ≡ is_some request_id → IsLawful (with_call ctx holder conn at now request_id past)
+      → AreFree ctx holder (with_call ctx holder conn at now request_id past)
+  call_free None request_id agree lawful = new_free laws ctx (kind_of conn at) (moment_of at now) past lawful
+  call_free (Some holder) None agree lawful = cc
+  call_free (Some holder) (Some r) agree lawful =
+      let mid : List (Op V) = Makes holder (Value conn 0 r) 0 ∷ past in (
+        new_free laws ctx (kind_of holder at) (moment_of at now) mid lawful,
+        free_alike holder mid (Releases ctx ∷ Makes ctx (kind_of holder at) (moment_of at now) ∷ mid)
+            (made_and_released laws ctx (kind_of holder at) (moment_of at now) mid lawful)
+            (new_free laws holder (Value conn 0 r) 0 past lawful.2),
+      )
+
+  pub call_unmade : (holder : Option Id) (request_id : Option V) → is_some holder ≡ is_some request_id → IsLawful (with_call ctx holder conn at now request_id past)
+      → Touches [] past (let_go ctx holder (with_call ctx holder conn at now request_id past))
+  call_unmade None request_id agree lawful = made_and_released laws ctx (kind_of conn at) (moment_of at now) past lawful
+  call_unmade (Some holder) None agree lawful = cc
+  call_unmade (Some holder) (Some r) agree lawful =
+      let mid : List (Op V) = Makes holder (Value conn 0 r) 0 ∷ past in
+      let again : List (Op V) = Releases ctx ∷ Makes ctx (kind_of holder at) (moment_of at now) ∷ mid in
+      let inner : Touches (holder ∷ []) mid again = touch_more [] (holder ∷ []) mid again (λ x far. refl) (made_and_released laws ctx (kind_of holder at) (moment_of at now) mid lawful) in
+      touch_none holder past (Releases holder ∷ again)
+      (touch_next (holder ∷ []) past again (Releases holder ∷ again)
+      (touch_next (holder ∷ []) past mid again (touch_made holder (Value conn 0 r) 0 past) inner)
+      (touch_released holder again))
+      (laws.new_unheld past holder (Value conn 0 r) 0 lawful.2)
+      (released_held again holder)
+
+-- ---- what is let go of
+
+module _ {V : Type 0} (ctx : Id) (past : List (Op V)) where
+  pub go_touches : (holder : Option Id) → Touches (contexts ctx holder) past (let_go ctx holder past)
+  go_touches None = touch_released ctx past
+  go_touches (Some holder) =
+      touch_next (ctx ∷ holder ∷ []) past (Releases ctx ∷ past) (Releases holder ∷ Releases ctx ∷ past)
+      (touch_more (ctx ∷ []) (ctx ∷ holder ∷ []) past (Releases ctx ∷ past) (λ x far. or_false (same x ctx) ∙ (neither (same x ctx) (same x holder || false) far).0) (touch_released ctx past))
+      (touch_more (holder ∷ []) (ctx ∷ holder ∷ []) (Releases ctx ∷ past) (Releases holder ∷ Releases ctx ∷ past) (λ x far. (neither (same x ctx) (same x holder || false) far).1) (touch_released holder (Releases ctx ∷ past)))
+
+  pub gone_unheld : (holder : Option Id) (x : Id) → is_among x (contexts ctx holder) ≡ true → held x (let_go ctx holder past) ≡ None
+  gone_unheld None x among =
+      let e : x ≡ ctx = same_true x ctx (sym (or_false (same x ctx)) ∙ among) in
+      subst (λ z. held z (Releases ctx ∷ past) ≡ None) (sym e) (released_held past ctx)
+  gone_unheld (Some holder) x among = ⊎_elim
+      (λ (y : same holder x ≡ true). rw y refl)
+      (λ (n : same holder x ≡ false). let e : x ≡ ctx = same_true x ctx (sym (or_false (same x ctx)) ∙ ap (λ b. same x ctx || b) (sym (or_false (same x holder) ∙ same_turned x holder ∙ n)) ∙ among) in
+      rw n (subst (λ z. held z (Releases ctx ∷ past) ≡ None) (sym e) (released_held past ctx)))
+      (cases_Bool (same holder x))
+
+-- ---- the contexts of a call, made one after the other
+
+pub call_made : {V : Type 0} (ctx conn : Id) (at : Option ℕ) (now : ℕ) (request_id : Option V) (past : List (Op V)) (new : TreeValue (Unit {0}) V) (first holder : Option Id) (parent : Id)
+    → holder ≡ first → parent ≡ unwrap_or first conn → StandsFor new (Makes ctx (kind_of parent at) (moment_of at now) ∷ with_holder conn first request_id past)
+    → StandsFor new (with_call ctx holder conn at now request_id past)
+call_made ctx conn at now request_id past new first holder parent same_holder parent_is st =
+    subst (λ h. StandsFor new (with_call ctx h conn at now request_id past)) (sym same_holder)
+    (subst (λ p. StandsFor new (Makes ctx (kind_of p at) (moment_of at now) ∷ with_holder conn first request_id past)) parent_is st)
+
+-- ---- a call's context is refused: the one that has the request id is let go of again
+
+module _ {V : Type 0} (laws : TreeLaws V) (conn : Id) (past : List (Op V)) (new : TreeValue (Unit {0}) V) where
+  pub none_alike : (holder : Option Id) (request_id : Option V) → holder ≡ None → StandsFor new (with_holder conn holder request_id past) → StandsAlike new past
+  none_alike None request_id is st = alike new past st
+  none_alike (Some h) request_id is st = cc
+
+  pub some_alike : (mid : TreeValue (Unit {0}) V) (holder : Option Id) (request_id : Option V) (h : Id) → holder ≡ Some h → is_some holder ≡ is_some request_id → StandsFor mid (with_holder conn holder request_id past)
+      → (IsFree h (with_holder conn holder request_id past) → StandsFor new (Releases h ∷ with_holder conn holder request_id past)) → StandsAlike new past
+  some_alike mid None request_id h is agree st goes = cc
+  some_alike mid (Some x) None h is agree st goes = cc
+  some_alike mid (Some x) (Some r) h is agree st goes =
+      let e : x ≡ h = some_same x h is in
+      let goes_x : IsFree x (Makes x (Value conn 0 r) 0 ∷ past) → StandsFor new (Releases x ∷ Makes x (Value conn 0 r) 0 ∷ past) =
+      subst (λ z. IsFree z (Makes x (Value conn 0 r) 0 ∷ past) → StandsFor new (Releases z ∷ Makes x (Value conn 0 r) 0 ∷ past)) (sym e) goes in
+      record {
+        later = Releases x ∷ Makes x (Value conn 0 r) 0 ∷ past;
+        stands = goes_x (new_free laws x (Value conn 0 r) 0 past st.contexts.lawful);
+        alike = made_and_released laws x (Value conn 0 r) 0 past st.contexts.lawful;
+      }

@@ -1,0 +1,283 @@
+-- What is seen after a moment, a cancel and a drain.
+use Rattle.std.proofs.Common.{◌≡◌, refl, sym, ap, ◌∙◌, ℕ, List, [], ◌∷◌, Option, Some, None, Bool, true, false, ⊎_elim, subst, is_none}
+use Rattle.std.specs.Prelude.{◌&&◌, ◌||◌, not, is_some, map, All, option_and_then, unwrap_or}
+use Rattle.std.proofs.lemmas.List.Elements.{All-nil, All-head, All-tail, All-weaker}
+use Rattle.std.proofs.lemmas.Bool.{cases_Bool}
+use Rattle.context_tree.specs.declared.node.Kind.{Kind}
+use Rattle.context_tree.specs.declared.node.Kind.TheVariants.{Background, Cancel, Value}
+use Rattle.context_tree.specs.Context.{Id, same, Makes, Cancels, Advances, held, chain, least, has_cancel, ending, deadline}
+use Rattle.context_tree.specs.Frames.{is_due}
+use Rattle.context_tree.specs.Tree.{TreeValue, StandsFor, IsLawful, is_live, is_ended_by_cancel}
+use Rattle.after_funcs.specs.declared.callbacks.AfterFuncs.{AfterFuncs}
+use Rattle.after_funcs.specs.Stands.{StandsFor as HooksStand}
+use Rattle.call_contexts.specs.declared.life.Life.{Life}
+use Rattle.call_contexts.specs.Standing.{Conn, Call, Slots, value_in, seen, seen_conn, seen_call, ends_if, is_conn, is_ended_conn, expired, all_ended}
+use Rattle.call_contexts.specs.Sound.{Op, TreeLaws, IsSound, IsLife, IsConn, IsHolder, kind_of, is_kept}
+use Rattle.call_contexts.proofs.Trees.{same_refl, same_true, same_turned, or_false, neither, shown, shown_request, advanced, struck, base_chain, conn_chain, call_hit, call_deadline, far_new, made_held}
+
+pub maps_agree : {A B : Type 0} (f g : A → B) (xs : List A) → All (λ x. f x ≡ g x) xs → map f xs ≡ map g xs
+maps_agree f g [] all = refl
+maps_agree f g (x ∷ xs) all =
+    let here : f x ≡ g x = All-head (λ y. f y ≡ g y) x xs all in
+    let rest : map f xs ≡ map g xs = maps_agree f g xs (All-tail (λ y. f y ≡ g y) x xs all) in
+    rw (here, rest) refl
+
+map_twice : {A B C : Type 0} (f : B → C) (g : A → B) (xs : List A) → map (λ x. f (g x)) xs ≡ map f (map g xs)
+map_twice f g [] = refl
+map_twice f g (x ∷ xs) = ap (λ l. f (g x) ∷ l) (map_twice f g xs)
+
+pub maps_to : {A B C : Type 0} (f : A → C) (g : B → C) (h : A → B) (xs : List A) → All (λ x. f x ≡ g (h x)) xs → map f xs ≡ map g (map h xs)
+maps_to f g h xs all = maps_agree f (λ x. g (h x)) xs all ∙ map_twice g h xs
+
+or_last : (a : Bool) → (a || true) ≡ true
+or_last true = refl
+or_last false = refl
+
+or_any : (a b : Bool) → (a || (b || true)) ≡ true
+or_any true b = refl
+or_any false b = or_last b
+
+or_anywhere : (a b c : Bool) → (a || (b || (c || true))) ≡ (a || true)
+or_anywhere true b c = refl
+or_anywhere false b c = or_any b c
+
+pub hit_base : (b r : Bool) → b ≡ false → ((b && true) || ((r && false) || false)) ≡ false
+hit_base true r is = cc
+hit_base false true is = refl
+hit_base false false is = refl
+
+pub hit_conn : (a b r : Bool) → b ≡ false → ((a && true) || ((b && true) || ((r && false) || false))) ≡ a
+hit_conn true b r is = refl
+hit_conn false b r is = hit_base b r is
+
+pub hit_call : (x a b r : Bool) → x ≡ false → b ≡ false → ((x && true) || ((a && true) || ((b && true) || ((r && false) || false)))) ≡ a
+hit_call true a b r is none = cc
+hit_call false a b r is none = hit_conn a b r none
+
+module _ {V : Type 0} where
+  -- a connection that is seen has its context
+  pub conn_held : (base : Id) (past : List (Op V)) (slots : Slots V) (conns : List Id) (id : Id) → All (IsConn base past) conns → is_conn id (map (seen_conn slots) conns) ≡ true
+      → held id past ≡ Some (Cancel base)
+  conn_held base past slots [] id all is = cc
+  conn_held base past slots (c ∷ cs) id all is = ⊎_elim
+      (λ (y : same c id ≡ true). let e : c ≡ id = same_true c id y in rw (← e) (All-head (IsConn base past) c cs all))
+      (λ (n : same c id ≡ false). conn_held base past slots cs id (All-tail (IsConn base past) c cs all) (rw n at is))
+      (cases_Bool (same c id))
+
+  pub ended_found : (slots : Slots V) (conns : List Id) (id : Id) → is_conn id (map (seen_conn slots) conns) ≡ true → is_ended_conn id (map (seen_conn slots) conns) ≡ not (is_live slots id)
+  ended_found slots [] id is = cc
+  ended_found slots (c ∷ cs) id is = ⊎_elim
+      (λ (y : same c id ≡ true). rw y (ap (λ x. not (is_live slots x)) (same_true c id y)))
+      (λ (n : same c id ≡ false). rw n (ended_found slots cs id (rw n at is)))
+      (cases_Bool (same c id))
+
+  pub seen_as : (slots : Slots V) (base : Id) (conns : List Id) (calls : List Life) (d : Bool) (cs : List Conn) (ls : List (Call V))
+      → not (is_live slots base) ≡ d → map (seen_conn slots) conns ≡ cs → map (seen_call slots) calls ≡ ls
+      → seen slots base conns calls ≡ record { drained = d; conns = cs; calls = ls }
+  seen_as slots base conns calls d cs ls b c l =
+      ap (λ x. record { drained = x; conns = map (seen_conn slots) conns; calls = map (seen_call slots) calls }) b
+      ∙ ap (λ x. record { drained = d; conns = x; calls = map (seen_call slots) calls }) c
+      ∙ ap (λ x. record { drained = d; conns = cs; calls = x }) l
+
+  pub conn_as : (slots : Slots V) (x : Id) (e : Bool) → not (is_live slots x) ≡ e → seen_conn slots x ≡ record { id = x; ended = e }
+  conn_as slots x e is = ap (λ b. record { id = x; ended = b }) is
+
+  pub call_as : (slots : Slots V) (l : Life) (r : Option V) (e : Bool) → option_and_then (value_in slots) l.holder ≡ r → not (is_live slots l.ctx) ≡ e
+      → seen_call slots l ≡ record { id = l.ctx; conn = l.conn; deadline = l.deadline; request_id = r; ended = e }
+  call_as slots l r e rs es =
+      ap (λ q. record { id = l.ctx; conn = l.conn; deadline = l.deadline; request_id = q; ended = not (is_live slots l.ctx) }) rs
+      ∙ ap (λ b. record { id = l.ctx; conn = l.conn; deadline = l.deadline; request_id = r; ended = b }) es
+
+  -- a request id is seen as before, where its context is still held
+  pub request_stays : (old new : TreeValue (Unit {0}) V) (past later : List (Op V)) (conn : Id) → StandsFor old past → StandsFor new later → (holder : Option Id)
+      → ((x : Id) (r : V) → holder ≡ Some x → held x past ≡ Some (Value conn 0 r) → held x later ≡ Some (Value conn 0 r))
+      → IsHolder past conn holder → option_and_then (value_in new.slots) holder ≡ option_and_then (value_in old.slots) holder
+  request_stays old new past later conn was st None keeps is = refl
+  request_stays old new past later conn was st (Some x) keeps is =
+      shown_request new later x conn is.0 st (keeps x is.0 refl is.1) ∙ sym (shown_request old past x conn is.0 was is.1)
+
+-- ---- a new tree
+
+module _ {V : Type 0} (laws : TreeLaws V) (root base : Id) (t : TreeValue (Unit {0}) V) (st : StandsFor t (Makes base (Cancel root) 0 ∷ Makes root Background 0 ∷ [])) where
+  pub base_live : not (is_live t.slots base) ≡ false
+  base_live =
+      shown laws t _ base (Cancel root) st (made_held (Makes root Background 0 ∷ []) base (Cancel root) 0) ∙ rw (same_refl base, same_refl root) refl
+
+  not_made : (x : Id) → is_kept root base [] [] x ≡ false → held {C = Unit {0}} {V = V} x (Makes base (Cancel root) 0 ∷ Makes root Background 0 ∷ []) ≡ None
+  not_made x far =
+      let r = neither (same x root) (same x base || false) far in
+      let one : same root x ≡ false = same_turned root x ∙ r.0 in
+      let two : same base x ≡ false = same_turned base x ∙ (neither (same x base) false r.1).0 in
+      rw (two, one) refl
+
+  base_root : same base root ≡ false
+  base_root = far_new base root Background (Makes root Background 0 ∷ [])
+      (laws.new_unheld (Makes root Background 0 ∷ []) base (Cancel root) 0 st.contexts.lawful) (made_held [] root Background 0)
+
+  pub new_sound : {H : Type 0} (f : AfterFuncs H) → HooksStand f [] → IsSound t f base [] []
+  new_sound f hs = record {
+    past = Makes base (Cancel root) 0 ∷ Makes root Background 0 ∷ [];
+    hooks = [];
+    tree_is = st;
+    hooks_are = hs;
+    root = root;
+    root_is = rw base_root (made_held [] root Background 0);
+    base_is = made_held (Makes root Background 0 ∷ []) base (Cancel root) 0;
+    conns_are = All-nil _;
+    calls_are = All-nil _;
+    none_else = not_made;
+    distinct = tt;
+    apart = tt;
+    hook_waits = refl;
+    none_due = refl;
+  }
+
+module _ {V H : Type 0} (laws : TreeLaws V) {f : AfterFuncs H} {base : Id} {conns : List Id} {calls : List Life} {old : TreeValue (Unit {0}) V} (s : IsSound old f base conns calls) where
+  pub lawful : IsLawful s.past
+  lawful = s.tree_is.contexts.lawful
+
+  -- what of a call stays, as no context is made or let go of
+  request_kept : (new : TreeValue (Unit {0}) V) (later : List (Op V)) → StandsFor new later → ((x : Id) → held x later ≡ held x s.past)
+      → (l : Life) → IsLife s.past base l → option_and_then (value_in new.slots) l.holder ≡ option_and_then (value_in old.slots) l.holder
+  request_kept new later st same_held l is = request_stays old new s.past later l.conn s.tree_is st l.holder (λ x r e h. same_held x ∙ h) is.holder_is
+
+  -- ---- a moment
+
+  module _ (new : TreeValue (Unit {0}) V) (now : ℕ) (st : StandsFor new (Advances now ∷ s.past)) where
+    one_advanced : (x : Id) (kind : Kind (Unit {0}) V) (d : Option ℕ) → held x s.past ≡ Some kind → deadline x s.past ≡ d → not (is_live new.slots x) ≡ (not (is_live old.slots x) || is_due now d)
+    one_advanced x kind d is at = shown laws new (Advances now ∷ s.past) x kind st is ∙ advanced laws s.past x now d at ∙ ap (λ b. b || is_due now d) (sym (shown laws old s.past x kind s.tree_is is))
+
+    untouched : (x : Id) (kind : Kind (Unit {0}) V) → held x s.past ≡ Some kind → deadline x s.past ≡ None → not (is_live new.slots x) ≡ not (is_live old.slots x)
+    untouched x kind is at = one_advanced x kind None is at ∙ or_false _
+
+    pub seen_expired : seen new.slots base conns calls ≡ expired now (seen old.slots base conns calls)
+    seen_expired =
+        let b : not (is_live new.slots base) ≡ not (is_live old.slots base) = untouched base (Cancel s.root) s.base_is (ap least (base_chain laws s.past lawful s.root base s.root_is s.base_is)) in
+        let cs : map (seen_conn new.slots) conns ≡ map (seen_conn old.slots) conns =
+        maps_agree (seen_conn new.slots) (seen_conn old.slots) conns
+        (All-weaker (IsConn base s.past) (λ c. seen_conn new.slots c ≡ seen_conn old.slots c)
+        (λ c is. conn_as new.slots c _ (untouched c (Cancel base) is (ap least (conn_chain laws s.past lawful s.root base s.root_is s.base_is c is)))) conns s.conns_are) in
+        let ls : map (seen_call new.slots) calls ≡ map (λ c. ends_if (is_due now c.deadline) c) (map (seen_call old.slots) calls) =
+        maps_to (seen_call new.slots) (λ c. ends_if (is_due now c.deadline) c) (seen_call old.slots) calls
+        (All-weaker (IsLife s.past base) (λ l. seen_call new.slots l ≡ ends_if (is_due now l.deadline) (seen_call old.slots l))
+        (λ l is. call_as new.slots l _ _ (request_kept new (Advances now ∷ s.past) st (λ x. refl) l is)
+        (one_advanced l.ctx (kind_of (unwrap_or l.holder l.conn) l.deadline) l.deadline is.call_is
+        (call_deadline laws s.past lawful s.root base s.root_is s.base_is l.conn is.conn_is l.ctx l.holder is.holder_is l.deadline is.call_is))) calls s.calls_are) in
+        seen_as new.slots base conns calls _ _ _ b cs ls
+
+    pub sound_expired : IsSound new f base conns calls
+    sound_expired = record {
+      past = Advances now ∷ s.past;
+      hooks = s.hooks;
+      tree_is = st;
+      hooks_are = s.hooks_are;
+      root = s.root;
+      root_is = s.root_is;
+      base_is = s.base_is;
+      conns_are = s.conns_are;
+      calls_are = All-weaker (IsLife s.past base) (IsLife (Advances now ∷ s.past) base) (λ l is. record { call_is = is.call_is; holder_is = holder_later l.holder l.conn is.holder_is; conn_is = is.conn_is }) calls s.calls_are;
+      none_else = s.none_else;
+      distinct = s.distinct;
+      apart = s.apart;
+      hook_waits = s.hook_waits;
+      none_due = s.none_due;
+    }
+      where
+        holder_later : (holder : Option Id) (conn : Id) → IsHolder s.past conn holder → IsHolder (Advances now ∷ s.past) conn holder
+        holder_later None conn is = tt
+        holder_later (Some x) conn is = is
+
+  -- ---- a cancel
+
+  -- what the chain of a context says of a cancel, the new tree shows
+  abbrev pub IsStruck : TreeValue (Unit {0}) V → Id → Id → Type 0
+  IsStruck new id x = not (is_live new.slots x) ≡ (not (is_live old.slots x) || has_cancel id (chain x s.past))
+
+  struck_now : (new : TreeValue (Unit {0}) V) (id : Id) → StandsFor new (Cancels id None ∷ s.past) → (x : Id) (kind : Kind (Unit {0}) V) → held x s.past ≡ Some kind → IsStruck new id x
+  struck_now new id st x kind is = shown laws new (Cancels id None ∷ s.past) x kind st is ∙ struck s.past x id ∙ ap (λ b. b || has_cancel id (chain x s.past)) (sym (shown laws old s.past x kind s.tree_is is))
+
+  -- one that had ended ends nothing
+  struck_before : (new : TreeValue (Unit {0}) V) (id : Id) → new ≡ old → is_some (ending id s.past) ≡ true → (x : Id) (kind : Kind (Unit {0}) V) → held x s.past ≡ Some kind → IsStruck new id x
+  struck_before new id same_tree ended x kind is =
+      ap (λ (v : TreeValue (Unit {0}) V). not (is_live v.slots x)) same_tree
+      ∙ already _ _ (λ h. shown laws old s.past x kind s.tree_is is ∙ laws.ends_with s.past x id kind lawful is h ended)
+    where
+      already : (a b : Bool) → (b ≡ true → a ≡ true) → a ≡ (a || b)
+      already true b i = refl
+      already false true i = i refl
+      already false false i = refl
+
+  -- a cancel of one that is held and can be cancelled ends nothing where it had ended
+  had_ended : (id parent : Id) → held id s.past ≡ Some (Cancel parent) → is_ended_by_cancel id s.past ≡ false → is_some (ending id s.past) ≡ true
+  had_ended id parent is not_now = of_none _ (rw is at not_now)
+    where
+      of_none : {A : Type 0} (o : Option A) → is_none o ≡ false → is_some o ≡ true
+      of_none None n = cc
+      of_none (Some a) n = refl
+
+  module _ (new : TreeValue (Unit {0}) V) (answer : Bool) (id parent : Id) (id_is : held id s.past ≡ Some (Cancel parent))
+      (answer_is : answer ≡ is_ended_by_cancel id s.past) (ends : answer ≡ true → StandsFor new (Cancels id None ∷ s.past)) (stays : answer ≡ false → new ≡ old) where
+    pub struck_after : (x : Id) (kind : Kind (Unit {0}) V) → held x s.past ≡ Some kind → IsStruck new id x
+    struck_after x kind is = ⊎_elim
+        (λ (y : answer ≡ true). struck_now new id (ends y) x kind is)
+        (λ (n : answer ≡ false). struck_before new id (stays n) (had_ended id parent id_is (sym answer_is ∙ n)) x kind is)
+        (cases_Bool answer)
+
+    pub request_after : (l : Life) → IsLife s.past base l → option_and_then (value_in new.slots) l.holder ≡ option_and_then (value_in old.slots) l.holder
+    request_after l is = ⊎_elim
+        (λ (y : answer ≡ true). request_kept new (Cancels id None ∷ s.past) (ends y) (λ x. refl) l is)
+        (λ (n : answer ≡ false). ap (λ (v : TreeValue (Unit {0}) V). option_and_then (value_in v.slots) l.holder) (stays n))
+        (cases_Bool answer)
+
+    -- a cancel leaves all sound
+    sound_cancelled : StandsFor new (Cancels id None ∷ s.past) → IsSound new f base conns calls
+    sound_cancelled st = record {
+      past = Cancels id None ∷ s.past;
+      hooks = s.hooks;
+      tree_is = st;
+      hooks_are = s.hooks_are;
+      root = s.root;
+      root_is = s.root_is;
+      base_is = s.base_is;
+      conns_are = s.conns_are;
+      calls_are = All-weaker (IsLife s.past base) (IsLife (Cancels id None ∷ s.past) base) (λ l is. record { call_is = is.call_is; holder_is = holder_later l.holder l.conn is.holder_is; conn_is = is.conn_is }) calls s.calls_are;
+      none_else = s.none_else;
+      distinct = s.distinct;
+      apart = s.apart;
+      hook_waits = s.hook_waits;
+      none_due = s.none_due;
+    }
+      where
+        holder_later : (holder : Option Id) (conn : Id) → IsHolder s.past conn holder → IsHolder (Cancels id None ∷ s.past) conn holder
+        holder_later None conn is = tt
+        holder_later (Some x) conn is = is
+
+    pub sound_after_cancel : IsSound new f base conns calls
+    sound_after_cancel = ⊎_elim
+        (λ (y : answer ≡ true). sound_cancelled (ends y))
+        (λ (n : answer ≡ false). let e : old ≡ new = sym (stays n) in subst (λ (v : TreeValue (Unit {0}) V). IsSound v f base conns calls) e s)
+        (cases_Bool answer)
+
+  -- ---- the base is cancelled
+
+  module _ (new : TreeValue (Unit {0}) V) (answer : Bool)
+      (answer_is : answer ≡ is_ended_by_cancel base s.past) (ends : answer ≡ true → StandsFor new (Cancels base None ∷ s.past)) (stays : answer ≡ false → new ≡ old) where
+    all_struck : (x : Id) (kind : Kind (Unit {0}) V) → held x s.past ≡ Some kind → IsStruck new base x
+    all_struck x kind is = struck_after new answer base s.root s.base_is answer_is ends stays x kind is
+
+    all_conn : (c : Id) → IsConn base s.past c → seen_conn new.slots c ≡ record { id = c; ended = true }
+    all_conn c is = conn_as new.slots c true (all_struck c (Cancel base) is ∙ rw (conn_chain laws s.past lawful s.root base s.root_is s.base_is c is, same_refl base) (or_any _ _))
+
+    all_call : (l : Life) → IsLife s.past base l → seen_call new.slots l ≡ ends_if true (seen_call old.slots l)
+    all_call l is = call_as new.slots l _ _ (request_after new answer base s.root s.base_is answer_is ends stays l is)
+        (all_struck l.ctx (kind_of (unwrap_or l.holder l.conn) l.deadline) is.call_is
+        ∙ rw (call_hit laws s.past lawful s.root base s.root_is s.base_is l.conn is.conn_is l.ctx l.holder is.holder_is l.deadline is.call_is base, conn_chain laws s.past lawful s.root base s.root_is s.base_is l.conn is.conn_is, same_refl base)
+        (or_anywhere _ _ _))
+
+    pub seen_drained : seen new.slots base conns calls ≡ all_ended (seen old.slots base conns calls)
+    seen_drained = seen_as new.slots base conns calls true _ _
+        (all_struck base (Cancel s.root) s.base_is ∙ rw (base_chain laws s.past lawful s.root base s.root_is s.base_is, same_refl base) (or_last _))
+        (maps_to (seen_conn new.slots) (λ c. record { id = c.id; ended = true }) (seen_conn old.slots) conns
+        (All-weaker (IsConn base s.past) (λ c. seen_conn new.slots c ≡ record { id = c; ended = true }) all_conn conns s.conns_are))
+        (maps_to (seen_call new.slots) (ends_if true) (seen_call old.slots) calls
+        (All-weaker (IsLife s.past base) (λ l. seen_call new.slots l ≡ ends_if true (seen_call old.slots l)) all_call calls s.calls_are))

@@ -1,0 +1,234 @@
+-- What the operations on a tree do to its contexts, in the words that the contexts of calls need.
+use Rattle.std.proofs.Common.{◌≡◌, refl, sym, ap, ◌∙◌, arith, rules, ℕ, List, [], ◌∷◌, Option, Some, None, Bool, true, false, inl, inr, ⊎_elim, subst}
+use Rattle.std.specs.Prelude.{◌⊎◌, ◌&&◌, ◌||◌, ◌↔◌, not, is_some, is_none, if◌then◌else◌, option_and_then, unwrap_or}
+use Rattle.std.proofs.lemmas.Bool.{cases_Bool}
+use Rattle.context_tree.specs.declared.released.Released.{Released}
+use Rattle.context_tree.specs.declared.released.Released.TheVariants.{Gone, HasChildren, Unknown}
+use Rattle.context_tree.specs.declared.node.Kind.{Kind}
+use Rattle.context_tree.specs.declared.node.Kind.TheVariants.{Background, Cancel, Deadline, Value}
+use Rattle.context_tree.specs.Context.{Id, own_value, same, Makes, Cancels, Advances, Releases, HasChild, Ended, held, line, chain, least, nearest, sooner, has_cancel, ending, deadline}
+use Rattle.context_tree.specs.Frames.{is_due}
+use Rattle.context_tree.specs.declared.node.Node.{Node}
+use Rattle.context_tree.specs.Links.{bare}
+use Rattle.context_tree.specs.Tree.{TreeValue, StandsFor, IsLawful, is_live, is_among, node_at}
+use Rattle.call_contexts.specs.Standing.{value_in, request_id_key}
+use Rattle.call_contexts.specs.Sound.{Op, TreeLaws, IsFree, IsHolder, Touches, StandsAlike, kind_of}
+
+pub same_refl : (x : Id) → same x x ≡ true
+same_refl x = grind (arith, rules)
+
+pub same_true : (x y : Id) → same x y ≡ true → x ≡ y
+same_true x y is = grind (arith, rules)
+
+pub same_turned : (x y : Id) → same x y ≡ same y x
+same_turned x y = grind (arith, rules)
+
+pub some_same : {A : Type 0} (a b : A) → Some a ≡ Some b → a ≡ b
+some_same a b is = cc
+
+pub option_cases : {A : Type 0} (x : Option A) → (x ≡ None) ⊎ ((a : A) × (x ≡ Some a))
+option_cases None = inl refl
+option_cases (Some a) = inr (a, refl)
+
+pub or_false : (b : Bool) → (b || false) ≡ b
+or_false true = refl
+or_false false = refl
+
+pub neither : (a b : Bool) → (a || b) ≡ false → (a ≡ false) × (b ≡ false)
+neither true b is = cc
+neither false b is = (refl, is)
+
+pub not_both : (b : Bool) → b ≡ true → b ≡ false → ⊥
+not_both true y n = cc
+not_both false y n = cc
+
+none_held : {A : Type 0} (o : Option A) → o ≡ None → is_some o ≡ true → ⊥
+none_held None is some = cc
+none_held (Some a) is some = cc
+
+not_none : {A : Type 0} (o : Option A) → not (is_none o) ≡ is_some o
+not_none None = refl
+not_none (Some a) = refl
+
+cannot : (a b : Bool) → ((a && false) || b) ≡ b
+cannot true b = refl
+cannot false b = refl
+
+-- one that is held is no other
+pub far_one : (x id : Id) → same id x ≡ false → is_among x (id ∷ []) ≡ false
+far_one x id far = or_false (same x id) ∙ same_turned x id ∙ far
+
+pub one_far : (x id : Id) → is_among x (id ∷ []) ≡ false → same id x ≡ false
+one_far x id far = same_turned id x ∙ sym (or_false (same x id)) ∙ far
+
+-- ---- what the slots show
+
+module _ {V : Type 0} (laws : TreeLaws V) where
+  pub shown : (t : TreeValue (Unit {0}) V) (past : List (Op V)) (x : Id) (kind : Kind (Unit {0}) V)
+      → StandsFor t past → held x past ≡ Some kind → not (is_live t.slots x) ≡ is_some (ending x past)
+  shown t past x kind st is = ap not (laws.shows t past x kind st is) ∙ not_none (ending x past)
+
+  -- a moment ends what has that deadline
+  pub advanced : (past : List (Op V)) (x : Id) (now : ℕ) (d : Option ℕ) → deadline x past ≡ d
+      → is_some (ending x (Advances now ∷ past)) ≡ (is_some (ending x past) || is_due now d)
+  advanced past x now d is = ⊎_elim
+      (λ (none : ending x past ≡ None). laws.expires past x now none ∙ rw (is, none) refl)
+      (λ (some : (e : Ended (Unit {0})) × (ending x past ≡ Some e)). rw some.1 refl)
+      (option_cases (ending x past))
+
+-- what a node has of its own is told by how it was made
+without_links : {V : Type 0} (o : Option (Node (Unit {0}) V))
+    → option_and_then (λ n. own_value request_id_key n.kind) o ≡ option_and_then (λ n. own_value request_id_key n.kind) (bare o)
+without_links None = refl
+without_links (Some n) = refl
+
+pub shown_request : {V : Type 0} (t : TreeValue (Unit {0}) V) (past : List (Op V)) (holder conn : Id) (request_id : V)
+    → StandsFor t past → held holder past ≡ Some (Value conn 0 request_id) → value_in t.slots holder ≡ Some request_id
+shown_request t past holder conn request_id st is =
+    without_links (node_at t.slots holder) ∙ ap (λ o. option_and_then (λ n. own_value request_id_key n.kind) o) (st.contexts.nodes_are holder) ∙ rw is refl
+
+hit : (b : Bool) (e : Ended (Unit {0})) → is_some (if b then Some e else None) ≡ b
+hit true e = refl
+hit false e = refl
+
+-- a cancel ends what has its context on the chain
+pub struck : {V : Type 0} (past : List (Op V)) (x id : Id) → is_some (ending x (Cancels id None ∷ past)) ≡ (is_some (ending x past) || has_cancel id (chain x past))
+struck past x id = ⊎_elim
+    (λ (none : ending x past ≡ None). rw none (hit (has_cancel id (chain x past)) _))
+    (λ (some : (e : Ended (Unit {0})) × (ending x past ≡ Some e)). rw some.1 refl)
+    (option_cases (ending x past))
+
+-- ---- chains and lines
+
+module _ {V : Type 0} (laws : TreeLaws V) (past : List (Op V)) (lawful : IsLawful past) (root base : Id) (root_is : held root past ≡ Some Background) (base_is : held base past ≡ Some (Cancel root)) where
+  pub base_chain : chain base past ≡ (base, Cancel root) ∷ (root, Background) ∷ []
+  base_chain = laws.chain_goes_on past base (Cancel root) lawful base_is ∙ ap (λ ms. (base, Cancel root) ∷ ms) (laws.chain_goes_on past root Background lawful root_is)
+
+  pub conn_chain : (conn : Id) → held conn past ≡ Some (Cancel base) → chain conn past ≡ (conn, Cancel base) ∷ (base, Cancel root) ∷ (root, Background) ∷ []
+  conn_chain conn is = laws.chain_goes_on past conn (Cancel base) lawful is ∙ ap (λ ms. (conn, Cancel base) ∷ ms) base_chain
+
+  conn_value : (conn : Id) → held conn past ≡ Some (Cancel base) → nearest 0 (line conn past) ≡ None
+  conn_value conn is = ap (nearest 0) (laws.line_goes_on past conn (Cancel base) lawful is)
+      ∙ ap (nearest 0) (laws.line_goes_on past base (Cancel root) lawful base_is)
+      ∙ ap (nearest 0) (laws.line_goes_on past root Background lawful root_is)
+
+  module _ (conn : Id) (conn_is : held conn past ≡ Some (Cancel base)) where
+    parent_hit : (holder : Option Id) → IsHolder past conn holder → (id : Id) → has_cancel id (chain (unwrap_or holder conn) past) ≡ has_cancel id (chain conn past)
+    parent_hit None is id = refl
+    parent_hit (Some x) is id = ap (has_cancel id) (laws.chain_goes_on past x (Value conn 0 is.0) lawful is.1) ∙ cannot (same x id) (has_cancel id (chain conn past))
+
+    parent_least : (holder : Option Id) → IsHolder past conn holder → least (chain (unwrap_or holder conn) past) ≡ None
+    parent_least None is = ap least (conn_chain conn conn_is)
+    parent_least (Some x) is = ap least (laws.chain_goes_on past x (Value conn 0 is.0) lawful is.1) ∙ ap least (conn_chain conn conn_is)
+
+    parent_value : (t : TreeValue (Unit {0}) V) → StandsFor t past → (holder : Option Id) → IsHolder past conn holder
+        → nearest 0 (line (unwrap_or holder conn) past) ≡ option_and_then (value_in t.slots) holder
+    parent_value t st None is = conn_value conn conn_is
+    parent_value t st (Some x) is = ap (nearest 0) (laws.line_goes_on past x (Value conn 0 is.0) lawful is.1) ∙ sym (shown_request t past x conn is.0 st is.1)
+
+    module _ (ctx : Id) (holder : Option Id) (holder_is : IsHolder past conn holder) where
+      -- what is on the chain of a call's context, and can be cancelled
+      pub call_hit : (d : Option ℕ) → held ctx past ≡ Some (kind_of (unwrap_or holder conn) d) → (id : Id)
+          → has_cancel id (chain ctx past) ≡ ((same ctx id && true) || has_cancel id (chain conn past))
+      call_hit None is id = ap (has_cancel id) (laws.chain_goes_on past ctx (Cancel (unwrap_or holder conn)) lawful is) ∙ ap (λ b. (same ctx id && true) || b) (parent_hit holder holder_is id)
+      call_hit (Some at) is id = ap (has_cancel id) (laws.chain_goes_on past ctx (Deadline (unwrap_or holder conn) at None) lawful is) ∙ ap (λ b. (same ctx id && true) || b) (parent_hit holder holder_is id)
+
+      pub call_deadline : (d : Option ℕ) → held ctx past ≡ Some (kind_of (unwrap_or holder conn) d) → deadline ctx past ≡ d
+      call_deadline None is = ap least (laws.chain_goes_on past ctx (Cancel (unwrap_or holder conn)) lawful is) ∙ parent_least holder holder_is
+      call_deadline (Some at) is = ap least (laws.chain_goes_on past ctx (Deadline (unwrap_or holder conn) at None) lawful is) ∙ ap (sooner (Some at)) (parent_least holder holder_is)
+
+      pub call_value : (t : TreeValue (Unit {0}) V) → StandsFor t past → (d : Option ℕ) → held ctx past ≡ Some (kind_of (unwrap_or holder conn) d)
+          → nearest 0 (line ctx past) ≡ option_and_then (value_in t.slots) holder
+      call_value t st None is = ap (nearest 0) (laws.line_goes_on past ctx (Cancel (unwrap_or holder conn)) lawful is) ∙ parent_value t st holder holder_is
+      call_value t st (Some at) is = ap (nearest 0) (laws.line_goes_on past ctx (Deadline (unwrap_or holder conn) at None) lawful is) ∙ parent_value t st holder holder_is
+
+-- ---- what operations leave
+
+module _ {V : Type 0} where
+  pub touch_made : (id : Id) (kind : Kind (Unit {0}) V) (now : ℕ) (past : List (Op V)) → Touches (id ∷ []) past (Makes id kind now ∷ past)
+  touch_made id kind now past = record {
+    held_is = λ x far. rw (one_far x id far) refl;
+    ending_is = λ x k far is. rw (one_far x id far) refl;
+  }
+
+  pub touch_released : (id : Id) (past : List (Op V)) → Touches (id ∷ []) past (Releases id ∷ past)
+  touch_released id past = record {
+    held_is = λ x far. rw (one_far x id far) refl;
+    ending_is = λ x k far is. refl;
+  }
+
+  pub touch_nothing : (past : List (Op V)) → Touches [] past past
+  touch_nothing past = record { held_is = λ x far. refl; ending_is = λ x k far is. refl }
+
+  pub touch_next : (ids : List Id) (past mid later : List (Op V)) → Touches ids past mid → Touches ids mid later → Touches ids past later
+  touch_next ids past mid later one two = record {
+    held_is = λ x far. two.held_is x far ∙ one.held_is x far;
+    ending_is = λ x k far is. two.ending_is x k far (one.held_is x far ∙ is) ∙ one.ending_is x k far is;
+  }
+
+  pub touch_more : (few ids : List Id) (past later : List (Op V)) → ((x : Id) → is_among x ids ≡ false → is_among x few ≡ false) → Touches few past later → Touches ids past later
+  touch_more few ids past later more t = record {
+    held_is = λ x far. t.held_is x (more x far);
+    ending_is = λ x k far is. t.ending_is x k (more x far) is;
+  }
+
+  -- what is held neither before nor after is not touched
+  pub touch_none : (id : Id) (past later : List (Op V)) → Touches (id ∷ []) past later → held id past ≡ None → held id later ≡ None → Touches [] past later
+  touch_none id past later t before after = record {
+    held_is = λ x far. ⊎_elim
+        (λ (y : same id x ≡ true). let e : id ≡ x = same_true id x y in rw (← e) (after ∙ sym before))
+        (λ (n : same id x ≡ false). t.held_is x (far_one x id n))
+        (cases_Bool (same id x));
+    ending_is = λ x k far is. ⊎_elim
+        (λ (y : same id x ≡ true). let e : id ≡ x = same_true id x y in let bad : None ≡ Some k = sym before ∙ subst (λ z. held z past ≡ Some k) (sym e) is in cc)
+        (λ (n : same id x ≡ false). t.ending_is x k (far_one x id n) is)
+        (cases_Bool (same id x));
+  }
+
+  pub free_alike : (id : Id) (past later : List (Op V)) → Touches [] past later → IsFree id past → IsFree id later
+  free_alike id past later t free = record {
+    is_held = ap is_some (t.held_is id refl) ∙ free.is_held;
+    childless = λ c. free.childless (record { child = c.child; kind = c.kind; is_held = sym (t.held_is c.child refl) ∙ c.is_held; derives = c.derives });
+  }
+
+  -- what is held is none of those that are not
+  pub far_new : (id x : Id) (kind : Kind (Unit {0}) V) (past : List (Op V)) → held id past ≡ None → held x past ≡ Some kind → same id x ≡ false
+  far_new id x kind past none is = ⊎_elim
+      (λ (y : same id x ≡ true). let bad : None ≡ Some kind = sym none ∙ subst (λ z. held z past ≡ Some kind) (sym (same_true id x y)) is in cc)
+      (λ (n : same id x ≡ false). n)
+      (cases_Bool (same id x))
+
+  pub apart_kinds : (x y : Id) (k l : Kind (Unit {0}) V) (past : List (Op V)) → held x past ≡ Some k → held y past ≡ Some l → (k ≡ l → ⊥) → same x y ≡ false
+  apart_kinds x y k l past xs ys other = ⊎_elim
+      (λ (h : same x y ≡ true). absurd (other (some_same k l (sym xs ∙ subst (λ z. held z past ≡ Some l) (sym (same_true x y h)) ys))))
+      (λ (n : same x y ≡ false). n)
+      (cases_Bool (same x y))
+
+  pub made_held : (past : List (Op V)) (x : Id) (kind : Kind (Unit {0}) V) (now : ℕ) → held x (Makes x kind now ∷ past) ≡ Some kind
+  made_held past x kind now = rw (same_refl x) refl
+
+  pub released_held : (past : List (Op V)) (x : Id) → held x (Releases x ∷ past) ≡ None
+  released_held past x = rw (same_refl x) refl
+
+  pub alike : (t : TreeValue (Unit {0}) V) (past : List (Op V)) → StandsFor t past → StandsAlike t past
+  alike t past st = record { later = past; stands = st; alike = touch_nothing past }
+
+  -- what is free is let go of
+  pub freed : (id : Id) (past : List (Op V)) (new : TreeValue (Unit {0}) V) (answer : Released) → ((answer ≡ Unknown) ↔ (held id past ≡ None)) → (answer ≡ HasChildren → HasChild id past)
+      → (answer ≡ Gone → StandsFor new (Releases id ∷ past)) → IsFree id past → StandsFor new (Releases id ∷ past)
+  freed id past new Gone unknown children gone free = gone refl
+  freed id past new HasChildren unknown children gone free = absurd (free.childless (children refl))
+  freed id past new Unknown unknown children gone free = absurd (none_held (held id past) (unknown.0 refl) free.is_held)
+
+-- ---- one that is made and let go of
+
+module _ {V : Type 0} (laws : TreeLaws V) (id : Id) (kind : Kind (Unit {0}) V) (now : ℕ) (past : List (Op V)) (lawful : IsLawful (Makes id kind now ∷ past)) where
+  pub new_free : IsFree id (Makes id kind now ∷ past)
+  new_free = record { is_held = ap is_some (made_held past id kind now); childless = laws.new_childless past id kind now lawful }
+
+  pub made_and_released : Touches [] past (Releases id ∷ Makes id kind now ∷ past)
+  made_and_released =
+      touch_none id past (Releases id ∷ Makes id kind now ∷ past)
+      (touch_next (id ∷ []) past (Makes id kind now ∷ past) (Releases id ∷ Makes id kind now ∷ past) (touch_made id kind now past) (touch_released id (Makes id kind now ∷ past)))
+      (laws.new_unheld past id kind now lawful)
+      (released_held (Makes id kind now ∷ past) id)

@@ -1,0 +1,227 @@
+ghost use Rattle.std.specs.Prelude.{◌≡◌, ◌∷◌, [], ◌++◌, Some, true, false, is_some, IfOk, IfErr, IfSome, OnErr, map};
+ghost use Rattle.std.specs.List.{list_any};
+ghost use Rattle.std.specs.Option.{option_copied};
+ghost use Rattle.context_tree.specs.Context.{same};
+ghost use Rattle.call_contexts.specs.Standing.{empty, opened, begun, expired, cancelled, all_ended, closed, gone, with_standing, with_hook, hook_for, request_for, is_over, AreApart, is_fresh, is_call, is_conn};
+
+use crate::calls;
+use crate::contexts::{REQUEST_ID, free, has_ended, make, release, tree_laws};
+use crate::life::Life;
+use after_funcs::laws::order_law;
+use after_funcs::{AfterFuncs, Hook};
+use context_tree::{CtxId, Tree};
+use std::alloc::{AllocError, Global};
+use std::marker::Model;
+
+/// The contexts of a gateway's connections and calls, and the hooks of its calls.
+///
+/// Each connection has a context, and each call one that derives from its connection's: it ends at the call's deadline,
+/// with its connection, or when all is drained. A call has one hook, which is called once or dropped uncalled. `V` is
+/// the type of a call's request id.
+#[derive(Drop)]
+pub struct CallContexts<V, H> {
+    tree: Tree<(), V>,
+    hooks: AfterFuncs<H>,
+    // all end with it
+    base: CtxId,
+    conns: Vec<CtxId>,
+    calls: Vec<Life>,
+}
+
+impl<V, H> Model for CallContexts<V, H> {
+    ghost use Rattle.call_contexts.specs.Standing.{WithHooks, seen, on_ctx};
+    ghost use Rattle.std.specs.Prelude.{map};
+    ghost use Rattle.call_contexts.specs.Sound.{IsSound};
+
+    ghost Value = { WithHooks V H };
+
+    ghost view = { λ s. record {
+      standing = seen s.tree.slots s.base s.conns.items s.calls.items;
+      hooks = map on_ctx s.hooks.waiting.items;
+    } };
+
+    ghost invariant = { λ s. IsSound s.tree s.hooks s.base s.conns.items s.calls.items };
+}
+
+impl<V: Drop, H: Drop> CallContexts<V, H> {
+    /// No connections and no calls.
+    pub fn new(alloc: Global) -> Result<CallContexts<V, H>, AllocError>
+        ensures { IfOk result (λ contexts. contexts ≡ record { standing = empty; hooks = [] }) }
+    {
+        tree_laws::<V>();
+        let mut tree = Tree::new(alloc);
+        let Ok(root) = tree.background() else {
+            return Err(AllocError);
+        };
+        let Ok(base) = tree.with_cancel(root) else {
+            return Err(AllocError);
+        };
+        Ok(CallContexts {
+            tree,
+            hooks: AfterFuncs::new(alloc),
+            base,
+            conns: Vec::new(alloc),
+            calls: Vec::new(alloc),
+        })
+    }
+
+    /// A connection opens, with a context of its own.
+    pub fn open(&mut self) -> Result<CtxId, AllocError>
+        ensures stands { IfOk result (λ id. self.new ≡ with_standing (opened id self.old.standing) self.old) }
+        ensures fresh { IfOk result (λ id. is_fresh id self.old.standing ≡ true) }
+        ensures unchanged { OnErr result (self.new ≡ self.old) }
+    {
+        tree_laws::<V>();
+        self.conns.reserve(1)?;
+        let Ok(conn) = self.tree.with_cancel(self.base) else {
+            return Err(AllocError);
+        };
+        self.conns.push_reserved(conn);
+        Ok(conn)
+    }
+
+    /// A call begins on a connection, with its context and its hook. A hook that is refused comes back.
+    pub fn begin(
+        &mut self,
+        conn: CtxId,
+        deadline: Option<u64>,
+        now: u64,
+        request_id: Option<V>,
+        hook: H,
+    ) -> Result<CtxId, H>
+        requires { is_conn conn self.old.standing.conns ≡ true }
+        ensures stands { IfOk result (λ id. self.new ≡ with_hook id hook (begun id conn deadline now request_id self.old.standing) self.old) }
+        ensures fresh { IfOk result (λ id. is_fresh id self.old.standing ≡ true) }
+        ensures back { IfErr result (λ h. h ≡ hook) }
+        ensures unchanged { OnErr result (self.new ≡ self.old) }
+    {
+        if self.calls.reserve(1).is_err() {
+            return Err(hook);
+        }
+        tree_laws::<V>();
+        let Ok(made) = make(&mut self.tree, conn, deadline, now, request_id) else {
+            return Err(hook);
+        };
+        let (ctx, holder) = made;
+        match self.hooks.after_func(ctx, false, hook) {
+            Ok(id) => {
+                self.calls.push_reserved(Life {
+                    ctx,
+                    holder,
+                    conn,
+                    deadline,
+                    hook: id,
+                });
+                Ok(ctx)
+            }
+            Err(refused) => {
+                release(&mut self.tree, ctx, holder);
+                Err(refused.0)
+            }
+        }
+    }
+
+    /// The request id of a call, if it has one.
+    pub fn request_id(&self, ctx: CtxId) -> Option<&V>
+        ensures { option_copied result ≡ request_for ctx self.now.standing.calls }
+    {
+        let Some(_) = calls::find(&self.calls, ctx) else {
+            return None;
+        };
+        tree_laws::<V>();
+        match self.tree.value(ctx, REQUEST_ID) {
+            Ok(request_id) => request_id,
+            Err(_) => unreachable!(),
+        }
+    }
+
+    /// A moment has come: the calls end whose deadlines it has reached.
+    pub fn expire(&mut self, now: u64)
+        ensures { self.new ≡ with_standing (expired now self.old.standing) self.old }
+    {
+        tree_laws::<V>();
+        self.tree.advance(now);
+    }
+
+    /// The connection ends, and with it its calls.
+    pub fn cancel(&mut self, conn: CtxId)
+        requires { is_conn conn self.old.standing.conns ≡ true }
+        ensures { self.new ≡ with_standing (cancelled conn self.old.standing) self.old }
+    {
+        tree_laws::<V>();
+        self.tree.cancel(conn, None);
+    }
+
+    /// All ends, what stands and what comes.
+    pub fn drain(&mut self)
+        ensures { self.new ≡ with_standing (all_ended self.old.standing) self.old }
+    {
+        tree_laws::<V>();
+        self.tree.cancel(self.base, None);
+    }
+
+    /// Whether a call of that context stands and has ended.
+    pub fn is_over(&self, ctx: CtxId) -> bool
+        ensures { result ≡ is_over ctx self.now.standing.calls }
+    {
+        tree_laws::<V>();
+        calls::has(&self.calls, ctx) && has_ended(&self.tree, ctx)
+    }
+
+    /// Calls the hook of a call with what ended it, and lets go of its contexts. None where no call has that context.
+    pub fn end<E: Drop, O>(&mut self, ctx: CtxId, event: E) -> Option<Result<O, AllocError>>
+    where
+        H: Hook<E, O>,
+        requires { H.allows event }
+        ensures duty { IfSome result (λ ran. IfOk ran (λ answer. H.meets event answer)) }
+        ensures called { (h : H) → hook_for ctx self.old.hooks ≡ Some h → IfSome result (λ ran. H.gives h event ran) }
+        ensures ran { is_some result ≡ is_call ctx self.old.standing.calls }
+        ensures left { self.new ≡ gone ctx self.old }
+    {
+        let Some(life) = calls::find(&self.calls, ctx) else {
+            return None;
+        };
+        tree_laws::<V>();
+        calls::remove(&mut self.calls, ctx);
+        self.hooks.fire(ctx);
+        let ran = self.hooks.run_next(event);
+        release(&mut self.tree, ctx, life.holder);
+        match ran {
+            Some((_, answer)) => Some(answer),
+            None => None,
+        }
+    }
+
+    /// Drops the hook of a call uncalled, and lets go of its contexts.
+    pub fn abandon(&mut self, ctx: CtxId)
+        ensures { self.new ≡ gone ctx self.old }
+    {
+        let Some(life) = calls::find(&self.calls, ctx) else {
+            return;
+        };
+        tree_laws::<V>();
+        order_law::<H>();
+        calls::remove(&mut self.calls, ctx);
+        self.hooks.stop(life.hook);
+        release(&mut self.tree, ctx, life.holder);
+    }
+
+    /// Lets go of a connection's context, whose calls are gone.
+    pub fn close(&mut self, conn: CtxId)
+        requires known { is_conn conn self.old.standing.conns ≡ true }
+        requires none { list_any (λ c. same c.conn conn) self.old.standing.calls ≡ false }
+        ensures { self.new ≡ with_standing (closed conn self.old.standing) self.old }
+    {
+        tree_laws::<V>();
+        self.conns.retain(|other| *other != conn);
+        free(&mut self.tree, conn);
+    }
+
+    /// No two calls have one context, and each call has its hook. It does nothing.
+    pub fn apart_law(&self)
+        ensures apart { AreApart self.now.standing.calls }
+        ensures hooked { map (λ h. h.0) self.now.hooks ≡ map (λ c. c.id) self.now.standing.calls }
+    {
+        let _calls = &self.calls;
+    }
+}

@@ -1,0 +1,2 @@
+pub mod HookRows
+pub mod GroupRows

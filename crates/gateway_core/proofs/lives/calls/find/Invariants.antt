@@ -1,7 +1,0 @@
-use Rattle.std.proofs.Common.{◌≡◌, drop}
-use Rattle.gateway_core.specs.LivesSound.{life_at}
-use Rattle.gateway_core.proofs.lives.calls.find.Given as goal
-
--- those that were passed are none of it
-abbrev pub invariant-loop-life : goal.invariant-loop-life
-invariant-loop-life l = life_at l.ctx l.calls ≡ life_at l.ctx (drop l.life-index l.calls)

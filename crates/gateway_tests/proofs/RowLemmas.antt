@@ -1,0 +1,74 @@
+-- Requests that are no calls are answered at once, in their order.
+use Rattle.std.proofs.Common.{◌≡◌, ℕ, zero, suc, ◌+◌, [], ◌∷◌, ◌++◌, Option, None, Some, map, length, refl, sym, ap, ◌∙◌, arith, add-zero}
+use Rattle.std.specs.List.{range_with_len}
+use Rattle.std.proofs.lemmas.Bool.{eq-eqb}
+use Rattle.std.proofs.lemmas.List.FromFn.{map-range_with_len_more, length-map-range_with_len}
+use Rattle.http_pieces.specs.Request.{closes}
+use Rattle.connect_codec.specs.Reply.{bare_reply}
+use Rattle.connect_codec.specs.declared.verdict.Verdict.TheVariants.{Bare}
+use Rattle.gateway_core.specs.declared.reply_bytes.ReplyBytes.{ReplyBytes}
+use Rattle.gateway_core.specs.Reply.{reply_of}
+use Rattle.gateway_core.specs.Past.{Mark, Past, call_id, entries, mark_of, marked}
+use Rattle.gateway_core.specs.declared.entry.ReplyEntry.{ReplyEntry}
+use Rattle.gateway_core.specs.declared.entry.ReplyEntry.TheVariants.{Judged as Judging}
+use Rattle.gateway_core.specs.Queue.{answer_of, came, entry, front, queued_entries, replies}
+use Rattle.gateway_tests.specs.Rows.{get_request, gets, after_gets}
+use Rattle.gateway_core.proofs.Unborn.{unborn}
+use Rattle.gateway_core.proofs.PastLemmas.{entry_stays}
+
+-- one more that is there, where all before are there and stay
+front_more : {A : Type 0} (f g : ℕ → Option A) → ((k : ℕ) (x : A) → f k ≡ Some x → g k ≡ Some x) → (k n : ℕ) (a : A)
+    → length (front (map f (range_with_len k n))) ≡ n → g (k + n) ≡ Some a → front (map g (range_with_len k (suc n))) ≡ front (map f (range_with_len k n)) ++ a ∷ []
+front_more f g stays k zero a all here =
+    let first : g k ≡ Some a = ap g (sym (add-zero k)) ∙ here in
+    ap (λ o. front (o ∷ [])) first
+front_more f g stays k (suc n) a all here =
+    let next : k + 1 + n ≡ k + suc n = omega arith in
+    by_first (f k) refl all (λ more. front_more f g stays (k + 1) n a more (ap g next ∙ here))
+  where
+    by_first : (o : Option _) → f k ≡ o → length (front (o ∷ map f (range_with_len (k + 1) n))) ≡ suc n
+        → (length (front (map f (range_with_len (k + 1) n))) ≡ n
+        → front (map g (range_with_len (k + 1) (suc n))) ≡ front (map f (range_with_len (k + 1) n)) ++ a ∷ [])
+        → front (g k ∷ map g (range_with_len (k + 1) (suc n))) ≡ front (o ∷ map f (range_with_len (k + 1) n)) ++ a ∷ []
+    by_first None o_is full rest = absurd (cc)
+    by_first (Some x) o_is full rest =
+        ap (λ o. front (o ∷ map g (range_with_len (k + 1) (suc n)))) (stays k x o_is) ∙ ap (λ xs. x ∷ xs) (rest (omega (arith, full)))
+
+-- the reply to request number k
+abbrev get_reply : ℕ → ReplyBytes
+get_reply k = reply_of (bare_reply 405 (closes (get_request k))) (closes (get_request k))
+
+gets_entries : (n : ℕ) → entries 0 (marked (after_gets n)) ≡ n
+unfolding after_gets
+gets_entries zero = refl
+gets_entries (suc n) = ap suc (gets_entries n)
+
+gets_queued : (n : ℕ) → queued_entries 0 (marked (after_gets n)) ≡ map (λ k. Judging (Bare 405) (closes (get_request k))) (range_with_len 0 n)
+unfolding after_gets
+gets_queued zero = refl
+gets_queued (suc n) =
+    let past : Past = marked (after_gets n) in
+    let m : Mark = mark_of past (gets n) in
+    let e : ReplyEntry = Judging (Bare 405) (closes (get_request n)) in
+    let f : ℕ → Option ReplyEntry = λ k. entry (call_id 0 k) past in
+    let g : ℕ → Option ReplyEntry = λ k. entry (call_id 0 k) (m ∷ past) in
+    let count : entries 0 past ≡ n = gets_entries n in
+    let none : came (call_id 0 n) past ≡ None = (unborn (call_id 0 n) past (omega (arith, count))).not_came in
+    let here : g n ≡ Some e = rw (none, eq-eqb (entries 0 past) n count) refl in
+    let before : front (map f (range_with_len 0 n)) ≡ map (λ k. Judging (Bare 405) (closes (get_request k))) (range_with_len 0 n) =
+    ap (λ c. front (map f (range_with_len 0 c))) (sym count) ∙ gets_queued n in
+    let full : length (front (map f (range_with_len 0 n))) ≡ n = ap length before ∙ length-map-range_with_len (λ k. Judging (Bare 405) (closes (get_request k))) 0 n in
+    let at : 0 + n ≡ n = omega arith in
+    ap (λ c. front (map g (range_with_len 0 (suc c)))) count
+    ∙ front_more f g (λ k x. entry_stays (call_id 0 k) m past x) 0 n e full (ap g at ∙ here)
+    ∙ ap (λ es. es ++ e ∷ []) before ∙ sym (more n)
+  where
+    more : (n : ℕ) → map (λ k. Judging (Bare 405) (closes (get_request k))) (range_with_len 0 (suc n)) ≡ map (λ k. Judging (Bare 405) (closes (get_request k))) (range_with_len 0 n) ++ Judging (Bare 405) (closes (get_request n)) ∷ []
+    more n =
+        let one : suc n ≡ n + 1 = omega arith in
+        ap (λ c. map (λ k. Judging (Bare 405) (closes (get_request k))) (range_with_len 0 c)) one
+        ∙ map-range_with_len_more (λ k. Judging (Bare 405) (closes (get_request k))) 0 n n (omega arith)
+
+-- so many requests that are no calls
+pub gets_answered : (n : ℕ) → replies 0 (marked (after_gets n)) ≡ map answer_of (map (λ k. Judging (Bare 405) (closes (get_request k))) (range_with_len 0 n))
+gets_answered n = ap (map answer_of) (gets_queued n)

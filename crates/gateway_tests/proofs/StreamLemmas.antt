@@ -1,0 +1,207 @@
+-- The requests of a stream whose bytes are written out: its head is found and read by tests that compute.
+use Rattle.std.proofs.Common.{◌≡◌, ℕ, zero, suc, ◌+◌, ◌<◌, ◌≤◌, Bool, true, false, ◌&&◌, not, nat_lt, nat_le, nat_eq, if◌then◌else◌, List, [], ◌∷◌, ◌++◌, map, length, take, drop, refl, sym, ap, subst, ◌∙◌, arith, lit≤, get_or, length-append, length-take-le}
+use Rattle.std.proofs.lemmas.Bool.{eq-eqb, ne_eqb}
+use Rattle.std.proofs.lemmas.Bool.Decides.{nat_tests}
+use Rattle.std.proofs.lemmas.List.{take-append-drop, take-append-le}
+use Rattle.std.proofs.Math.Seq.{drop-append_seam}
+use Rattle.std.proofs.lemmas.List.Elements.{All-map}
+use Rattle.std.proofs.lemmas.List.Sums.{AllPass-from_list_all}
+use Rattle.std.proofs.lemmas.Str.{IsUtf8-from_ascii}
+use Rattle.std.proofs.lemmas.Str.Ascii.{IsAscii-from_all}
+use Rattle.std.specs.Prelude.{All}
+use Rattle.std.specs.Bool.{MatchBool}
+use Rattle.std.specs.List.{flat_map, list_all, range_with_len, starts_with}
+use Rattle.httparse.proofs.OnLiterals.{httparse_on_literals}
+use Rattle.httparse.proofs.GrammarLemmas.{request_unique}
+use Rattle.httparse.specs.Grammar.{crlf, is_token, is_uri_byte, is_value_byte, IsField, RequestHead, IsRequestHead, print_request, ReadsRequest}
+use Rattle.http_pieces.specs.declared.refusal.Refusal.{Refusal}
+use Rattle.http_pieces.specs.declared.refusal.Refusal.TheVariants.{NotAHead}
+use Rattle.http_pieces.specs.declared.version.Version.{Version}
+use Rattle.http_pieces.specs.declared.version.Version.TheVariants.{V10, V11}
+use Rattle.http_pieces.specs.Cut.{Refused, Complete, IsBlock, most_head, HasNoBlock, IsCut, IsCutText, with_head, without_head, cut_after}
+use Rattle.http_pieces.specs.Fields.{NamedValue}
+use Rattle.http_pieces.specs.Head.{request_asks, request_kind, most_fields}
+use Rattle.http_pieces.specs.Request.{HttpRequest, closes}
+use Rattle.http_pieces.specs.Requests.{Open, Broken, Closed, broken, Requests}
+use Rattle.http_pieces.proofs.CutLemmas.{after_complete_intro, block_append}
+use Rattle.http_pieces.proofs.RequestsLemmas.{requests_one, requests_stay}
+use Rattle.connect_codec.specs.Headers.{is_visible}
+use Rattle.connect_codec.proofs.FieldLineLemmas.{both_true, sound_name, as_field}
+use Rattle.gateway_tests.specs.Rows.{get_request, head_text, text_of}
+use Rattle.gateway_tests.proofs.OnLiterals.{replies_on_literals}
+
+-- ---- the block
+
+-- the end of a line, and an empty line
+abbrev empty_line : List ℕ
+empty_line = 13 ∷ 10 ∷ 13 ∷ 10 ∷ []
+
+-- at none of the first n places an empty line begins
+abbrev pub no_empty_line : ℕ → List ℕ → Bool
+no_empty_line zero text = true
+no_empty_line (suc n) text = not (starts_with nat_eq text empty_line) && no_empty_line n (drop 1 text)
+
+-- such a text has no empty line there
+not_there : (n : ℕ) (front rest : List ℕ) → no_empty_line n (front ++ empty_line ++ rest) ≡ true → length front < n → ⊥
+not_there zero front rest none lt = omega (arith, lt)
+not_there (suc n) [] rest none lt = cc
+not_there (suc n) (b ∷ front) rest none lt =
+    not_there n front rest (both_true (not (starts_with nat_eq (b ∷ front ++ empty_line ++ rest) empty_line)) (no_empty_line n (front ++ empty_line ++ rest)) none).1 (omega (arith, lt))
+
+-- the first n + 4 bytes are the block, where its empty line begins at place n and none before
+pub block_at : (text : List ℕ) (n : ℕ) → nat_le (n + 4) (length text) ≡ true → nat_le (n + 4) most_head ≡ true
+    → take (n + 4) text ≡ take n text ++ empty_line → no_empty_line n text ≡ true → IsBlock text (n + 4)
+block_at text n within limit ends none = record {
+  within = grind (arith, nat_tests);
+  limit = grind (arith, nat_tests);
+  ends = (take n text, ends);
+  shortest = λ m lt also.
+      let short : length (take m text) ≡ m = length-take-le m text (grind (arith, nat_tests)) in
+      let whole : text ≡ also.0 ++ empty_line ++ drop m text =
+      sym (take-append-drop m text) ∙ ap (λ t. t ++ drop m text) also.1 in
+      not_there n also.0 (drop m text) (subst (λ t. no_empty_line n t ≡ true) whole none)
+      (omega (arith, lt, short, ap length also.1, length-append also.0 empty_line));
+}
+
+-- ---- the head
+
+-- a version's second number
+abbrev minor_of : Version → ℕ
+minor_of V10 = 0
+minor_of V11 = 1
+
+-- the head of a request, where each value stands behind one space
+abbrev pub head_of : HttpRequest → RequestHead
+head_of q = record {
+  blank = [];
+  method = q.method;
+  target = q.target;
+  minor = minor_of q.version;
+  line_end = crlf;
+  fields = map as_field q.fields;
+  last = crlf;
+}
+
+-- a name that is a token, and a value without control bytes
+abbrev pub is_line : NamedValue → Bool
+is_line f = is_token f.0 && list_all is_value_byte f.1
+
+-- the text begins with this head, whose empty line begins at place n
+pub record BeginsWith (text : List ℕ) (n : ℕ) (q : HttpRequest) : Type 0 where
+  pub within : nat_le (n + 4) (length text) ≡ true
+  pub limit : nat_le (n + 4) most_head ≡ true
+  pub ends : take (n + 4) text ≡ take n text ++ empty_line
+  pub none_before : no_empty_line n text ≡ true
+  pub printed : take (n + 4) text ≡ print_request (head_of q) ++ []
+  pub method : is_token q.method ≡ true
+  pub target : nat_lt 0 (length q.target) ≡ true
+  pub target_bytes : list_all is_visible q.target ≡ true
+  pub fields : list_all is_line q.fields ≡ true
+
+-- each is a field of the grammar
+line_field : (f : NamedValue) → is_line f ≡ true → IsField (as_field f)
+line_field f line =
+    let both = both_true (is_token f.0) (list_all is_value_byte f.1) line in
+    record { name = sound_name f.0 both.0; raw = AllPass-from_list_all is_value_byte (32 ∷ f.1) both.1 }
+
+line_fields : (fields : List NamedValue) → list_all is_line fields ≡ true → All IsField (map as_field fields)
+line_fields fields lines = All-map IsField as_field fields (λ k d lt. line_field _ (AllPass-from_list_all is_line fields lines k d lt))
+
+-- bytes that can be seen may stand in a target
+visible_uri : (b : ℕ) → is_visible b ≡ true → is_uri_byte b ≡ true
+visible_uri b seen = grind (arith, nat_tests)
+
+visible_small : (b : ℕ) → is_visible b ≡ true → b < 128
+visible_small b seen = grind (arith, nat_tests)
+
+small_minor : (v : Version) → minor_of v ≤ 1
+small_minor V10 = lit≤ tt
+small_minor V11 = lit≤ tt
+
+-- the head is one of the grammar
+is_head : (text : List ℕ) (n : ℕ) (q : HttpRequest) → BeginsWith text n q → IsRequestHead (head_of q)
+is_head text n q begins =
+    let seen = AllPass-from_list_all is_visible q.target begins.target_bytes in
+    let some = begins.target in
+    record {
+      method = sound_name q.method begins.method;
+      target = (grind (arith, nat_tests), λ k d lt. visible_uri (get_or q.target k d) (seen k d lt));
+      target_text = IsUtf8-from_ascii q.target (IsAscii-from_all q.target (λ k d lt. visible_small (get_or q.target k d) (seen k d lt)));
+      minor = small_minor q.version;
+      fields = line_fields q.fields begins.fields;
+    }
+
+-- the first bytes of the text are the head's, whatever follows
+head_taken : (head after : List ℕ) (n : ℕ) → length head ≡ n + 4 → take (n + 4) (head ++ after) ≡ take (n + 4) head
+head_taken head after n long = take-append-le (n + 4) head after (omega (arith, long))
+
+-- the text is cut as its head asks, where its first bytes are the head's, and these follow
+pub cut_by_head : (k : ℕ) (head after : List ℕ) (n : ℕ) (q : HttpRequest) → BeginsWith head n q → length head ≡ n + 4 → length (map as_field q.fields) ≤ most_fields
+    → IsCutText (request_kind k) (head ++ after) (cut_after (request_asks k (head_of q)) after)
+cut_by_head k head after n q begins long few =
+    let rest : drop (n + 4) (head ++ after) ≡ after = ap (λ m. drop m (head ++ after)) (sym long) ∙ drop-append_seam head after in
+    with_head (n + 4) (request_asks k (head_of q))
+    (block_append head after (n + 4) (block_at head n begins.within begins.limit begins.ends begins.none_before))
+    (record { head = head_of q; block_is = ((is_head head n q begins, head_taken head after n long ∙ begins.printed), few); asks_is = refl })
+    (ap (cut_after (request_asks k (head_of q))) (sym rest))
+
+-- a head of too many fields is none
+pub not_a_head : (k : ℕ) (head after : List ℕ) (n : ℕ) (q : HttpRequest) → BeginsWith head n q → length head ≡ n + 4 → most_fields < length (map as_field q.fields)
+    → IsCutText (request_kind k) (head ++ after) (Refused NotAHead)
+not_a_head k head after n q begins long many =
+    without_head (n + 4) (block_append head after (n + 4) (block_at head n begins.within begins.limit begins.ends begins.none_before))
+    (λ a asking.
+    let mine : ReadsRequest (take (n + 4) (head ++ after)) (head_of q) [] = (is_head head n q begins, head_taken head after n long ∙ begins.printed) in
+    let same = request_unique (take (n + 4) (head ++ after)) (head_of q) asking.head [] [] mine asking.block_is.0 in
+    omega (arith, many, asking.block_is.1, ap (λ h. length h.fields) same.0))
+    refl
+
+-- a text in which no empty line begins has no block
+pub no_block : (text : List ℕ) → no_empty_line (length text) text ≡ true → HasNoBlock text
+no_block text none n le ends =
+    let whole : text ≡ ends.0 ++ empty_line ++ drop n text = sym (take-append-drop n text) ∙ ap (λ t. t ++ drop n text) ends.1 in
+    not_there (length text) ends.0 (drop n text) (subst (λ t. no_empty_line (length text) t ≡ true) whole none)
+    (omega (arith, ap length whole, length-append (ends.0 ++ empty_line) (drop n text), length-append ends.0 empty_line))
+
+-- ---- the requests
+
+-- one request, behind which more may come, and nothing has
+pub one_request : (text : List ℕ) (q : HttpRequest) → IsCut (request_kind 0) text (Complete q []) → closes q ≡ false → Requests 0 text (q ∷ []) (Open [])
+one_request text q cut on = subst (Requests 0 text (q ∷ [])) (ap (λ b. if b then Closed else Open []) on) (requests_one 0 text q cut)
+
+-- one request that closes, and whatever follows
+pub last_request : (text : List ℕ) (q : HttpRequest) → IsCut (request_kind 0) text (Complete q []) → closes q ≡ true → (more : List ℕ) → Requests 0 (text ++ more) (q ∷ []) Closed
+last_request text q cut last more =
+    requests_stay 0 text more (q ∷ []) Closed tt (subst (Requests 0 text (q ∷ [])) (ap (λ b. if b then Closed else Open []) last) (requests_one 0 text q cut))
+
+-- a refusal, and whatever follows
+pub refused_stream : (text : List ℕ) (r : Refusal) → IsCut (request_kind 0) text (Refused r) → (more : List ℕ) → Requests 0 (text ++ more) [] (Broken r)
+refused_stream text r cut more = requests_stay 0 text more [] (Broken r) tt (broken r cut refl)
+
+-- ---- a hundred requests
+
+-- a request that is no call is read, whatever its number
+get_begins : (k : ℕ) → BeginsWith (head_text (get_request k)) 40 (get_request k)
+unfolding replies_on_literals httparse_on_literals
+get_begins k = record { within = refl; limit = refl; ends = refl; none_before = refl; printed = refl; method = refl; target = refl; target_bytes = refl; fields = refl }
+
+get_cut : (k : ℕ) (rest : List ℕ) → IsCut (request_kind k) (text_of (get_request k) ++ rest) (Complete (get_request k) rest)
+unfolding replies_on_literals httparse_on_literals
+get_cut k rest =
+    subst (IsCut (request_kind k) (text_of (get_request k) ++ rest)) (after_complete_intro 0 (λ body. record (get_request k) { body = body }) rest (omega arith))
+    (cut_by_head k (head_text (get_request k)) rest 40 (get_request k) (get_begins k) refl (lit≤ tt))
+
+-- those from number k to 99 are the last of their stream
+pub gets_stream : (n k : ℕ) → k + n ≡ 99 → (more : List ℕ)
+    → Requests k (flat_map (λ i. text_of (get_request i)) (range_with_len k (suc n)) ++ more) (map get_request (range_with_len k (suc n))) Closed
+unfolding replies_on_literals
+gets_stream zero k last more =
+    let closes_now : closes (get_request k) ≡ true = eq-eqb (k + 1) 100 (omega (arith, last)) in
+    (more, get_cut k more, subst (λ b. MatchBool b ((◌≡◌ {A = List HttpRequest} [] []) × (Closed ≡ Closed)) (Requests (suc k) more [] Closed)) (sym closes_now) (refl, refl))
+gets_stream (suc n) k before more =
+    let goes_on : closes (get_request k) ≡ false = ne_eqb (k + 1) 100 (λ e. omega (arith, e, before)) in
+    let rest : List ℕ = flat_map (λ i. text_of (get_request i)) (range_with_len (k + 1) (suc n)) ++ more in
+    let one : k + 1 ≡ suc k = omega arith in
+    let others : Requests (suc k) rest (map get_request (range_with_len (k + 1) (suc n))) Closed =
+    subst (λ j. Requests j rest (map get_request (range_with_len (k + 1) (suc n))) Closed) one (gets_stream n (k + 1) (omega (arith, before)) more) in
+    (rest, get_cut k rest, subst (λ b. MatchBool b ((map get_request (range_with_len (k + 1) (suc n)) ≡ []) × (Closed ≡ Closed)) (Requests (suc k) rest (map get_request (range_with_len (k + 1) (suc n))) Closed)) (sym goes_on) others)

@@ -1,0 +1,13 @@
+use Rattle.std.proofs.Common.{refl}
+use Rattle.http_pieces.specs.Fields.{same_without_case}
+use Rattle.call_plan.specs.Plan.{join_text}
+use Rattle.gateway_core.specs.Arrival.{refusal_reply}
+use Rattle.gateway_tests.proofs.rows.judged_and_refused.Goals as goal
+
+pub returns-clause-replies : goal.returns-clause-replies
+unfolding same_without_case join_text refusal_reply
+returns-clause-replies c = refl
+
+pub returns-clause-waiting : goal.returns-clause-waiting
+unfolding same_without_case join_text refusal_reply
+returns-clause-waiting c = refl

@@ -1,0 +1,13 @@
+use Rattle.std.proofs.Common.{refl}
+use Rattle.http_pieces.specs.Fields.{same_without_case}
+use Rattle.call_plan.specs.Plan.{join_text}
+use Rattle.gateway_core.specs.Arrival.{refusal_reply}
+use Rattle.gateway_tests.proofs.rows_corners.later_arrival.Goals as goal
+
+pub returns-clause-starts : goal.returns-clause-starts
+unfolding same_without_case join_text refusal_reply
+returns-clause-starts c = refl
+
+pub returns-clause-expires : goal.returns-clause-expires
+unfolding same_without_case join_text refusal_reply
+returns-clause-expires c = refl
