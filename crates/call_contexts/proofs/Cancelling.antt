@@ -15,7 +15,7 @@ use Rattle.call_contexts.proofs.Seeing.{maps_to, hit_base, hit_conn, hit_call, c
 
 module _ {V H : Type 0} (laws : TreeLaws V) {f : AfterFuncs H} {base : Id} {conns : List Id} {calls : List Life} {old : TreeValue (Unit {0}) V} (s : IsSound old f base conns calls)
     (id : Id) (id_is : held id s.past ≡ Some (Cancel base)) (new : TreeValue (Unit {0}) V) (answer : Bool)
-    (answer_is : answer ≡ is_ended_by_cancel id s.past) (ends : answer ≡ true → StandsFor new (Cancels id None ∷ s.past)) (stays : answer ≡ false → new ≡ old) where
+    (answer_is : answer ≡ is_ended_by_cancel id s.past) (ends : answer ≡ true → StandsFor new (Cancels id None ∷ s.past)) (stays : answer ≡ false → new.slots ≡ old.slots) where
   far : same base id ≡ false
   far = base_far_conn s.past s.root base s.root_is s.base_is id id_is
 

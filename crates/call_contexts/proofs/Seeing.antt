@@ -1,5 +1,5 @@
 -- What is seen after a moment, a cancel and a drain.
-use Rattle.std.proofs.Common.{◌≡◌, refl, sym, ap, ◌∙◌, ℕ, List, [], ◌∷◌, Option, Some, None, Bool, true, false, ⊎_elim, subst, is_none}
+use Rattle.std.proofs.Common.{◌≡◌, refl, sym, ap, ◌∙◌, ℕ, List, [], ◌∷◌, Option, Some, None, Bool, true, false, ⊎_elim, is_none}
 use Rattle.std.specs.Prelude.{◌&&◌, ◌||◌, not, is_some, map, All, option_and_then, unwrap_or}
 use Rattle.std.proofs.lemmas.List.Elements.{All-nil, All-head, All-tail, All-weaker}
 use Rattle.std.proofs.lemmas.Bool.{cases_Bool}
@@ -53,6 +53,10 @@ hit_conn false b r is = hit_base b r is
 pub hit_call : (x a b r : Bool) → x ≡ false → b ≡ false → ((x && true) || ((a && true) || ((b && true) || ((r && false) || false)))) ≡ a
 hit_call true a b r is none = cc
 hit_call false a b r is none = hit_conn a b r none
+
+-- a cancel that ends nothing leaves the slots
+pub same_slots : {V : Type 0} (new old : TreeValue (Unit {0}) V) → new ≡ record old { visits = 0 } → new.slots ≡ old.slots
+same_slots new old same = ap (λ (t : TreeValue (Unit {0}) _). t.slots) same
 
 module _ {V : Type 0} where
   -- a connection that is seen has its context
@@ -197,9 +201,9 @@ module _ {V H : Type 0} (laws : TreeLaws V) {f : AfterFuncs H} {base : Id} {conn
   struck_now new id st x kind is = shown laws new (Cancels id None ∷ s.past) x kind st is ∙ struck s.past x id ∙ ap (λ b. b || has_cancel id (chain x s.past)) (sym (shown laws old s.past x kind s.tree_is is))
 
   -- one that had ended ends nothing
-  struck_before : (new : TreeValue (Unit {0}) V) (id : Id) → new ≡ old → is_some (ending id s.past) ≡ true → (x : Id) (kind : Kind (Unit {0}) V) → held x s.past ≡ Some kind → IsStruck new id x
-  struck_before new id same_tree ended x kind is =
-      ap (λ (v : TreeValue (Unit {0}) V). not (is_live v.slots x)) same_tree
+  struck_before : (new : TreeValue (Unit {0}) V) (id : Id) → new.slots ≡ old.slots → is_some (ending id s.past) ≡ true → (x : Id) (kind : Kind (Unit {0}) V) → held x s.past ≡ Some kind → IsStruck new id x
+  struck_before new id same_slots ended x kind is =
+      ap (λ slots. not (is_live slots x)) same_slots
       ∙ already _ _ (λ h. shown laws old s.past x kind s.tree_is is ∙ laws.ends_with s.past x id kind lawful is h ended)
     where
       already : (a b : Bool) → (b ≡ true → a ≡ true) → a ≡ (a || b)
@@ -216,7 +220,7 @@ module _ {V H : Type 0} (laws : TreeLaws V) {f : AfterFuncs H} {base : Id} {conn
       of_none (Some a) n = refl
 
   module _ (new : TreeValue (Unit {0}) V) (answer : Bool) (id parent : Id) (id_is : held id s.past ≡ Some (Cancel parent))
-      (answer_is : answer ≡ is_ended_by_cancel id s.past) (ends : answer ≡ true → StandsFor new (Cancels id None ∷ s.past)) (stays : answer ≡ false → new ≡ old) where
+      (answer_is : answer ≡ is_ended_by_cancel id s.past) (ends : answer ≡ true → StandsFor new (Cancels id None ∷ s.past)) (stays : answer ≡ false → new.slots ≡ old.slots) where
     pub struck_after : (x : Id) (kind : Kind (Unit {0}) V) → held x s.past ≡ Some kind → IsStruck new id x
     struck_after x kind is = ⊎_elim
         (λ (y : answer ≡ true). struck_now new id (ends y) x kind is)
@@ -226,7 +230,7 @@ module _ {V H : Type 0} (laws : TreeLaws V) {f : AfterFuncs H} {base : Id} {conn
     pub request_after : (l : Life) → IsLife s.past base l → option_and_then (value_in new.slots) l.holder ≡ option_and_then (value_in old.slots) l.holder
     request_after l is = ⊎_elim
         (λ (y : answer ≡ true). request_kept new (Cancels id None ∷ s.past) (ends y) (λ x. refl) l is)
-        (λ (n : answer ≡ false). ap (λ (v : TreeValue (Unit {0}) V). option_and_then (value_in v.slots) l.holder) (stays n))
+        (λ (n : answer ≡ false). ap (λ slots. option_and_then (value_in slots) l.holder) (stays n))
         (cases_Bool answer)
 
     -- a cancel leaves all sound
@@ -252,16 +256,34 @@ module _ {V H : Type 0} (laws : TreeLaws V) {f : AfterFuncs H} {base : Id} {conn
         holder_later None conn is = tt
         holder_later (Some x) conn is = is
 
-    pub sound_after_cancel : IsSound new f base conns calls
-    sound_after_cancel = ⊎_elim
+    pub sound_after_cancel : (answer ≡ false → StandsFor new s.past) → IsSound new f base conns calls
+    sound_after_cancel keeps = ⊎_elim
         (λ (y : answer ≡ true). sound_cancelled (ends y))
-        (λ (n : answer ≡ false). let e : old ≡ new = sym (stays n) in subst (λ (v : TreeValue (Unit {0}) V). IsSound v f base conns calls) e s)
+        (λ (n : answer ≡ false). still_sound (keeps n))
         (cases_Bool answer)
+      where
+        still_sound : StandsFor new s.past → IsSound new f base conns calls
+        still_sound st = record {
+          past = s.past;
+          hooks = s.hooks;
+          tree_is = st;
+          hooks_are = s.hooks_are;
+          root = s.root;
+          root_is = s.root_is;
+          base_is = s.base_is;
+          conns_are = s.conns_are;
+          calls_are = s.calls_are;
+          none_else = s.none_else;
+          distinct = s.distinct;
+          apart = s.apart;
+          hook_waits = s.hook_waits;
+          none_due = s.none_due;
+        }
 
   -- ---- the base is cancelled
 
   module _ (new : TreeValue (Unit {0}) V) (answer : Bool)
-      (answer_is : answer ≡ is_ended_by_cancel base s.past) (ends : answer ≡ true → StandsFor new (Cancels base None ∷ s.past)) (stays : answer ≡ false → new ≡ old) where
+      (answer_is : answer ≡ is_ended_by_cancel base s.past) (ends : answer ≡ true → StandsFor new (Cancels base None ∷ s.past)) (stays : answer ≡ false → new.slots ≡ old.slots) where
     all_struck : (x : Id) (kind : Kind (Unit {0}) V) → held x s.past ≡ Some kind → IsStruck new base x
     all_struck x kind is = struck_after new answer base s.root s.base_is answer_is ends stays x kind is
 

@@ -4,9 +4,9 @@ use Rattle.std.specs.Prelude.{◌==◌, is_some, option_and_then}
 use Rattle.std.proofs.lemmas.Bool.{cases_Bool}
 use Rattle.std.specs.Option.{option_map_or}
 use Rattle.context_tree.specs.declared.node.Node.{Node}
-use Rattle.context_tree.specs.Context.{Ended, parent_of}
+use Rattle.context_tree.specs.Context.{parent_of}
 use Rattle.context_tree.specs.Links.{bare, slot_of, parent_in, number_in}
-use Rattle.context_tree.specs.Tree.{numbered, with_ending}
+use Rattle.context_tree.specs.Tree.{numbered}
 use Rattle.context_tree.proofs.Lineage.{some_same}
 
 module _ {C V : Type 0} where
@@ -32,10 +32,6 @@ module _ {C V : Type 0} where
   pub bare_some : (o : Option (Node C V)) → is_some (bare o) ≡ is_some o
   bare_some None = refl
   bare_some (Some n) = refl
-
-  pub bare_marked : (o : Option (Node C V)) (e : Option (Ended C)) → bare (option_map (with_ending e) o) ≡ option_map (with_ending e) (bare o)
-  bare_marked None e = refl
-  bare_marked (Some n) e = refl
 
   -- a node that is there, where it is without its links
   pub bare_there : (o : Option (Node C V)) (m : Node C V) → bare o ≡ Some m → (n : Node C V) × (o ≡ Some n) × (n.kind ≡ m.kind)

@@ -1,16 +1,28 @@
 -- What a tree that stands for operations tells of its slots: parents and children are there.
-use Rattle.std.proofs.Common.{◌≡◌, refl, sym, ap, ◌∙◌, ℕ, ◌<◌, List, Option, Some, None, true, option_map}
-use Rattle.std.specs.Prelude.{is_some, option_and_then}
+use Rattle.std.proofs.Common.{◌≡◌, refl, sym, ap, subst, ◌∙◌, arith, ℕ, ◌^◌, ◌<◌, ◌≤◌, List, [], ◌∷◌, Option, Some, None, true, false, ⊎_elim, option_map}
+use Rattle.std.specs.Prelude.{◌==◌, is_some, is_none, option_and_then}
+use Rattle.std.proofs.lemmas.Bool.{cases_Bool, eqb-true}
 use Rattle.std.specs.Option.{option_map_or}
 use Rattle.context_tree.specs.declared.node.Node.{Node}
-use Rattle.context_tree.specs.Context.{Id, TreeOp, makes, parent_of, HasChild}
+use Rattle.context_tree.specs.Context.{Id, same, TreeOp, makes, parent_of, HasChild, is_waiting}
 use Rattle.context_tree.specs.Links.{slot_of, parent_in, number_in, links_in, IsLinked, IsThere, ArePlaced}
-use Rattle.context_tree.specs.Tree.{TreeValue, node_at, KnowsContexts}
-use Rattle.context_tree.proofs.Lineage.{held_low, born, some_same}
+use Rattle.context_tree.specs.Tree.{TreeValue, EachBefore, ComesFirst, node_at, is_among, is_live, KnowsContexts, StandsFor}
+use Rattle.context_tree.specs.Walks.{is_in, keys_of, AreApart, IsReady}
+use Rattle.context_tree.proofs.Keys.{not_in}
+use Rattle.context_tree.proofs.Lineage.{held_low, born, same_refl, some_same}
 use Rattle.context_tree.proofs.Linking.{no_child}
 use Rattle.context_tree.proofs.Marking.{in_slot, node_in_slot}
+use Rattle.context_tree.proofs.Ordering.{among_first, among_later}
+use Rattle.context_tree.proofs.Queueing.{waits_so}
 use Rattle.context_tree.proofs.Standing.{is_some_of}
-use Rattle.context_tree.proofs.Whole.{kind_held, node_there}
+use Rattle.context_tree.proofs.Whole.{kind_held, live_told, node_there, one_slot}
+
+in_keys : (k : ℕ) (xs : List Id) → is_in k (keys_of xs) ≡ true → (x : Id) × (is_among x xs ≡ true) × (x.1 ≡ k)
+in_keys k [] is = cc
+in_keys k (y ∷ ys) is = ⊎_elim
+    (λ (here : (k == y.1) ≡ true). (y, among_first y ys, sym (eqb-true k y.1 here)))
+    (λ (other : (k == y.1) ≡ false). let rest = in_keys k ys (rw other at is) in (rest.0, among_later rest.0 y ys rest.1, rest.2))
+    (cases_Bool (k == y.1))
 
 module _ {C V : Type 0} where
   -- the node at a key derives from a context of the slot
@@ -104,3 +116,38 @@ module _ {C V : Type 0} where
   key_there slots id shown n same_id is =
       let at : slot_of slots id.1 ≡ Some n = (in_slot slots id n is).slot_is in
       rw (same_id, at) refl
+
+  -- ---- a tree is ready for a walk
+
+  -- those that wait have slots of their own
+  slots_apart : (t : TreeValue C V) (past : List (TreeOp C V)) → KnowsContexts t past → (xs : List Id) → EachBefore (ComesFirst past) xs → ((x : Id) → is_among x xs ≡ true → is_waiting x past ≡ true) → AreApart (keys_of xs)
+  slots_apart t past s [] order waits = tt
+  slots_apart t past s (x ∷ xs) order waits = (
+    not_in x.1 (keys_of xs) (λ is.
+        let y = in_keys x.1 xs is in
+        let wx = waits_so past x (waits x (among_first x xs)) in
+        let wy = waits_so past y.0 (waits y.0 (among_later y.0 x xs y.1)) in
+        let e : x ≡ y.0 = one_slot t past x y.0 wx.kind wy.kind s wx.is_held wy.is_held (sym y.2) in
+        let hit : same x y.0 ≡ true = subst (λ z. same x z ≡ true) e (same_refl x) in
+        let bad : true ≡ false = sym hit ∙ (order.0 y.0 y.1).0 in cc),
+    slots_apart t past s xs order.1 (λ y is. waits y (among_later y x xs is)),
+  )
+
+  pub ready_of : (t : TreeValue C V) (past : List (TreeOp C V)) (room : ℕ) → StandsFor t past → IsLinked t.slots → t.made ≤ 2 ^ 62 → ((k : ℕ) → is_some (slot_of t.slots k) ≡ true → k < room) → IsReady t.slots t.done room
+  ready_of t past room st linked few within =
+      let s = st.contexts in
+      let waits : (x : Id) → is_among x t.done ≡ true → is_waiting x past ≡ true = λ x is. sym (st.queue.are_waiting x) ∙ is in
+      record {
+        linked = linked;
+        few = λ k q is. let low : number_in t.slots k < t.made = (places_of t past s).newest k q is in omega (arith, low, few);
+        apart = slots_apart t past s t.done st.queue.in_order waits;
+        ended = λ k is.
+            let x = in_keys k t.done is in
+            let w = waits_so past x.0 (waits x.0 x.1) in
+            let n = node_there t past x.0 w.kind s w.is_held in
+            let slot : slot_of t.slots k ≡ Some n.0 = ap (λ z. slot_of t.slots z) (sym x.2) ∙ (in_slot t.slots x.0 n.0 n.1).slot_is in
+            let live : is_live t.slots x.0 ≡ false = live_told t past x.0 s (ap is_some w.is_held) ∙ ap is_none w.ending_is in
+            let own : is_none n.0.ending ≡ false = ap (λ o. is_none (option_and_then (λ (m : Node C V). m.ending) o)) (sym n.1) ∙ live in
+            (rw slot own, rw slot refl);
+        within = within;
+      }

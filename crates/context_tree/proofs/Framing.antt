@@ -59,14 +59,14 @@ module _ {C : Type 0} where
   some_if false d = refl
 
 module _ {C V : Type 0} where
-  own_some : (now : ℕ) (x : Id) (kind : Kind C V) → is_some (own_due now (x, kind)) ≡ is_due now (own_deadline kind)
+  pub own_some : (now : ℕ) (x : Id) (kind : Kind C V) → is_some (own_due now (x, kind)) ≡ is_due now (own_deadline kind)
   own_some now x Background = refl
   own_some now x (Cancel parent) = refl
   own_some now x (Deadline parent at cause) = some_if (nat_le at now) _
   own_some now x (Value parent key value) = refl
   own_some now x (WithoutCancel parent) = refl
 
-  due_some : (now : ℕ) (ms : List (Member C V)) → is_some (first_due now ms) ≡ is_due now (least ms)
+  pub due_some : (now : ℕ) (ms : List (Member C V)) → is_some (first_due now ms) ≡ is_due now (least ms)
   due_some now [] = refl
   due_some now (m ∷ ms) =
       first_some (own_due now m) (first_due now ms)

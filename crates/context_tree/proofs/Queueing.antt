@@ -1,17 +1,15 @@
 -- Which contexts wait to be handed out, and in which order.
-use Rattle.std.proofs.Common.{◌≡◌, refl, sym, ap, subst, ◌∙◌, arith, rules, ℕ, zero, suc, ◌<◌, ◌≤◌, List, [], ◌∷◌, ◌++◌, length, Option, Some, None, Bool, true, false, ⊎_elim, option_map}
-use Rattle.std.specs.Prelude.{◌&&◌, ◌||◌, ◌==◌, not, nat_lt, nat_le, if◌then◌else◌, is_some, is_none, filter, option_and_then}
-use Rattle.std.specs.Option.{option_or, option_map_or}
+use Rattle.std.proofs.Common.{◌≡◌, refl, sym, ap, subst, ◌∙◌, arith, rules, ℕ, ◌<◌, List, [], ◌∷◌, ◌++◌, length, Option, Some, None, Bool, true, false, ⊎_elim, option_map}
+use Rattle.std.specs.Prelude.{◌&&◌, ◌||◌, ◌==◌, not, nat_lt, if◌then◌else◌, is_some, is_none, filter, option_and_then}
+use Rattle.std.specs.Option.{option_or}
 use Rattle.std.proofs.lemmas.Bool.{cases_Bool}
 use Rattle.std.proofs.lemmas.List.Folds.{list_any-append}
 use Rattle.context_tree.specs.declared.node.Due.{Due}
 use Rattle.context_tree.specs.declared.node.Kind.{Kind}
-use Rattle.context_tree.specs.declared.node.Kind.TheVariants.{Background, Cancel, Deadline, Value, WithoutCancel}
-use Rattle.context_tree.specs.declared.node.Ender.{Ender}
-use Rattle.context_tree.specs.declared.node.Ender.TheVariants.{ByCancel, ByMoment}
-use Rattle.context_tree.specs.Context.{Id, same, can_cancel, TreeOp, Makes, Cancels, Advances, HandsOut, Releases, Ended, makes, held, chain, follows, own_due, first_of, first_due, has_cancel, ends, ending, expiry, inherited, handed, is_waiting, precedes, IsFirstDone}
-use Rattle.context_tree.specs.Tree.{TreeValue, IsLawful, KnowsContexts, QueuesDone, ComesFirst, EachBefore, is_among, op_of}
-use Rattle.context_tree.proofs.Lineage.{held_low, born, same_true, same_false, same_refl, some_same, option_cases, follows_parent}
+use Rattle.context_tree.specs.Context.{Id, same, TreeOp, Makes, Cancels, Advances, HandsOut, Releases, Ended, makes, held, chain, follows, own_due, first_due, has_cancel, ends, ending, expiry, inherited, handed, is_waiting, precedes, IsFirstDone}
+use Rattle.context_tree.specs.Tree.{IsLawful, QueuesDone, ComesFirst, EachBefore, is_among}
+use Rattle.context_tree.proofs.Enders.{Ender, ByCancel, ByMoment, op_of}
+use Rattle.context_tree.proofs.Lineage.{held_low, same_true, same_false, same_refl, some_same, option_cases}
 use Rattle.context_tree.proofs.Ordering.{among_filter, among_first, each-append, each-filter, each-turns, or_none}
 use Rattle.context_tree.proofs.Standing.{among_end, is_some_of, same_false_sym}
 
@@ -78,26 +76,8 @@ module _ {C : Type 0} where
   or_either None b e is n f g = g e is
   or_either (Some a) b e is n f g = f e is
 
-  first_low : (a b : Option (Due C)) (d : Due C) (n : ℕ) → first_of a b ≡ Some d → ((x : Due C) → a ≡ Some x → x.member.0 ≤ n) → ((x : Due C) → b ≡ Some x → x.member.0 ≤ n) → d.member.0 ≤ n
-  first_low None b d n is f g = g d is
-  first_low (Some a) None d n is f g = f d is
-  first_low (Some a) (Some b) d n is f g = ⊎_elim
-      (λ (yes' : nat_le b.at a.at ≡ true). g d (rw yes' at is))
-      (λ (no' : nat_le b.at a.at ≡ false). f d (rw no' at is))
-      (cases_Bool (nat_le b.at a.at))
-
 module _ {C V : Type 0} where
-  own_member : (now : ℕ) (x : Id) (kind : Kind C V) (d : Due C) → own_due now (x, kind) ≡ Some d → d.member ≡ x
-  own_member now x Background d is = cc
-  own_member now x (Cancel parent) d is = cc
-  own_member now x (Deadline parent at cause) d is = ⊎_elim
-      (λ (yes' : nat_le at now ≡ true). sym (ap (λ o. o.member) (some_same _ d (rw yes' at is))))
-      (λ (no' : nat_le at now ≡ false). let bad : None ≡ Some d = rw no' at is in cc)
-      (cases_Bool (nat_le at now))
-  own_member now x (Value parent key value) d is = cc
-  own_member now x (WithoutCancel parent) d is = cc
-
-  ends_turn : (turn : ℕ) (x : Id) (past : List (TreeOp C V)) (op : TreeOp C V) (e : Ended C) → ends turn (chain x past) op ≡ Some e → e.turn ≡ turn
+  pub ends_turn : (turn : ℕ) (x : Id) (past : List (TreeOp C V)) (op : TreeOp C V) (e : Ended C) → ends turn (chain x past) op ≡ Some e → e.turn ≡ turn
   ends_turn turn x past (Makes id kind now) e is = cc
   ends_turn turn x past (Cancels id cause) e is = ⊎_elim
       (λ (yes' : has_cancel id (chain x past) ≡ true). sym (ap (λ x. x.turn) (some_same _ e (rw yes' at is))))
@@ -125,62 +105,6 @@ module _ {C V : Type 0} where
       (λ o here. let t : o.turn ≡ length past = ends_turn (length past) x past (Advances now) o here in omega (arith, t))
   ending_turn (HandsOut id ∷ past) x e is = let t : e.turn < length past = ending_turn past x e is in omega (arith, t)
   ending_turn (Releases id ∷ past) x e is = let t : e.turn < length past = ending_turn past x e is in omega (arith, t)
-
-  -- the members of a chain were made no later
-  cancel_low : (past : List (TreeOp C V)) → IsLawful past → (n : ℕ) (x : Id) (kind : Kind C V) → x.0 < n → held x past ≡ Some kind → (t : Id) → has_cancel t (chain x past) ≡ true → t.0 ≤ x.0
-  cancel_low past lawful zero x kind lt is t has = absurd (omega (arith, lt))
-  cancel_low past lawful (suc n) x kind lt is t has =
-      let b = born past lawful x kind is in
-      let whole : ((same x t && can_cancel kind) || has_cancel t (option_map_or (λ p. chain p past) (follows kind) [])) ≡ true = rw b.chain_is at has in
-      ⊎_elim
-      (λ (yes' : same x t ≡ true). let e : x ≡ t = same_true x t yes' in rw e (omega arith))
-      (λ (no' : same x t ≡ false). ⊎_elim
-      (λ (none : follows kind ≡ None). let bad : false ≡ true = rw (no', none) at whole in cc)
-      (λ (some : (p : Id) × (follows kind ≡ Some p)).
-      let p_is = follows_parent kind some.0 some.1 in
-      let low : some.0.0 < x.0 = b.parent_low some.0 p_is in
-      let on : has_cancel t (chain some.0 past) ≡ true = rw (no', some.1) at whole in
-      let h = b.parent_held some.0 p_is in
-      let le : t.0 ≤ some.0.0 = cancel_low past lawful n some.0 h.0 (omega (arith, low, lt)) h.1 t on in
-      omega (arith, le, low))
-      (option_cases (follows kind)))
-      (cases_Bool (same x t))
-
-  due_low : (past : List (TreeOp C V)) → IsLawful past → (n : ℕ) (x : Id) (kind : Kind C V) → x.0 < n → held x past ≡ Some kind → (now : ℕ) (d : Due C) → first_due now (chain x past) ≡ Some d → d.member.0 ≤ x.0
-  due_low past lawful zero x kind lt is now d due = absurd (omega (arith, lt))
-  due_low past lawful (suc n) x kind lt is now d due =
-      let b = born past lawful x kind is in
-      let whole : first_of (own_due now (x, kind)) (first_due now (option_map_or (λ p. chain p past) (follows kind) [])) ≡ Some d = rw b.chain_is at due in
-      first_low (own_due now (x, kind)) _ d x.0 whole
-      (λ own own_is. let e : own.member ≡ x = own_member now x kind own own_is in rw e (omega arith))
-      (λ other other_is. ⊎_elim
-      (λ (none : follows kind ≡ None). let bad : None ≡ Some other = rw none at other_is in cc)
-      (λ (some : (p : Id) × (follows kind ≡ Some p)).
-      let p_is = follows_parent kind some.0 some.1 in
-      let low : some.0.0 < x.0 = b.parent_low some.0 p_is in
-      let h = b.parent_held some.0 p_is in
-      let le : other.member.0 ≤ some.0.0 = due_low past lawful n some.0 h.0 (omega (arith, low, lt)) h.1 now other (rw some.1 at other_is) in
-      omega (arith, le, low))
-      (option_cases (follows kind)))
-
-  ends_low : (past : List (TreeOp C V)) → IsLawful past → (x : Id) (kind : Kind C V) → held x past ≡ Some kind → (turn : ℕ) (op : TreeOp C V) (e : Ended C) → ends turn (chain x past) op ≡ Some e → e.member.0 ≤ x.0
-  ends_low past lawful x kind is turn (Makes id k now) e end = cc
-  ends_low past lawful x kind is turn (Cancels id cause) e end = ⊎_elim
-      (λ (yes' : has_cancel id (chain x past) ≡ true).
-      let m : id ≡ e.member = ap (λ x. x.member) (some_same _ e (rw yes' at end)) in
-      let le : id.0 ≤ x.0 = cancel_low past lawful (suc x.0) x kind (omega arith) is id yes' in
-      rw (← m) le)
-      (λ (no' : has_cancel id (chain x past) ≡ false). let bad : None ≡ Some e = rw no' at end in cc)
-      (cases_Bool (has_cancel id (chain x past)))
-  ends_low past lawful x kind is turn (Advances now) e end = ⊎_elim
-      (λ (none : first_due now (chain x past) ≡ None). let bad : None ≡ Some e = rw none at end in cc)
-      (λ (some : (d : Due C) × (first_due now (chain x past) ≡ Some d)).
-      let m : some.0.member ≡ e.member = ap (λ x. x.member) (some_same _ e (rw some.1 at end)) in
-      let le : some.0.member.0 ≤ x.0 = due_low past lawful (suc x.0) x kind (omega arith) is now some.0 some.1 in
-      rw (← m) le)
-      (option_cases (first_due now (chain x past)))
-  ends_low past lawful x kind is turn (HandsOut id) e end = cc
-  ends_low past lawful x kind is turn (Releases id) e end = cc
 
   -- one that was handed out was made, and is ended
   pub handed_ended : (past : List (TreeOp C V)) → IsLawful past → (x : Id) → handed x past ≡ true → (x.0 < makes past) × (is_some (ending x past) ≡ true)
@@ -295,26 +219,27 @@ module _ {C V : Type 0} where
   handed_op (ByCancel target cause) x past = refl
   handed_op (ByMoment now) x past = refl
 
-  ending_op : (e : Ender C) (x : Id) (past : List (TreeOp C V)) → ending x (op_of e ∷ past) ≡ option_or (ending x past) (ends (length past) (chain x past) (op_of e))
+  pub ending_op : (e : Ender C) (x : Id) (past : List (TreeOp C V)) → ending x (op_of e ∷ past) ≡ option_or (ending x past) (ends (length past) (chain x past) (op_of e))
   ending_op (ByCancel target cause) x past = refl
   ending_op (ByMoment now) x past = refl
 
-  -- those of the live contexts that the operation ends
-  abbrev pub now_ended : Ender C → List (TreeOp C V) → Id → Bool
-  now_ended e past x = is_some (ending x (op_of e ∷ past))
-
-  -- one that this operation ends, by its chain
-  pub record EndsNow (e : Ender C) (past : List (TreeOp C V)) (x : Id) : Type 0 where
+  -- one that this operation ends, by its chain; what ends it is among these
+  pub record EndsNow (e : Ender C) (past : List (TreeOp C V)) (among : List Id) (x : Id) : Type 0 where
+    pub kind : Kind C V
+    pub is_held : held x past ≡ Some kind
     pub was : ending x past ≡ None
     pub ended : Ended C
-    pub ending_is : ending x (op_of e ∷ past) ≡ Some ended
-    pub turn_is : ended.turn ≡ length past
-    pub member_low : ended.member.0 ≤ x.0
+    pub by_chain : ends (length past) (chain x past) (op_of e) ≡ Some ended
+    pub member_in : is_among ended.member among ≡ true
 
-  same_waiting : (o : Option (Kind C V)) (a b : Option (Ended C)) (h : Bool) → (is_some o && is_none a) ≡ false → (is_some o && is_some a && not h) ≡ (is_some o && is_some (option_or a b) && not h)
-  same_waiting None a b h is = refl
-  same_waiting (Some k) None b h is = cc
-  same_waiting (Some k) (Some a) b h is = refl
+  -- two that this operation ends, of which the second is not what ended the first
+  abbrev pub EndsBefore : Ender C → List (TreeOp C V) → Id → Id → Type 0
+  EndsBefore e past x y = (same x y ≡ false) × ((o : Ended C) → ends (length past) (chain x past) (op_of e) ≡ Some o → same o.member y ≡ false)
+
+  same_waiting : (o : Option (Kind C V)) (a b : Option (Ended C)) (h : Bool) → ((k : Kind C V) → o ≡ Some k → a ≡ None → is_some b ≡ false) → (is_some o && is_some a && not h) ≡ (is_some o && is_some (option_or a b) && not h)
+  same_waiting None a b h none = refl
+  same_waiting (Some k) None b h none = rw (none k refl refl) refl
+  same_waiting (Some k) (Some a) b h none = refl
 
   waiting_op : (e : Ender C) (x : Id) (past : List (TreeOp C V))
       → is_waiting x (op_of e ∷ past) ≡ (is_some (held x past) && is_some (option_or (ending x past) (ends (length past) (chain x past) (op_of e))) && not (handed x past))
@@ -330,54 +255,39 @@ module _ {C V : Type 0} where
       (λ (no' : handed x past ≡ false). no')
       (cases_Bool (handed x past))
 
-  pub end_queue : (t : TreeValue C V) (past : List (TreeOp C V)) (e : Ender C) → KnowsContexts t past → (done : List Id) → QueuesDone done past
-      → QueuesDone (done ++ filter (now_ended e past) t.live) (op_of e ∷ past)
-  end_queue t past e s done q = record {
-    are_waiting = λ x. list_any-append (same x) done (filter p t.live) ∙ ap (λ b. is_among x done || b) (among_filter p x t.live) ∙ waiting x;
-    in_order = each-append (ComesFirst new) done (filter p t.live) order (each-turns _ (ComesFirst new) (filter p t.live) (each-filter _ p t.live s.live_rise) among_new) cross;
+  -- those that the operation ended stand behind those that waited
+  pub end_queue : (past : List (TreeOp C V)) (e : Ender C) → IsLawful past → (done ended : List Id) → QueuesDone done past
+      → ((x : Id) → is_among x ended ≡ true → EndsNow e past ended x)
+      → ((x : Id) (k : Kind C V) → held x past ≡ Some k → ending x past ≡ None → is_among x ended ≡ false → is_some (ends (length past) (chain x past) (op_of e)) ≡ false)
+      → EachBefore (EndsBefore e past) ended
+      → QueuesDone (done ++ ended) (op_of e ∷ past)
+  end_queue past e lawful done ended q now_so all_so in_order = record {
+    are_waiting = λ x. list_any-append (same x) done ended ∙ waiting x;
+    in_order = each-append (ComesFirst new) done ended order (each-turns (EndsBefore e past) (ComesFirst new) ended in_order among_new) cross;
   }
     where
-      p : Id → Bool
-      p = now_ended e past
-
       new : List (TreeOp C V)
       new = op_of e ∷ past
 
       stays : (x : Id) (o : Ended C) → ending x past ≡ Some o → ending x new ≡ Some o
       stays x o is = ending_op e x past ∙ rw is refl
 
-      unended : (x : Id) → is_among x t.live ≡ true → (is_some (held x past) ≡ true) × (ending x past ≡ None)
-      unended x is = parts (is_some (held x past)) (ending x past) (sym (s.live_are x) ∙ is)
-        where
-          parts : (a : Bool) (o : Option (Ended C)) → (a && is_none o) ≡ true → (a ≡ true) × (o ≡ None)
-          parts true None is = (refl, refl)
-          parts true (Some o) is = cc
-          parts false o is = cc
+      now_is : (x : Id) (n : EndsNow e past ended x) → ending x new ≡ Some n.ended
+      now_is x n = ending_op e x past ∙ rw n.was n.by_chain
 
-      now_so : (x : Id) → is_among x (filter p t.live) ≡ true → EndsNow e past x
-      now_so x is =
-          let both : (is_among x t.live && p x) ≡ true = sym (among_filter p x t.live) ∙ is in
-          let a = and_parts (is_among x t.live) (p x) both in
-          let un = unended x a.0 in
-          let h = is_some_of (held x past) un.0 in
-          let o = is_some_of (ending x new) a.1 in
-          let by_op : ends (length past) (chain x past) (op_of e) ≡ Some o.0 = sym (ending_op e x past ∙ rw un.1 refl) ∙ o.1 in
-          record { was = un.1; ended = o.0; ending_is = o.1; turn_is = ends_turn (length past) x past (op_of e) o.0 by_op; member_low = ends_low past s.lawful x h.0 h.1 (length past) (op_of e) o.0 by_op }
-        where
-          and_parts : (a b : Bool) → (a && b) ≡ true → (a ≡ true) × (b ≡ true)
-          and_parts true true is = (refl, refl)
-          and_parts true false is = cc
-          and_parts false b is = cc
+      turn_is : (x : Id) (n : EndsNow e past ended x) → n.ended.turn ≡ length past
+      turn_is x n = ends_turn (length past) x past (op_of e) n.ended n.by_chain
 
-      waiting : (x : Id) → (is_among x done || (is_among x t.live && p x)) ≡ is_waiting x new
+      waiting : (x : Id) → (is_among x done || is_among x ended) ≡ is_waiting x new
       waiting x = ⊎_elim
-          (λ (yes' : is_among x t.live ≡ true).
-          let un = unended x yes' in
-          let not_yet : is_among x done ≡ false = q.are_waiting x ∙ none_waits (is_some (held x past)) (ending x past) (handed x past) un.1 in
-          rw (not_yet, yes') (sym (waits_if (held x new) (ending x new) (handed x new) (ap is_some (held_op e x past) ∙ un.0) (handed_op e x past ∙ live_not_handed past s.lawful x un.1))))
-          (λ (no' : is_among x t.live ≡ false).
-          rw no' (or_none (is_among x done) ∙ q.are_waiting x ∙ same_waiting (held x past) (ending x past) _ (handed x past) (sym (s.live_are x) ∙ no') ∙ sym (waiting_op e x past)))
-          (cases_Bool (is_among x t.live))
+          (λ (yes' : is_among x ended ≡ true).
+          let n = now_so x yes' in
+          let not_yet : is_among x done ≡ false = q.are_waiting x ∙ none_waits (is_some (held x past)) (ending x past) (handed x past) n.was in
+          let here : is_some (held x new) ≡ true = ap is_some (held_op e x past ∙ n.is_held) in
+          rw (not_yet, yes') (sym (waits_if (held x new) (ending x new) (handed x new) here (handed_op e x past ∙ live_not_handed past lawful x n.was) ∙ ap is_some (now_is x n))))
+          (λ (no' : is_among x ended ≡ false).
+          rw no' (or_none (is_among x done) ∙ q.are_waiting x ∙ same_waiting (held x past) (ending x past) _ (handed x past) (λ k is live. all_so x k is live no') ∙ sym (waiting_op e x past)))
+          (cases_Bool (is_among x ended))
         where
           none_waits : (a : Bool) (o : Option (Ended C)) (h : Bool) → o ≡ None → (a && is_some o && not h) ≡ false
           none_waits true o h is = rw is refl
@@ -392,27 +302,27 @@ module _ {C V : Type 0} where
                 ∙ ap (λ o. precedes y x (ending y past) o) (stays x wx.ended wx.ending_is ∙ sym wx.ending_is) ∙ r.1,
           ))
 
-      among_new : (x y : Id) → is_among x (filter p t.live) ≡ true → is_among y (filter p t.live) ≡ true → x.0 < y.0 → ComesFirst new x y
-      among_new x y xin yin lt =
+      among_new : (x y : Id) → is_among x ended ≡ true → is_among y ended ≡ true → EndsBefore e past x y → ComesFirst new x y
+      among_new x y xin yin b =
           let nx = now_so x xin in
           let ny = now_so y yin in (
-            same_false x y (λ o. omega (arith, lt, o)),
-            ap (λ o. precedes y x o (ending x new)) ny.ending_is ∙ ap (λ o. precedes y x (Some ny.ended) o) nx.ending_is
-                ∙ aside y x ny.ended nx.ended (ny.turn_is ∙ sym nx.turn_is) (same_false nx.ended.member y (λ o. let low = nx.member_low in omega (arith, lt, o, low))),
+            b.0,
+            ap (λ o. precedes y x o (ending x new)) (now_is y ny) ∙ ap (λ o. precedes y x (Some ny.ended) o) (now_is x nx)
+                ∙ aside y x ny.ended nx.ended (turn_is y ny ∙ sym (turn_is x nx)) (b.1 nx.ended nx.by_chain),
           )
 
-      cross : (x y : Id) → is_among x done ≡ true → is_among y (filter p t.live) ≡ true → ComesFirst new x y
+      cross : (x y : Id) → is_among x done ≡ true → is_among y ended ≡ true → ComesFirst new x y
       cross x y xin yin =
           let wx = waits_so past x (sym (q.are_waiting x) ∙ xin) in
           let ny = now_so y yin in
           let lt : wx.ended.turn < length past = ending_turn past x wx.ended wx.ending_is in
-          let turn_is = ny.turn_is in (
+          let turn_of_y = turn_is y ny in (
             ⊎_elim
                 (λ (yes' : same x y ≡ true). let bad : Some wx.ended ≡ None = sym wx.ending_is ∙ ap (λ z. ending z past) (same_true x y yes') ∙ ny.was in cc)
                 (λ (no' : same x y ≡ false). no')
                 (cases_Bool (same x y)),
-            ap (λ o. precedes y x o (ending x new)) ny.ending_is ∙ ap (λ o. precedes y x (Some ny.ended) o) (stays x wx.ended wx.ending_is)
-                ∙ later y x ny.ended wx.ended (omega (arith, lt, turn_is)),
+            ap (λ o. precedes y x o (ending x new)) (now_is y ny) ∙ ap (λ o. precedes y x (Some ny.ended) o) (stays x wx.ended wx.ending_is)
+                ∙ later y x ny.ended wx.ended (omega (arith, lt, turn_of_y)),
           )
 
   -- ---- the first is handed out, and contexts are released

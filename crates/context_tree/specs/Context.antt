@@ -1,5 +1,5 @@
 -- Contexts over the list of operations, newest first (Go package `context`). Times are milliseconds.
-use Rattle.std.specs.Prelude.{ℕ, ◌+◌, min, Bool, true, false, ◌&&◌, ◌||◌, not, ◌==◌, nat_le, nat_lt, if◌then◌else◌, is_some, ◌≡◌, List, [], ◌∷◌, length, Option, Some, None, option_map, option_and_then}
+use Rattle.std.specs.Prelude.{ℕ, ◌+◌, min, Bool, true, false, ◌&&◌, ◌||◌, not, ◌==◌, nat_le, nat_lt, if◌then◌else◌, is_some, ◌≡◌, List, [], ◌∷◌, length, filter, Option, Some, None, option_map, option_and_then}
 use Rattle.std.specs.List.{list_any}
 use Rattle.std.specs.Option.{option_or, option_map_or}
 use Rattle.context_tree.specs.declared.error.CtxErr.{CtxErr}
@@ -140,6 +140,23 @@ module _ {C V : Type 0} where
   chain x (Advances now ∷ past) = chain x past
   chain x (HandsOut id ∷ past) = chain x past
   chain x (Releases id ∷ past) = chain x past
+
+  -- the contexts that are held, the newest first
+  abbrev pub held_ids : List (TreeOp C V) → List Id
+  held_ids [] = []
+  held_ids (Makes id kind now ∷ past) = id ∷ held_ids past
+  held_ids (Cancels id cause ∷ past) = held_ids past
+  held_ids (Advances now ∷ past) = held_ids past
+  held_ids (HandsOut id ∷ past) = held_ids past
+  held_ids (Releases id ∷ past) = filter (λ x. not (same id x)) (held_ids past)
+
+  -- the context is one of these
+  abbrev pub is_member : Id → List (Member C V) → Bool
+  is_member t ms = list_any (λ m. same m.0 t) ms
+
+  -- the contexts that are held and derive from that one, at any depth
+  abbrev pub descendants : Id → List (TreeOp C V) → List Id
+  descendants t past = filter (λ x. not (same x t) && is_member t (line x past)) (held_ids past)
 
   -- ---- deadlines and values
 

@@ -3,3 +3,4 @@ pub mod Frames
 pub mod Links
 pub mod Timed
 pub mod Tree
+pub mod Walks

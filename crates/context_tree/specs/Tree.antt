@@ -1,5 +1,5 @@
 -- What a tree stands for.
-use Rattle.std.specs.Prelude.{◌≡◌, ◌<◌, ℕ, ◌^◌, not, nat_le, ◌&&◌, ◌==◌, Bool, true, false, is_some, is_none, if◌then◌else◌, List, [], ◌∷◌, length, slice_index_or, Option, Some, None, option_map, option_and_then, Result, IfOk, IfErr, OnErr}
+use Rattle.std.specs.Prelude.{◌≡◌, ◌≤◌, ◌+◌, ℕ, ◌^◌, not, nat_le, ◌&&◌, ◌==◌, Bool, true, false, is_some, is_none, if◌then◌else◌, List, [], ◌∷◌, length, slice_index_or, Option, Some, None, option_map, option_and_then, Result, IfOk, IfErr, OnErr}
 use Rattle.std.specs.List.{list_any}
 use Rattle.std.specs.Option.{option_map_or}
 use Rattle.timer_heap.specs.Timers.{Timing}
@@ -8,20 +8,18 @@ use Rattle.context_tree.specs.Links.{no_links, bare}
 use Rattle.context_tree.specs.declared.error.CtxError.{CtxError}
 use Rattle.context_tree.specs.declared.error.CtxError.TheVariants.{Unknown, Exhausted, Memory}
 use Rattle.context_tree.specs.declared.node.Kind.{Kind}
-use Rattle.context_tree.specs.declared.node.Ender.{Ender}
-use Rattle.context_tree.specs.declared.node.Ender.TheVariants.{ByCancel, ByMoment}
 use Rattle.context_tree.specs.declared.node.Ending.{Ending}
 use Rattle.context_tree.specs.declared.node.Node.{Node}
-use Rattle.context_tree.specs.Context.{Id, same, TreeOp, Makes, Cancels, Advances, HandsOut, Releases, Ended, makes, held, parent_of, can_cancel, chain, ends, deadline, ending, is_waiting, precedes}
+use Rattle.context_tree.specs.Context.{Id, same, TreeOp, Makes, Cancels, Advances, HandsOut, Releases, Ended, makes, held, parent_of, can_cancel, deadline, ending, is_waiting, precedes, descendants}
 
--- what contracts see of a tree: the slots, the contexts that are not ended, those that are ended and wait to be handed out,
--- the timers, and how many were made
+-- what contracts see of a tree: the slots, the contexts that are ended and wait to be handed out, the timers, how many
+-- contexts were made, and how many the walk of the last cancel looked at
 pub record TreeValue (C V : Type 0) : Type 0 where
   pub slots : List (Option (Node C V))
-  pub live : List Id
   pub done : List Id
   pub timers : Timing
   pub made : ℕ
+  pub visits : ℕ
 
 -- The error of a refused call is this fault, or want of memory where there is no fault.
 abbrev pub IsFault : Option CtxError → CtxError → Type 0
@@ -91,13 +89,11 @@ module _ {C V : Type 0} where
     pub lawful : IsLawful past
     pub kinds_are : (x : Id) → option_map (λ n. n.kind) (node_at slots x) ≡ held x past
 
-  -- each context that is held is known, and those that are not ended stand by creation
+  -- each context that is held is known
   pub record KnowsContexts (t : TreeValue C V) (past : List (TreeOp C V)) : Type 0 where
     pub lawful : IsLawful past
     pub made_is : t.made ≡ makes past
     pub nodes_are : (x : Id) → bare (node_at t.slots x) ≡ context x past
-    pub live_are : (x : Id) → is_among x t.live ≡ (is_some (held x past) && is_none (ending x past))
-    pub live_rise : EachBefore (λ x y. x.0 < y.0) t.live
 
   -- two contexts, of which the second does not precede the first
   abbrev pub ComesFirst : List (TreeOp C V) → Id → Id → Type 0
@@ -108,11 +104,21 @@ module _ {C V : Type 0} where
     pub are_waiting : (x : Id) → is_among x done ≡ is_waiting x past
     pub in_order : EachBefore (ComesFirst past) done
 
+  -- how many contexts a walk of the last cancel may look at: the cancelled one, and those that derive from it
+  abbrev pub most_visits : List (TreeOp C V) → ℕ
+  most_visits [] = 0
+  most_visits (Makes id kind now ∷ past) = most_visits past
+  most_visits (Cancels id cause ∷ past) = 1 + length (descendants id past)
+  most_visits (Advances now ∷ past) = most_visits past
+  most_visits (HandsOut id ∷ past) = most_visits past
+  most_visits (Releases id ∷ past) = most_visits past
+
   -- The tree stands for the operations, newest first.
   pub record StandsFor (t : TreeValue C V) (past : List (TreeOp C V)) : Type 0 where
     pub contexts : KnowsContexts t past
     pub queue : QueuesDone t.done past
     pub timers : Timed t.timers past
+    pub visits_few : t.visits ≤ most_visits past
 
   -- the context is held, as the slots keep it
   pub record IsKept (slots : List (Option (Node C V))) (x : Id) : Type 0 where
@@ -120,25 +126,6 @@ module _ {C V : Type 0} where
     pub keeps : Keeps slots past
     pub kind : Kind C V
     pub is_held : held x past ≡ Some kind
-
-  -- the operation that ends contexts in this way
-  abbrev pub op_of : Ender C → TreeOp C V
-  op_of (ByCancel target cause) = Cancels target cause
-  op_of (ByMoment now) = Advances now
-
-  -- the node with that ending
-  abbrev pub with_ending : Option (Ended C) → Node C V → Node C V
-  with_ending e n = record n { ending = option_map told e }
-
-  -- a context of that number is among these, and ended
-  abbrev pub is_gone : List (Option (Node C V)) → List Id → ℕ → Bool
-  is_gone slots ids n = list_any (λ x. x.0 == n && not (is_live slots x)) ids
-
-  -- each of these contexts has the ending that its chain gives it at this operation, and no other changes
-  pub record Marked (old new : List (Option (Node C V))) (ids : List Id) (op : TreeOp C V) : Type 0 where
-    pub others : (x : Id) → is_among x ids ≡ false → node_at new x ≡ node_at old x
-    pub marked : (past : List (TreeOp C V)) (turn : ℕ) → Keeps old past → (x : Id) → is_among x ids ≡ true
-        → node_at new x ≡ option_map (with_ending (ends turn (chain x past) op)) (node_at old x)
 
   -- some operations lead to it
   abbrev pub IsReached : TreeValue C V → Type 0

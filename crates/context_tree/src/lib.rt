@@ -5,14 +5,13 @@
 #![tactic(auto)]
 
 mod ended;
+mod ending;
 mod error;
 mod id;
 pub mod laws;
 mod links;
 mod node;
 mod released;
-#[cfg(test)]
-mod tests;
 mod tree;
 mod walk;
 

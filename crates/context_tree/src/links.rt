@@ -1,5 +1,5 @@
 //! How the nodes are linked: each names its first and its last child, and the siblings made before and after it.
-ghost use Rattle.std.specs.Prelude.{◌≡◌, Some, None, is_some, option_map, option_and_then};
+ghost use Rattle.std.specs.Prelude.{◌≡◌, ◌<◌, Some, None, is_some, option_map, option_and_then};
 ghost use Rattle.slab.specs.Slab.{ContainsKey, HasRoomFor};
 ghost use Rattle.context_tree.specs.Context.{parent_of};
 ghost use Rattle.context_tree.specs.Links.{IsLinked, IsThere, ArePlaced, KeepsOthers, Relinks, bare, put, keep, where_none, links_in, parent_in, slot_of};
@@ -80,6 +80,7 @@ pub(crate) fn insert<C, V>(nodes: &mut Slab<Node<C, V>>, node: Node<C, V>) -> us
     requires placed { ArePlaced nodes.old.slots node.number }
     requires parent_there { IsThere nodes.old.slots (option_map (λ p. p.1) (parent_of node.kind)) }
     ensures key { result ≡ nodes.old.vacant_key }
+    ensures within { result < nodes.old.capacity }
     ensures was_vacant { slot_of nodes.old.slots result ≡ None }
     ensures put { bare (slot_of nodes.new.slots result) ≡ bare (Some node) }
     ensures others { KeepsOthers nodes.old.slots nodes.new.slots result }

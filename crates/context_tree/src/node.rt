@@ -1,4 +1,4 @@
-ghost use Rattle.std.specs.Prelude.{◌≡◌, None, option_map};
+ghost use Rattle.std.specs.Prelude.{◌≡◌, ◌&&◌, None, is_none, is_some, option_map};
 ghost use Rattle.std.specs.Option.{option_copied};
 ghost use Rattle.context_tree.specs.Context.{parent_of, follows, can_cancel, own_deadline, own_value, own_due, cause_or};
 
@@ -124,13 +124,6 @@ pub(crate) struct Due<C> {
     pub(crate) cause: Option<C>,
 }
 
-/// What may end contexts: a cancel, or a moment.
-#[derive(Clone, Copy)]
-pub(crate) enum Ender<C> {
-    ByCancel { target: CtxId, cause: Option<C> },
-    ByMoment(u64),
-}
-
 /// The error and the cause of an ended context.
 #[derive(Clone, Copy, Debug)]
 pub(crate) struct Ending<C> {
@@ -184,4 +177,13 @@ pub(crate) struct Node<C, V> {
     pub(crate) ending: Option<Ending<C>>,
     pub(crate) deadline: Option<u64>,
     pub(crate) links: Links,
+}
+
+impl<C, V> Node<C, V> {
+    /// Whether it is not ended, and ends with its parent.
+    pub(crate) fn ends_with_parent(&self) -> bool
+        ensures { result ≡ (is_none self.now.ending && is_some (follows self.now.kind)) }
+    {
+        self.ending.is_none() && self.kind.follows().is_some()
+    }
 }

@@ -1,16 +1,15 @@
-ghost use Rattle.std.specs.Prelude.{◌≡◌, ◌+◌, ◌∷◌, [], List, true, false, Some, None, IfOk, IfErr, IfSome, IfNone, OnOk, OnErr, is_some, option_map, option_copied, ◌↔◌};
+ghost use Rattle.std.specs.Prelude.{◌≡◌, ◌≤◌, ◌+◌, ◌∷◌, [], List, true, false, Some, None, IfOk, IfErr, IfSome, IfNone, OnOk, OnErr, is_some, option_map, option_copied, ◌↔◌};
 ghost use Rattle.std.specs.Result.{result_ok};
-ghost use Rattle.timer_heap.specs.Timers.{popped};
 ghost use Rattle.context_tree.specs.declared.node.Kind.{Kind};
 ghost use Rattle.context_tree.specs.declared.node.Kind.TheVariants.{Background, Cancel, Deadline, Value, WithoutCancel};
 ghost use Rattle.context_tree.specs.Context.{Id, TreeOp, Makes, Cancels, Advances, HandsOut, Releases, HasChild, IsFirstDone, held, is_waiting, parent_of, ending, deadline, value};
-ghost use Rattle.context_tree.specs.Tree.{StandsFor, StandsAsBefore, Answers, IsMade, IsRefused, left_to_hand_out, op_of, if_held, is_ended_by_cancel};
+ghost use Rattle.context_tree.specs.Tree.{StandsFor, StandsAsBefore, Answers, IsMade, IsRefused, left_to_hand_out, most_visits, if_held, is_ended_by_cancel};
 
 use crate::error::{Cause, CtxErr, CtxError, Unknown};
 use crate::id::CtxId;
-use crate::node::{Ender, Kind, Links, Node};
+use crate::node::{Ending, Kind, Links, Node};
 use crate::released::Released;
-use crate::{ended, links, walk};
+use crate::{ended, ending, links, walk};
 use slab::Slab;
 use std::alloc::Global;
 use std::collections::VecDeque;
@@ -25,31 +24,31 @@ const MOST_CONTEXTS: u64 = 1 << 62;
 #[derive(Drop)]
 pub struct Tree<C, V> {
     nodes: Slab<Node<C, V>>,
-    // the contexts that are not ended, by creation
-    live: Vec<CtxId>,
-    // those that are ended and wait to be handed out, in the order of their endings; it has room for all that are live
+    // those that are ended and wait to be handed out, in the order of their endings; it has room for all contexts
     done: VecDeque<CtxId>,
-    // when those that are live end by themselves, each under its number
+    // when those that are not ended end by themselves, before what they follow does, each under its slot
     timers: Timers,
     made: u64,
+    // how many contexts the walk of the last cancel looked at
+    visits: u64,
 }
 
 impl<C, V> Model for Tree<C, V> {
-    ghost use Rattle.std.specs.Prelude.{◌≤◌, ◌+◌};
-    ghost use Rattle.std.specs.Vec.{vec_len};
-    ghost use Rattle.std.specs.VecDeque.{deque_len, deque_capacity};
+    ghost use Rattle.std.specs.Prelude.{◌≡◌, ◌≤◌, ◌<◌, ◌^◌, ℕ, true, is_some};
+    ghost use Rattle.std.specs.VecDeque.{deque_capacity};
     ghost use Rattle.timer_heap.specs.Timers.{timing};
-    ghost use Rattle.context_tree.specs.Links.{IsLinked};
+    ghost use Rattle.context_tree.specs.Links.{IsLinked, slot_of};
     ghost use Rattle.context_tree.specs.Tree.{TreeValue, IsReached};
 
     ghost Value = { TreeValue C V };
 
-    ghost view = { λ t. record { slots = t.nodes.slots; live = t.live.items; done = t.done.items; timers = timing t.timers; made = t.made } };
+    ghost view = { λ t. record { slots = t.nodes.slots; done = t.done.items; timers = timing t.timers; made = t.made; visits = t.visits } };
 
     ghost invariant = { λ t. record {
-      reached : IsReached (record { slots = t.nodes.slots; live = t.live.items; done = t.done.items; timers = timing t.timers; made = t.made });
-      room : deque_len t.done + vec_len t.live ≤ deque_capacity t.done;
+      reached : IsReached (record { slots = t.nodes.slots; done = t.done.items; timers = timing t.timers; made = t.made; visits = t.visits });
       linked : IsLinked t.nodes.slots;
+      few : t.made ≤ 2 ^ 62;
+      room : (k : ℕ) → is_some (slot_of t.nodes.slots k) ≡ true → k < deque_capacity t.done;
     } };
 }
 
@@ -60,10 +59,10 @@ impl<C: Copy, V: Drop> Tree<C, V> {
     {
         Tree {
             nodes: Slab::new(alloc),
-            live: Vec::new(alloc),
             done: VecDeque::new(alloc),
             timers: Timers::new(alloc),
             made: 0,
+            visits: 0,
         }
     }
 
@@ -133,8 +132,7 @@ impl<C: Copy, V: Drop> Tree<C, V> {
             return Err((kind, CtxError::Exhausted));
         }
         if self.nodes.reserve(1).is_err()
-            || self.live.reserve(1).is_err()
-            || self.done.reserve(self.live.len() + 1).is_err()
+            || ended::reserve_for(&mut self.done, self.nodes.capacity()).is_err()
         {
             return Err((kind, CtxError::Memory));
         }
@@ -144,8 +142,8 @@ impl<C: Copy, V: Drop> Tree<C, V> {
         };
         let ending = walk::ending_of_new(&self.nodes, id, &kind, now);
         let deadline = walk::deadline_of_new(&self.nodes, &kind);
-        let time = ended::time_of_new(&kind, ending);
-        if ended::set_timer(&mut self.timers, time, self.made).is_err() {
+        let time = ended::time_of_new(&kind, ending, walk::deadline_above(&self.nodes, &kind));
+        if ended::set_timer(&mut self.timers, time, id.slot as u64).is_err() {
             return Err((kind, CtxError::Memory));
         }
         let node = Node {
@@ -156,7 +154,7 @@ impl<C: Copy, V: Drop> Tree<C, V> {
             links: Links::after(None),
         };
         links::insert(&mut self.nodes, node);
-        ended::add_new(&mut self.live, &mut self.done, id, ending);
+        ended::add_new(&mut self.done, id, ending);
         self.made += 1;
         Ok(id)
     }
@@ -166,44 +164,41 @@ impl<C: Copy, V: Drop> Tree<C, V> {
     pub fn cancel(&mut self, id: CtxId, cause: Option<C>) -> bool
         ensures answer { (past : List (TreeOp C V)) → StandsFor self.old past → result ≡ is_ended_by_cancel id past }
         ensures cancelled { result ≡ true → (past : List (TreeOp C V)) → StandsFor self.old past → StandsFor self.new (Cancels id cause ∷ past) }
-        ensures unchanged { result ≡ false → self.new ≡ self.old }
+        ensures unchanged { result ≡ false → self.new ≡ record self.old { visits = 0 } }
         ensures keeps { result ≡ false → StandsAsBefore self.old self.new }
     {
         match walk::node(&self.nodes, id) {
             Some(node) if node.kind.can_cancel() && node.ending.is_none() => {
-                self.end(&Ender::ByCancel { target: id, cause });
+                let how = Ending::of(CtxErr::Canceled, cause);
+                self.visits = ending::end(
+                    &mut self.nodes,
+                    &mut self.done,
+                    &mut self.timers,
+                    id,
+                    how,
+                );
                 true
             }
-            _ => false,
+            _ => {
+                self.visits = 0;
+                false
+            }
         }
+    }
+
+    /// How many contexts the walk of the last `cancel` looked at. It is 0 where that answered false, or none was made.
+    pub fn last_visits(&self) -> u64
+        ensures is { result ≡ self.now.visits }
+        ensures few { (past : List (TreeOp C V)) → StandsFor self.now past → result ≤ most_visits past }
+    {
+        self.visits
     }
 
     /// Ends each context whose deadline, or that of a context that it follows, is not above `now`.
     pub fn advance(&mut self, now: u64)
         ensures { (past : List (TreeOp C V)) → StandsFor self.old past → StandsFor self.new (Advances now ∷ past) }
     {
-        if self.is_due(now) {
-            self.end(&Ender::ByMoment(now));
-        }
-    }
-
-    // Whether some context ends by itself at this moment.
-    fn is_due(&self, now: u64) -> bool
-        ensures { result ≡ is_some (popped now self.now.timers.entries) }
-    {
-        match self.timers.next() {
-            Some(at) => at <= now,
-            None => false,
-        }
-    }
-
-    fn end(&mut self, ender: &Ender<C>)
-        ensures { (past : List (TreeOp C V)) → StandsFor self.old past → StandsFor self.new (op_of ender.now ∷ past) }
-    {
-        walk::mark(&mut self.nodes, &self.live, ender);
-        ended::add_done(&self.nodes, &self.live, &mut self.done);
-        ended::stop_timers(&self.nodes, &self.live, &mut self.timers);
-        ended::keep_live(&self.nodes, &mut self.live);
+        ending::end_due(&mut self.nodes, &mut self.done, &mut self.timers, now);
     }
 
     /// Hands out a context that is ended and not released, each once: one that an earlier operation ended before one that a
@@ -234,8 +229,7 @@ impl<C: Copy, V: Drop> Tree<C, V> {
             return Released::HasChildren;
         }
         links::remove(&mut self.nodes, id.slot);
-        self.timers.stop(id.number);
-        self.live.retain(|other| *other != id);
+        self.timers.stop(id.slot as u64);
         self.done.retain(|other| *other != id);
         Released::Gone
     }

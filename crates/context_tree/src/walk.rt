@@ -1,13 +1,12 @@
 ghost use Rattle.std.specs.Prelude.{◌≡◌, List, IsTrue, true, false, ℕ, option_map, option_and_then, nat_le, ◌&&◌, is_some, Some, ◌↔◌};
 ghost use Rattle.std.specs.Option.{option_copied, option_or, option_map_or};
-ghost use Rattle.context_tree.specs.Context.{Id, same, can_cancel, TreeOp, line, chain, nearest, has_cancel, first_due, first_of, ends, follows, own_due, own_deadline, sooner, expiry, parent_of};
+ghost use Rattle.context_tree.specs.Context.{TreeOp, line, nearest, follows, own_due, own_deadline, sooner, expiry, parent_of};
 ghost use Rattle.context_tree.specs.declared.node.Node.{Node};
-ghost use Rattle.context_tree.specs.Links.{IsLinked};
-ghost use Rattle.context_tree.specs.Tree.{node_at, ending_in, deadline_in, told, Keeps, IsKept, Marked, is_among, op_of};
+ghost use Rattle.context_tree.specs.Tree.{node_at, ending_in, deadline_in, told, Keeps, IsKept};
 
 use crate::error::CtxErr;
 use crate::id::CtxId;
-use crate::node::{Due, Ender, Ending, Kind, Node};
+use crate::node::{Ending, Kind, Node};
 use slab::Slab;
 
 /// The node of that id.
@@ -46,81 +45,6 @@ pub(crate) fn value<C, V>(nodes: &Slab<Node<C, V>>, id: CtxId, key: u32) -> Opti
     None
 }
 
-/// How the chain of this context ends it.
-pub(crate) fn ending_by<C: Copy, V>(
-    nodes: &Slab<Node<C, V>>,
-    id: CtxId,
-    ender: &Ender<C>,
-) -> Option<Ending<C>>
-    requires { IsKept nodes.now.slots id }
-    ensures { (past : List (TreeOp C V)) (turn : ℕ) → Keeps nodes.now.slots past → result ≡ option_map told (ends turn (chain id past) (op_of ender.now)) }
-{
-    match ender {
-        Ender::ByCancel { target, cause } => {
-            if has_cancel(nodes, id, *target) {
-                Some(Ending::of(CtxErr::Canceled, *cause))
-            } else {
-                None
-            }
-        }
-        Ender::ByMoment(now) => {
-            let due = first_due(nodes, id, *now)?;
-            Some(Ending::of(CtxErr::DeadlineExceeded, due.cause))
-        }
-    }
-}
-
-/// Whether the target is on the chain of this context and can be cancelled.
-fn has_cancel<C, V>(nodes: &Slab<Node<C, V>>, id: CtxId, target: CtxId) -> bool
-    requires { IsKept nodes.now.slots id }
-    ensures { (past : List (TreeOp C V)) → Keeps nodes.now.slots past → result ≡ has_cancel target (chain id past) }
-{
-    let mut next = Some(id);
-    while let Some(at) = next {
-        let Some(node) = node(nodes, at) else {
-            return false;
-        };
-        if is_target(at, node, target) {
-            return true;
-        }
-        next = node.kind.follows();
-    }
-    false
-}
-
-fn is_target<C, V>(id: CtxId, node: &Node<C, V>, target: CtxId) -> bool
-    ensures { result ≡ (same id target && can_cancel node.now.kind) }
-{
-    id == target && node.kind.can_cancel()
-}
-
-/// The least deadline of the chain of this context that the moment has reached, the earlier made of equal ones.
-fn first_due<C: Copy, V>(nodes: &Slab<Node<C, V>>, id: CtxId, now: u64) -> Option<Due<C>>
-    requires { IsKept nodes.now.slots id }
-    ensures { (past : List (TreeOp C V)) → Keeps nodes.now.slots past → result ≡ first_due now (chain id past) }
-{
-    let mut first: Option<Due<C>> = None;
-    let mut next = Some(id);
-    while let Some(at) = next {
-        let Some(node) = node(nodes, at) else {
-            return first;
-        };
-        first = first_with(first, node.kind.due(at, now));
-        next = node.kind.follows();
-    }
-    first
-}
-
-fn first_with<C: Copy>(best: Option<Due<C>>, other: Option<Due<C>>) -> Option<Due<C>>
-    ensures { result ≡ first_of best other }
-{
-    match (&best, &other) {
-        (_, None) => best,
-        (Some(first), Some(second)) if first.at < second.at => best,
-        _ => other,
-    }
-}
-
 /// How a context made in this way is ended by its own making.
 pub(crate) fn ending_of_new<C: Copy, V>(
     nodes: &Slab<Node<C, V>>,
@@ -146,19 +70,25 @@ pub(crate) fn deadline_of_new<C: Copy, V>(
 ) -> Option<u64>
     ensures { result ≡ sooner (own_deadline kind.now) (option_and_then (λ p. deadline_in nodes.now.slots p) (follows kind.now)) }
 {
-    let inherited = match kind.follows() {
-        Some(parent) => deadline_at(nodes, parent),
-        None => None,
-    };
-    match (kind.deadline(), inherited) {
+    match (kind.deadline(), deadline_above(nodes, kind)) {
         (Some(own), Some(other)) => Some(own.min(other)),
         (Some(own), None) => Some(own),
         (None, other) => other,
     }
 }
 
+/// The deadline of the context that one made in this way follows.
+pub(crate) fn deadline_above<C, V>(nodes: &Slab<Node<C, V>>, kind: &Kind<C, V>) -> Option<u64>
+    ensures { result ≡ option_and_then (λ p. deadline_in nodes.now.slots p) (follows kind.now) }
+{
+    match kind.follows() {
+        Some(parent) => deadline_at(nodes, parent),
+        None => None,
+    }
+}
+
 /// The ending of that context.
-pub(crate) fn ending_at<C: Copy, V>(nodes: &Slab<Node<C, V>>, id: CtxId) -> Option<Ending<C>>
+fn ending_at<C: Copy, V>(nodes: &Slab<Node<C, V>>, id: CtxId) -> Option<Ending<C>>
     ensures { result ≡ ending_in nodes.now.slots id }
 {
     node(nodes, id)?.ending
@@ -169,16 +99,4 @@ fn deadline_at<C, V>(nodes: &Slab<Node<C, V>>, id: CtxId) -> Option<u64>
     ensures { result ≡ deadline_in nodes.now.slots id }
 {
     node(nodes, id)?.deadline
-}
-
-/// Gives each of these contexts that is not ended the ending that its chain gives it.
-pub(crate) fn mark<C: Copy, V>(nodes: &mut Slab<Node<C, V>>, live: &[CtxId], ender: &Ender<C>)
-    requires { (x : Id) → is_among x live.now ≡ true → IsKept nodes.old.slots x }
-    ensures marked { Marked nodes.old.slots nodes.new.slots live.now (op_of ender.now) }
-    ensures linked { IsLinked nodes.old.slots → IsLinked nodes.new.slots }
-{
-    for id in live {
-        let ending = ending_by(nodes, *id, ender);
-        nodes[id.slot].ending = ending;
-    }
 }

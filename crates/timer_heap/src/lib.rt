@@ -7,8 +7,6 @@
 mod error;
 mod heap;
 pub mod laws;
-#[cfg(test)]
-mod tests;
 mod timers;
 
 pub use error::SetError;

@@ -1,9 +1,9 @@
-use Rattle.std.proofs.Common.{◌∙◌, ◌∷◌, ap, rules, subst, sym, arith, refl, not}
+use Rattle.std.proofs.Common.{◌∙◌, ◌∷◌, ap, rules, subst, sym, refl, not}
 use Rattle.std.proofs.lemmas.Fn.{filter_same}
 use Rattle.context_tree.specs.Context.{Releases}
 use Rattle.context_tree.specs.Tree.{StandsFor}
 use Rattle.context_tree.proofs.Family.{first_derives, key_there, none_derives, places_of}
-use Rattle.context_tree.proofs.Whole.{copied_some, none_popped, release_stands}
+use Rattle.context_tree.proofs.Whole.{copied_some, none_popped, release_stands, room_without}
 use Rattle.context_tree.proofs.tree.Tree.release.Goals as goal
 
 pub has_children-requires : goal.has_children-requires
@@ -33,20 +33,18 @@ pub invariant_of-self : goal.invariant_of-self
 invariant_of-self g c =
     let past = c.self.invariant.reached.0 in
     let node = copied_some c.node.result (c.is_none.ensures ∙ ap not c.if-is_none.false) in
-    let room = c.self.invariant.room in
-    let fewer = c.retain.ensures.bound in
-    let fewer_done = c.retain-2.ensures.bound in
     record {
       reached = (
         Releases c.args.id ∷ past,
         release_stands _ _ past c.args.id node.0 c.self.invariant.reached.1 (sym c.node.ensures ∙ node.1)
             (none_derives c.self.inside.nodes.slots c.args.id c.self.invariant.linked (rw (← c.id.view_is) (none_popped _ (sym c.has_children.ensures ∙ c.if-has_children.false))))
             (rw (← c.id.view_is) c.remove.ensures.gone) (rw (← c.id.view_is) c.remove.ensures.others)
-            (filter_same _ _ _ (λ x b f' k. search rules) _ _ c.retain.ensures.filtered) (filter_same _ _ _ (λ x b f' k. search rules) _ _ c.retain-2.ensures.filtered)
-            (rw (← c.id.view_is) c.stop.ensures.left) refl,
+            (filter_same _ _ _ (λ x b f' k. search rules) _ _ c.retain.ensures.filtered)
+            (rw (← c.id.view_is) c.stop.ensures.left) refl refl,
       );
-      room = rw c.retain-2.ensures.capacity (omega (arith, room, fewer, fewer_done));
       linked = c.remove.ensures.linked;
+      few = c.self.invariant.few;
+      room = rw c.retain.ensures.capacity (room_without c.self.inside.nodes.slots c.remove.new.nodes.slots _ c.id.inside.slot c.self.invariant.room c.remove.ensures.others c.remove.ensures.gone);
     }
 
 pub returns-clause-gone : goal.returns-clause-gone
@@ -55,5 +53,5 @@ returns-clause-gone g c = λ yes' past stood.
     release_stands _ _ past c.args.id node.0 (subst (λ t. StandsFor t past) (sym c.self.view_is) stood) (sym c.node.ensures ∙ node.1)
     (none_derives c.self.inside.nodes.slots c.args.id c.self.invariant.linked (rw (← c.id.view_is) (none_popped _ (sym c.has_children.ensures ∙ c.if-has_children.false))))
     (rw (← c.id.view_is) c.remove.ensures.gone) (rw (← c.id.view_is) c.remove.ensures.others)
-    (filter_same _ _ _ (λ x b f' k. search rules) _ _ c.retain.ensures.filtered) (filter_same _ _ _ (λ x b f' k. search rules) _ _ c.retain-2.ensures.filtered)
-    (rw (← c.id.view_is) c.stop.ensures.left) refl
+    (filter_same _ _ _ (λ x b f' k. search rules) _ _ c.retain.ensures.filtered)
+    (rw (← c.id.view_is) c.stop.ensures.left) refl refl

@@ -1,5 +1,5 @@
-use super::*;
 use std::test::Fail;
+use timer_heap::{SetError, Timers};
 
 #[test]
 fn timers(rt: HostRuntime) -> Result<(), Fail> {

@@ -1,4 +1,4 @@
-use super::*;
+use context_tree::{Cause, CtxErr, CtxError, CtxId, Released, Tree, Unknown};
 use std::test::Fail;
 
 #[test]
@@ -159,5 +159,92 @@ fn siblings(rt: HostRuntime) -> Result<(), Fail> {
     assert_eq!(rt; tree.release(new), Released::Gone);
     assert_eq!(rt; tree.release(p), Released::Gone);
     assert_eq!(rt; tree.release(b), Released::Gone);
+    Ok(())
+}
+
+#[test]
+fn cancel_walk(rt: HostRuntime) -> Result<(), Fail> {
+    let mut tree: Tree<u32, u8> = Tree::new(rt.alloc());
+    assert_eq!(rt; tree.last_visits(), 0);
+    let b = tree.background()?;
+    let r = tree.with_cancel(b)?;
+    let p = tree.with_cancel(r)?;
+    let q = tree.with_cancel(r)?;
+    let x = tree.with_cancel(q)?;
+    let y = tree.with_cancel(p)?;
+    assert_eq!(rt; tree.last_visits(), 0);
+    assert_eq!(rt; tree.cancel(r, None), true);
+    assert_eq!(rt; tree.last_visits(), 5);
+    assert_eq!(rt; tree.next_done(), Some(r));
+    assert_eq!(rt; tree.next_done(), Some(p));
+    assert_eq!(rt; tree.next_done(), Some(q));
+    assert_eq!(rt; tree.next_done(), Some(y));
+    assert_eq!(rt; tree.next_done(), Some(x));
+    assert_eq!(rt; tree.next_done(), None);
+    assert_eq!(rt; tree.last_visits(), 5);
+    assert_eq!(rt; tree.cancel(r, None), false);
+    assert_eq!(rt; tree.last_visits(), 0);
+    Ok(())
+}
+
+// A walk stops at a context that its own parent does not end, and at one that is ended, but looks at both.
+#[test]
+fn walk_stops(rt: HostRuntime) -> Result<(), Fail> {
+    let mut tree: Tree<u32, u8> = Tree::new(rt.alloc());
+    let b = tree.background()?;
+    let r = tree.with_cancel(b)?;
+    let alone = tree.without_cancel(r)?;
+    let under = tree.with_cancel(alone)?;
+    let ended = tree.with_cancel(r)?;
+    let below = tree.with_cancel(ended)?;
+    assert_eq!(rt; tree.cancel(ended, Some(1)), true);
+    assert_eq!(rt; tree.last_visits(), 2);
+    assert_eq!(rt; tree.cancel(r, None), true);
+    assert_eq!(rt; tree.last_visits(), 3);
+    assert_eq!(rt; tree.err(under)?, None);
+    assert_eq!(rt; tree.cause(below)?, Some(Cause::Given(1)));
+    Ok(())
+}
+
+// Deadlines that nest and come at one moment: each context gets the cause of the least on its chain, and of equal ones
+// that of the context made first.
+#[test]
+fn nested_deadlines(rt: HostRuntime) -> Result<(), Fail> {
+    let mut tree: Tree<u32, u8> = Tree::new(rt.alloc());
+    let b = tree.background()?;
+    let outer = tree.with_deadline(b, 9, 0, Some(1))?;
+    let sooner = tree.with_deadline(outer, 5, 0, Some(2))?;
+    let equal = tree.with_deadline(sooner, 5, 0, Some(3))?;
+    let later = tree.with_deadline(equal, 7, 0, Some(4))?;
+    let beside = tree.with_deadline(outer, 9, 0, Some(5))?;
+    tree.advance(10);
+    assert_eq!(rt; tree.cause(outer)?, Some(Cause::Given(1)));
+    assert_eq!(rt; tree.cause(sooner)?, Some(Cause::Given(2)));
+    assert_eq!(rt; tree.cause(equal)?, Some(Cause::Given(2)));
+    assert_eq!(rt; tree.cause(later)?, Some(Cause::Given(2)));
+    assert_eq!(rt; tree.cause(beside)?, Some(Cause::Given(1)));
+    assert_eq!(rt; tree.next_done(), Some(sooner));
+    assert_eq!(rt; tree.next_done(), Some(equal));
+    assert_eq!(rt; tree.next_done(), Some(later));
+    assert_eq!(rt; tree.next_done(), Some(outer));
+    assert_eq!(rt; tree.next_done(), Some(beside));
+    assert_eq!(rt; tree.last_visits(), 0);
+    Ok(())
+}
+
+// Many contexts below one: a leaf is cancelled by itself.
+#[test]
+fn one_leaf(rt: HostRuntime) -> Result<(), Fail> {
+    let mut tree: Tree<u32, u8> = Tree::new(rt.alloc());
+    let b = tree.background()?;
+    let root = tree.with_cancel(b)?;
+    let leaf = tree.with_cancel(root)?;
+    for _ in 0..100_000 {
+        tree.with_cancel(root)?;
+    }
+    assert_eq!(rt; tree.cancel(leaf, None), true);
+    assert_eq!(rt; tree.last_visits(), 1);
+    assert_eq!(rt; tree.cancel(root, None), true);
+    assert_eq!(rt; tree.last_visits(), 100_002);
     Ok(())
 }
