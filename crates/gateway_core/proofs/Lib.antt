@@ -50,3 +50,15 @@ pub mod FeedSteps
 pub mod EndingSteps
 pub mod GatewaySteps
 pub mod GatewayEnds
+pub mod GatewayOpens
+pub mod ServingLemmas
+pub mod BringLemmas
+pub mod BreakLemmas
+pub mod EventLemmas
+pub mod CutLemmas
+pub mod ServedLemmas
+pub mod ServedMore
+pub mod ServedOpens
+pub mod ServedPieces
+pub mod ServedJoins
+pub mod ServedTakes

@@ -1,6 +1,6 @@
 -- The store of calls and of connections, and the slots, as the code changes them.
 use Rattle.std.proofs.Common.{◌≡◌, ℕ, zero, suc, ◌+◌, ◌≤◌, ◌<◌, ◌-◌, Bool, true, false, List, [], ◌∷◌, map, length, Option, None, Some, Result, Ok, Err, refl, sym, ap, ◌∙◌, subst, arith, ⊎_elim, inl, inr}
-use Rattle.std.specs.Prelude.{◌⊎◌, OnErr, is_err, is_none, is_some, not, if◌then◌else◌, ◌==◌, nat_lt, option_map, slice_index_or, slice_set}
+use Rattle.std.specs.Prelude.{◌⊎◌, OnErr, OnOk, is_err, is_none, is_some, not, if◌then◌else◌, ◌==◌, nat_lt, option_map, slice_index_or, slice_set}
 use Rattle.std.specs.Option.{option_or}
 use Rattle.std.proofs.lemmas.Bool.{cond_both, cases_Bool, cases_eq, eq-eqb, ne_eqb, eqb-true, ltb-true, ltb-false, le-ltb}
 use Rattle.std.proofs.lemmas.List.{get_or-set_same, get_or-set_other, length-set, get_or_default, get_or-map, map-set}
@@ -13,8 +13,8 @@ use Rattle.gateway_core.specs.Machine.{slot_at}
 use Rattle.gateway_core.specs.Kept.{KeptValue}
 use Rattle.gateway_core.specs.Conn.{ConnValue, conn_value, entry_in, fill_at, filled}
 use Rattle.gateway_core.specs.Reply.{ReplyValue}
-use Rattle.gateway_core.specs.Ends.{unanswered}
-use Rattle.gateway_core.specs.Store.{MachineValue, machine_value, broken_at, call_at, conn_of, kept_at, no_call, IsFound, given_up, given_up_if, broken_conn, broken_if, fill_first, waiting_in, waiting}
+use Rattle.gateway_core.specs.Ends.{is_stopped_in, unanswered}
+use Rattle.gateway_core.specs.Store.{MachineValue, machine_value, broken_at, call_at, conn_at, conn_of, kept_at, no_call, no_conn, IsFound, given_up, given_up_if, broken_conn, broken_if, fill_first, waiting_in, waiting}
 use Rattle.gateway_core.proofs.LimitLemmas.{same_call}
 use Rattle.gateway_core.proofs.Cases.{and_false}
 use Rattle.gateway_core.proofs.Frame.{or_none}
@@ -255,6 +255,10 @@ broke_at s i n x new lt x_is new_is n_is =
     ∙ ap (λ ks. machine_value s.moment s.drained (map (broken_if (kept_at i s.calls).id.conn) s.conns) ks s.jobs)
     (given_set (kept_at i s.calls).id.conn s.calls i new lt (ap (given_up_if (kept_at i s.calls).id.conn) new_so ∙ rw (eq-eqb (kept_at i s.calls).id.conn (kept_at i s.calls).id.conn refl) refl))
 
+pub on_ok : {T E : Type 0} (r : Result T E) (P : Type 0) → OnOk r P → is_err r ≡ false → P
+on_ok (Ok t) P h e = h
+on_ok (Err x) P h e = absurd (cc)
+
 pub on_err : {T E : Type 0} (r : Result T E) (P : Type 0) → OnErr r P → is_err r ≡ true → P
 on_err (Ok x) P p failed = absurd (cc)
 on_err (Err e) P p failed = p
@@ -262,3 +266,22 @@ on_err (Err e) P p failed = p
 pub none_of : (o : Option ReplyValue) (b : Bool) → is_some o ≡ not b → b ≡ true → is_none o ≡ true
 none_of None b e it = refl
 none_of (Some r) b e it = absurd (let clash : true ≡ false = e ∙ ap not it in cc)
+
+-- ---- whether a connection is broken, by its place
+
+pub stopped_at : (c i : ℕ) (conns : List ConnValue) → i < length conns → ((j : ℕ) → j < i → ((conn_at j conns).number == c) ≡ false) → ((conn_at i conns).number == c) ≡ true
+    → is_stopped_in c conns ≡ (conn_at i conns).broken
+stopped_at c i [] lt before its = absurd (omega (arith, lt))
+stopped_at c zero (k ∷ conns) lt before its = rw its refl
+stopped_at c (suc i) (k ∷ conns) lt before its = rw (before 0 (omega arith)) (stopped_at c i conns (omega (arith, lt)) (λ j less. before (suc j) (omega (arith, less))) its)
+
+pub none_stopped : (c : ℕ) (conns : List ConnValue) → ((j : ℕ) → j < length conns → ((conn_at j conns).number == c) ≡ false) → is_stopped_in c conns ≡ false
+none_stopped c [] none = refl
+none_stopped c (k ∷ conns) none = rw (none 0 (omega arith)) (none_stopped c conns (λ j less. none (suc j) (omega (arith, less))))
+
+pub stopped_here : (c i : ℕ) (conns : List ConnValue) (x y : ConnValue) → i < length conns → ((j : ℕ) → j < i → ((conn_at j conns).number == c) ≡ false)
+    → x ≡ slice_index_or conns i x → y ≡ slice_index_or conns i y → (x.number == c) ≡ true → y.broken ≡ is_stopped_in c conns
+stopped_here c i conns x y lt before x_is y_is its =
+    let x_here : x ≡ conn_at i conns = conn_is conns conns i x no_conn refl lt x_is in
+    let y_here : y ≡ conn_at i conns = conn_is conns conns i y no_conn refl lt y_is in
+    ap (λ (k : ConnValue). k.broken) y_here ∙ sym (stopped_at c i conns lt before (ap (λ (k : ConnValue). k.number == c) (sym x_here) ∙ its))

@@ -26,6 +26,10 @@ pub record StreamValue : Type 0 where
 abbrev pub no_stream : StreamValue
 no_stream = record { number = 0; reader = reader_value 0 (Partial []); hung_up = false }
 
+-- the stream of a connection that has just opened
+abbrev pub new_stream : ℕ → StreamValue
+new_stream number = record { number = number; reader = reader_value 0 (Partial []); hung_up = false }
+
 abbrev pub stream_at : ℕ → List StreamValue → StreamValue
 stream_at i streams = slice_index_or streams i no_stream
 

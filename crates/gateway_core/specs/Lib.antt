@@ -32,3 +32,5 @@ pub mod Opens
 pub mod Orderly
 pub mod Events
 pub mod Gateway
+pub mod Serving
+pub mod Served

@@ -1,5 +1,5 @@
 -- The machine as the code keeps it: the connections that are open, and the calls that are kept.
-use Rattle.std.specs.Prelude.{◌≡◌, ℕ, ◌<◌, Bool, true, false, if◌then◌else◌, ◌==◌, List, [], ◌∷◌, map, length, Option, None, Some, slice_index_or}
+use Rattle.std.specs.Prelude.{◌≡◌, ℕ, ◌<◌, Bool, true, false, if◌then◌else◌, ◌==◌, List, [], ◌∷◌, map, filter, length, Option, None, Some, slice_index_or}
 use Rattle.std.specs.Option.{option_map_or}
 use Rattle.std.specs.List.{sum_by}
 use Rattle.gateway_core.specs.declared.id.CallId.{CallId}
@@ -92,6 +92,10 @@ broken_if c k = if k.number == c then broken_conn k else k
 
 abbrev pub broken_at : ℕ → MachineValue → MachineValue
 broken_at c v = machine_value v.moment v.drained (map (broken_if c) v.conns) (map (given_up_if c) v.calls) v.jobs
+
+-- how many are broken
+abbrev pub broken_count : List ConnValue → ℕ
+broken_count conns = length (filter (λ k. k.broken) conns)
 
 -- of the connection that a reply is for, the slot of its request holds its entry
 abbrev pub fill_first : ReplyValue → List ConnValue → List ConnValue

@@ -1,23 +1,24 @@
 //! What events make of the gateway's value, and what it then stands for. The functions do nothing.
-ghost use Rattle.std.specs.Prelude.{◌≡◌, None, Some, ◌⊎◌, ℕ, ◌<◌, ◌∷◌, [], ◌++◌, false, length, List, take};
-ghost use Rattle.http_pieces.specs.Reader.{is_over};
+ghost use Rattle.std.specs.Prelude.{◌≡◌, ◌+◌, ◌==◌, if◌then◌else◌, None, Option, Some, option_map, option_to_list, ◌⊎◌, ℕ, ◌<◌, ◌∷◌, [], ◌++◌, false, length, List, take};
+ghost use Rattle.http_pieces.specs.Reader.{HasRead, Partial, is_over, reader_value};
+ghost use Rattle.gateway_core.specs.Reply.{ReplyValue};
 ghost use Rattle.gateway_core.specs.declared.entry.ReplyEntry.{ReplyEntry};
 ghost use Rattle.gateway_core.specs.declared.machine.cause.Cause.{Cause};
 ghost use Rattle.gateway_core.specs.Conn.{ConnValue};
-ghost use Rattle.gateway_core.specs.Opens.{closed_at};
+ghost use Rattle.gateway_core.specs.Opens.{closed_at, opened_as, JobTaken, ReplyTaken};
 ghost use Rattle.gateway_core.specs.Ends.{CallsEnd, EndsBy, is_stopped_in};
 ghost use Rattle.gateway_core.specs.Fate.{Fate, fates_after};
 ghost use Rattle.gateway_core.specs.Fated.{FatedStands};
-ghost use Rattle.gateway_core.specs.Gateway.{Feeds, GatewayStands, StandsFed, GatewayValue, StreamValue, stream_at, stream_of, StreamsApart, with_bytes};
-ghost use Rattle.gateway_core.specs.Job.{JobValue};
+ghost use Rattle.gateway_core.specs.Gateway.{Feeds, new_stream, GatewayStands, StandsFed, GatewayValue, StreamValue, stream_at, stream_of, StreamsApart, with_bytes};
+ghost use Rattle.gateway_core.specs.Job.{HandedJob, JobValue};
 ghost use Rattle.gateway_core.specs.Machine.{ConnState};
 ghost use Rattle.connect_codec.specs.declared.answer.Outcome.{Outcome};
 ghost use Rattle.gateway_core.specs.declared.fault.Took.{Took};
 ghost use Rattle.gateway_core.specs.declared.id.CallId.{CallId};
 ghost use Rattle.gateway_core.specs.Results.{Forgets, ResultTaken, Starved};
-ghost use Rattle.gateway_core.specs.Occurrence.{Closing, Entering, Entry, Occurrence, Result};
+ghost use Rattle.gateway_core.specs.Occurrence.{Closing, Entering, Entry, Occurrence, Opening, Result};
 ghost use Rattle.gateway_core.specs.Orderly.{FatesAre, IsOrderly};
-ghost use Rattle.gateway_core.specs.Store.{conn_at, conn_of, machine, MachineValue};
+ghost use Rattle.gateway_core.specs.Store.{broken_at, conn_at, conn_of, machine, MachineValue};
 
 /// Bytes of a stream that goes on bring what the stream gains by them: nothing, or one request or refusal.
 pub fn fed_law()
@@ -81,4 +82,29 @@ pub fn ends_law()
         → w.opened ≡ v.opened → IsOrderly v.machine → GatewayStands v texts taken handed os
         → conn_of n v.machine.conns ≡ Some k → w.machine ≡ closed_at n v.machine
         → GatewayStands w texts taken handed (Closing n ∷ os) }
+{}
+
+/// An opening; a piece that brings no request and finds no memory; and what is taken.
+pub fn opens_law()
+    ensures opened { (v w : GatewayValue) (texts : ℕ → List ℕ) (taken : ℕ → List ReplyEntry) (handed : List JobValue)
+        (os : List Occurrence) → IsOrderly v.machine → GatewayStands v texts taken handed os
+        → HasRead (reader_value 0 (Partial [])) [] [] → texts v.opened ≡ [] → w.machine ≡ opened_as v.opened v.machine
+        → w.streams ≡ v.streams ++ new_stream v.opened ∷ [] → w.opened ≡ v.opened + 1
+        → GatewayStands w texts taken handed (Opening ∷ os) }
+    ensures refused { (n : ℕ) (k : ConnValue) (v w : GatewayValue) (texts : ℕ → List ℕ)
+        (taken : ℕ → List ReplyEntry) (handed : List JobValue) (os : List Occurrence)
+        → IsOrderly v.machine → GatewayStands v texts taken handed os
+        → conn_of n v.machine.conns ≡ Some k → k.broken ≡ false → w.machine ≡ broken_at n v.machine
+        → w.streams ≡ v.streams → w.opened ≡ v.opened → GatewayStands w texts taken handed os }
+    ensures job { (job : Option HandedJob) (v w : GatewayValue) (texts : ℕ → List ℕ)
+        (taken : ℕ → List ReplyEntry) (handed : List JobValue) (os : List Occurrence)
+        → IsOrderly v.machine → GatewayStands v texts taken handed os
+        → JobTaken v.machine w.machine job → w.streams ≡ v.streams → w.opened ≡ v.opened
+        → GatewayStands w texts taken (handed ++ option_to_list (option_map (λ j. j.job) job)) os }
+    ensures reply { (i : ℕ) (r : ReplyValue) (v w : GatewayValue) (texts : ℕ → List ℕ)
+        (taken : ℕ → List ReplyEntry) (handed : List JobValue) (os : List Occurrence)
+        → IsOrderly v.machine → GatewayStands v texts taken handed os → i < length v.machine.conns
+        → ReplyTaken i v.machine w.machine (Some r) → w.streams ≡ v.streams → w.opened ≡ v.opened
+        → GatewayStands w texts
+        (λ d. if d == (conn_at i v.machine.conns).number then taken d ++ r.entry ∷ [] else taken d) handed os }
 {}

@@ -21,7 +21,9 @@ pub mod machine_laws;
 mod record;
 mod reply;
 mod reply_bytes;
+pub mod served_laws;
 mod stock;
+mod streams;
 
 pub use ending::{EndCause, Ending, ending_reply};
 pub use entry::ReplyEntry;

@@ -33,7 +33,7 @@ use Rattle.gateway_core.specs.Events.{GatewayEvent, Opening, Piece, BranchResult
 use Rattle.gateway_run.specs.Today.{first_only}
 use Rattle.gateway_run.specs.Stands.{StandsForEvents}
 use Rattle.gateway_run.proofs.DeliverLemmas.{Delivers}
-use Rattle.gateway_run.proofs.CutLemmas.{IsSame, same_next, at_same, open_known}
+use Rattle.gateway_core.proofs.CutLemmas.{IsSame, same_next, at_same, open_known}
 use Rattle.gateway_core.specs.Queue.{IsPrefixOf}
 use Rattle.gateway_core.proofs.CoreLemmas.{conn_there}
 use Rattle.gateway_core.proofs.KeepLemmas.{same_begins, counted_keeps}

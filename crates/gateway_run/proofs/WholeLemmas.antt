@@ -28,7 +28,7 @@ use Rattle.gateway_core.specs.Events.{GatewayEvent, Opening, Piece, HangUp, Mome
 use Rattle.gateway_run.specs.Run.{HasRun, is_listed, joined, newest_first, queues, start_at, starts_of}
 use Rattle.gateway_run.specs.Stands.{StandsForEvents, opened_by}
 use Rattle.gateway_run.specs.Today.{gateway_event, is_opening, first_opening, first_only, is_behind}
-use Rattle.gateway_run.proofs.EventLemmas.{occurs_unique}
+use Rattle.gateway_core.proofs.EventLemmas.{occurs_unique}
 use Rattle.gateway_core.proofs.Cases.{or_false}
 
 -- ---- events, newest first

@@ -58,6 +58,13 @@ impl Conn {
         self.number == number
     }
 
+    /// Whether memory was refused in a step that concerned it.
+    pub(crate) fn is_broken(&self) -> bool
+        ensures { result ≡ self.now.broken }
+    {
+        self.broken
+    }
+
     /// Breaks the connection, if it is the one of that number.
     pub(crate) fn break_if(&mut self, number: u64)
         ensures { self.new ≡ broken_if number self.old }

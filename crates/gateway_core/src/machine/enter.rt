@@ -3,7 +3,7 @@ ghost use Rattle.std.specs.VecDeque.{deque_capacity};
 ghost use Rattle.gateway_core.specs.Arrival.{arrival_of};
 ghost use Rattle.gateway_core.specs.Begins.{begins};
 ghost use Rattle.gateway_core.specs.Conn.{next_of};
-ghost use Rattle.gateway_core.specs.Enters.{arriving_at, asking_at, entered_at, ComesTo};
+ghost use Rattle.gateway_core.specs.Enters.{arriving_at, asking_at, entered_at, ComesTo, Enters};
 ghost use Rattle.gateway_core.specs.Job.{job_at};
 ghost use Rattle.gateway_core.specs.Occurrence.{Entering};
 ghost use Rattle.gateway_core.specs.Step.{gone, step_to};
@@ -26,8 +26,50 @@ use std::alloc::{AllocError, Global};
 use std::collections::VecDeque;
 
 impl Machine {
+    /// A request comes on the connection at that place, which breaks where memory is refused.
+    pub(crate) fn come(&mut self, alloc: Global, plans: &Plans, index: usize, request: Request)
+        requires { index < length self.old.conns }
+        ensures { Enters index (Entering.Request request (arrival_of plans.now request)) self.old self.new }
+    {
+        if self.take_in(alloc, plans, index, request).is_err() {
+            let number = self.conns[index].number;
+            self.break_conn(number);
+        }
+    }
+
+    /// The stream of the connection at that place is refused; the connection breaks where memory is.
+    pub(crate) fn stop(&mut self, alloc: Global, index: usize, refusal: Refusal)
+        requires { index < length self.old.conns }
+        ensures { Enters index (Entering.Refused refusal) self.old self.new }
+    {
+        if self.refuse(alloc, index, refusal).is_err() {
+            let number = self.conns[index].number;
+            self.break_conn(number);
+        }
+    }
+
+    /// A request comes on the connection at that place: it is answered at once, or begins a call. Where memory is refused,
+    /// nothing changes.
+    fn take_in(
+        &mut self,
+        alloc: Global,
+        plans: &Plans,
+        index: usize,
+        request: Request,
+    ) -> Result<(), AllocError>
+        requires { index < length self.old.conns }
+        ensures ok { OnOk result (self.new
+            ≡ entered_at index (arriving_at index (Entering.Request request (arrival_of plans.now request)) self.old) self.old) }
+        ensures err { OnErr result (self.new ≡ self.old) }
+    {
+        match self.arriving(alloc, plans, index, request)? {
+            Arriving::Answered(reply) => self.answer(index, reply),
+            Arriving::Begins(asked) => self.begin(alloc, index, asked),
+        }
+    }
+
     /// What a request comes to on the connection at that place. It changes nothing.
-    pub(crate) fn arriving(
+    fn arriving(
         &self,
         alloc: Global,
         plans: &Plans,
@@ -82,12 +124,7 @@ impl Machine {
     }
 
     /// The stream of the connection at that place is refused.
-    pub(crate) fn refuse(
-        &mut self,
-        alloc: Global,
-        index: usize,
-        refusal: Refusal,
-    ) -> Result<(), AllocError>
+    fn refuse(&mut self, alloc: Global, index: usize, refusal: Refusal) -> Result<(), AllocError>
         requires { index < length self.old.conns }
         ensures ok { OnOk result (self.new ≡ entered_at index (arriving_at index (Entering.Refused refusal) self.old) self.old) }
         ensures err { OnErr result (self.new ≡ self.old) }
@@ -97,7 +134,7 @@ impl Machine {
     }
 
     /// What comes on the connection at that place is answered at once.
-    pub(crate) fn answer(&mut self, index: usize, reply: Reply) -> Result<(), AllocError>
+    fn answer(&mut self, index: usize, reply: Reply) -> Result<(), AllocError>
         requires opened { index < length self.old.conns }
         requires its { reply.id ≡ next_of (conn_at index self.old.conns) }
         ensures ok { OnOk result (self.new ≡ entered_at index (step_to gone (Some reply.entry) []) self.old) }

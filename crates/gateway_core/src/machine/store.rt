@@ -1,5 +1,7 @@
-ghost use Rattle.std.specs.Prelude.{◌≡◌, false, map, []};
-ghost use Rattle.gateway_core.specs.Store.{IsFound, broken_at, broken_if, given_up_if, fill_first, filled_in, machine_value};
+ghost use Rattle.std.specs.Prelude.{◌≡◌, false, true, map, []};
+ghost use Rattle.gateway_core.specs.Ends.{is_stopped_in};
+ghost use Rattle.gateway_core.specs.Step.{moment_after};
+ghost use Rattle.gateway_core.specs.Store.{IsFound, broken_at, broken_count, broken_if, given_up_if, fill_first, filled_in, machine_value};
 
 use crate::id::CallId;
 use crate::machine::conn::Conn;
@@ -9,6 +11,9 @@ use crate::reply::Reply;
 use std::alloc::Global;
 use std::collections::VecDeque;
 use std::marker::Model;
+
+/// Moments above this one count as it.
+const LAST_MOMENT: u64 = 1 << 62;
 
 /// The connections that are open, and the calls that are kept: those that can be decided, and those of which a branch is out.
 #[derive(Drop)]
@@ -49,6 +54,42 @@ impl Machine {
         }
     }
 
+    /// Takes a moment, in milliseconds, and answers the greatest so far.
+    pub(crate) fn tell(&mut self, moment: u64) -> u64
+        ensures greatest { result ≡ moment_after self.old.moment moment }
+        ensures told { self.new ≡ record self.old { moment = moment_after self.old.moment moment } }
+    {
+        self.moment = self.moment.max(moment.min(LAST_MOMENT));
+        self.moment
+    }
+
+    /// The drain begins.
+    pub(crate) fn drain(&mut self)
+        ensures { self.new ≡ record self.old { drained = true } }
+    {
+        self.drained = true;
+    }
+
+    /// Whether the connection of that number is open and broken.
+    #[tactic(auto, using(crate::proofs::StoreLemmas::none_stopped))]
+    pub(crate) fn is_stopped(&self, number: u64) -> bool
+        ensures { result ≡ is_stopped_in number self.now.conns }
+    {
+        for index in 0..self.conns.len() {
+            if self.conns[index].is_of(number) {
+                return self.conns[index].is_broken();
+            }
+        }
+        false
+    }
+
+    /// How many connections are broken.
+    pub(crate) fn broken(&self) -> usize
+        ensures { result ≡ broken_count self.now.conns }
+    {
+        broken_in(&self.conns)
+    }
+
     /// Where the call is kept.
     pub(crate) fn find(&self, id: &CallId) -> Option<usize>
         ensures { IsFound id.now self.now.calls result }
@@ -77,6 +118,19 @@ impl Machine {
             fill_in(&mut self.conns, reply);
         }
     }
+}
+
+/// How many of these are broken.
+fn broken_in(conns: &Vec<Conn>) -> usize
+    ensures { result ≡ broken_count conns.now.items }
+{
+    let mut count = 0;
+    for index in 0..conns.len() {
+        if conns[index].is_broken() {
+            count += 1;
+        }
+    }
+    count
 }
 
 /// Gives up the calls of the connection.

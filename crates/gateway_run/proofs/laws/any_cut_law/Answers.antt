@@ -1,7 +1,7 @@
 use Rattle.std.proofs.Common.{ap}
 use Rattle.gateway_core.specs.Past.{marked}
 use Rattle.gateway_core.specs.Queue.{queued}
-use Rattle.gateway_run.proofs.CutLemmas.{any_cut, same_starts}
+use Rattle.gateway_core.proofs.CutLemmas.{any_cut, same_starts}
 use Rattle.gateway_run.proofs.laws.any_cut_law.Goals as goal
 
 pub returns-clause-same : goal.returns-clause-same

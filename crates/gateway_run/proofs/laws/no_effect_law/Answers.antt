@@ -1,4 +1,4 @@
-use Rattle.gateway_run.proofs.EventLemmas.{nothing_occurs}
+use Rattle.gateway_core.proofs.EventLemmas.{nothing_occurs}
 use Rattle.gateway_run.proofs.laws.no_effect_law.Goals as goal
 
 pub returns : goal.returns

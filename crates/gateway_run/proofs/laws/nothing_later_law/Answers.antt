@@ -1,4 +1,4 @@
-use Rattle.gateway_run.proofs.EventLemmas.{queued_later}
+use Rattle.gateway_core.proofs.EventLemmas.{queued_later}
 use Rattle.gateway_run.proofs.laws.nothing_later_law.Goals as goal
 
 pub returns : goal.returns

@@ -1,4 +1,4 @@
-use Rattle.gateway_run.proofs.EventLemmas.{occurs_unique}
+use Rattle.gateway_core.proofs.EventLemmas.{occurs_unique}
 use Rattle.gateway_run.proofs.Existence.{occurs_exists}
 use Rattle.gateway_run.proofs.laws.occurs_law.Goals as goal
 

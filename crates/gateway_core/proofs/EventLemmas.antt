@@ -12,7 +12,7 @@ use Rattle.gateway_core.proofs.PastLemmas.{nothing_later}
 use Rattle.gateway_core.specs.Events.{GatewayEvent, Opening, Piece, HangUp, Moment, BranchResult, Drain, Closing, Before, Gains, OccursAt, Occurs, has_no_effect, once, onto, is_open, listens, stream, succeeds}
 use Rattle.gateway_core.proofs.Cases.{not_so}
 
-gains_unique : (plans : List PlanRecord) (text longer : List ℕ) (a b : List Entering) → Gains plans text longer a → Gains plans text longer b → a ≡ b
+pub gains_unique : (plans : List PlanRecord) (text longer : List ℕ) (a b : List Entering) → Gains plans text longer a → Gains plans text longer b → a ≡ b
 gains_unique plans text longer a b g h =
     let front = requests_unique 0 text g.given h.given g.ending h.ending g.text_is h.text_is in
     let whole = requests_unique 0 longer (g.given ++ g.more) (h.given ++ h.more) g.later h.later g.longer_is h.longer_is in

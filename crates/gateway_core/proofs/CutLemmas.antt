@@ -9,7 +9,7 @@ use Rattle.http_pieces.proofs.RequestsLemmas.{IsFinal, requests_unique, requests
 use Rattle.call_plan.specs.Plan.{PlanRecord}
 use Rattle.gateway_core.specs.Occurrence.{Occurrence, Entering, Entry, Request}
 use Rattle.gateway_core.specs.Arrival.{arrival_of}
-use Rattle.gateway_run.proofs.EventLemmas.{at_unique}
+use Rattle.gateway_core.proofs.EventLemmas.{at_unique}
 use Rattle.gateway_core.specs.Job.{JobValue}
 use Rattle.gateway_core.specs.Starts.{Placed, start, occurrences, job_started, jobs_by, jobs, starts}
 use Rattle.gateway_core.specs.Past.{Past, mark_of, marked}
@@ -52,7 +52,7 @@ open_piece opened c conn bytes es =
 hung_piece : (opened : List ℕ) (c conn : ℕ) (bytes : List ℕ) (es : Before) → hung_up opened c (Piece conn bytes ∷ es) ≡ hung_up opened c es
 hung_piece opened c conn bytes es = rw (and_false (is_open opened c es)) (or_false (hung_up opened c es))
 
-listens_piece : (opened : List ℕ) (c conn : ℕ) (bytes : List ℕ) (es : Before) → listens opened c (Piece conn bytes ∷ es) ≡ listens opened c es
+pub listens_piece : (opened : List ℕ) (c conn : ℕ) (bytes : List ℕ) (es : Before) → listens opened c (Piece conn bytes ∷ es) ≡ listens opened c es
 listens_piece opened c conn bytes es = rw (open_piece opened c conn bytes es, hung_piece opened c conn bytes es) refl
 
 -- ---- two lists of events that come to the same connections
@@ -104,7 +104,7 @@ piece_both : (c conn : ℕ) (p q : List ℕ) → piece_of c (Piece conn p) ++ pi
 piece_both c conn p q = ⊎_elim (λ (here : (conn == c) ≡ true). rw here refl) (λ (other : (conn == c) ≡ false). rw other refl) (cases_Bool (conn == c))
 
 -- the piece, and the two that join to it
-same_piece : (opened shifted : List ℕ) (conn : ℕ) (p q : List ℕ) (before : Before) → IsSame opened shifted before before
+pub same_piece : (opened shifted : List ℕ) (conn : ℕ) (p q : List ℕ) (before : Before) → IsSame opened shifted before before
     → IsSame opened shifted (Piece conn (p ++ q) ∷ before) (Piece conn q ∷ Piece conn p ∷ before)
 same_piece opened shifted conn p q before h = record {
   connections_are = h.connections_are;
@@ -182,17 +182,15 @@ gains_both plans s p q x y z g h w =
 -- ---- occurrences
 
 -- occurrences in their order, onto those before, newest first
-pub back : List Occurrence → List Occurrence → List Occurrence
+abbrev pub back : List Occurrence → List Occurrence → List Occurrence
 back [] past = past
 back (o ∷ os) past = back os (o ∷ past)
 
 back-append : (xs ys past : List Occurrence) → back (xs ++ ys) past ≡ back ys (back xs past)
-unfolding back
 back-append [] ys past = refl
 back-append (x ∷ xs) ys past = back-append xs ys (x ∷ past)
 
 pub occurrences_onto : (place : ℕ) (os : List Occurrence) (past : List Placed) → occurrences (onto place os past) ≡ back os (occurrences past)
-unfolding back
 occurrences_onto place [] past = refl
 occurrences_onto place (o ∷ os) past = occurrences_onto place os ((place, o) ∷ past)
 
@@ -235,7 +233,7 @@ pieces_join plans true s p q conn x y z g h w =
     w.2 ∙ ap (map (Entry conn)) all ∙ map-append (Entry conn) g.0 h.0 ∙ rw (g.2, h.2) refl
 pieces_join plans false s p q conn x y z g h w = rw (g, h, w) refl
 
-stream_piece : (shifted : List ℕ) (conn : ℕ) (p : List ℕ) (before : Before)
+pub stream_piece : (shifted : List ℕ) (conn : ℕ) (p : List ℕ) (before : Before)
     → stream shifted conn (Piece conn p ∷ before) ≡ (if listens shifted conn before then stream shifted conn before ++ p else stream shifted conn before)
 stream_piece shifted conn p before = rw (eq-eqb conn conn refl) refl
 

@@ -1,0 +1,52 @@
+use Rattle.std.proofs.Common.{◌≡◌, Ok, Err, true, false, refl, sym, ap, ◌∙◌, ℕ, subst, slice_index_or}
+use Rattle.std.specs.Prelude.{if◌then◌else◌}
+use Rattle.http_pieces.specs.Reader.{is_over}
+use Rattle.gateway_core.specs.declared.fault.StepFault.TheVariants.{Memory}
+use Rattle.gateway_core.specs.Ends.{is_stopped_in}
+use Rattle.gateway_core.specs.Gateway.{GatewayValue, StreamValue, stream_at}
+use Rattle.gateway_core.specs.Serving.{came, dropped, unread}
+use Rattle.gateway_core.specs.Store.{broken_at}
+use Rattle.gateway_core.proofs.BringLemmas.{fed}
+use Rattle.gateway_core.proofs.ServingLemmas.{stream_is_at}
+use Rattle.gateway_core.proofs.streams.Streams.feed.Goals as goal
+
+pub returns-then-is_over : goal.returns-then-is_over
+returns-then-is_over c =
+    let s : GatewayValue = c.args.self.now in
+    let i : ℕ = c.in-Some.index in
+    let x_is : c.index.result.now ≡ stream_at i s.streams = stream_is_at i c.index.result.now s.streams c.in-Some.ensures.stream_there
+    (subst (λ (v : GatewayValue). c.index.result.now ≡ slice_index_or v.streams i c.index.result.now) c.self.view_is c.index.ensures) in
+    dropped i c.in-Some.ensures (ap (λ (x : StreamValue). is_over x.reader.reading) (sym x_is) ∙ sym c.is_over.ensures ∙ c.if-is_over.true) refl refl
+
+pub returns-in_default-push : goal.returns-in_default-push
+returns-in_default-push c =
+    let s : GatewayValue = c.args.self.now in
+    let i : ℕ = c.in-Some.index in
+    let x_is : c.index.result.now ≡ stream_at i s.streams = stream_is_at i c.index.result.now s.streams c.in-Some.ensures.stream_there
+    (subst (λ (v : GatewayValue). c.index.result.now ≡ slice_index_or v.streams i c.index.result.now) c.self.view_is c.index.ensures) in
+    unread i c.in-Some.ensures (ap (λ (x : StreamValue). is_over x.reader.reading) (sym x_is) ∙ sym c.is_over.ensures ∙ c.if-is_over.false) refl
+    (c.break_conn.ensures ∙ ap (λ (v : GatewayValue). record v { machine = broken_at c.args.number v.machine }) c.in_default-push.ensures.err)
+
+pub returns-then-is_stopped : goal.returns-then-is_stopped
+returns-then-is_stopped c =
+    let s : GatewayValue = c.args.self.now in
+    let i : ℕ = c.in-Some.index in
+    let x_is : c.index.result.now ≡ stream_at i s.streams = stream_is_at i c.index.result.now s.streams c.in-Some.ensures.stream_there
+    (subst (λ (v : GatewayValue). c.index.result.now ≡ slice_index_or v.streams i c.index.result.now) c.self.view_is c.index.ensures) in
+    let stopped : is_stopped_in c.args.number c.bring.new.self.machine.conns ≡ true =
+    ap (λ (v : GatewayValue). is_stopped_in c.args.number v.machine.conns) (sym c.self-2.view_is) ∙ sym c.is_stopped.ensures ∙ c.if-is_stopped.true in
+    came i c.in-Ok.taken c.in-Some.ensures (ap (λ (x : StreamValue). is_over x.reader.reading) (sym x_is) ∙ sym c.is_over.ensures ∙ c.if-is_over.false)
+    (fed i c.in-Ok.taken c.args.bytes.now s c.push.new.self c.bring.new.self c.in-Some.ensures.stream_there c.in-Ok.ensures.ok c.bring.ensures)
+    (sym (ap (λ b. if b then Err Memory else Ok c.in-Ok.taken) stopped))
+
+pub returns : goal.returns
+returns c =
+    let s : GatewayValue = c.args.self.now in
+    let i : ℕ = c.in-Some.index in
+    let x_is : c.index.result.now ≡ stream_at i s.streams = stream_is_at i c.index.result.now s.streams c.in-Some.ensures.stream_there
+    (subst (λ (v : GatewayValue). c.index.result.now ≡ slice_index_or v.streams i c.index.result.now) c.self.view_is c.index.ensures) in
+    let on : is_stopped_in c.args.number c.bring.new.self.machine.conns ≡ false =
+    ap (λ (v : GatewayValue). is_stopped_in c.args.number v.machine.conns) (sym c.self-2.view_is) ∙ sym c.is_stopped.ensures ∙ c.if-is_stopped.false in
+    came i c.in-Ok.taken c.in-Some.ensures (ap (λ (x : StreamValue). is_over x.reader.reading) (sym x_is) ∙ sym c.is_over.ensures ∙ c.if-is_over.false)
+    (fed i c.in-Ok.taken c.args.bytes.now s c.push.new.self c.bring.new.self c.in-Some.ensures.stream_there c.in-Ok.ensures.ok c.bring.ensures)
+    (sym (ap (λ b. if b then Err Memory else Ok c.in-Ok.taken) on))

@@ -1,0 +1,45 @@
+-- What the gateway stands for after events.
+use Rattle.std.specs.Prelude.{◌≡◌, ◌⊎◌, ℕ, ◌<◌, true, false, List, ◌∷◌, ◌++◌, ◌==◌, if◌then◌else◌, take, length, Option, Some, option_map, option_to_list, is_some, Result, Ok, Err}
+use Rattle.http_pieces.specs.Reader.{HasRead}
+use Rattle.http_pieces.specs.Request.{HttpRequest}
+use Rattle.gateway_core.specs.declared.entry.ReplyEntry.{ReplyEntry}
+use Rattle.gateway_core.specs.declared.fault.StepFault.{StepFault}
+use Rattle.gateway_core.specs.Conn.{ConnValue}
+use Rattle.gateway_core.specs.Ends.{is_stopped_in}
+use Rattle.gateway_core.specs.Events.{Before, Occurs, Piece, connections, hung_up, is_open, stream, succeeds}
+use Rattle.gateway_core.specs.Gateway.{GatewayStands, GatewayValue, StreamValue, goes_on, stream_of}
+use Rattle.gateway_core.specs.Job.{JobValue}
+use Rattle.gateway_core.specs.Reply.{ReplyValue}
+use Rattle.gateway_core.specs.Starts.{Placed, occurrences}
+use Rattle.gateway_core.specs.Store.{conn_of}
+
+-- the connections of the gateway are those of these events, newest first, of which the openings at those places succeeded
+pub record HasConns (v : GatewayValue) (opened : List ℕ) (events : Before) : Type 0 where
+  pub below : (place : ℕ) → succeeds opened place ≡ true → place < length events
+  pub count_is : connections opened events ≡ v.opened
+  pub open_are : (c : ℕ) → is_open opened c events ≡ is_some (conn_of c v.machine.conns)
+  -- of one that is broken nobody asks any more whether its peer hung up
+  pub hung_are : (c : ℕ) (k : ConnValue) (s : StreamValue) → conn_of c v.machine.conns ≡ Some k → stream_of c v.streams ≡ Some s → k.broken ≡ false → s.hung_up ≡ hung_up opened c events
+  -- of one whose pieces are taken the text was read
+  pub reads_are : (c : ℕ) (k : ConnValue) (s : StreamValue) → conn_of c v.machine.conns ≡ Some k → stream_of c v.streams ≡ Some s → goes_on k s ≡ true
+      → (given : List HttpRequest) × HasRead s.reader (stream opened c events) given
+
+-- it stands for what occurs by them, where these replies and jobs were taken
+abbrev pub StandsBy : GatewayValue → List ℕ → Before → (ℕ → List ReplyEntry) → List JobValue → Type 0
+StandsBy v opened events taken handed =
+    (occurred : List Placed) → Occurs v.plans opened events occurred → GatewayStands v (λ c. stream opened c events) taken handed (occurrences occurred)
+
+-- the gateway after these events
+pub record Served (v : GatewayValue) (opened : List ℕ) (events : Before) (taken : ℕ → List ReplyEntry) (handed : List JobValue) : Type 0 where
+  pub conns : HasConns v opened events
+  pub stands : StandsBy v opened events taken handed
+
+-- the replies taken, and one of that connection more, if it is given
+abbrev pub with_reply : ℕ → Option ReplyValue → (ℕ → List ReplyEntry) → ℕ → List ReplyEntry
+with_reply n reply taken c = if c == n then taken c ++ option_to_list (option_map (λ r. r.entry) reply) else taken c
+
+-- what the gateway stands for once bytes were fed: those that were taken have come; at a fault all of them, or those up to what broke the connection
+abbrev pub ServedFed : ℕ → List ℕ → GatewayValue → List ℕ → Before → (ℕ → List ReplyEntry) → List JobValue → Result ℕ StepFault → Type 0
+ServedFed n bytes w opened es taken handed (Ok m) = Served w opened (Piece n (take m bytes) ∷ es) taken handed
+ServedFed n bytes w opened es taken handed (Err fault) =
+    Served w opened (Piece n bytes ∷ es) taken handed ⊎ ((m : ℕ) × (is_stopped_in n w.machine.conns ≡ true) × Served w opened (Piece n (take m bytes) ∷ es) taken handed)

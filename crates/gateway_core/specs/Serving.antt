@@ -1,0 +1,145 @@
+-- What the calls of the open connections and their streams make of them.
+use Rattle.std.specs.Prelude.{◌≡◌, ⊤, ℕ, ◌+◌, ◌<◌, ◌≤◌, Bool, true, false, not, if◌then◌else◌, ◌==◌, All, List, [], ◌∷◌, ◌++◌, take, map, filter, length, Option, None, Some, is_some, Result, Ok, Err, slice_set}
+use Rattle.http_pieces.specs.Reader.{ReaderValue, HasRead, Waiting, after_request, is_over}
+use Rattle.http_pieces.specs.Request.{HttpRequest}
+use Rattle.call_plan.specs.Plan.{PlanRecord}
+use Rattle.gateway_core.specs.declared.fault.StepFault.{StepFault}
+use Rattle.gateway_core.specs.declared.fault.StepFault.TheVariants.{Gone, Memory}
+use Rattle.gateway_core.specs.declared.machine.cause.Cause.{Cause}
+use Rattle.gateway_core.specs.declared.machine.cause.Cause.TheVariants.{HungUp}
+use Rattle.gateway_core.specs.Conn.{ConnValue}
+use Rattle.gateway_core.specs.Ends.{CallsEnd, is_stopped_in}
+use Rattle.gateway_core.specs.Gateway.{Brings, Feeds, GatewayValue, StreamValue, goes_on, new_stream, stream_at, stream_of}
+use Rattle.gateway_core.specs.Kept.{KeptValue}
+use Rattle.gateway_core.specs.Opens.{closed_at, opened_as, ReplyTaken}
+use Rattle.gateway_core.specs.Orderly.{IsOrderly}
+use Rattle.gateway_core.specs.Reply.{ReplyValue}
+use Rattle.gateway_core.specs.Store.{MachineValue, broken_at, conn_at, conn_of, numbers}
+
+abbrev pub gateway_value : List PlanRecord → MachineValue → List StreamValue → ℕ → GatewayValue
+gateway_value plans machine streams opened = record { plans = plans; machine = machine; streams = streams; opened = opened }
+
+-- no call of that connection is kept
+abbrev pub NoCallOf : ℕ → List KeptValue → Type 0
+NoCallOf c calls = All (λ (k : KeptValue). (k.id.conn == c) ≡ false) calls
+
+-- the machine is orderly, has a stream for each connection, in the same order, and nothing of connections that were not opened yet
+pub record IsServing (v : GatewayValue) : Type 0 where
+  pub orderly : IsOrderly v.machine
+  pub numbers_are : map (λ s. s.number) v.streams ≡ numbers v.machine.conns
+  pub no_conn : (c : ℕ) → v.opened ≤ c → conn_of c v.machine.conns ≡ None
+  pub no_call : (c : ℕ) → v.opened ≤ c → NoCallOf c v.machine.calls
+
+-- the connection of that number opened
+pub record Opens (v w : GatewayValue) (number : ℕ) : Type 0 where
+  pub number_is : number ≡ v.opened
+  pub few : length v.streams < 64
+  pub machine_is : w.machine ≡ opened_as v.opened v.machine
+  pub streams_are : w.streams ≡ v.streams ++ new_stream v.opened ∷ []
+  pub opened_is : w.opened ≡ v.opened + 1
+  pub plans_are : w.plans ≡ v.plans
+
+-- ---- which streams are read
+
+-- the first stream of that number stands at this place, or none does
+abbrev pub IsPlaced : ℕ → List StreamValue → Option ℕ → Type 0
+IsPlaced number streams None = (j : ℕ) → j < length streams → ((stream_at j streams).number == number) ≡ false
+IsPlaced number streams (Some i) = (i < length streams) × ((stream_at i streams).number ≡ number)
+
+-- the connection of that number stands at this place, and pieces of its stream are taken
+pub record ListensAt (number : ℕ) (v : GatewayValue) (i : ℕ) : Type 0 where
+  pub conn_there : i < length v.machine.conns
+  pub stream_there : i < length v.streams
+  pub conn_is : (conn_at i v.machine.conns).number ≡ number
+  pub stream_is : (stream_at i v.streams).number ≡ number
+  pub unbroken : (conn_at i v.machine.conns).broken ≡ false
+  pub on : (stream_at i v.streams).hung_up ≡ false
+
+-- a stream of that number is not there, or no pieces of it are taken
+abbrev pub IsDeaf : ℕ → GatewayValue → Type 0
+IsDeaf number v = (k : ConnValue) (s : StreamValue) → conn_of number v.machine.conns ≡ Some k → stream_of number v.streams ≡ Some s → goes_on k s ≡ false
+
+abbrev pub IsListening : ℕ → GatewayValue → Option ℕ → Type 0
+IsListening number v None = IsDeaf number v
+IsListening number v (Some i) = ListensAt number v i
+
+-- ---- pieces
+
+-- the stream at that place has this reader
+abbrev pub with_reader : ℕ → ReaderValue → List StreamValue → List StreamValue
+with_reader i reader streams = slice_set streams i (record (stream_at i streams) { reader = reader })
+
+-- so many bytes of a stream were read
+pub record Reads (n : ℕ) (bytes : List ℕ) (s t : StreamValue) : Type 0 where
+  pub reads : (text : List ℕ) (given : List HttpRequest) → HasRead s.reader text given → HasRead t.reader (text ++ take n bytes) given
+  pub rest : t ≡ record s { reader = t.reader }
+
+-- the request that waited was taken
+pub record TakesRequest (q : HttpRequest) (s t : StreamValue) : Type 0 where
+  pub waited : s.reader.reading ≡ Waiting q
+  pub reads : (text : List ℕ) (given : List HttpRequest) → HasRead s.reader text given → HasRead t.reader text (given ++ q ∷ [])
+  pub after : t.reader.reading ≡ after_request q
+  pub rest : t ≡ record s { reader = t.reader }
+
+-- so many bytes of the stream at that place were read
+pub record Pushes (i n : ℕ) (bytes : List ℕ) (v w : GatewayValue) : Type 0 where
+  pub stream : StreamValue
+  pub reads : Reads n bytes (stream_at i v.streams) stream
+  pub rest : w ≡ record v { streams = slice_set v.streams i stream }
+
+-- what the reader of the stream at that place has come to came on its connection
+pub record BringsAt (i : ℕ) (v w : GatewayValue) : Type 0 where
+  pub new : ReaderValue
+  pub brings : Brings v.plans i (stream_at i v.streams).reader.reading (stream_at i v.streams).reader new v.machine w.machine
+  pub rest : w ≡ record v { machine = w.machine; streams = with_reader i new v.streams }
+
+-- what bytes of a stream come to
+pub data FedTo (number : ℕ) (bytes : List ℕ) (v w : GatewayValue) (result : Result ℕ StepFault) : Type 0 where
+  -- none are taken
+  unheard : IsDeaf number v → result ≡ Err Gone → w ≡ v → FedTo number bytes v w result
+  -- the stream has ended, and they are dropped
+  dropped : (i : ℕ) → ListensAt number v i → is_over (stream_at i v.streams).reader.reading ≡ true → result ≡ Ok (length bytes) → w ≡ v → FedTo number bytes v w result
+  -- the reader found no memory
+  unread : (i : ℕ) → ListensAt number v i → is_over (stream_at i v.streams).reader.reading ≡ false → result ≡ Err Memory
+      → w ≡ record v { machine = broken_at number v.machine } → FedTo number bytes v w result
+  -- so many were read, and what they brought came, or found no memory
+  came : (i n : ℕ) → ListensAt number v i → is_over (stream_at i v.streams).reader.reading ≡ false → Feeds i n bytes v w
+      → result ≡ (if is_stopped_in number w.machine.conns then Err Memory else Ok n) → FedTo number bytes v w result
+
+-- ---- what else is done
+
+-- no more is read of the stream at that place
+abbrev pub without_more : ℕ → List StreamValue → List StreamValue
+without_more i streams = slice_set streams i (record (stream_at i streams) { hung_up = true })
+
+-- the peer of a connection hangs up
+pub data HangsUp (number : ℕ) (v w : GatewayValue) (result : Result ⊤ StepFault) : Type 0 where
+  -- no piece of its stream is taken any more
+  silent : IsDeaf number v → result ≡ Err Gone → w ≡ v → HangsUp number v w result
+  -- its calls end, or it breaks
+  hung : (i : ℕ) → ListensAt number v i → CallsEnd (HungUp number) v.machine w.machine
+      → w ≡ record v { machine = w.machine; streams = without_more i v.streams }
+      → result ≡ (if is_stopped_in number w.machine.conns then Err Memory else Ok tt) → HangsUp number v w result
+
+-- calls end of the machine, to which what ends them was told
+pub record Ends (cause : Cause) (told : MachineValue) (v w : GatewayValue) : Type 0 where
+  pub ends : CallsEnd cause told w.machine
+  pub rest : w ≡ record v { machine = w.machine }
+
+-- a connection breaks in the step, or none does
+abbrev pub Breaks : GatewayValue → GatewayValue → Bool → Type 0
+Breaks v w true = (c : ℕ) × (is_stopped_in c w.machine.conns ≡ true) × (is_stopped_in c v.machine.conns ≡ false)
+Breaks v w false = (c : ℕ) → is_stopped_in c w.machine.conns ≡ true → is_stopped_in c v.machine.conns ≡ true
+
+-- the connection of that number closes, if it is open
+abbrev pub Closes : ℕ → GatewayValue → GatewayValue → Bool → Type 0
+Closes number v w true =
+    (is_some (conn_of number v.machine.conns) ≡ true)
+    × (w ≡ record v { machine = closed_at number v.machine; streams = filter (λ s. not (s.number == number)) v.streams })
+Closes number v w false = (conn_of number v.machine.conns ≡ None) × (w ≡ v)
+
+-- the next reply of the connection of that number is taken, if it is open and has one
+pub data TakesReply (number : ℕ) (v w : GatewayValue) (reply : Option ReplyValue) : Type 0 where
+  absent : conn_of number v.machine.conns ≡ None → reply ≡ None → w ≡ v → TakesReply number v w reply
+  taken : (i : ℕ) → i < length v.machine.conns → (conn_at i v.machine.conns).number ≡ number → ReplyTaken i v.machine w.machine reply
+      → w ≡ record v { machine = w.machine } → TakesReply number v w reply

@@ -1,0 +1,91 @@
+ghost use Rattle.std.specs.Prelude.{◌≡◌, ◌==◌, IfNone, IfOk, IfSome, List, OnErr, Some, ℕ, true};
+ghost use Rattle.http_pieces.specs.Reader.{Waiting, is_over, state_of};
+ghost use Rattle.http_pieces.specs.Request.{HttpRequest};
+ghost use Rattle.gateway_core.specs.Gateway.{new_stream};
+ghost use Rattle.gateway_core.specs.Serving.{Reads, TakesRequest};
+
+use http_pieces::{Reader, Request, State};
+use std::alloc::{AllocError, Global};
+use std::marker::Model;
+
+/// An open connection's stream.
+#[derive(Drop)]
+pub struct Stream {
+    number: u64,
+    reader: Reader,
+    /// Its peer hung up: no more of it is read.
+    hung_up: bool,
+}
+
+impl Model for Stream {
+    ghost use Rattle.gateway_core.specs.Gateway.{StreamValue};
+
+    ghost Value = { StreamValue };
+
+    ghost view = { λ s. record { number = s.number; reader = s.reader; hung_up = s.hung_up } };
+}
+
+impl Stream {
+    /// The stream of a connection that has just opened.
+    pub(crate) fn new(alloc: Global, number: u64) -> Stream
+        ensures { result ≡ new_stream number }
+    {
+        Stream {
+            number,
+            reader: Reader::new(alloc),
+            hung_up: false,
+        }
+    }
+
+    /// Whether it is that of the connection of this number.
+    pub(crate) fn is_of(&self, number: u64) -> bool
+        ensures { result ≡ (self.now.number == number) }
+    {
+        self.number == number
+    }
+
+    /// Whether its peer hung up.
+    pub(crate) fn has_hung_up(&self) -> bool
+        ensures { result ≡ self.now.hung_up }
+    {
+        self.hung_up
+    }
+
+    /// Its peer hangs up.
+    pub(crate) fn hang_up(&mut self)
+        ensures { self.new ≡ record self.old { hung_up = true } }
+    {
+        self.hung_up = true;
+    }
+
+    /// How far its reader is.
+    pub(crate) fn state(&self) -> State
+        ensures { result ≡ state_of self.now.reader.reading }
+    {
+        self.reader.state()
+    }
+
+    /// Whether nothing more is read of it.
+    pub(crate) fn is_over(&self) -> bool
+        ensures { result ≡ is_over self.now.reader.reading }
+    {
+        matches!(self.reader.state(), State::Refused(_) | State::Ended)
+    }
+
+    /// Takes bytes, at most up to the end of a request, and answers how many.
+    pub(crate) fn push(&mut self, bytes: &[u8]) -> Result<usize, AllocError>
+        ensures ok { IfOk result (λ n. Reads n bytes.now self.old self.new) }
+        ensures err { OnErr result (self.new ≡ self.old) }
+    {
+        self.reader.push(bytes)
+    }
+
+    /// Gives the request that waits, if one does.
+    pub(crate) fn take(&mut self) -> Option<Request>
+        ensures gives { IfSome result (λ q. TakesRequest q self.old self.new) }
+        ensures waits { (q : HttpRequest) → self.old.reader.reading ≡ Waiting q → result ≡ Some q }
+        ensures none { IfNone result (self.new ≡ self.old) }
+    {
+        self.reader.take()
+    }
+}

@@ -1,0 +1,104 @@
+//! What the gateway stands for after each event, by what a call makes of its value. The functions do nothing.
+ghost use Rattle.std.specs.Prelude.{◌≡◌, ℕ, List, ◌++◌, ◌∷◌, [], ◌<◌, length, Bool, Option, option_map, option_to_list, Result, true, ⊤};
+ghost use Rattle.connect_codec.specs.declared.answer.Outcome.{Outcome};
+ghost use Rattle.http_pieces.specs.Request.{HttpRequest};
+ghost use Rattle.http_pieces.specs.Requests.{Ending, Requests};
+ghost use Rattle.gateway_core.specs.Occurrence.{Entering};
+ghost use Rattle.gateway_core.specs.declared.entry.ReplyEntry.{ReplyEntry};
+ghost use Rattle.gateway_core.specs.declared.fault.StepFault.{StepFault};
+ghost use Rattle.gateway_core.specs.declared.fault.Took.{Took};
+ghost use Rattle.gateway_core.specs.declared.id.CallId.{CallId};
+ghost use Rattle.gateway_core.specs.declared.machine.cause.Cause.TheVariants.{Reached, Drained};
+ghost use Rattle.gateway_core.specs.Events.{BranchResult, Closing, Drain, Gains, GatewayEvent, HangUp, Moment, Opening, Piece, stream, succeeds};
+ghost use Rattle.gateway_core.specs.Gateway.{GatewayValue};
+ghost use Rattle.gateway_core.specs.Job.{HandedJob, JobValue};
+ghost use Rattle.gateway_core.specs.Opens.{JobTaken};
+ghost use Rattle.gateway_core.specs.Reply.{ReplyValue};
+ghost use Rattle.gateway_core.specs.Results.{Forgets, ResultTaken, Starved};
+ghost use Rattle.gateway_core.specs.Served.{Served, ServedFed, with_reply};
+ghost use Rattle.gateway_core.specs.Serving.{Closes, Ends, FedTo, HangsUp, IsServing, Opens, TakesReply};
+ghost use Rattle.gateway_core.specs.Step.{moment_after};
+ghost use Rattle.gateway_core.specs.Store.{MachineValue};
+
+use http_pieces::laws::fresh_law;
+
+/// A moment, and the drain.
+pub fn ended_law()
+    ensures moment { (m : ℕ) (v w : GatewayValue) (opened : List ℕ) (es : List GatewayEvent)
+        (taken : ℕ → List ReplyEntry) (handed : List JobValue) → IsServing v → Served v opened es taken handed
+        → Ends (Reached (moment_after v.machine.moment m)) (record v.machine { moment = moment_after v.machine.moment m }) v w
+        → Served w opened (Moment m ∷ es) taken handed }
+    ensures drain { (v w : GatewayValue) (opened : List ℕ) (es : List GatewayEvent)
+        (taken : ℕ → List ReplyEntry) (handed : List JobValue) → IsServing v → Served v opened es taken handed
+        → Ends Drained (record v.machine { drained = true }) v w → Served w opened (Drain ∷ es) taken handed }
+{}
+
+/// A hang-up, of any connection.
+pub fn hung_up_law()
+    ensures { (n : ℕ) (v w : GatewayValue) (result : Result ⊤ StepFault) (opened : List ℕ) (es : List GatewayEvent)
+        (taken : ℕ → List ReplyEntry) (handed : List JobValue) → IsServing v → Served v opened es taken handed
+        → HangsUp n v w result → Served w opened (HangUp n ∷ es) taken handed }
+{}
+
+/// An opening, whether it succeeds or not.
+pub fn opening_law()
+    ensures opened { (number : ℕ) (v w : GatewayValue) (opened : List ℕ) (es : List GatewayEvent)
+        (taken : ℕ → List ReplyEntry) (handed : List JobValue) → IsServing v → Served v opened es taken handed
+        → Opens v w number → Served w (opened ++ length es ∷ []) (Opening ∷ es) taken handed }
+    ensures refused { (v : GatewayValue) (opened : List ℕ) (es : List GatewayEvent)
+        (taken : ℕ → List ReplyEntry) (handed : List JobValue) → IsServing v → Served v opened es taken handed
+        → Served v opened (Opening ∷ es) taken handed }
+{
+    fresh_law();
+}
+
+/// A closing, of any connection.
+pub fn closing_law()
+    ensures { (n : ℕ) (was_open : Bool) (v w : GatewayValue) (opened : List ℕ) (es : List GatewayEvent)
+        (taken : ℕ → List ReplyEntry) (handed : List JobValue) → IsServing v → Served v opened es taken handed
+        → Closes n v w was_open → Served w opened (Closing n ∷ es) taken handed }
+{}
+
+/// A branch that ends.
+pub fn result_law()
+    ensures result { (id : CallId) (branch : ℕ) (outcome : Outcome) (u : MachineValue) (took : Took)
+        (v w : GatewayValue) (opened : List ℕ) (es : List GatewayEvent)
+        (taken : ℕ → List ReplyEntry) (handed : List JobValue) → IsServing v → Served v opened es taken handed
+        → w ≡ record v { machine = w.machine } → Forgets id u w.machine → ResultTaken id branch outcome v.machine u took
+        → Served w opened (BranchResult id.conn id.request branch outcome ∷ es) taken handed }
+    ensures starved { (id : CallId) (branch : ℕ) (outcome : Outcome) (u : MachineValue) (took : Took)
+        (v w : GatewayValue) (opened : List ℕ) (es : List GatewayEvent)
+        (taken : ℕ → List ReplyEntry) (handed : List JobValue) → IsServing v → Served v opened es taken handed
+        → w ≡ record v { machine = w.machine } → Forgets id u w.machine → Starved id branch v.machine u took
+        → Served w opened (BranchResult id.conn id.request branch outcome ∷ es) taken handed }
+{}
+
+/// Bytes of a stream, of any connection.
+pub fn piece_law()
+    ensures { (n : ℕ) (bytes : List ℕ) (v w : GatewayValue) (result : Result ℕ StepFault)
+        (opened : List ℕ) (es : List GatewayEvent)
+        (taken : ℕ → List ReplyEntry) (handed : List JobValue) → IsServing v → Served v opened es taken handed
+        → FedTo n bytes v w result → ServedFed n bytes w opened es taken handed result }
+{}
+
+/// What is taken is no event.
+pub fn taken_law()
+    ensures job { (job : Option HandedJob) (v w : GatewayValue) (opened : List ℕ) (es : List GatewayEvent)
+        (taken : ℕ → List ReplyEntry) (handed : List JobValue) → IsServing v → Served v opened es taken handed
+        → JobTaken v.machine w.machine job → w ≡ record v { machine = w.machine }
+        → Served w opened es taken (handed ++ option_to_list (option_map (λ j. j.job) job)) }
+    ensures reply { (n : ℕ) (reply : Option ReplyValue) (v w : GatewayValue) (opened : List ℕ) (es : List GatewayEvent)
+        (taken : ℕ → List ReplyEntry) (handed : List JobValue) → IsServing v → Served v opened es taken handed
+        → TakesReply n v w reply → Served w opened es (with_reply n reply taken) handed }
+{}
+
+/// Two pieces of a stream are as one, if there is a list of the requests of what came up to the first.
+pub fn joined_law()
+    ensures { (n : ℕ) (p q : List ℕ) (w : GatewayValue) (opened : List ℕ) (es : List GatewayEvent)
+        (taken : ℕ → List ReplyEntry) (handed : List JobValue)
+        → ((place : ℕ) → succeeds opened place ≡ true → place < length es)
+        → ((gained : List Entering) → Gains w.plans (stream opened n es) (stream opened n es ++ (p ++ q)) gained
+        → (given : List HttpRequest) × (ending : Ending) × Requests 0 (stream opened n es ++ p) given ending)
+        → Served w opened (Piece n q ∷ Piece n p ∷ es) taken handed
+        → Served w opened (Piece n (p ++ q) ∷ es) taken handed }
+{}

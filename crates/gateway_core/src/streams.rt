@@ -1,0 +1,285 @@
+ghost use Rattle.std.specs.Prelude.{◌≡◌, ◌==◌, ◌<◌, ◌≤◌, Err, IfOk, OnErr, false, true, not, filter, length, []};
+ghost use Rattle.gateway_core.specs.Ends.{is_stopped_in};
+ghost use Rattle.gateway_core.specs.Step.{moment_after};
+ghost use Rattle.gateway_core.specs.Results.{Forgets, ResultTaken, Starved};
+ghost use Rattle.gateway_core.specs.Opens.{JobTaken};
+ghost use Rattle.gateway_core.specs.Serving.{Breaks, BringsAt, Closes, Ends, FedTo, gateway_value, HangsUp, IsListening, IsPlaced, ListensAt, Opens, Pushes, TakesReply, without_more};
+ghost use Rattle.gateway_core.specs.Store.{MachineValue, broken_at, conn_at, machine_value};
+
+use crate::fault::{StepFault, Took};
+use crate::id::CallId;
+use crate::machine::cause::Cause;
+use crate::machine::job::Job;
+use crate::machine::store::Machine;
+use crate::machine::stream::Stream;
+use crate::reply::Reply;
+use call_plan::Plans;
+use connect_codec::Outcome;
+use http_pieces::State;
+use std::alloc::{AllocError, Global};
+use std::marker::Model;
+
+/// Connections that may be open at once.
+const MOST_OPEN: usize = 64;
+
+/// Openings that may succeed.
+const MOST_OPENINGS: u64 = 1 << 56;
+
+/// The open connections with their streams.
+#[derive(Drop)]
+pub(crate) struct Streams {
+    alloc: Global,
+    plans: Plans,
+    machine: Machine,
+    /// One of each connection that is open.
+    streams: Vec<Stream>,
+    /// How many connections were opened: the number of the next.
+    opened: u64,
+}
+
+/// Why no connection was opened.
+#[derive(Clone, Copy, PartialEq, Eq, Debug)]
+pub(crate) enum Refusal {
+    /// As many are open as may be.
+    Full,
+    /// As many were opened as may be.
+    Exhausted,
+    /// Memory was refused.
+    Memory,
+}
+
+impl Model for Streams {
+    ghost use Rattle.gateway_core.specs.Gateway.{GatewayValue};
+    ghost use Rattle.gateway_core.specs.Serving.{gateway_value, IsServing};
+
+    ghost Value = { GatewayValue };
+
+    ghost view = { λ s. gateway_value s.plans s.machine s.streams.items s.opened };
+
+    ghost invariant = { λ s. IsServing (gateway_value s.plans s.machine s.streams.items s.opened) };
+}
+
+impl Streams {
+    /// No connection is open.
+    pub(crate) fn new(alloc: Global, plans: Plans) -> Streams
+        ensures { result ≡ gateway_value plans (machine_value 0 false [] [] []) [] 0 }
+    {
+        Streams {
+            alloc,
+            plans,
+            machine: Machine::new(alloc),
+            streams: Vec::new(alloc),
+            opened: 0,
+        }
+    }
+
+    /// Opens a connection, and answers its number. A refusal is the first that applies of `Full`, `Exhausted` and `Memory`, and
+    /// changes nothing.
+    pub(crate) fn open(&mut self) -> Result<u64, Refusal>
+        ensures opens { IfOk result (Opens self.old self.new) }
+        ensures full { result ≡ Err Refusal.Full → 64 ≤ length self.old.streams }
+        ensures err { OnErr result (self.new ≡ self.old) }
+    {
+        if self.streams.len() >= MOST_OPEN {
+            return Err(Refusal::Full);
+        }
+        if self.opened >= MOST_OPENINGS {
+            return Err(Refusal::Exhausted);
+        }
+        let number = self.opened;
+        let room = self.streams.reserve(1);
+        if room.is_err() || self.machine.open(self.alloc, number).is_err() {
+            return Err(Refusal::Memory);
+        }
+        self.streams.push_reserved(Stream::new(self.alloc, number));
+        self.opened += 1;
+        Ok(number)
+    }
+
+    /// Takes bytes of the stream of that number, at most up to the end of a request, and answers how many.
+    pub(crate) fn feed(&mut self, number: u64, bytes: &[u8]) -> Result<usize, StepFault>
+        ensures { FedTo number bytes.now self.old self.new result }
+    {
+        let Some(index) = self.listening(number) else {
+            return Err(StepFault::Gone);
+        };
+        if self.streams[index].is_over() {
+            return Ok(bytes.len());
+        }
+        let Ok(taken) = self.push(index, bytes) else {
+            self.break_conn(number);
+            return Err(StepFault::Memory);
+        };
+        self.bring(index);
+        if self.machine.is_stopped(number) {
+            return Err(StepFault::Memory);
+        }
+        Ok(taken)
+    }
+
+    /// The peer of that connection hung up: its calls end, and no more of its stream is read.
+    pub(crate) fn hang_up(&mut self, number: u64) -> Result<(), StepFault>
+        ensures { HangsUp number self.old self.new result }
+    {
+        let Some(index) = self.listening(number) else {
+            return Err(StepFault::Gone);
+        };
+        self.stop_reading(index);
+        self.end_calls(&Cause::HungUp(number));
+        if self.machine.is_stopped(number) {
+            return Err(StepFault::Memory);
+        }
+        Ok(())
+    }
+
+    /// A moment has come, in milliseconds: the calls end whose deadlines it has reached. True where a connection broke in the step.
+    pub(crate) fn moment(&mut self, moment: u64) -> bool
+        ensures ends { Ends (Cause.Reached (moment_after self.old.machine.moment moment))
+            (record self.old.machine { moment = moment_after self.old.machine.moment moment }) self.old self.new }
+        ensures broke { Breaks self.old self.new result }
+    {
+        let moment = self.machine.tell(moment);
+        self.end_calls(&Cause::Reached(moment))
+    }
+
+    /// The drain has begun: all calls end. True where a connection broke in the step.
+    pub(crate) fn drain(&mut self) -> bool
+        ensures ends { Ends Cause.Drained (record self.old.machine { drained = true }) self.old self.new }
+        ensures broke { Breaks self.old self.new result }
+    {
+        self.machine.drain();
+        self.end_calls(&Cause::Drained)
+    }
+
+    /// Closes the connection of that number, and answers whether it was open.
+    pub(crate) fn close(&mut self, number: u64) -> bool
+        ensures { Closes number self.old self.new result }
+    {
+        if self.place(number).is_none() {
+            return false;
+        }
+        self.machine.close(number);
+        close_in(&mut self.streams, number);
+        true
+    }
+
+    /// A branch of a call ends with that outcome.
+    pub(crate) fn result(&mut self, id: &CallId, branch: u32, outcome: Outcome) -> Took
+        ensures taken { (between : MachineValue) × ResultTaken id.now branch outcome self.old.machine between result
+            × Forgets id.now between self.new.machine }
+        ensures rest { self.new ≡ record self.old { machine = self.new.machine } }
+    {
+        self.machine.take_result(self.alloc, id, branch, outcome)
+    }
+
+    /// A worker found no memory for what a branch ended with: where that counts, its connection breaks.
+    pub(crate) fn starve(&mut self, id: &CallId, branch: u32) -> Took
+        ensures starved { (between : MachineValue) × Starved id.now branch self.old.machine between result
+            × Forgets id.now between self.new.machine }
+        ensures rest { self.new ≡ record self.old { machine = self.new.machine } }
+    {
+        self.machine.starve(id, branch)
+    }
+
+    /// Hands out the next job, in order of start.
+    pub(crate) fn take_job(&mut self) -> Option<Job>
+        ensures taken { JobTaken self.old.machine self.new.machine result }
+        ensures rest { self.new ≡ record self.old { machine = self.new.machine } }
+    {
+        self.machine.take_job()
+    }
+
+    /// Hands out the next reply of that connection, in order of its requests.
+    pub(crate) fn take_reply(&mut self, number: u64) -> Option<Reply>
+        ensures { TakesReply number self.old self.new result }
+    {
+        let Some(index) = self.place(number) else {
+            return None;
+        };
+        self.machine.take_reply(index)
+    }
+
+    /// Where the stream of that number stands.
+    fn place(&self, number: u64) -> Option<usize>
+        ensures { IsPlaced number self.now.streams result }
+    {
+        for index in 0..self.streams.len() {
+            if self.streams[index].is_of(number) {
+                return Some(index);
+            }
+        }
+        None
+    }
+
+    /// Where the connection of that number stands, if pieces of its stream are taken.
+    fn listening(&self, number: u64) -> Option<usize>
+        ensures { IsListening number self.now result }
+    {
+        let Some(index) = self.place(number) else {
+            return None;
+        };
+        if self.streams[index].has_hung_up() {
+            return None;
+        }
+        if self.machine.is_stopped(number) {
+            return None;
+        }
+        Some(index)
+    }
+
+    /// The reader of the stream at that place takes bytes.
+    fn push(&mut self, index: usize, bytes: &[u8]) -> Result<usize, AllocError>
+        requires { index < length self.old.streams }
+        ensures ok { IfOk result (λ n. Pushes index n bytes.now self.old self.new) }
+        ensures err { OnErr result (self.new ≡ self.old) }
+    {
+        self.streams[index].push(bytes)
+    }
+
+    /// No more is read of the stream at that place.
+    fn stop_reading(&mut self, index: usize)
+        requires { index < length self.old.streams }
+        ensures { self.new ≡ record self.old { streams = without_more index self.old.streams } }
+    {
+        self.streams[index].hang_up();
+    }
+
+    /// The connection of that number breaks.
+    fn break_conn(&mut self, number: u64)
+        ensures { self.new ≡ record self.old { machine = broken_at number self.old.machine } }
+    {
+        self.machine.break_conn(number);
+    }
+
+    /// What the reader of the stream at that place has come to comes on its connection.
+    fn bring(&mut self, index: usize)
+        requires there { index < length self.old.streams }
+        requires on { (conn_at index self.old.machine.conns).broken ≡ false }
+        ensures { BringsAt index self.old self.new }
+    {
+        if let Some(request) = self.streams[index].take() {
+            self.machine.come(self.alloc, &self.plans, index, request);
+            return;
+        }
+        if let State::Refused(refusal) = self.streams[index].state() {
+            self.machine.stop(self.alloc, index, refusal);
+        }
+    }
+
+    /// The calls end that this ends. True where a connection broke.
+    fn end_calls(&mut self, cause: &Cause) -> bool
+        ensures ends { Ends cause.now self.old.machine self.old self.new }
+        ensures broke { Breaks self.old self.new result }
+    {
+        let before = self.machine.broken();
+        self.machine.end_calls(self.alloc, cause);
+        self.machine.broken() > before
+    }
+}
+
+/// Leaves the streams of other numbers.
+fn close_in(streams: &mut Vec<Stream>, number: u64)
+    ensures { streams.new.items ≡ filter (λ s. not (s.number == number)) streams.old.items }
+{
+    streams.retain(|stream| !stream.is_of(number));
+}
