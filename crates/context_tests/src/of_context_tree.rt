@@ -3,7 +3,7 @@ use std::test::Fail;
 
 #[test]
 fn contexts(rt: HostRuntime) -> Result<(), Fail> {
-    let mut tree: Tree<u32, &str> = Tree::new(rt.alloc());
+    let mut tree: Tree<u32, u8> = Tree::new(rt.alloc());
     let b = tree.background()?;
     let p = tree.with_deadline(b, 100, 0, Some(7))?;
     let c = tree.with_deadline(p, 200, 0, None)?;
@@ -29,9 +29,9 @@ fn contexts(rt: HostRuntime) -> Result<(), Fail> {
         tree.cause(e),
         Ok(Some(Cause::Plain(CtxErr::DeadlineExceeded)))
     );
-    let v = tree.with_value(b, 1, "r").map_err(|refused| refused.1)?;
+    let v = with_value(&mut tree, b, 1, b'r')?;
     let u = tree.with_cancel(v)?;
-    assert_eq!(rt; tree.value(u, 1), Ok(Some(&"r")));
+    assert_eq!(rt; tree.value(u, 1), Ok(Some(&b'r')));
     assert_eq!(rt; tree.value(u, 2), Ok(None));
     Ok(())
 }
@@ -136,8 +136,10 @@ fn with_value(
     key: u32,
     value: u8,
 ) -> Result<CtxId, CtxError> {
-    tree.with_value(parent, key, value)
-        .map_err(|refused| refused.1)
+    match tree.with_value(parent, key, value) {
+        Ok(id) => Ok(id),
+        Err(refused) => Err(refused.1),
+    }
 }
 
 // The siblings of one that is released are linked past it, whichever of them goes first.
