@@ -62,3 +62,4 @@ pub mod ServedOpens
 pub mod ServedPieces
 pub mod ServedJoins
 pub mod ServedTakes
+pub mod ServedWhole

@@ -1,6 +1,6 @@
 -- What the gateway stands for after an opening and a closing.
-use Rattle.std.proofs.Common.{◌≡◌, ℕ, suc, ◌+◌, ◌<◌, ◌≤◌, Bool, true, false, List, [], ◌∷◌, ◌++◌, length, Option, None, Some, refl, sym, ap, ◌∙◌, subst, arith, ⊎_elim}
-use Rattle.std.specs.Prelude.{if◌then◌else◌, ◌&&◌, ◌||◌, not, ◌==◌, is_some, nat_lt}
+use Rattle.std.proofs.Common.{◌≡◌, ℕ, suc, ◌+◌, ◌<◌, ◌≤◌, Bool, true, false, List, [], ◌∷◌, ◌++◌, length, Option, None, Some, Result, Ok, Err, refl, sym, ap, ◌∙◌, subst, arith, ⊎_elim}
+use Rattle.std.specs.Prelude.{IfOk, MatchResult, OnErr, if◌then◌else◌, ◌&&◌, ◌||◌, not, ◌==◌, is_some, nat_lt}
 use Rattle.std.specs.List.{list_any}
 use Rattle.std.specs.Option.{option_or}
 use Rattle.std.proofs.lemmas.Bool.{cases_Bool, eq-eqb, eqb-true, ltb-true, ltb-false, lt-ltb, le-ltb, ne_eqb}
@@ -8,6 +8,7 @@ use Rattle.call_plan.specs.Plan.{PlanRecord}
 use Rattle.http_pieces.specs.Reader.{HasRead, Partial, reader_value}
 use Rattle.http_pieces.specs.Request.{HttpRequest}
 use Rattle.gateway_core.specs.declared.entry.ReplyEntry.{ReplyEntry}
+use Rattle.gateway_core.specs.declared.streams.Refusal.{Refusal}
 use Rattle.gateway_core.specs.Conn.{ConnValue, conn_value}
 use Rattle.gateway_core.specs.Events.{Before, Closing, Occurs, Opening, connections, hung_up, is_hang_up_of, is_open, onto, once, piece_of, stream, succeeds, IsShifted}
 use Rattle.gateway_core.specs.Gateway.{GatewayStands, GatewayValue, StreamValue, goes_on, new_stream, stream_of}
@@ -306,3 +307,12 @@ module _ (v w : GatewayValue) (opened : List ℕ) (es : Before) (taken : ℕ →
           gone : (c : ℕ) (b : Bool) → (c == n) ≡ b → stream_of c v.streams ≡ None → stream_of c w.streams ≡ None
           gone c true e none = stream_is c ∙ ap (λ b. if b then None else stream_of c v.streams) e
           gone c false e none = stream_is c ∙ ap (λ b. if b then None else stream_of c v.streams) e ∙ none
+
+-- an opening, whether it succeeds or not
+pub opening_stands : (v w : GatewayValue) (result : Result ℕ Refusal) (opened : List ℕ) (es : Before) (taken : ℕ → List ReplyEntry) (handed : List JobValue) → Served v opened es taken handed
+    → ((number : ℕ) → Opens v w number → Served w (opened ++ length es ∷ []) (Opening ∷ es) taken handed)
+    → IsServing v → IfOk result (Opens v w) → OnErr result (w ≡ v)
+    → MatchResult result (λ _. Served w (opened ++ length es ∷ []) (Opening ∷ es) taken handed) (λ _. Served w opened (Opening ∷ es) taken handed)
+opening_stands v w (Ok number) opened es taken handed h succeeds_so serving o err = succeeds_so number o
+opening_stands v w (Err refusal) opened es taken handed h succeeds_so serving o err =
+    subst (λ x. Served x opened (Opening ∷ es) taken handed) (sym err) (unopened_served v v opened es taken handed serving h)

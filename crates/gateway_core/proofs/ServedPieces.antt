@@ -203,7 +203,7 @@ conns_piece n bytes v w opened es opened_is same back h = record {
       b.6 read.0 read.1;
 }
 
-over_more : (reader : ReaderValue) (text more : List ℕ) (given : List HttpRequest) → is_over reader.reading ≡ true → HasRead reader text given → HasRead reader (text ++ more) given
+pub over_more : (reader : ReaderValue) (text more : List ℕ) (given : List HttpRequest) → is_over reader.reading ≡ true → HasRead reader text given → HasRead reader (text ++ more) given
 over_more reader text more given over h = record {
   count = h.count;
   reads = by_reading reader.reading over h.reads;
@@ -251,7 +251,7 @@ over_gains plans reader text more given over h = by_reading reader.reading over 
       gained_is = refl;
     }
 
-feeds_read : (i n : ℕ) (bytes : List ℕ) (v w : GatewayValue) (text : List ℕ) (given : List HttpRequest) (f : Feeds i n bytes v w) → HasRead (stream_at i v.streams).reader text given
+pub feeds_read : (i n : ℕ) (bytes : List ℕ) (v w : GatewayValue) (text : List ℕ) (given : List HttpRequest) (f : Feeds i n bytes v w) → HasRead (stream_at i v.streams).reader text given
     → (now : List HttpRequest) × HasRead f.new (text ++ take n bytes) now
 feeds_read i n bytes v w text given f read = by_reading f.pushed.reading f.brings
   where
@@ -309,16 +309,16 @@ module _ (n : ℕ) (v w : GatewayValue) (opened : List ℕ) (es : Before) (taken
           broken_text c false e = inl (ap (λ b. if b then stream opened c es ++ bytes else stream opened c es) e)
 
   module _ (i : ℕ) (l : ListensAt n v i) where
-    here : conn_of n v.machine.conns ≡ Some (conn_at i v.machine.conns)
+    pub here : conn_of n v.machine.conns ≡ Some (conn_at i v.machine.conns)
     here = ap (λ m. conn_of m v.machine.conns) (sym l.conn_is) ∙ conn_found i v.machine.conns l.conn_there serving.orderly.conns_apart
 
     stream_here : stream_of n v.streams ≡ Some (stream_at i v.streams)
     stream_here = ap (λ m. stream_of m v.streams) (sym l.stream_is) ∙ stream_found i v.streams l.stream_there (streams_apart v serving)
 
-    listening : listens opened n es ≡ true
+    pub listening : listens opened n es ≡ true
     listening = rw (h.conns.open_are n ∙ ap (λ o. is_some o) here, sym (h.conns.hung_are n (conn_at i v.machine.conns) (stream_at i v.streams) here stream_here l.unbroken) ∙ l.on) refl
 
-    read_here : (given : List HttpRequest) × HasRead (stream_at i v.streams).reader (stream opened n es) given
+    pub read_here : (given : List HttpRequest) × HasRead (stream_at i v.streams).reader (stream opened n es) given
     read_here = h.conns.reads_are n (conn_at i v.machine.conns) (stream_at i v.streams) here stream_here (rw (l.unbroken, l.on) refl)
 
     -- the stream is over

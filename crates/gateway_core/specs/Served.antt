@@ -2,13 +2,15 @@
 use Rattle.std.specs.Prelude.{◌≡◌, ◌⊎◌, ℕ, ◌<◌, true, false, List, ◌∷◌, ◌++◌, ◌==◌, if◌then◌else◌, take, length, Option, Some, option_map, option_to_list, is_some, Result, Ok, Err}
 use Rattle.http_pieces.specs.Reader.{HasRead}
 use Rattle.http_pieces.specs.Request.{HttpRequest}
+use Rattle.http_pieces.specs.Requests.{Ending, Requests}
 use Rattle.gateway_core.specs.declared.entry.ReplyEntry.{ReplyEntry}
 use Rattle.gateway_core.specs.declared.fault.StepFault.{StepFault}
 use Rattle.gateway_core.specs.Conn.{ConnValue}
 use Rattle.gateway_core.specs.Ends.{is_stopped_in}
-use Rattle.gateway_core.specs.Events.{Before, Occurs, Piece, connections, hung_up, is_open, stream, succeeds}
+use Rattle.gateway_core.specs.Events.{Before, Gains, Occurs, Piece, connections, hung_up, is_open, stream, succeeds}
 use Rattle.gateway_core.specs.Gateway.{GatewayStands, GatewayValue, StreamValue, goes_on, stream_of}
 use Rattle.gateway_core.specs.Job.{JobValue}
+use Rattle.gateway_core.specs.Occurrence.{Entering}
 use Rattle.gateway_core.specs.Reply.{ReplyValue}
 use Rattle.gateway_core.specs.Starts.{Placed, occurrences}
 use Rattle.gateway_core.specs.Store.{conn_of}
@@ -43,3 +45,15 @@ abbrev pub ServedFed : ℕ → List ℕ → GatewayValue → List ℕ → Before
 ServedFed n bytes w opened es taken handed (Ok m) = Served w opened (Piece n (take m bytes) ∷ es) taken handed
 ServedFed n bytes w opened es taken handed (Err fault) =
     Served w opened (Piece n bytes ∷ es) taken handed ⊎ ((m : ℕ) × (is_stopped_in n w.machine.conns ≡ true) × Served w opened (Piece n (take m bytes) ∷ es) taken handed)
+
+-- ---- a piece that is fed in parts
+
+-- the text has a list of requests, which is there
+abbrev pub IsKnown : List ℕ → Type 0
+IsKnown text = (given : List HttpRequest) × (ending : Ending) × Requests 0 text given ending
+
+-- the gateway after these events and the first bytes of one more, a piece of that connection's stream
+pub record ServedUpTo (n : ℕ) (fed : List ℕ) (v : GatewayValue) (opened : List ℕ) (es : Before) (taken : ℕ → List ReplyEntry) (handed : List JobValue) : Type 0 where
+  pub below : (place : ℕ) → succeeds opened place ≡ true → place < length es
+  pub served : Served v opened (Piece n fed ∷ es) taken handed
+  pub known : (rest : List ℕ) (gained : List Entering) → Gains v.plans (stream opened n es) (stream opened n es ++ (fed ++ rest)) gained → IsKnown (stream opened n es ++ fed)

@@ -21,6 +21,7 @@ pub mod machine_laws;
 mod record;
 mod reply;
 mod reply_bytes;
+mod served;
 pub mod served_laws;
 mod stock;
 mod streams;

@@ -1,5 +1,5 @@
 //! What the gateway stands for after each event, by what a call makes of its value. The functions do nothing.
-ghost use Rattle.std.specs.Prelude.{◌≡◌, ℕ, List, ◌++◌, ◌∷◌, [], ◌<◌, length, Bool, Option, option_map, option_to_list, Result, true, ⊤};
+ghost use Rattle.std.specs.Prelude.{◌≡◌, ℕ, List, ◌++◌, ◌∷◌, [], ◌<◌, length, Bool, Option, option_map, option_to_list, take, Result, Ok, Err, true, ⊤};
 ghost use Rattle.connect_codec.specs.declared.answer.Outcome.{Outcome};
 ghost use Rattle.http_pieces.specs.Request.{HttpRequest};
 ghost use Rattle.http_pieces.specs.Requests.{Ending, Requests};
@@ -15,7 +15,7 @@ ghost use Rattle.gateway_core.specs.Job.{HandedJob, JobValue};
 ghost use Rattle.gateway_core.specs.Opens.{JobTaken};
 ghost use Rattle.gateway_core.specs.Reply.{ReplyValue};
 ghost use Rattle.gateway_core.specs.Results.{Forgets, ResultTaken, Starved};
-ghost use Rattle.gateway_core.specs.Served.{Served, ServedFed, with_reply};
+ghost use Rattle.gateway_core.specs.Served.{Served, ServedFed, ServedUpTo, with_reply};
 ghost use Rattle.gateway_core.specs.Serving.{Closes, Ends, FedTo, HangsUp, IsServing, Opens, TakesReply};
 ghost use Rattle.gateway_core.specs.Step.{moment_after};
 ghost use Rattle.gateway_core.specs.Store.{MachineValue};
@@ -101,4 +101,18 @@ pub fn joined_law()
         → (given : List HttpRequest) × (ending : Ending) × Requests 0 (stream opened n es ++ p) given ending)
         → Served w opened (Piece n q ∷ Piece n p ∷ es) taken handed
         → Served w opened (Piece n (p ++ q) ∷ es) taken handed }
+{}
+
+/// A piece that is fed in parts, from its beginning to its end or to a fault.
+pub fn parts_law()
+    ensures begins { (n : ℕ) (v : GatewayValue) (opened : List ℕ) (es : List GatewayEvent)
+        (taken : ℕ → List ReplyEntry) (handed : List JobValue) → Served v opened es taken handed
+        → ServedUpTo n [] v opened es taken handed }
+    ensures goes_on { (n m : ℕ) (p q : List ℕ) (v w : GatewayValue) (opened : List ℕ) (es : List GatewayEvent)
+        (taken : ℕ → List ReplyEntry) (handed : List JobValue) → IsServing v → ServedUpTo n p v opened es taken handed
+        → FedTo n q v w (Ok m) → ServedUpTo n (p ++ take m q) w opened es taken handed }
+    ensures ends { (n : ℕ) (fault : StepFault) (p q : List ℕ) (v w : GatewayValue) (opened : List ℕ)
+        (es : List GatewayEvent) (taken : ℕ → List ReplyEntry) (handed : List JobValue)
+        → IsServing v → IsServing w → ServedUpTo n p v opened es taken handed
+        → FedTo n q v w (Err fault) → Served w opened (Piece n (p ++ q) ∷ es) taken handed }
 {}

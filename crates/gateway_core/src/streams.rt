@@ -3,11 +3,11 @@ ghost use Rattle.gateway_core.specs.Ends.{is_stopped_in};
 ghost use Rattle.gateway_core.specs.Step.{moment_after};
 ghost use Rattle.gateway_core.specs.Results.{Forgets, ResultTaken, Starved};
 ghost use Rattle.gateway_core.specs.Opens.{JobTaken};
-ghost use Rattle.gateway_core.specs.Serving.{Breaks, BringsAt, Closes, Ends, FedTo, gateway_value, HangsUp, IsListening, IsPlaced, ListensAt, Opens, Pushes, TakesReply, without_more};
+ghost use Rattle.gateway_core.specs.Serving.{Breaks, BringsAt, Closes, Ends, FedTo, gateway_value, HangsUp, IsListening, IsPlaced, IsServing, ListensAt, Opens, Pushes, TakesReply, without_more};
 ghost use Rattle.gateway_core.specs.Store.{MachineValue, broken_at, conn_at, machine_value};
 
 use crate::fault::{StepFault, Took};
-use crate::id::CallId;
+use crate::id::{CallId, ConnId};
 use crate::machine::cause::Cause;
 use crate::machine::job::Job;
 use crate::machine::store::Machine;
@@ -75,7 +75,7 @@ impl Streams {
 
     /// Opens a connection, and answers its number. A refusal is the first that applies of `Full`, `Exhausted` and `Memory`, and
     /// changes nothing.
-    pub(crate) fn open(&mut self) -> Result<u64, Refusal>
+    pub(crate) fn open(&mut self) -> Result<ConnId, Refusal>
         ensures opens { IfOk result (Opens self.old self.new) }
         ensures full { result ≡ Err Refusal.Full → 64 ≤ length self.old.streams }
         ensures err { OnErr result (self.new ≡ self.old) }
@@ -93,7 +93,7 @@ impl Streams {
         }
         self.streams.push_reserved(Stream::new(self.alloc, number));
         self.opened += 1;
-        Ok(number)
+        Ok(ConnId::of(number))
     }
 
     /// Takes bytes of the stream of that number, at most up to the end of a request, and answers how many.
@@ -197,6 +197,13 @@ impl Streams {
             return None;
         };
         self.machine.take_reply(index)
+    }
+
+    /// What is kept between two calls. It does nothing.
+    pub(crate) fn serving_law(&self)
+        ensures { IsServing self.now }
+    {
+        let _ = &self.alloc;
     }
 
     /// Where the stream of that number stands.
