@@ -5,8 +5,6 @@
 mod fault;
 mod input;
 mod task;
-#[cfg(test)]
-mod tests;
 mod words;
 
 pub use fault::Fault;

@@ -1,6 +1,6 @@
 -- Truth values, and facts that hang on one.
 use Rattle.std.proofs.Common.{◌≡◌, Bool, true, false, refl}
-use Rattle.std.specs.Prelude.{◌&&◌, ◌||◌, not, MatchBool}
+use Rattle.std.specs.Prelude.{◌&&◌, ◌||◌, not}
 
 pub or_true : (b : Bool) → (b || true) ≡ true
 or_true true = refl
@@ -21,8 +21,3 @@ and_false false = refl
 pub not_so : (b : Bool) → not b ≡ true → b ≡ false
 not_so true e = absurd (cc)
 not_so false e = refl
-
--- what follows either way
-pub either_way : (b : Bool) (P Q R : Type 0) → (b ≡ true → P → R) → (b ≡ false → Q → R) → MatchBool b P Q → R
-either_way true P Q R p q h = p refl h
-either_way false P Q R p q h = q refl h

@@ -275,7 +275,7 @@ any_cut plans opened shifted (e ∷ later) before conn p q a b h x y =
 -- ---- and the same starts, but for places
 
 -- the jobs of the starts are those of what occurred
-jobs_of_starts : (placed : List Placed) → map job_started (starts placed) ≡ jobs (marked (occurrences placed))
+pub jobs_of_starts : (placed : List Placed) → map job_started (starts placed) ≡ jobs (marked (occurrences placed))
 jobs_of_starts [] = refl
 jobs_of_starts (o ∷ placed) =
     let past : Past = marked (occurrences placed) in

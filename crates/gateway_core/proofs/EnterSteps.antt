@@ -50,10 +50,6 @@ call_kept next id s None calls l_is none_gone f = ap (call_at id) (append-nil ca
 
 -- ---- the machine
 
-left_none : (a b : Bool) → (a || b) ≡ false → b ≡ false
-left_none true b e = absurd (cc)
-left_none false b e = e
-
 stays_out : (id : CallId) (c : ℕ) (x : Entering) (old new : CallState) → ((i : ℕ) → has_out new i ≡ has_out old i) → CallStays id (Entry c x) old new
 stays_out id c x old new same = record { outs_are = λ i. same i ∙ sym (and_true (has_out old i)) }
 

@@ -48,7 +48,7 @@ occurs_unique plans opened (e ∷ before) a b h g =
     let os : h.2.0 ≡ g.2.0 = at_unique plans opened e before h.2.0 g.2.0 h.2.1 g.2.1 in
     h.2.2 ∙ rw (past, os) (sym g.2.2)
 
-onto_front : (place : ℕ) (os : List Occurrence) (more past : List Placed) → onto place os (more ++ past) ≡ onto place os more ++ past
+pub onto_front : (place : ℕ) (os : List Occurrence) (more past : List Placed) → onto place os (more ++ past) ≡ onto place os more ++ past
 onto_front place [] more past = refl
 onto_front place (o ∷ os) more past = onto_front place os ((place, o) ∷ more) past
 

@@ -1,16 +1,13 @@
 -- A piece of a stream, as the gateway's value takes it.
-use Rattle.std.proofs.Common.{◌≡◌, ℕ, zero, suc, ◌<◌, Bool, true, false, List, [], ◌∷◌, ◌++◌, length, Option, None, Some, refl, sym, ap, ◌∙◌, subst, arith, ⊎_elim, inl, inr, append-nil, All}
+use Rattle.std.proofs.Common.{◌≡◌, ℕ, zero, suc, ◌<◌, true, false, List, [], ◌∷◌, ◌++◌, length, Option, None, Some, refl, sym, ap, ◌∙◌, subst, arith, ⊎_elim, inl, inr, append-nil, All}
 use Rattle.std.specs.Prelude.{◌⊎◌, if◌then◌else◌, ◌==◌, option_map, slice_set, slice_index_or}
 use Rattle.std.specs.Option.{option_map_or}
 use Rattle.std.proofs.lemmas.Bool.{cases_Bool, eq-eqb, eqb-true}
 use Rattle.std.proofs.lemmas.List.Elements.{All-append, All-map}
-use Rattle.http_pieces.specs.Reader.{ReaderValue, Reading, Partial, Waiting, Stopped, Done, HasRead, HasReadTo, is_over}
-use Rattle.http_pieces.specs.Request.{HttpRequest}
-use Rattle.http_pieces.specs.Requests.{Open, Closed}
+use Rattle.http_pieces.specs.Reader.{Reading, Partial, Waiting, Stopped, Done, is_over}
 use Rattle.gateway_core.specs.declared.entry.ReplyEntry.{ReplyEntry}
 use Rattle.gateway_core.specs.Conn.{ConnValue, added}
 use Rattle.gateway_core.specs.Enters.{Enters, arriving_at}
-use Rattle.gateway_core.specs.Events.{refusal_gained}
 use Rattle.gateway_core.specs.Gateway.{StreamValue, stream_at, stream_of, StreamsApart, is_waiting}
 use Rattle.gateway_core.specs.Job.{JobValue}
 use Rattle.gateway_core.specs.Occurrence.{Occurrence, Entering, Entry}
@@ -73,13 +70,6 @@ midway (Partial left) over waiting = (left, refl)
 midway (Waiting q) over waiting = absurd (cc)
 midway (Stopped r) over waiting = absurd (cc)
 midway Done over waiting = absurd (cc)
-
-reads_to : (r : Reading) (reader : ReaderValue) (text : List ℕ) (given : List HttpRequest) → reader.reading ≡ r → HasRead reader text given → HasReadTo r text given
-reads_to r reader text given e h = subst (λ x. HasReadTo x text given) e h.reads
-
-none_gained : (b : Bool) (left : List ℕ) → refusal_gained (Open left) (if b then Closed else Open []) ≡ []
-none_gained true left = refl
-none_gained false left = refl
 
 -- ---- something comes on a connection
 

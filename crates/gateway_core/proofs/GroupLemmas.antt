@@ -108,14 +108,3 @@ is_begun id a asked n first out g tasks events asked_is n_is first_is out_is k e
       call_is = rw (asked_is, events_are, queue, outs_are) refl;
       first_are = k.first_are ∙ ap (λ m. map (task_of id a) (range_with_len 0 m)) ones;
     }
-
-pub none_gone : (id : CallId) (a : Asked) (g : Tasks) → g ≡ record { active = 0; limit = a.plan.limit; queue = []; first_error = None } → HasGone id a 0 g []
-none_gone id a g g_is =
-    let none : min 0 a.plan.limit ≡ 0 = omega arith in
-    let still : 0 - min 0 a.plan.limit ≡ 0 = omega arith in
-    rw g_is (record {
-      active_is = sym none;
-      limit_is = refl;
-      queue_is = sym (ap (λ n. map (task_of id a) (range_with_len (min 0 a.plan.limit) n)) still);
-      first_are = sym (ap (λ n. map (task_of id a) (range_with_len 0 n)) none);
-    })

@@ -1,17 +1,11 @@
 pub mod Cases
-pub mod KeepLemmas
 pub mod ArrivalLemmas
-pub mod CountLemmas
 pub mod LimitLemmas
 pub mod PastLemmas
-pub mod StartLemmas
 pub mod Places
 pub mod StandsLemmas
-pub mod ConnLemmas
-pub mod ArriveLemmas
 pub mod JobLemmas
 pub mod UnknownLemmas
-pub mod CoreLemmas
 pub mod Unborn
 pub mod Frame
 pub mod StepLemmas
@@ -63,3 +57,9 @@ pub mod ServedPieces
 pub mod ServedJoins
 pub mod ServedTakes
 pub mod ServedWhole
+pub mod Keeping
+pub mod ServedFirst
+pub mod EventStarts
+pub mod Standings
+pub mod SeenResults
+pub mod OpenCount

@@ -110,7 +110,7 @@ none_started c id m past e = by_call (call id (m ∷ past))
     by_call (Some a) = none_of c (now past) id a (branches_started id m past) e
 
 -- the jobs that start at an occurrence are its connection's
-none_by : (c : ℕ) (o : Occurrence) (m : Mark) (past : Past) → (starting_conn o == c) ≡ false → filter (is_of c) (jobs_by o m past) ≡ []
+pub none_by : (c : ℕ) (o : Occurrence) (m : Mark) (past : Past) → (starting_conn o == c) ≡ false → filter (is_of c) (jobs_by o m past) ≡ []
 none_by c (Entry d x) m past e = none_started c (call_id d (entries d past)) m past e
 none_by c (Result of i r) m past e = none_started c of m past e
 none_by c Opening m past e = refl

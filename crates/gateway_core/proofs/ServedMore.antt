@@ -16,7 +16,6 @@ use Rattle.gateway_core.specs.Gateway.{GatewayValue, StreamValue, goes_on, strea
 use Rattle.gateway_core.specs.Job.{JobValue}
 use Rattle.gateway_core.specs.Kept.{KeptValue}
 use Rattle.gateway_core.specs.Machine.{slot_at}
-use Rattle.gateway_core.specs.Occurrence.{Occurrence}
 use Rattle.gateway_core.specs.Occurrence as occurs
 use Rattle.gateway_core.specs.Orderly.{IsInOrder, IsOrderly}
 use Rattle.gateway_core.specs.Past.{call_id}

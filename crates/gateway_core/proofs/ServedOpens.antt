@@ -8,12 +8,11 @@ use Rattle.call_plan.specs.Plan.{PlanRecord}
 use Rattle.http_pieces.specs.Reader.{HasRead, Partial, reader_value}
 use Rattle.http_pieces.specs.Request.{HttpRequest}
 use Rattle.gateway_core.specs.declared.entry.ReplyEntry.{ReplyEntry}
-use Rattle.gateway_core.specs.declared.streams.Refusal.{Refusal}
+use Rattle.gateway_core.specs.declared.fault.OpenError.{OpenError}
 use Rattle.gateway_core.specs.Conn.{ConnValue, conn_value}
 use Rattle.gateway_core.specs.Events.{Before, Closing, Occurs, Opening, connections, hung_up, is_hang_up_of, is_open, onto, once, piece_of, stream, succeeds, IsShifted}
 use Rattle.gateway_core.specs.Gateway.{GatewayStands, GatewayValue, StreamValue, goes_on, new_stream, stream_of}
 use Rattle.gateway_core.specs.Job.{JobValue}
-use Rattle.gateway_core.specs.Occurrence.{Occurrence}
 use Rattle.gateway_core.specs.Occurrence as occurs
 use Rattle.gateway_core.specs.Served.{Served, StandsBy}
 use Rattle.gateway_core.specs.Serving.{Closes, IsServing, Opens}
@@ -51,7 +50,7 @@ unopened_text opened c (e ∷ es) le =
 
 -- ---- one more opening succeeds
 
-succeeds_more : (opened : List ℕ) (place at : ℕ) → succeeds (opened ++ place ∷ []) at ≡ (succeeds opened at || (place == at))
+pub succeeds_more : (opened : List ℕ) (place at : ℕ) → succeeds (opened ++ place ∷ []) at ≡ (succeeds opened at || (place == at))
 succeeds_more [] place at = or_false (place == at)
 succeeds_more (p ∷ opened) place at = by_it (p == at) (succeeds_more opened place at)
   where
@@ -66,14 +65,14 @@ not_yet opened n at below le = by_it (succeeds opened at) refl
     by_it true x = absurd (let lt = below at x in omega (arith, lt, le))
     by_it false x = x
 
-grown : (opened : List ℕ) (n : ℕ) → ((place : ℕ) → succeeds opened place ≡ true → place < n) → IsShifted n opened (opened ++ n ∷ [])
+pub grown : (opened : List ℕ) (n : ℕ) → ((place : ℕ) → succeeds opened place ≡ true → place < n) → IsShifted n opened (opened ++ n ∷ [])
 grown opened n below = record {
   before = λ t lt. succeeds_more opened n t ∙ ap (λ b. succeeds opened t || b) (ne_eqb n t (λ same. absurd (omega (arith, lt, same)))) ∙ or_false (succeeds opened t);
   after = λ t lt. succeeds_more opened n (suc t) ∙ ap (λ b. b || (n == suc t)) (not_yet opened n (suc t) below (omega (arith, lt)))
       ∙ ne_eqb n (suc t) (λ same. absurd (omega (arith, lt, same))) ∙ sym (not_yet opened n t below (omega (arith, lt)));
 }
 
-occurs_before : (plans : List PlanRecord) (opened shifted : List ℕ) (n : ℕ) (es : Before) (past : List Placed) → length es ≤ n → IsShifted n opened shifted
+pub occurs_before : (plans : List PlanRecord) (opened shifted : List ℕ) (n : ℕ) (es : Before) (past : List Placed) → length es ≤ n → IsShifted n opened shifted
     → Occurs plans shifted es past → Occurs plans opened es past
 occurs_before plans opened shifted n [] past le h o = o
 occurs_before plans opened shifted n (e ∷ es) past le h (before, o, (os, at, is)) = (
@@ -309,7 +308,7 @@ module _ (v w : GatewayValue) (opened : List ℕ) (es : Before) (taken : ℕ →
           gone c false e none = stream_is c ∙ ap (λ b. if b then None else stream_of c v.streams) e ∙ none
 
 -- an opening, whether it succeeds or not
-pub opening_stands : (v w : GatewayValue) (result : Result ℕ Refusal) (opened : List ℕ) (es : Before) (taken : ℕ → List ReplyEntry) (handed : List JobValue) → Served v opened es taken handed
+pub opening_stands : (v w : GatewayValue) (result : Result ℕ OpenError) (opened : List ℕ) (es : Before) (taken : ℕ → List ReplyEntry) (handed : List JobValue) → Served v opened es taken handed
     → ((number : ℕ) → Opens v w number → Served w (opened ++ length es ∷ []) (Opening ∷ es) taken handed)
     → IsServing v → IfOk result (Opens v w) → OnErr result (w ≡ v)
     → MatchResult result (λ _. Served w (opened ++ length es ∷ []) (Opening ∷ es) taken handed) (λ _. Served w opened (Opening ∷ es) taken handed)

@@ -261,7 +261,7 @@ feeds_read i n bytes v w text given f read = by_reading f.pushed.reading f.bring
     by_reading (Stopped r) b = (given, subst (λ x. HasRead x (text ++ take n bytes) given) (sym b.0) (f.reads text given read))
     by_reading Done b = (given, subst (λ x. HasRead x (text ++ take n bytes) given) (sym b.0) (f.reads text given read))
 
-feeds_machine : (i n : ℕ) (bytes : List ℕ) (v w : GatewayValue) → Feeds i n bytes v w → (w.machine ≡ v.machine) ⊎ ((x : Entering) × Enters i x v.machine w.machine)
+pub feeds_machine : (i n : ℕ) (bytes : List ℕ) (v w : GatewayValue) → Feeds i n bytes v w → (w.machine ≡ v.machine) ⊎ ((x : Entering) × Enters i x v.machine w.machine)
 feeds_machine i n bytes v w f = by_reading f.pushed.reading f.brings
   where
     by_reading : (r : Reading) → Brings v.plans i r f.pushed f.new v.machine w.machine → (w.machine ≡ v.machine) ⊎ ((x : Entering) × Enters i x v.machine w.machine)
@@ -491,7 +491,7 @@ fed_served n bytes v w result opened es taken handed serving h (dropped i l over
     (subst (λ x. Served x opened (Piece n (take (length bytes) bytes) ∷ es) taken handed) (sym w_is) (dropped_served n v v opened es taken handed serving h i l (take (length bytes) bytes) over))
 fed_served n bytes v w result opened es taken handed serving h (unread i l going r w_is) =
     subst (ServedFed n bytes w opened es taken handed) (sym r) (inl (unread_served n v w opened es taken handed serving h i l bytes w_is))
-fed_served n bytes v w result opened es taken handed serving h (came i m l going f r) =
+fed_served n bytes v w result opened es taken handed serving h (came i m l going f within moves r) =
     by_stop (is_stopped_in n w.machine.conns) refl (subst (λ x. result ≡ x) refl r)
   where
     by_stop : (b : Bool) → is_stopped_in n w.machine.conns ≡ b → result ≡ (if is_stopped_in n w.machine.conns then Err Memory else Ok m) → ServedFed n bytes w opened es taken handed result

@@ -1,11 +1,10 @@
 -- What the gateway stands for after a piece that is fed in parts.
-use Rattle.std.proofs.Common.{◌≡◌, ℕ, ◌+◌, ◌<◌, Bool, true, false, List, [], ◌∷◌, ◌++◌, map, take, drop, length, Option, Some, Result, Ok, Err, refl, sym, ap, ◌∙◌, subst, arith, append-nil, append_assoc, ⊎_elim, inl, inr}
-use Rattle.std.specs.Prelude.{if◌then◌else◌, ◌&&◌, not, ◌==◌, is_some, MatchBool, MatchResult}
+use Rattle.std.proofs.Common.{◌≡◌, ℕ, Bool, true, false, List, [], ◌∷◌, ◌++◌, map, take, drop, Result, Ok, Err, refl, sym, ap, ◌∙◌, subst, arith, append-nil, append_assoc}
+use Rattle.std.specs.Prelude.{if◌then◌else◌, ◌&&◌, not, ◌==◌, MatchBool, MatchResult}
 use Rattle.std.specs.Option.{option_map_or}
-use Rattle.std.proofs.lemmas.Bool.{cases_Bool}
 use Rattle.std.proofs.lemmas.List.{append_cancel_left, take-append-drop}
 use Rattle.call_plan.specs.Plan.{PlanRecord}
-use Rattle.http_pieces.specs.Reader.{ReaderValue, Reading, Partial, Waiting, Stopped, Done, HasRead, HasReadTo, ending_after, is_over}
+use Rattle.http_pieces.specs.Reader.{ReaderValue, Reading, Partial, Waiting, Stopped, Done, HasRead, HasReadTo, ending_after}
 use Rattle.http_pieces.specs.Request.{HttpRequest}
 use Rattle.http_pieces.specs.Requests.{Ending, Open, Broken, Closed, Requests}
 use Rattle.http_pieces.proofs.RequestsLemmas.{requests_unique}
@@ -14,17 +13,16 @@ use Rattle.gateway_core.specs.declared.fault.StepFault.{StepFault}
 use Rattle.gateway_core.specs.declared.fault.StepFault.TheVariants.{Memory}
 use Rattle.gateway_core.specs.Conn.{ConnValue}
 use Rattle.gateway_core.specs.Ends.{is_stopped_in}
-use Rattle.gateway_core.specs.Events.{Before, Gains, OccursAt, Piece, listens, piece_of, refusal_gained, requests_gained, stream, succeeds}
-use Rattle.gateway_core.specs.Gateway.{GatewayValue, StreamValue, goes_on, stream_at, stream_of}
+use Rattle.gateway_core.specs.Events.{Before, Gains, Piece, listens, piece_of, refusal_gained, requests_gained, stream}
+use Rattle.gateway_core.specs.Gateway.{GatewayValue, stream_at}
 use Rattle.gateway_core.specs.Job.{JobValue}
 use Rattle.gateway_core.specs.Occurrence.{Entering, Entry, Occurrence}
-use Rattle.gateway_core.specs.Served.{HasConns, IsKnown, Served, ServedUpTo}
+use Rattle.gateway_core.specs.Served.{IsKnown, Served, ServedUpTo}
 use Rattle.gateway_core.specs.Serving.{FedTo, came, dropped, unheard, unread, IsDeaf, IsServing, ListensAt}
-use Rattle.gateway_core.specs.Store.{conn_at, conn_of}
 use Rattle.gateway_core.proofs.CutLemmas.{listens_piece, stream_piece}
 use Rattle.gateway_core.proofs.ServedJoins.{joined_served}
-use Rattle.gateway_core.proofs.ServedLemmas.{going_parts, hung_still, open_still, stands_none, text_still}
-use Rattle.gateway_core.proofs.ServedPieces.{came_served, dropped_served, feeds_read, here, listening, over_more, read_here, unheard_served, unread_served}
+use Rattle.gateway_core.proofs.ServedLemmas.{hung_still, open_still, stands_none, text_still}
+use Rattle.gateway_core.proofs.ServedPieces.{came_served, dropped_served, feeds_read, listening, over_more, read_here, unheard_served, unread_served}
 
 -- so many bytes were taken
 abbrev answer : ℕ → Result ℕ StepFault
@@ -112,7 +110,7 @@ module _ (n : ℕ) (p q : List ℕ) (v w : GatewayValue) (opened : List ℕ) (es
         (over_more (stream_at i v.streams).reader (stream opened n es ++ p) (take m q) (was_read i l).0 over (was_read i l).1));
   })
   fed_more m (unread i l going r w_is) = absurd (cc)
-  fed_more m (came i k l going f r) = by_stop (is_stopped_in n w.machine.conns) r
+  fed_more m (came i k l going f within moves r) = by_stop (is_stopped_in n w.machine.conns) r
     where
       by_stop : (b : Bool) → Ok m ≡ (if b then Err Memory else Ok k) → ServedUpTo n (p ++ take m q) w opened es taken handed
       by_stop true e = absurd (cc)
@@ -133,7 +131,7 @@ module _ (n : ℕ) (p q : List ℕ) (v w : GatewayValue) (opened : List ℕ) (es
   fed_fault fault then_serving (dropped i l over r w_is) = absurd (cc)
   fed_fault fault then_serving (unread i l going r w_is) =
       joined_up w q (ap (λ (x : GatewayValue). x.plans) w_is) (unread_served n v w opened (Piece n p ∷ es) taken handed serving h.served i l q w_is)
-  fed_fault fault then_serving (came i k l going f r) = by_stop (is_stopped_in n w.machine.conns) refl r
+  fed_fault fault then_serving (came i k l going f within moves r) = by_stop (is_stopped_in n w.machine.conns) refl r
     where
       first : Served w opened (Piece n (p ++ take k q) ∷ es) taken handed
       first = joined_up w (take k q) f.plans_are (came_served n v w opened (Piece n p ∷ es) taken handed serving h.served i l k q going f)

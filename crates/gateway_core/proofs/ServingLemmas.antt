@@ -5,7 +5,7 @@ use Rattle.std.specs.List.{list_any}
 use Rattle.std.specs.Option.{option_map_or}
 use Rattle.std.proofs.lemmas.Bool.{cases_Bool, cond_both, eq-eqb, eqb-true, ne_eqb}
 use Rattle.std.proofs.lemmas.List.{length-map}
-use Rattle.std.proofs.lemmas.List.Elements.{All-map}
+use Rattle.std.proofs.lemmas.List.Elements.{All-append, All-map, All-filter, All-set}
 use Rattle.connect_codec.specs.declared.answer.Outcome.{Outcome}
 use Rattle.gateway_core.specs.declared.entry.ReplyEntry.{ReplyEntry}
 use Rattle.gateway_core.specs.declared.fault.Took.{Took}
@@ -14,7 +14,8 @@ use Rattle.gateway_core.specs.declared.machine.cause.Cause.{Cause}
 use Rattle.gateway_core.specs.Conn.{ConnValue, added, conn_value, without_first}
 use Rattle.gateway_core.specs.Ends.{CallsEnd, ended_below, is_stopped_in, without_reply}
 use Rattle.gateway_core.specs.Enters.{Enters, arriving_at}
-use Rattle.gateway_core.specs.Gateway.{GatewayValue, StreamValue, StreamsApart, new_stream, stream_at, stream_of}
+use Rattle.gateway_core.specs.Queue.{front}
+use Rattle.gateway_core.specs.Gateway.{GatewayValue, StreamValue, StreamsApart, has_ended, is_ended, is_waiting, untaken_of, new_stream, no_stream, stream_at, stream_of}
 use Rattle.gateway_core.specs.Serving.{gateway_value, IsDeaf, IsPlaced, IsServing, ListensAt, NoCallOf}
 use Rattle.gateway_core.specs.Kept.{KeptValue}
 use Rattle.gateway_core.specs.Occurrence.{Entering}
@@ -219,32 +220,35 @@ keeps_reply i v w (Some r) lt t = record {
         by_slots [] x = absurd (cc)
         by_slots (s ∷ slots) x = omega arith
 
-pub keeps_then : (u v w : MachineValue) → Keeps u v → Keeps v w → Keeps u w
-keeps_then u v w a b = record {
-  orderly = λ h. b.orderly (a.orderly h);
-  numbers_are = b.numbers_are ∙ a.numbers_are;
-  no_call = λ h c none all. b.no_call (a.orderly h) c (still_none c v.conns u.conns a.numbers_are none) (a.no_call h c none all);
-}
-
 -- ---- the whole
 
-pub serving_kept : (v w : GatewayValue) → Keeps v.machine w.machine → names w.streams ≡ names v.streams → w.opened ≡ v.opened → IsServing v → IsServing w
-serving_kept v w k same opened_is h = record {
+-- no request of it waits to be taken
+abbrev pub IsRead : StreamValue → Type 0
+IsRead s = is_waiting s.reader.reading ≡ false
+
+pub serving_kept : (v w : GatewayValue) → Keeps v.machine w.machine → names w.streams ≡ names v.streams → All IsRead w.streams → w.opened ≡ v.opened → IsServing v → IsServing w
+serving_kept v w k same read opened_is h = record {
   orderly = k.orderly h.orderly;
   numbers_are = same ∙ h.numbers_are ∙ sym k.numbers_are;
+  settled = read;
   no_conn = λ c le. still_none c w.machine.conns v.machine.conns k.numbers_are (h.no_conn c (subst (λ n. n ≤ c) opened_is le));
   no_call = λ c le. k.no_call h.orderly c (h.no_conn c (subst (λ n. n ≤ c) opened_is le)) (h.no_call c (subst (λ n. n ≤ c) opened_is le));
 }
 
 -- the machine alone changes
 pub machine_kept : (v : GatewayValue) (m : MachineValue) → Keeps v.machine m → IsServing v → IsServing (gateway_value v.plans m v.streams v.opened)
-machine_kept v m k = serving_kept v (gateway_value v.plans m v.streams v.opened) k refl refl
+machine_kept v m k h = serving_kept v (gateway_value v.plans m v.streams v.opened) k refl h.settled refl h
 
 -- a stream is another of its number
-pub stream_kept : (i : ℕ) (t : StreamValue) (v : GatewayValue) → i < length v.streams → t.number ≡ (stream_at i v.streams).number → IsServing v
+pub stream_kept : (i : ℕ) (t : StreamValue) (v : GatewayValue) → i < length v.streams → t.number ≡ (stream_at i v.streams).number → IsRead t → IsServing v
     → IsServing (gateway_value v.plans v.machine (slice_set v.streams i t) v.opened)
-stream_kept i t v lt same =
-    serving_kept v (gateway_value v.plans v.machine (slice_set v.streams i t) v.opened) (keeps_same v.machine v.machine refl refl) (set_names i t v.streams lt same) refl
+stream_kept i t v lt same read h =
+    serving_kept v (gateway_value v.plans v.machine (slice_set v.streams i t) v.opened) (keeps_same v.machine v.machine refl refl) (set_names i t v.streams lt same)
+    (All-set IsRead v.streams i t read h.settled) refl h
+
+-- the stream at a place is read
+pub read_at : (i : ℕ) (v : GatewayValue) → i < length v.streams → IsServing v → IsRead (stream_at i v.streams)
+read_at i v lt h = h.settled i no_stream lt
 
 pub stream_is_at : (i : ℕ) (x : StreamValue) (streams : List StreamValue) → i < length streams → x ≡ slice_index_or streams i x → x ≡ stream_at i streams
 stream_is_at i x [] lt e = absurd (omega (arith, lt))
@@ -259,6 +263,13 @@ names_more : (s : StreamValue) (streams : List StreamValue) → names (streams +
 names_more s [] = refl
 names_more s (x ∷ streams) = ap (λ ns. x.number ∷ ns) (names_more s streams)
 
+read_more : (s : StreamValue) (streams : List StreamValue) → IsRead s → All IsRead streams → All IsRead (streams ++ s ∷ [])
+read_more s streams read all = All-append IsRead streams (s ∷ []) all (λ j d lt. one j d lt)
+  where
+    one : (j : ℕ) (d : StreamValue) → j < 1 → IsRead (slice_index_or (s ∷ []) j d)
+    one zero d lt = read
+    one (suc j) d lt = absurd (omega (arith, lt))
+
 no_number : (c n : ℕ) (ns : List ℕ) → has_number c ns ≡ false → (n == c) ≡ false → has_number c (ns ++ n ∷ []) ≡ false
 no_number c n [] none ne = rw ne refl
 no_number c n (m ∷ ns) none ne = by_it (m == c) none (λ rest. no_number c n ns rest ne)
@@ -272,6 +283,7 @@ pub opened_serving : (v : GatewayValue) (m : MachineValue) (streams : List Strea
 opened_serving v m streams h m_is streams_are =
     subst (λ x. IsServing (gateway_value v.plans x streams (v.opened + 1))) (sym m_is) (subst (λ ss. IsServing (gateway_value v.plans (opened_as v.opened v.machine) ss (v.opened + 1))) (sym streams_are) (record {
       orderly = opened_order v.opened v.machine (opened_as v.opened v.machine) (h.no_conn v.opened (omega arith)) (h.no_call v.opened (omega arith)) refl h.orderly;
+      settled = read_more (new_stream v.opened) v.streams refl h.settled;
       numbers_are = names_more (new_stream v.opened) v.streams ∙ ap (λ ns. ns ++ v.opened ∷ []) h.numbers_are ∙ sym (numbers_more (conn_value v.opened 0 [] false) v.machine.conns);
       no_conn = λ c le. none_if (conn_of c (v.machine.conns ++ conn_value v.opened 0 [] false ∷ [])) (conn_by_number c (v.machine.conns ++ conn_value v.opened 0 [] false ∷ [])
           ∙ ap (has_number c) (numbers_more (conn_value v.opened 0 [] false) v.machine.conns)
@@ -318,6 +330,7 @@ still_no_number c n (m ∷ ns) none = by_it (m == c) refl none (λ e. still_no_n
 pub closed_serving : (n : ℕ) (v w : GatewayValue) → w.machine ≡ closed_at n v.machine → w.streams ≡ filter (λ s. not (s.number == n)) v.streams → w.opened ≡ v.opened → IsServing v → IsServing w
 closed_serving n v w w_is streams_are opened_is h = record {
   orderly = closed_order n v.machine w.machine w_is h.orderly;
+  settled = subst (λ (ss : List StreamValue). All IsRead ss) (sym streams_are) (All-filter (λ s. not (s.number == n)) IsRead v.streams h.settled);
   numbers_are = ap names streams_are ∙ names_without n v.streams ∙ ap (filter (λ m. not (m == n))) h.numbers_are ∙ sym now;
   no_conn = λ c le. none_if (conn_of c w.machine.conns) (conn_by_number c w.machine.conns ∙ ap (has_number c) now
       ∙ still_no_number c n (numbers v.machine.conns) (sym (conn_by_number c v.machine.conns) ∙ ap (λ o. is_some o) (h.no_conn c (subst (λ m. m ≤ c) opened_is le))));
@@ -389,6 +402,14 @@ module _ (number i : ℕ) (v : GatewayValue) (h : IsServing v) (p : IsPlaced num
     on = on;
   }
 
+  -- what can be asked of it
+  pub ended_is : is_ended number v ≡ has_ended (conn_at i v.machine.conns) (stream_at i v.streams)
+  ended_is = ap (λ o. option_map_or (λ (k : ConnValue). option_map_or (λ (s : StreamValue). has_ended k s) (stream_of number v.streams) true) o true) conn_here
+      ∙ ap (λ o. option_map_or (λ (s : StreamValue). has_ended (conn_at i v.machine.conns) s) o true) stream_here
+
+  pub untaken_is : untaken_of number v ≡ front (conn_at i v.machine.conns).slots
+  untaken_is = ap (λ o. option_map_or (λ (k : ConnValue). front k.slots) o []) conn_here
+
 pub deaf_none : (number : ℕ) (v : GatewayValue) → IsPlaced number v.streams None → IsDeaf number v
 deaf_none number v none k s k_is s_is = absurd (let clash : None ≡ Some s = sym (placed_none number v.streams none) ∙ s_is in cc)
 
@@ -404,8 +425,8 @@ pub closed_value : (number : ℕ) (v : GatewayValue) (m : MachineValue) (streams
     → gateway_value v.plans m streams v.opened ≡ record v { machine = closed_at number v.machine; streams = filter (λ s. not (s.number == number)) v.streams }
 closed_value number v m streams m_is streams_are = ap (λ x. gateway_value v.plans x streams v.opened) m_is ∙ ap (λ ss. gateway_value v.plans (closed_at number v.machine) ss v.opened) streams_are
 
-pub entered_serving : (i : ℕ) (x : Entering) (m : MachineValue) (t : StreamValue) (v : GatewayValue) → i < length v.streams → (conn_at i v.machine.conns).broken ≡ false → Enters i x v.machine m
-    → t.number ≡ (stream_at i v.streams).number → IsServing v → IsServing (gateway_value v.plans m (slice_set v.streams i t) v.opened)
-entered_serving i x m t v lt on enters same h =
-    serving_kept v (gateway_value v.plans m (slice_set v.streams i t) v.opened)
-    (keeps_entered i x v.machine m (omega (arith, lt, same_size v.streams v.machine.conns h.numbers_are)) on enters) (set_names i t v.streams lt same) refl h
+-- something came on the connection at a place
+pub entered_serving : (i : ℕ) (x : Entering) (m : MachineValue) (v : GatewayValue) → i < length v.streams → (conn_at i v.machine.conns).broken ≡ false → Enters i x v.machine m
+    → IsServing v → IsServing (gateway_value v.plans m v.streams v.opened)
+entered_serving i x m v lt on enters h =
+    machine_kept v m (keeps_entered i x v.machine m (omega (arith, lt, same_size v.streams v.machine.conns h.numbers_are)) on enters) h

@@ -1,9 +1,9 @@
 -- How many calls of a connection are undecided: as many as slots are empty.
 use Rattle.std.proofs.Common.{◌≡◌, ℕ, zero, suc, ◌+◌, ◌≤◌, ◌<◌, Bool, true, false, List, [], ◌∷◌, ◌++◌, map, length, take, Option, None, Some, refl, sym, ap, ◌∙◌, arith, ⊎_elim}
-use Rattle.std.specs.Prelude.{is_some, is_none, if◌then◌else◌, option_map, slice_index_or}
+use Rattle.std.specs.Prelude.{is_some, is_none, not, ◌==◌, if◌then◌else◌, option_map, slice_index_or}
 use Rattle.std.specs.Option.{option_or, option_map_or}
 use Rattle.std.specs.List.{count_by}
-use Rattle.std.proofs.lemmas.Bool.{cond_both, cases_eq, eq-eqb}
+use Rattle.std.proofs.lemmas.Bool.{cases_Bool, cond_both, cases_eq, eq-eqb, eqb-true, ne_eqb}
 use Rattle.std.proofs.lemmas.List.{take_all}
 use Rattle.std.proofs.lemmas.List.Sums.{count_by_more_no, count_by_more_yes}
 use Rattle.http_pieces.specs.Request.{HttpRequest}
@@ -14,7 +14,10 @@ use Rattle.gateway_core.specs.Occurrence.{Entering, Request, Refused}
 use Rattle.gateway_core.specs.declared.event.CallEvent.{CallEvent}
 use Rattle.gateway_core.specs.Past.{Mark, Past, Asked, call, call_id, entries, entering_on, entering_now, asked_now, decided, is_undecided, undecided_calls, count_below}
 use Rattle.gateway_core.specs.declared.entry.ReplyEntry.{ReplyEntry}
-use Rattle.gateway_core.specs.Queue.{came, entry, call_entry}
+use Rattle.gateway_core.specs.Conn.{entry_in}
+use Rattle.gateway_core.specs.Gateway.{are_all_there}
+use Rattle.gateway_core.specs.Queue.{came, entry, call_entry, front}
+use Rattle.gateway_core.specs.Reply.{ReplyValue}
 use Rattle.gateway_core.specs.Machine.{slot_at}
 use Rattle.gateway_core.specs.Standing.{SlotsStand}
 use Rattle.gateway_core.proofs.StepLemmas.{called_came}
@@ -170,3 +173,43 @@ undecided_count c taken slots past h =
     ∙ ap (λ n. count_below n (λ k. is_none (slot_at k all))) h.size_is
     ∙ count_same (entries c past) (λ k. is_none (slot_at k all)) (λ k. is_undecided (call_id c k) past)
     (λ k lt. ap is_none (h.each k) ∙ sym (undecided_is (call_id c k) past lt))
+
+-- ---- the first slots that are filled
+
+-- as many as stand before the first that is not
+pub front_size : (i : ℕ) (slots : List (Option ReplyEntry)) → i ≤ length slots → ((j : ℕ) → j < i → is_some (slot_at j slots) ≡ true) → slot_at i slots ≡ None
+    → length (front slots) ≡ i
+front_size zero [] le all none = refl
+front_size (suc i) [] le all none = absurd (omega (arith, le))
+front_size zero (None ∷ slots) le all none = refl
+front_size zero (Some e ∷ slots) le all none = absurd (cc)
+front_size (suc i) (None ∷ slots) le all none = absurd (let clash : false ≡ true = all 0 (omega arith) in cc)
+front_size (suc i) (Some e ∷ slots) le all none = ap suc (front_size i slots (omega (arith, le)) (λ j lt. all (suc j) (omega (arith, lt))) none)
+
+pub slot_behind : (slots : List (Option ReplyEntry)) (i : ℕ) → length slots ≤ i → slot_at i slots ≡ None
+slot_behind [] i le = refl
+slot_behind (s ∷ slots) zero le = absurd (omega (arith, le))
+slot_behind (s ∷ slots) (suc i) le = slot_behind slots i (omega (arith, le))
+
+pub entry_here : (slots : List (Option ReplyValue)) (i : ℕ) (x : Option ReplyValue) → i < length slots → x ≡ slice_index_or slots i x → slot_at i (map entry_in slots) ≡ entry_in x
+entry_here [] i x lt e = absurd (omega (arith, lt))
+entry_here (s ∷ slots) zero x lt e = ap entry_in (sym e)
+entry_here (s ∷ slots) (suc i) x lt e = entry_here slots i x (omega (arith, lt)) e
+
+pub slot_none : (x : Option ReplyValue) (b : Bool) → is_some x ≡ not b → b ≡ true → entry_in x ≡ None
+slot_none None b e is = refl
+slot_none (Some r) b e is = absurd (let clash : true ≡ false = e ∙ ap (λ y. not y) is in cc)
+
+pub slot_some : (x : Option ReplyValue) (b : Bool) → is_some x ≡ not b → b ≡ false → is_some (entry_in x) ≡ true
+slot_some None b e is = absurd (let clash : false ≡ true = e ∙ ap (λ y. not y) is in cc)
+slot_some (Some r) b e is = refl
+
+-- each is there, if as many are before the first that is not
+pub front_all : (slots : List (Option ReplyEntry)) → (length (front slots) == length slots) ≡ are_all_there slots
+front_all [] = refl
+front_all (None ∷ slots) = ne_eqb 0 (suc (length slots)) (λ same. absurd (omega (arith, same)))
+front_all (Some e ∷ slots) = one_more (length (front slots)) (length slots) ∙ front_all slots
+  where
+    one_more : (n m : ℕ) → (suc n == suc m) ≡ (n == m)
+    one_more n m = ⊎_elim (λ (same : (n == m) ≡ true). eq-eqb (suc n) (suc m) (ap suc (eqb-true n m same)) ∙ sym same)
+        (λ (other : (n == m) ≡ false). ne_eqb (suc n) (suc m) (λ same. let clash : true ≡ false = sym (eq-eqb n m (omega (arith, same))) ∙ other in absurd (cc)) ∙ sym other) (cases_Bool (n == m))

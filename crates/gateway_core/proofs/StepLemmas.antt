@@ -231,9 +231,6 @@ back_out out i k =
     rw (ne_eqb i k (λ e. other (sym e))) (get_or-set_other out i k false false other ∙ sym (and_true (slice_index_or out k false))))
     (cases_eq k i)
 
-call_itself : (id : CallId) → is_call id id ≡ true
-call_itself id = rw (eq-eqb id.conn id.conn refl, eq-eqb id.request id.request refl) refl
-
 abbrev comes_back : CallId → ℕ → Outcome → Past → Mark
 comes_back id i outcome past = mark_of past (Result id i outcome)
 

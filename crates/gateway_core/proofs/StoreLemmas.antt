@@ -4,7 +4,7 @@ use Rattle.std.specs.Prelude.{◌⊎◌, OnErr, OnOk, is_err, is_none, is_some, 
 use Rattle.std.specs.Option.{option_or}
 use Rattle.std.proofs.lemmas.Bool.{cond_both, cases_Bool, cases_eq, eq-eqb, ne_eqb, eqb-true, ltb-true, ltb-false, le-ltb}
 use Rattle.std.proofs.lemmas.List.{get_or-set_same, get_or-set_other, length-set, get_or_default, get_or-map, map-set}
-use Rattle.std.proofs.lemmas.List.Sums.{sum_by-set, sum_by-cons}
+use Rattle.std.proofs.lemmas.List.Sums.{sum_by-cons}
 use Rattle.gateway_core.specs.declared.entry.ReplyEntry.{ReplyEntry}
 use Rattle.gateway_core.specs.declared.id.CallId.{CallId}
 use Rattle.gateway_core.specs.Past.{call_id, is_call}
@@ -214,9 +214,6 @@ pub waiting_less : (c : ℕ) (calls : List KeptValue) → waiting (map (given_up
 waiting_less c [] = omega arith
 waiting_less c (k ∷ calls) =
     omega (arith, waiting_given_up c k, waiting_less c calls, sum_by-cons waiting_in k calls, sum_by-cons waiting_in (given_up_if c k) (map (given_up_if c) calls))
-
-pub waiting_set : (calls : List KeptValue) (i : ℕ) (new old : KeptValue) → i < length calls → old ≡ kept_at i calls → waiting_in new ≤ waiting_in old → waiting (slice_set calls i new) ≤ waiting calls
-waiting_set calls i new old lt old_is le = omega (arith, sum_by-set waiting_in calls i new no_call lt, ap waiting_in old_is, le)
 
 -- the calls of a connection are given up whatever stands of one of them
 pub given_set : (c : ℕ) (calls : List KeptValue) (i : ℕ) (x : KeptValue) → i < length calls → given_up_if c x ≡ given_up_if c (kept_at i calls)

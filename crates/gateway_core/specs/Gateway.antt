@@ -1,6 +1,8 @@
 -- The open connections with their streams, and what they stand for.
-use Rattle.std.specs.Prelude.{◌≡◌, ◌⊎◌, ℕ, ◌+◌, ◌<◌, ◌≤◌, Bool, true, false, ◌&&◌, not, if◌then◌else◌, ◌==◌, All, List, [], ◌∷◌, ◌++◌, take, length, Option, None, Some, slice_set, slice_index_or}
-use Rattle.http_pieces.specs.Reader.{ReaderValue, Reading, reader_value, Partial, Waiting, Stopped, Done, HasRead, after_request}
+use Rattle.std.specs.Prelude.{◌≡◌, ◌⊎◌, ℕ, ◌+◌, ◌<◌, ◌≤◌, Bool, true, false, ◌&&◌, ◌||◌, not, is_none, if◌then◌else◌, ◌==◌, All, List, [], ◌∷◌, ◌++◌, take, length, Option, None, Some, slice_set, slice_index_or}
+use Rattle.std.specs.List.{count_by, list_any}
+use Rattle.std.specs.Option.{option_map_or}
+use Rattle.http_pieces.specs.Reader.{ReaderValue, Reading, reader_value, Partial, Waiting, Stopped, Done, HasRead, after_request, is_over}
 use Rattle.http_pieces.specs.Request.{HttpRequest}
 use Rattle.call_plan.specs.Plan.{PlanRecord}
 use Rattle.gateway_core.specs.declared.entry.ReplyEntry.{ReplyEntry}
@@ -15,7 +17,11 @@ use Rattle.gateway_core.specs.Kept.{KeptValue}
 use Rattle.gateway_core.specs.Machine.{ConnState, new_conn}
 use Rattle.gateway_core.specs.Occurrence.{Occurrence, Entering, Entry, Request, Refused}
 use Rattle.gateway_core.specs.Orderly.{FatesAre}
-use Rattle.gateway_core.specs.Store.{MachineValue, machine, conn_of}
+use Rattle.gateway_core.specs.Store.{MachineValue, call_at, machine, conn_of}
+use Rattle.gateway_core.specs.Ends.{is_stopped_in}
+use Rattle.gateway_core.specs.Past.{call_id}
+use Rattle.gateway_core.specs.Queue.{front}
+use Rattle.gateway_core.specs.declared.id.CallId.{CallId}
 
 -- an open connection's stream: its reader, and whether its peer hung up
 pub record StreamValue : Type 0 where
@@ -124,3 +130,36 @@ StandsFed c bytes v w texts taken handed os =
     (gained : List Entering) × Gains v.plans (texts c) (texts c ++ bytes) gained
     × (((gained ≡ []) × GatewayStands w (with_bytes c bytes texts) taken handed os)
     ⊎ ((x : Entering) × (gained ≡ x ∷ []) × GatewayStands w (with_bytes c bytes texts) taken handed (Entry c x ∷ os)))
+
+-- ---- what can be asked of it
+
+-- the connection is open and broken
+abbrev pub is_broken_conn : ℕ → GatewayValue → Bool
+is_broken_conn c v = is_stopped_in c v.machine.conns
+
+-- the replies of the connection that can be taken
+abbrev pub untaken_of : ℕ → GatewayValue → List ReplyEntry
+untaken_of c v = option_map_or (λ k. front k.slots) (conn_of c v.machine.conns) []
+
+-- the request to which the next reply of the connection is
+abbrev pub next_reply : ℕ → GatewayValue → CallId
+next_reply c v = call_id c (option_map_or (λ k. k.taken) (conn_of c v.machine.conns) 0)
+
+-- the stream brings nothing more: it ended, or its peer hung up
+abbrev pub is_done : StreamValue → Bool
+is_done s = is_over s.reader.reading || s.hung_up
+
+-- each of these is there
+abbrev pub are_all_there : List (Option ReplyEntry) → Bool
+are_all_there slots = not (list_any is_none slots)
+
+abbrev pub has_ended : ConnValue → StreamValue → Bool
+has_ended k s = k.broken || (is_done s && are_all_there k.slots)
+
+-- the connection is not open, or is broken, or its stream brings nothing more and no call of it is undecided
+abbrev pub is_ended : ℕ → GatewayValue → Bool
+is_ended c v = option_map_or (λ k. option_map_or (λ s. has_ended k s) (stream_of c v.streams) true) (conn_of c v.machine.conns) true
+
+-- how many branches of the call are out
+abbrev pub outs_of : CallId → GatewayValue → ℕ
+outs_of id v = count_by (λ b. b) (call_at id v.machine.calls).out

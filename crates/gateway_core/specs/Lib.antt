@@ -3,15 +3,12 @@ pub mod CallRecord
 pub mod Errors
 pub mod Reply
 pub mod Job
-pub mod Call
 pub mod Arrival
-pub mod Core
 pub mod Occurrence
 pub mod Past
 pub mod Finished
 pub mod Queue
 pub mod Starts
-pub mod Stands
 pub mod Record
 pub mod Step
 pub mod LiveStands
@@ -34,3 +31,4 @@ pub mod Events
 pub mod Gateway
 pub mod Serving
 pub mod Served
+pub mod EventAdds

@@ -12,7 +12,7 @@ use Rattle.gateway_core.specs.declared.id.CallId.{CallId}
 use Rattle.gateway_core.specs.declared.reply_bytes.ReplyBytes.{ReplyBytes}
 use Rattle.gateway_core.specs.Arrival.{Judged, Asks, refusal_reply, verdict_reply}
 use Rattle.gateway_core.specs.CallRecord.{CallRecord, record_with, answers_in, last_event}
-use Rattle.gateway_core.specs.Errors.{crowded_error, error_of, expired_error}
+use Rattle.gateway_core.specs.Errors.{crowded_error, error_of}
 use Rattle.gateway_core.specs.Reply.{reply_of}
 use Rattle.gateway_core.specs.Occurrence.{Entering, Request, Refused}
 use Rattle.gateway_core.specs.Past.{Past, Asked, call, call_id, own_event, decided, entering_now, entries}
@@ -30,9 +30,6 @@ abbrev pub record_of : Asked → List CallEvent → CallRecord
 record_of c events = record_with c.plan c.start c.deadline (closes c.request) events
 
 -- ---- the reply to a call
-
-abbrev pub expired_reply : Bool → ReplyBytes
-expired_reply last = reply_of (error_reply expired_error last) last
 
 -- the success of a call: the answers among its events joined, in declared order
 abbrev pub joined_reply : PlanRecord → List CallEvent → Bool → List ℕ

@@ -1,5 +1,5 @@
 -- What the gateway stands for after events.
-use Rattle.std.specs.Prelude.{◌≡◌, ◌⊎◌, ℕ, ◌<◌, true, false, List, ◌∷◌, ◌++◌, ◌==◌, if◌then◌else◌, take, length, Option, Some, option_map, option_to_list, is_some, Result, Ok, Err}
+use Rattle.std.specs.Prelude.{◌≡◌, ◌⊎◌, ℕ, ◌<◌, ◌≤◌, Bool, true, false, filter, List, ◌∷◌, ◌++◌, ◌==◌, if◌then◌else◌, take, length, Option, Some, option_map, option_to_list, is_some, Result, Ok, Err}
 use Rattle.http_pieces.specs.Reader.{HasRead}
 use Rattle.http_pieces.specs.Request.{HttpRequest}
 use Rattle.http_pieces.specs.Requests.{Ending, Requests}
@@ -12,7 +12,10 @@ use Rattle.gateway_core.specs.Gateway.{GatewayStands, GatewayValue, StreamValue,
 use Rattle.gateway_core.specs.Job.{JobValue}
 use Rattle.gateway_core.specs.Occurrence.{Entering}
 use Rattle.gateway_core.specs.Reply.{ReplyValue}
-use Rattle.gateway_core.specs.Starts.{Placed, occurrences}
+use Rattle.gateway_core.specs.Breaks.{BrokeAtEvent, is_of}
+use Rattle.gateway_core.specs.Past.{marked}
+use Rattle.gateway_core.specs.Queue.{IsPrefixOf, queued_entries}
+use Rattle.gateway_core.specs.Starts.{Placed, jobs, occurrences}
 use Rattle.gateway_core.specs.Store.{conn_of}
 
 -- the connections of the gateway are those of these events, newest first, of which the openings at those places succeeded
@@ -57,3 +60,16 @@ pub record ServedUpTo (n : ℕ) (fed : List ℕ) (v : GatewayValue) (opened : Li
   pub below : (place : ℕ) → succeeds opened place ≡ true → place < length es
   pub served : Served v opened (Piece n fed ∷ es) taken handed
   pub known : (rest : List ℕ) (gained : List Entering) → Gains v.plans (stream opened n es) (stream opened n es ++ (fed ++ rest)) gained → IsKnown (stream opened n es ++ fed)
+
+-- ---- what is queued and what starts
+
+-- all that is queued for a connection by what occurred; for one that broke, all that was queued by what came before it did
+abbrev pub QueueIs : ℕ → List ReplyEntry → Bool → List Placed → Type 0
+QueueIs c queue false placed = queue ≡ queued_entries c (marked (occurrences placed))
+QueueIs c queue true placed = BrokeAtEvent c queue placed
+
+-- the jobs of a connection that is open and not broken, or was not opened, are those of all its branches that have started; of any other the first of those
+pub record JobsAre (v : GatewayValue) (all : List JobValue) (placed : List Placed) : Type 0 where
+  pub unbroken : (c : ℕ) (k : ConnValue) → conn_of c v.machine.conns ≡ Some k → k.broken ≡ false → filter (is_of c) all ≡ filter (is_of c) (jobs (marked (occurrences placed)))
+  pub unopened : (c : ℕ) → v.opened ≤ c → filter (is_of c) all ≡ filter (is_of c) (jobs (marked (occurrences placed)))
+  pub others : (c : ℕ) → IsPrefixOf (filter (is_of c) all) (filter (is_of c) (jobs (marked (occurrences placed))))

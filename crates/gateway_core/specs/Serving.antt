@@ -1,6 +1,6 @@
 -- What the calls of the open connections and their streams make of them.
 use Rattle.std.specs.Prelude.{◌≡◌, ⊤, ℕ, ◌+◌, ◌<◌, ◌≤◌, Bool, true, false, not, if◌then◌else◌, ◌==◌, All, List, [], ◌∷◌, ◌++◌, take, map, filter, length, Option, None, Some, is_some, Result, Ok, Err, slice_set}
-use Rattle.http_pieces.specs.Reader.{ReaderValue, HasRead, Waiting, after_request, is_over}
+use Rattle.http_pieces.specs.Reader.{Reading, HasRead, Stopped, Waiting, after_request, is_over}
 use Rattle.http_pieces.specs.Request.{HttpRequest}
 use Rattle.call_plan.specs.Plan.{PlanRecord}
 use Rattle.gateway_core.specs.declared.fault.StepFault.{StepFault}
@@ -9,7 +9,10 @@ use Rattle.gateway_core.specs.declared.machine.cause.Cause.{Cause}
 use Rattle.gateway_core.specs.declared.machine.cause.Cause.TheVariants.{HungUp}
 use Rattle.gateway_core.specs.Conn.{ConnValue}
 use Rattle.gateway_core.specs.Ends.{CallsEnd, is_stopped_in}
-use Rattle.gateway_core.specs.Gateway.{Brings, Feeds, GatewayValue, StreamValue, goes_on, new_stream, stream_at, stream_of}
+use Rattle.gateway_core.specs.Arrival.{arrival_of}
+use Rattle.gateway_core.specs.Enters.{Enters}
+use Rattle.gateway_core.specs.Occurrence.{Request, Refused}
+use Rattle.gateway_core.specs.Gateway.{Feeds, GatewayValue, StreamValue, goes_on, is_broken_conn, is_waiting, new_stream, stream_at, stream_of}
 use Rattle.gateway_core.specs.Kept.{KeptValue}
 use Rattle.gateway_core.specs.Opens.{closed_at, opened_as, ReplyTaken}
 use Rattle.gateway_core.specs.Orderly.{IsOrderly}
@@ -23,10 +26,12 @@ gateway_value plans machine streams opened = record { plans = plans; machine = m
 abbrev pub NoCallOf : ℕ → List KeptValue → Type 0
 NoCallOf c calls = All (λ (k : KeptValue). (k.id.conn == c) ≡ false) calls
 
--- the machine is orderly, has a stream for each connection, in the same order, and nothing of connections that were not opened yet
+-- the machine is orderly, has a stream for each connection, in the same order, of which no request waits, and nothing of connections
+-- that were not opened yet
 pub record IsServing (v : GatewayValue) : Type 0 where
   pub orderly : IsOrderly v.machine
   pub numbers_are : map (λ s. s.number) v.streams ≡ numbers v.machine.conns
+  pub settled : All (λ (s : StreamValue). is_waiting s.reader.reading ≡ false) v.streams
   pub no_conn : (c : ℕ) → v.opened ≤ c → conn_of c v.machine.conns ≡ None
   pub no_call : (c : ℕ) → v.opened ≤ c → NoCallOf c v.machine.calls
 
@@ -65,13 +70,11 @@ IsListening number v (Some i) = ListensAt number v i
 
 -- ---- pieces
 
--- the stream at that place has this reader
-abbrev pub with_reader : ℕ → ReaderValue → List StreamValue → List StreamValue
-with_reader i reader streams = slice_set streams i (record (stream_at i streams) { reader = reader })
-
 -- so many bytes of a stream were read
 pub record Reads (n : ℕ) (bytes : List ℕ) (s t : StreamValue) : Type 0 where
   pub reads : (text : List ℕ) (given : List HttpRequest) → HasRead s.reader text given → HasRead t.reader (text ++ take n bytes) given
+  pub within : n ≤ length bytes
+  pub moves : 0 < length bytes → is_waiting s.reader.reading ≡ false → 0 < n
   pub rest : t ≡ record s { reader = t.reader }
 
 -- the request that waited was taken
@@ -81,17 +84,36 @@ pub record TakesRequest (q : HttpRequest) (s t : StreamValue) : Type 0 where
   pub after : t.reader.reading ≡ after_request q
   pub rest : t ≡ record s { reader = t.reader }
 
--- so many bytes of the stream at that place were read
-pub record Pushes (i n : ℕ) (bytes : List ℕ) (v w : GatewayValue) : Type 0 where
+-- the request that waited was taken, or none waited
+abbrev pub MayTake : Option HttpRequest → StreamValue → StreamValue → Type 0
+MayTake None s t = (t ≡ s) × (is_waiting s.reader.reading ≡ false)
+MayTake (Some q) s t = TakesRequest q s t
+
+-- so many bytes of a stream were read, and the request that they make whole was taken
+pub record ReadsOn (n : ℕ) (request : Option HttpRequest) (bytes : List ℕ) (s t : StreamValue) : Type 0 where
+  pub pushed : StreamValue
+  pub reads : Reads n bytes s pushed
+  pub takes : MayTake request pushed t
+
+-- the same of the stream at that place
+pub record ReadsAt (i n : ℕ) (request : Option HttpRequest) (bytes : List ℕ) (v w : GatewayValue) : Type 0 where
   pub stream : StreamValue
-  pub reads : Reads n bytes (stream_at i v.streams) stream
+  pub reads : ReadsOn n request bytes (stream_at i v.streams) stream
   pub rest : w ≡ record v { streams = slice_set v.streams i stream }
 
--- what the reader of the stream at that place has come to came on its connection
-pub record BringsAt (i : ℕ) (v w : GatewayValue) : Type 0 where
-  pub new : ReaderValue
-  pub brings : Brings v.plans i (stream_at i v.streams).reader.reading (stream_at i v.streams).reader new v.machine w.machine
-  pub rest : w ≡ record v { machine = w.machine; streams = with_reader i new v.streams }
+-- the refusal of a stream came on the connection at that place, if the stream was refused
+abbrev pub StopsBy : ℕ → Reading → MachineValue → MachineValue → Type 0
+StopsBy i (Stopped r) v w = Enters i (Refused r) v w
+StopsBy i _ v w = w ≡ v
+
+-- a request came on the connection at that place, or what else its stream has come to
+abbrev pub ComesBy : List PlanRecord → ℕ → Option HttpRequest → Reading → MachineValue → MachineValue → Type 0
+ComesBy plans i (Some q) reading v w = Enters i (Request q (arrival_of plans q)) v w
+ComesBy plans i None reading v w = StopsBy i reading v w
+
+pub record BringsAt (i : ℕ) (request : Option HttpRequest) (v w : GatewayValue) : Type 0 where
+  pub comes : ComesBy v.plans i request (stream_at i v.streams).reader.reading v.machine w.machine
+  pub rest : w ≡ record v { machine = w.machine }
 
 -- what bytes of a stream come to
 pub data FedTo (number : ℕ) (bytes : List ℕ) (v w : GatewayValue) (result : Result ℕ StepFault) : Type 0 where
@@ -104,6 +126,7 @@ pub data FedTo (number : ℕ) (bytes : List ℕ) (v w : GatewayValue) (result : 
       → w ≡ record v { machine = broken_at number v.machine } → FedTo number bytes v w result
   -- so many were read, and what they brought came, or found no memory
   came : (i n : ℕ) → ListensAt number v i → is_over (stream_at i v.streams).reader.reading ≡ false → Feeds i n bytes v w
+      → n ≤ length bytes → (0 < length bytes → 0 < n)
       → result ≡ (if is_stopped_in number w.machine.conns then Err Memory else Ok n) → FedTo number bytes v w result
 
 -- ---- what else is done
@@ -143,3 +166,21 @@ pub data TakesReply (number : ℕ) (v w : GatewayValue) (reply : Option ReplyVal
   absent : conn_of number v.machine.conns ≡ None → reply ≡ None → w ≡ v → TakesReply number v w reply
   taken : (i : ℕ) → i < length v.machine.conns → (conn_at i v.machine.conns).number ≡ number → ReplyTaken i v.machine w.machine reply
       → w ≡ record v { machine = w.machine } → TakesReply number v w reply
+
+-- ---- what every call keeps
+
+-- the plans are the same, and a connection that is open and broken stays so, but for those of these numbers
+pub record KeepsBut (closed : ℕ → Bool) (v w : GatewayValue) : Type 0 where
+  pub plans_are : w.plans ≡ v.plans
+  pub stays_broken : (c : ℕ) → closed c ≡ false → is_broken_conn c v ≡ true → is_broken_conn c w ≡ true
+
+abbrev pub Keeps : GatewayValue → GatewayValue → Type 0
+Keeps v w = KeepsBut (λ c. false) v w
+
+-- nothing changes but what can be taken
+pub record TakesOnly (v w : GatewayValue) : Type 0 where
+  pub plans_are : w.plans ≡ v.plans
+  pub opened_is : w.opened ≡ v.opened
+  pub jobs_are : w.machine.jobs ≡ v.machine.jobs
+  pub open_are : (c : ℕ) → is_some (conn_of c w.machine.conns) ≡ is_some (conn_of c v.machine.conns)
+  pub broken_are : (c : ℕ) → is_broken_conn c w ≡ is_broken_conn c v

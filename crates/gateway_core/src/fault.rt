@@ -3,15 +3,21 @@ use thiserror::Error;
 /// Why no connection was opened.
 #[derive(Clone, Copy, PartialEq, Eq, Debug, Error)]
 pub enum OpenError {
-    /// As many connections were opened as there may be.
-    #[error("no more connections")]
+    /// As many connections are open as may be: 64.
+    #[error("too many connections are open")]
     Full,
+    /// As many connections were opened as may be: 2^56.
+    #[error("no more connections can be opened")]
+    Exhausted,
+    /// Memory was refused.
+    #[error("no memory")]
+    Memory,
 }
 
 /// Why a step was not made, or not made whole.
 #[derive(Clone, Copy, PartialEq, Eq, Debug, Error)]
 pub enum StepFault {
-    /// There is no such connection, or it is broken. Nothing changed.
+    /// There is no such connection, or it is closed, hung up or broken. Nothing changed.
     #[error("the connection is gone")]
     Gone,
     /// The connection is now broken: it queues no more replies.
@@ -24,7 +30,7 @@ pub enum StepFault {
 pub enum Seen {
     /// The branch was out and its call undecided.
     Counted,
-    /// The branch was out, and its call decided or its connection broken.
+    /// The branch was out, and its call decided or its connection closed or broken.
     Late,
     /// The branch was not out. Nothing changed.
     Unknown,

@@ -1,283 +1,229 @@
-ghost use Rattle.std.specs.Prelude.{◌≡◌, ℕ, ◌<◌, ◌≤◌, ◌++◌, ◌∷◌, [], ◌↔◌, IfOk, OnOk, OnErr, IsSome, List, length, take, option_map, option_to_list, true, false, IsTrue};
-ghost use Rattle.connect_codec.specs.declared.answer.Outcome.{Outcome};
-ghost use Rattle.gateway_core.specs.Core.{core_value, new_conn, conn_at, is_live, untaken_of, is_broken_conn, core_sees, call_at, outs, is_ended, back_on, with_untaken, ConnValue, CountedIn, BrokenIn, BreaksTo, Feeds};
-ghost use Rattle.gateway_core.specs.Call.{CallValue, answered_by, back, waits_on};
-ghost use Rattle.gateway_core.specs.Job.{JobValue};
-ghost use Rattle.gateway_core.specs.Occurrence.{Occurrence};
+ghost use Rattle.std.specs.Prelude.{◌≡◌, ◌==◌, ◌↔◌, ◌^◌, ◌∷◌, ◌++◌, ◌<◌, ◌≤◌, [], Err, IfOk, IfSome, None, OnErr, OnOk, Some, false, is_some, ℕ, List, MatchResult, length, option_map, option_to_list, take, true};
+ghost use Rattle.connect_codec.specs.declared.answer.Outcome.{Outcome as Outcomes};
+ghost use Rattle.gateway_core.specs.declared.entry.ReplyEntry.{ReplyEntry};
+ghost use Rattle.gateway_core.specs.Gateway.{is_broken_conn, is_ended, next_reply, outs_of, untaken_of};
+ghost use Rattle.gateway_core.specs.declared.fault.Seen.{Seen};
+ghost use Rattle.gateway_core.specs.Serving.{Breaks, IsDeaf, Keeps, KeepsBut, TakesOnly};
+ghost use Rattle.gateway_core.specs.Conn.{ConnValue};
 ghost use Rattle.gateway_core.specs.Past.{judged, marked};
-ghost use Rattle.gateway_core.specs.Queue.{IsPrefixOf};
-ghost use Rattle.gateway_core.specs.Stands.{StandsFor, StandsAfter};
-ghost use Rattle.gateway_core.specs.declared.reply_bytes.ReplyBytes.{ReplyBytes};
-ghost use Rattle.http_pieces.specs.Reader.{HasRead, is_over};
-ghost use Rattle.http_pieces.specs.Request.{HttpRequest};
+ghost use Rattle.gateway_core.specs.Starts.{Placed, occurrences};
+ghost use Rattle.gateway_core.specs.Store.{call_at, conn_of};
+ghost use Rattle.gateway_core.specs.Events.{open_connections, most_open, BranchResult, Closing, Drain, GatewayEvent, HangUp, Moment, Occurs, Opening, Piece};
+ghost use Rattle.gateway_core.specs.Job.{HandedJob, JobValue};
+ghost use Rattle.gateway_core.specs.Served.{Served, ServedUpTo, with_reply};
 
-use crate::connection::Connection;
-use crate::fault::{OpenError, Seen, StepFault, Took};
+use crate::fault::{OpenError, StepFault, Took};
 use crate::id::{CallId, ConnId};
 use crate::job::Job;
-use crate::reply_bytes::ReplyBytes;
+use crate::reply::Reply;
+use crate::served_laws::opening_law;
+use crate::streams::Streams;
 use call_plan::Plans;
 use connect_codec::Outcome;
 use std::alloc::{AllocError, Global};
-use std::collections::VecDeque;
 use std::marker::Model;
 
-/// The gateway. Today it serves one connection, and answers the first request on it.
+/// The gateway: connections whose requests are answered by asking backends. It does no input or output and reads no clock.
 #[derive(Drop)]
 pub struct Core {
-    alloc: Global,
-    plans: Plans,
-    connection: Option<Connection>,
-    /// The jobs not taken yet.
-    jobs: VecDeque<Job>,
+    streams: Streams,
 }
 
 impl Model for Core {
-    ghost use Rattle.gateway_core.specs.Core.{CoreValue, core_value};
+    ghost use Rattle.gateway_core.specs.Gateway.{GatewayValue};
 
-    ghost Value = { CoreValue };
+    ghost Value = { GatewayValue };
 
-    ghost view = { λ c. core_value c.plans c.connection c.jobs.items };
+    ghost view = { λ c. c.streams };
 }
 
 impl Core {
-    /// A gateway that serves these plans.
+    /// A gateway that serves these plans, with no connection.
     pub fn new(alloc: Global, plans: Plans) -> Result<Core, AllocError>
-        ensures empty { IfOk result (λ core. core ≡ core_value plans None []) }
-        ensures stands { IfOk result (λ core. StandsFor core [] [] []) }
+        ensures plans { IfOk result (λ core. core.plans ≡ plans) }
+        ensures stands { IfOk result (λ core. Served core [] [] (λ c. []) []) }
     {
         Ok(Core {
-            alloc,
-            plans,
-            connection: None,
-            jobs: VecDeque::new(alloc),
+            streams: Streams::new(alloc, plans),
         })
     }
 
-    /// Opens the connection. `Full` where it was opened before.
+    /// Opens a connection. A refusal is the first that applies of `Full`, `Exhausted` and `Memory`, and changes nothing.
     pub fn open_conn(&mut self) -> Result<ConnId, OpenError>
-        ensures opened { IfOk result (λ conn. (conn ≡ 0) × (self.new ≡ core_value self.old.plans (Some new_conn) self.old.jobs)) }
-        ensures full { (result ≡ Err OpenError.Full) ↔ IsSome self.old.conn }
+        ensures stands { (opened : List ℕ) (es : List GatewayEvent) (taken : ℕ → List ReplyEntry) (handed : List JobValue)
+            → Served self.old opened es taken handed
+            → MatchResult result (λ _. Served self.new (opened ++ length es ∷ []) (Opening ∷ es) taken handed)
+            (λ _. Served self.new opened (Opening ∷ es) taken handed) }
+        ensures few { (opened : List ℕ) (es : List GatewayEvent) (taken : ℕ → List ReplyEntry) (handed : List JobValue)
+            → Served self.old opened es taken handed → IfOk result (λ _. open_connections opened es < most_open) }
+        ensures number { IfOk result (λ conn. conn ≡ self.old.opened) }
+        ensures full { result ≡ Err OpenError.Full → most_open ≤ length self.old.streams }
+        ensures exhausted { result ≡ Err OpenError.Exhausted → 2 ^ 56 ≤ self.old.opened }
         ensures unchanged { OnErr result (self.new ≡ self.old) }
-        ensures stands { (taken : List ReplyBytes) (handed : List JobValue) (occurred : List Occurrence) → StandsFor self.old taken handed occurred
-            → OnOk result (StandsFor self.new taken handed (Occurrence.Opening ∷ occurred)) }
+        ensures keeps { Keeps self.old self.new }
     {
-        if self.connection.is_some() {
-            return Err(OpenError::Full);
-        }
-        self.connection = Some(Connection::new(self.alloc));
-        Ok(ConnId::of(0))
+        self.streams.serving_law();
+        opening_law();
+        self.streams.open()
     }
 
-    /// Takes bytes of the connection's stream, at most up to the end of a request, and answers how
-    /// many: at least one of a piece that is not empty, and all of a stream that has ended.
+    /// Takes bytes of a connection's stream, at most up to the end of a request, and answers how many.
     pub fn feed(&mut self, conn: ConnId, bytes: &[u8]) -> Result<usize, StepFault>
+        ensures stands { (fed : List ℕ) (opened : List ℕ) (es : List GatewayEvent) (taken : ℕ → List ReplyEntry) (handed : List JobValue)
+            → ServedUpTo conn fed self.old opened es taken handed
+            → MatchResult result (λ n. ServedUpTo conn (fed ++ take n bytes.now) self.new opened es taken handed)
+            (λ _. Served self.new opened (Piece conn (fed ++ bytes.now) ∷ es) taken handed) }
         ensures within { IfOk result (λ n. n ≤ length bytes.now) }
         ensures moves { 0 < length bytes.now → IfOk result (λ n. 0 < n) }
-        ensures gone { (result ≡ Err StepFault.Gone) ↔ (is_live conn self.old ≡ false) }
+        ensures gone { (result ≡ Err StepFault.Gone) ↔ IsDeaf conn self.old }
         ensures unchanged { result ≡ Err StepFault.Gone → self.new ≡ self.old }
-        ensures plans { self.new.plans ≡ self.old.plans }
-        ensures feeds { (was : ConnValue) (stream : List ℕ) (given : List HttpRequest)
-            → conn_at conn self.old ≡ Some was → HasRead was.reader stream given
-            → IfOk result (λ n. Feeds self.old.plans (stream ++ take n bytes.now) given was (conn_at conn self.new) self.old.jobs self.new.jobs) }
-        ensures broken { result ≡ Err StepFault.Memory → BreaksTo (conn_at conn self.old) (conn_at conn self.new) self.old.jobs self.new.jobs }
-        ensures unbroken { OnOk result (is_live conn self.new ≡ true) }
-        ensures keeps_replies { IsPrefixOf (untaken_of conn self.old) (untaken_of conn self.new) }
-        ensures keeps_jobs { IsPrefixOf self.old.jobs self.new.jobs }
-
-        // Behind the first request only the reader can want memory, and behind the stream's end nothing does.
-        ensures behind { (was : ConnValue) → conn_at conn self.old ≡ Some was → was.arrived ≡ true → result ≡ Err StepFault.Memory
-            → self.new ≡ core_value self.old.plans (Some (record was { broken = true })) self.old.jobs }
-        ensures over { (was : ConnValue) → conn_at conn self.old ≡ Some was → was.broken ≡ false → was.arrived ≡ true → is_over was.reader.reading ≡ true
-            → (result ≡ Ok (length bytes.now)) × (self.new ≡ self.old) }
-
-        ensures stands { (was : ConnValue) (stream : List ℕ) (given : List HttpRequest) (taken : List ReplyBytes) (handed : List JobValue) (occurred : List Occurrence)
-            → conn_at conn self.old ≡ Some was → HasRead was.reader stream given → StandsFor self.old taken handed occurred
-            → IfOk result (λ n. StandsAfter self.old.plans (stream ++ take n bytes.now) given was self.new taken handed occurred) }
+        ensures memory { result ≡ Err StepFault.Memory → is_broken_conn conn self.new ≡ true }
+        ensures unbroken { OnOk result (is_broken_conn conn self.new ≡ false) }
+        ensures heard { OnOk result (IsDeaf conn self.new → ⊥) }
+        ensures keeps { Keeps self.old self.new }
     {
-        self.feed_live(conn, bytes)
+        self.streams.serving_law();
+        let fed = self.streams.feed(conn.number(), bytes);
+        self.streams.serving_law();
+        fed
     }
 
-    /// Takes the result of a branch. After `Counted` or `Late` the branch is no longer out.
-    pub fn result(&mut self, call: CallId, branch: u32, outcome: Outcome) -> Took
-        ensures seen { result.seen ≡ core_sees call branch self.old }
+    /// The peer of a connection hung up.
+    pub fn hang_up(&mut self, conn: ConnId) -> Result<(), StepFault>
+        ensures stands { (opened : List ℕ) (es : List GatewayEvent) (taken : ℕ → List ReplyEntry) (handed : List JobValue)
+            → Served self.old opened es taken handed → Served self.new opened (HangUp conn ∷ es) taken handed }
+        ensures gone { (result ≡ Err StepFault.Gone) ↔ IsDeaf conn self.old }
+        ensures unchanged { result ≡ Err StepFault.Gone → self.new ≡ self.old }
+        ensures memory { result ≡ Err StepFault.Memory → is_broken_conn conn self.new ≡ true }
+        ensures unbroken { OnOk result (is_broken_conn conn self.new ≡ false) }
+        ensures keeps { Keeps self.old self.new }
+    {
+        self.streams.serving_law();
+        self.streams.hang_up(conn.number())
+    }
+
+    /// A moment has come, in milliseconds. True where a connection broke in the step.
+    pub fn moment(&mut self, moment: u64) -> bool
+        ensures stands { (opened : List ℕ) (es : List GatewayEvent) (taken : ℕ → List ReplyEntry) (handed : List JobValue)
+            → Served self.old opened es taken handed → Served self.new opened (Moment moment ∷ es) taken handed }
+        ensures broke { Breaks self.old self.new result }
+        ensures keeps { Keeps self.old self.new }
+    {
+        self.streams.serving_law();
+        self.streams.moment(moment)
+    }
+
+    /// The drain has begun. True where a connection broke in the step.
+    pub fn drain(&mut self) -> bool
+        ensures stands { (opened : List ℕ) (es : List GatewayEvent) (taken : ℕ → List ReplyEntry) (handed : List JobValue)
+            → Served self.old opened es taken handed → Served self.new opened (Drain ∷ es) taken handed }
+        ensures broke { Breaks self.old self.new result }
+        ensures keeps { Keeps self.old self.new }
+    {
+        self.streams.serving_law();
+        self.streams.drain()
+    }
+
+    /// Closes a connection, and answers whether it was open.
+    pub fn close(&mut self, conn: ConnId) -> bool
+        ensures stands { (opened : List ℕ) (es : List GatewayEvent) (taken : ℕ → List ReplyEntry) (handed : List JobValue)
+            → Served self.old opened es taken handed → Served self.new opened (Closing conn ∷ es) taken handed }
+        ensures closed { result ≡ is_some (conn_of conn self.old.machine.conns) }
+        ensures keeps { KeepsBut (λ c. c == conn) self.old self.new }
+    {
+        self.streams.serving_law();
+        self.streams.close(conn.number())
+    }
+
+    /// A branch of a call ends with that outcome.
+    pub fn result(&mut self, call: &CallId, branch: u32, outcome: Outcome) -> Took
+        ensures stands { (opened : List ℕ) (es : List GatewayEvent) (taken : ℕ → List ReplyEntry) (handed : List JobValue)
+            → Served self.old opened es taken handed
+            → Served self.new opened (BranchResult call.now.conn call.now.request branch outcome ∷ es) taken handed }
+        ensures seen { (opened : List ℕ) (es : List GatewayEvent) (taken : ℕ → List ReplyEntry) (handed : List JobValue) (occurred : List Placed)
+            → Served self.old opened es taken handed → Occurs self.old.plans opened es occurred
+            → (k : ConnValue) → conn_of call.now.conn self.old.machine.conns ≡ Some k → k.broken ≡ false
+            → result.seen ≡ judged call.now branch (marked (occurrences occurred)) }
+        ensures counted { result.broke ≡ true → result.seen ≡ Seen.Counted }
+        ensures broke { Breaks self.old self.new result.broke }
         ensures unknown { result.seen ≡ Seen.Unknown → self.new ≡ self.old }
-        ensures counted { (conn : ConnValue) (was : CallValue) → conn_at call.conn self.old ≡ Some conn → conn.call ≡ Some was
-            → result.seen ≡ Seen.Counted → result.broke ≡ false
-            → CountedIn branch outcome conn was (conn_at call.conn self.new) self.old.jobs self.new.jobs }
-        ensures late { result.seen ≡ Seen.Late → self.new ≡ core_value self.old.plans (option_map (back_on branch) self.old.conn) self.old.jobs }
-        ensures plans { self.new.plans ≡ self.old.plans }
-        ensures broke { IsTrue result.broke → (result.seen ≡ Seen.Counted)
-            × BreaksTo (conn_at call.conn self.old) (conn_at call.conn self.new) self.old.jobs self.new.jobs }
-        ensures stops { (conn : ConnValue) (was : CallValue) → conn_at call.conn self.old ≡ Some conn → conn.call ≡ Some was → IsTrue result.broke
-            → BrokenIn branch outcome conn was (conn_at call.conn self.new) self.old.jobs self.new.jobs }
-
-        // An answer after which its call waits on takes no memory.
-        ensures waits { (conn : ConnValue) (was : CallValue) (body : List ℕ) → conn_at call.conn self.old ≡ Some conn → conn.call ≡ Some was
-            → outcome ≡ Outcome.Answer body → waits_on (answered_by branch body (back branch was)) ≡ true → result.broke ≡ false }
-
-        ensures judged { (taken : List ReplyBytes) (handed : List JobValue) (occurred : List Occurrence) → StandsFor self.old taken handed occurred
-            → result.seen ≡ judged call branch (marked occurred) }
-        ensures stands { (taken : List ReplyBytes) (handed : List JobValue) (occurred : List Occurrence) → StandsFor self.old taken handed occurred
-            → result.broke ≡ false → StandsFor self.new taken handed (Occurrence.Result call branch outcome ∷ occurred) }
+        ensures keeps { Keeps self.old self.new }
     {
-        self.see_result(call, branch, outcome)
+        self.streams.serving_law();
+        self.streams.result(call, branch, outcome)
     }
 
-    /// Gives the next job, in order of start.
+    /// A worker found no memory for what a branch ended with, whatever that was.
+    pub fn starved(&mut self, call: &CallId, branch: u32) -> Took
+        ensures stands { (outcome : Outcomes) (opened : List ℕ) (es : List GatewayEvent) (taken : ℕ → List ReplyEntry) (handed : List JobValue)
+            → Served self.old opened es taken handed
+            → Served self.new opened (BranchResult call.now.conn call.now.request branch outcome ∷ es) taken handed }
+        ensures seen { (opened : List ℕ) (es : List GatewayEvent) (taken : ℕ → List ReplyEntry) (handed : List JobValue) (occurred : List Placed)
+            → Served self.old opened es taken handed → Occurs self.old.plans opened es occurred
+            → (k : ConnValue) → conn_of call.now.conn self.old.machine.conns ≡ Some k → k.broken ≡ false
+            → result.seen ≡ judged call.now branch (marked (occurrences occurred)) }
+        ensures counted { result.broke ≡ true → result.seen ≡ Seen.Counted }
+        ensures broke { Breaks self.old self.new result.broke }
+        ensures unknown { result.seen ≡ Seen.Unknown → self.new ≡ self.old }
+        ensures keeps { Keeps self.old self.new }
+    {
+        self.streams.serving_law();
+        self.streams.starve(call, branch)
+    }
+
+    /// Hands out the next job, in order of start.
     pub fn take_job(&mut self) -> Option<Job>
-        ensures first { self.old.jobs ≡ option_to_list result ++ self.new.jobs }
-        ensures none { result ≡ None → self.old.jobs ≡ [] }
-        ensures rest { self.new ≡ core_value self.old.plans self.old.conn self.new.jobs }
-        ensures stands { (taken : List ReplyBytes) (handed : List JobValue) (occurred : List Occurrence) → StandsFor self.old taken handed occurred
-            → StandsFor self.new taken (handed ++ option_to_list result) occurred }
+        ensures stands { (opened : List ℕ) (es : List GatewayEvent) (taken : ℕ → List ReplyEntry) (handed : List JobValue)
+            → Served self.old opened es taken handed
+            → Served self.new opened es taken (handed ++ option_to_list (option_map (λ j. j.job) result)) }
+        ensures first { self.old.machine.jobs ≡ option_to_list (option_map (λ j. j.job) result) ++ self.new.machine.jobs }
+        ensures none { result ≡ None → self.old.machine.jobs ≡ [] }
+        ensures wanted { (j : HandedJob) → result ≡ Some j → j.wanted ≡ is_some (call_at j.job.call self.old.machine.calls).live }
+        ensures rest { self.new ≡ record self.old { machine = record self.old.machine { jobs = self.new.machine.jobs } } }
     {
-        self.jobs.pop_front()
+        self.streams.serving_law();
+        self.streams.take_job()
     }
 
-    /// Gives the connection's next reply, in order of requests.
-    pub fn take_reply(&mut self, conn: ConnId) -> Option<ReplyBytes>
-        ensures first { untaken_of conn self.old ≡ option_to_list result ++ untaken_of conn self.new }
+    /// Hands out the next reply of a connection, in order of its requests.
+    pub fn take_reply(&mut self, conn: ConnId) -> Option<Reply>
+        ensures stands { (opened : List ℕ) (es : List GatewayEvent) (taken : ℕ → List ReplyEntry) (handed : List JobValue)
+            → Served self.old opened es taken handed → Served self.new opened es (with_reply conn result taken) handed }
+        ensures first { untaken_of conn self.old ≡ option_to_list (option_map (λ r. r.entry) result) ++ untaken_of conn self.new }
+        ensures its { IfSome result (λ r. r.id ≡ next_reply conn self.old) }
         ensures none { result ≡ None → untaken_of conn self.old ≡ [] }
-        ensures rest { self.old ≡ core_value self.new.plans (option_map (with_untaken (option_to_list result)) self.new.conn) self.new.jobs }
-        ensures stands { (taken : List ReplyBytes) (handed : List JobValue) (occurred : List Occurrence) → StandsFor self.old taken handed occurred
-            → StandsFor self.new (taken ++ option_to_list result) handed occurred }
+        ensures only { TakesOnly self.old self.new }
     {
-        if conn.number() != 0 {
-            return None;
-        }
-        match self.connection.as_mut() {
-            Some(connection) => connection.replies.pop_front(),
-            None => None,
-        }
+        self.streams.serving_law();
+        self.streams.take_reply(conn.number())
     }
 
-    /// Whether the connection queues no more replies: it is unknown or broken, or its stream has ended
+    /// Whether the connection no longer brings requests or replies: it is unknown, closed or broken, or its stream has ended
     /// and no call of it is undecided.
     pub fn ended(&self, conn: ConnId) -> bool
-        ensures { result ≡ is_ended (conn_at conn self.now) }
+        ensures { result ≡ is_ended conn self.now }
     {
-        if conn.number() != 0 {
-            return true;
-        }
-        match &self.connection {
-            Some(connection) => connection.is_ended(),
-            None => true,
-        }
+        self.streams.is_ended(conn.number())
     }
 
-    /// How many replies of the connection were not taken yet.
+    /// How many replies of the connection can be taken.
     pub fn untaken(&self, conn: ConnId) -> usize
         ensures { result ≡ length (untaken_of conn self.now) }
     {
-        if conn.number() != 0 {
-            return 0;
-        }
-        match &self.connection {
-            Some(connection) => connection.replies.len(),
-            None => 0,
-        }
+        self.streams.untaken(conn.number())
     }
 
-    /// Whether the connection is broken: memory was refused in a step of it.
+    /// Whether the connection is open and broken: memory was refused in a step of it.
     pub fn is_broken(&self, conn: ConnId) -> bool
-        ensures { result ≡ is_broken_conn (conn_at conn self.now) }
+        ensures { result ≡ is_broken_conn conn self.now }
     {
-        if conn.number() != 0 {
-            return false;
-        }
-        match &self.connection {
-            Some(connection) => connection.broken,
-            None => false,
-        }
+        self.streams.is_broken(conn.number())
     }
 
     /// How many branches of the call are out.
-    pub fn branches_out(&self, call: CallId) -> usize
-        ensures { result ≡ outs (call_at call self.now) }
+    pub fn branches_out(&self, call: &CallId) -> u32
+        ensures { result ≡ outs_of call.now self.now }
     {
-        if call.conn.number() != 0 {
-            return 0;
-        }
-        match &self.connection {
-            Some(connection) => connection.branches_out(call.request),
-            None => 0,
-        }
-    }
-
-    /// Takes bytes of the connection's stream, where it is open and not broken.
-    fn feed_live(&mut self, conn: ConnId, bytes: &[u8]) -> Result<usize, StepFault>
-        ensures within { IfOk result (λ n. n ≤ length bytes.now) }
-        ensures moves { 0 < length bytes.now → IfOk result (λ n. 0 < n) }
-        ensures gone { (result ≡ Err StepFault.Gone) ↔ (is_live conn self.old ≡ false) }
-        ensures unchanged { result ≡ Err StepFault.Gone → self.new ≡ self.old }
-        ensures plans { self.new.plans ≡ self.old.plans }
-        ensures feeds { (was : ConnValue) (stream : List ℕ) (given : List HttpRequest)
-            → conn_at conn self.old ≡ Some was → HasRead was.reader stream given
-            → IfOk result (λ n. Feeds self.old.plans (stream ++ take n bytes.now) given was (conn_at conn self.new) self.old.jobs self.new.jobs) }
-        ensures broken { result ≡ Err StepFault.Memory → BreaksTo (conn_at conn self.old) (conn_at conn self.new) self.old.jobs self.new.jobs }
-        ensures unbroken { OnOk result (is_live conn self.new ≡ true) }
-        ensures keeps_replies { IsPrefixOf (untaken_of conn self.old) (untaken_of conn self.new) }
-        ensures keeps_jobs { IsPrefixOf self.old.jobs self.new.jobs }
-
-        // Behind the first request only the reader can want memory, and behind the stream's end nothing does.
-        ensures behind { (was : ConnValue) → conn_at conn self.old ≡ Some was → was.arrived ≡ true → result ≡ Err StepFault.Memory
-            → self.new ≡ core_value self.old.plans (Some (record was { broken = true })) self.old.jobs }
-        ensures over { (was : ConnValue) → conn_at conn self.old ≡ Some was → was.broken ≡ false → was.arrived ≡ true → is_over was.reader.reading ≡ true
-            → (result ≡ Ok (length bytes.now)) × (self.new ≡ self.old) }
-    {
-        if conn.number() != 0 {
-            return Err(StepFault::Gone);
-        }
-        let Some(connection) = self.connection.as_mut() else {
-            return Err(StepFault::Gone);
-        };
-        if connection.broken {
-            return Err(StepFault::Gone);
-        }
-        match connection.feed(self.alloc, &self.plans, &mut self.jobs, bytes) {
-            Ok(taken) => Ok(taken),
-            Err(AllocError) => {
-                connection.broken = true;
-                Err(StepFault::Memory)
-            }
-        }
-    }
-
-    /// Takes the result of a branch, if the branch is out.
-    fn see_result(&mut self, call: CallId, branch: u32, outcome: Outcome) -> Took
-        ensures seen { result.seen ≡ core_sees call branch self.old }
-        ensures unknown { result.seen ≡ Seen.Unknown → self.new ≡ self.old }
-        ensures counted { (conn : ConnValue) (was : CallValue) → conn_at call.conn self.old ≡ Some conn → conn.call ≡ Some was
-            → result.seen ≡ Seen.Counted → result.broke ≡ false
-            → CountedIn branch outcome conn was (conn_at call.conn self.new) self.old.jobs self.new.jobs }
-        ensures late { result.seen ≡ Seen.Late → self.new ≡ core_value self.old.plans (option_map (back_on branch) self.old.conn) self.old.jobs }
-        ensures plans { self.new.plans ≡ self.old.plans }
-        ensures broke { IsTrue result.broke → (result.seen ≡ Seen.Counted)
-            × BreaksTo (conn_at call.conn self.old) (conn_at call.conn self.new) self.old.jobs self.new.jobs }
-        ensures stops { (conn : ConnValue) (was : CallValue) → conn_at call.conn self.old ≡ Some conn → conn.call ≡ Some was → IsTrue result.broke
-            → BrokenIn branch outcome conn was (conn_at call.conn self.new) self.old.jobs self.new.jobs }
-
-        // An answer after which its call waits on takes no memory.
-        ensures waits { (conn : ConnValue) (was : CallValue) (body : List ℕ) → conn_at call.conn self.old ≡ Some conn → conn.call ≡ Some was
-            → outcome ≡ Outcome.Answer body → waits_on (answered_by branch body (back branch was)) ≡ true → result.broke ≡ false }
-    {
-        let unknown = Took {
-            seen: Seen::Unknown,
-            broke: false,
-        };
-        if call.conn.number() != 0 {
-            return unknown;
-        }
-        match self.connection.as_mut() {
-            Some(connection) => connection.take_result(
-                self.alloc,
-                call.request,
-                branch,
-                outcome,
-                &mut self.jobs,
-            ),
-            None => unknown,
-        }
+        self.streams.branches_out(call)
     }
 }

@@ -1,75 +1,89 @@
-ghost use Rattle.std.specs.Prelude.{◌≡◌, option_map};
+ghost use Rattle.std.specs.Prelude.{◌≡◌, option_map, true};
+ghost use Rattle.gateway_core.specs.Job.{job_at};
 
 use crate::id::CallId;
-use call_plan::Plan;
-use http_pieces::{Bytes, Request};
+use crate::machine::task::Task;
 use std::marker::Model;
 use std::sync::Arc;
 
 /// One branch of a call, to be asked of its backend.
 #[derive(Drop)]
 pub struct Job {
-    pub(crate) call: CallId,
-    pub(crate) branch: u32,
-    pub(crate) plan: Arc<Plan>,
-    pub(crate) request: Arc<Request>,
-    pub(crate) request_id: Option<Arc<Bytes>>,
-    pub(crate) remaining: Option<u64>,
+    pub(crate) task: Task,
+    /// How long its call had yet as the branch started, in milliseconds.
+    remaining: Option<u64>,
+    pub(crate) wanted: bool,
 }
 
 impl Model for Job {
-    ghost use Rattle.std.specs.Prelude.{◌<◌, length, option_map};
-    ghost use Rattle.std.specs.Arc.{arc_value};
-    ghost use Rattle.gateway_core.specs.Job.{JobValue, job_with};
+    ghost use Rattle.std.specs.Prelude.{◌≡◌};
+    ghost use Rattle.gateway_core.specs.Job.{HandedJob, job_with};
 
-    ghost Value = { JobValue };
+    ghost Value = { HandedJob };
 
-    ghost view = { λ j. job_with j.call j.branch (arc_value j.plan) (arc_value j.request) (option_map arc_value j.request_id) j.remaining };
-
-    ghost invariant = { λ j. j.branch < length (arc_value j.plan).branches };
+    ghost view = { λ j. record { job = job_with j.task.call j.task.branch j.task.asked.plan j.task.asked.request j.task.asked.request_id j.remaining; wanted = j.wanted } };
 }
 
 impl Job {
+    /// The job of a branch that starts at this moment.
+    pub(crate) fn new(task: Task, moment: u64) -> Job
+        ensures { result ≡ record { job = job_at moment task; wanted = true } }
+    {
+        let remaining = match task.asked.deadline {
+            Some(deadline) => Some(deadline.saturating_sub(moment)),
+            None => None,
+        };
+        Job {
+            task,
+            remaining,
+            wanted: true,
+        }
+    }
+
     /// The call that the branch belongs to.
     pub fn call(&self) -> CallId
-        ensures { result ≡ self.now.call }
+        ensures { result ≡ self.now.job.call }
     {
-        self.call
+        self.task.call
     }
 
     /// The branch's number in its plan, from 0 in declared order.
     pub fn branch(&self) -> u32
-        ensures { result ≡ self.now.branch }
+        ensures { result ≡ self.now.job.branch }
     {
-        self.branch
+        self.task.branch
     }
 
     /// The backend's address, `host:port`.
     pub fn address(&self) -> &str
-        ensures { result.now ≡ self.now.address }
+        ensures { result.now ≡ self.now.job.address }
     {
-        self.plan.branches()[self.branch as usize].address.as_str()
+        self.task.asked.plan.branches()[self.task.branch as usize]
+            .address
+            .as_str()
     }
 
     /// The path to ask for.
     pub fn path(&self) -> &str
-        ensures { result.now ≡ self.now.path }
+        ensures { result.now ≡ self.now.job.path }
     {
-        self.plan.branches()[self.branch as usize].path.as_str()
+        self.task.asked.plan.branches()[self.task.branch as usize]
+            .path
+            .as_str()
     }
 
     /// The body of the caller's request, to be sent on byte for byte.
     pub fn body(&self) -> &[u8]
-        ensures { result.now ≡ self.now.body }
+        ensures { result.now ≡ self.now.job.body }
     {
-        self.request.body()
+        self.task.asked.request.body()
     }
 
     /// The request id to be passed on, if the caller named one (the field `X-Request-Id`).
     pub fn request_id(&self) -> Option<&[u8]>
-        ensures { option_map (λ id. id.now) result ≡ self.now.request_id }
+        ensures { option_map (λ id. id.now) result ≡ self.now.job.request_id }
     {
-        match &self.request_id {
+        match &self.task.asked.request_id {
             Some(id) => Some(id.as_slice()),
             None => None,
         }
@@ -77,8 +91,15 @@ impl Job {
 
     /// How long the call has yet from the branch's start on, in milliseconds, if it expires.
     pub fn remaining(&self) -> Option<u64>
-        ensures { result ≡ self.now.remaining }
+        ensures { result ≡ self.now.job.remaining }
     {
         self.remaining
+    }
+
+    /// Whether its answer was still wanted as it was handed out: its call could be decided.
+    pub fn wanted(&self) -> bool
+        ensures { result ≡ self.now.wanted }
+    {
+        self.wanted
     }
 }

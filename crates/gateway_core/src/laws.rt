@@ -1,12 +1,15 @@
 //! What the definitions come to, as facts on everything that may occur. The functions do nothing.
-ghost use Rattle.std.specs.Prelude.{◌≡◌, ◌⊎◌, slice_get, ℕ, true, ◌<◌, ◌≤◌, ◌++◌, ◌∷◌, Some, None, Option, option_map, option_to_list, replicate, [], List, length};
+ghost use Rattle.std.specs.Prelude.{◌≡◌, ◌⊎◌, slice_get, ℕ, true, ◌<◌, ◌≤◌, ◌++◌, ◌∷◌, Some, None, Option, option_map, option_to_list, replicate, [], List, length, map};
 ghost use Rattle.gateway_core.specs.declared.id.CallId.{CallId};
 ghost use Rattle.gateway_core.specs.Occurrence.{Occurrence, Opening, Result};
 ghost use Rattle.gateway_core.specs.declared.event.CallEvent.{CallEvent};
 ghost use Rattle.gateway_core.specs.Past.{Mark, Past, Asked, call, decided, entries, is_out, judged, outs, mark_of, marked, moment_of, now, past_of};
 ghost use Rattle.gateway_core.specs.Finished.{IsDecidedAt, IsOutSince, StartsAt, jobs_below};
 ghost use Rattle.connect_codec.specs.declared.answer.Outcome.{Outcome};
-ghost use Rattle.gateway_core.specs.Starts.{jobs};
+ghost use Rattle.gateway_core.specs.EventAdds.{EventAdds};
+ghost use Rattle.gateway_core.specs.Events.{GatewayEvent, Occurs};
+ghost use Rattle.gateway_core.specs.Starts.{Placed, job_started, jobs, occurrences, starts};
+ghost use Rattle.call_plan.specs.Plan.{PlanRecord};
 ghost use Rattle.gateway_core.specs.declared.fault.Seen.{Seen};
 ghost use Rattle.gateway_core.specs.declared.entry.ReplyEntry.{ReplyEntry};
 ghost use Rattle.gateway_core.specs.CallRecord.{CallRecord, last_event};
@@ -89,4 +92,12 @@ pub fn call_reply_law()
     ensures ended { (r : CallRecord) (e : CallEvent) (cause : EndCause) → last_event r.events ≡ Some e → cause_of r.plan e ≡ Some cause
         → (call_reply r).bytes ≡ error_reply (ending_error (ending_with cause r.last)) r.last }
     ensures last { (r : CallRecord) → (call_reply r).last ≡ r.last }
+{}
+
+/// What one event adds to what occurred: starts of branches of one connection, all at its place; and nothing for a connection that is
+/// closed.
+pub fn event_law()
+    ensures adds { (plans : List PlanRecord) (opened : List ℕ) (e : GatewayEvent) (es : List GatewayEvent) (before after : List Placed)
+        → Occurs plans opened es before → Occurs plans opened (e ∷ es) after → EventAdds opened e es before after }
+    ensures jobs { (placed : List Placed) → map job_started (starts placed) ≡ jobs (marked (occurrences placed)) }
 {}

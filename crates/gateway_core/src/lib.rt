@@ -3,8 +3,6 @@
 #![tactic(auto)]
 
 mod answers;
-mod call;
-mod connection;
 mod ending;
 mod entry;
 mod event;
@@ -21,7 +19,6 @@ pub mod machine_laws;
 mod record;
 mod reply;
 mod reply_bytes;
-mod served;
 pub mod served_laws;
 mod stock;
 mod streams;

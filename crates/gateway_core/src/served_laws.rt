@@ -1,5 +1,5 @@
 //! What the gateway stands for after each event, by what a call makes of its value. The functions do nothing.
-ghost use Rattle.std.specs.Prelude.{◌≡◌, ℕ, List, ◌++◌, ◌∷◌, [], ◌<◌, length, Bool, Option, option_map, option_to_list, take, Result, Ok, Err, true, ⊤};
+ghost use Rattle.std.specs.Prelude.{◌≡◌, ℕ, List, ◌++◌, ◌∷◌, [], ◌<◌, length, Bool, Option, option_map, option_to_list, take, Result, Ok, Err, Some, true, ⊤};
 ghost use Rattle.connect_codec.specs.declared.answer.Outcome.{Outcome};
 ghost use Rattle.http_pieces.specs.Request.{HttpRequest};
 ghost use Rattle.http_pieces.specs.Requests.{Ending, Requests};
@@ -9,16 +9,19 @@ ghost use Rattle.gateway_core.specs.declared.fault.StepFault.{StepFault};
 ghost use Rattle.gateway_core.specs.declared.fault.Took.{Took};
 ghost use Rattle.gateway_core.specs.declared.id.CallId.{CallId};
 ghost use Rattle.gateway_core.specs.declared.machine.cause.Cause.TheVariants.{Reached, Drained};
-ghost use Rattle.gateway_core.specs.Events.{BranchResult, Closing, Drain, Gains, GatewayEvent, HangUp, Moment, Opening, Piece, stream, succeeds};
+ghost use Rattle.gateway_core.specs.Events.{BranchResult, Closing, Drain, Gains, GatewayEvent, HangUp, Moment, Occurs, Opening, Piece, stream, succeeds};
 ghost use Rattle.gateway_core.specs.Gateway.{GatewayValue};
 ghost use Rattle.gateway_core.specs.Job.{HandedJob, JobValue};
 ghost use Rattle.gateway_core.specs.Opens.{JobTaken};
 ghost use Rattle.gateway_core.specs.Reply.{ReplyValue};
 ghost use Rattle.gateway_core.specs.Results.{Forgets, ResultTaken, Starved};
-ghost use Rattle.gateway_core.specs.Served.{Served, ServedFed, ServedUpTo, with_reply};
+ghost use Rattle.gateway_core.specs.Conn.{ConnValue};
+ghost use Rattle.gateway_core.specs.Queue.{front};
+ghost use Rattle.gateway_core.specs.Served.{JobsAre, QueueIs, Served, ServedFed, ServedUpTo, with_reply};
+ghost use Rattle.gateway_core.specs.Starts.{Placed};
 ghost use Rattle.gateway_core.specs.Serving.{Closes, Ends, FedTo, HangsUp, IsServing, Opens, TakesReply};
 ghost use Rattle.gateway_core.specs.Step.{moment_after};
-ghost use Rattle.gateway_core.specs.Store.{MachineValue};
+ghost use Rattle.gateway_core.specs.Store.{MachineValue, conn_of};
 
 use http_pieces::laws::fresh_law;
 
@@ -115,4 +118,14 @@ pub fn parts_law()
         (es : List GatewayEvent) (taken : ℕ → List ReplyEntry) (handed : List JobValue)
         → IsServing v → IsServing w → ServedUpTo n p v opened es taken handed
         → FedTo n q v w (Err fault) → Served w opened (Piece n (p ++ q) ∷ es) taken handed }
+{}
+
+/// What a gateway has queued and started is what the definitions say of the events that it stands for.
+pub fn standing_law()
+    ensures queue { (c : ℕ) (k : ConnValue) (v : GatewayValue) (opened : List ℕ) (es : List GatewayEvent) (taken : ℕ → List ReplyEntry)
+        (handed : List JobValue) (occurred : List Placed) → Served v opened es taken handed → Occurs v.plans opened es occurred
+        → conn_of c v.machine.conns ≡ Some k → QueueIs c (taken c ++ front k.slots) k.broken occurred }
+    ensures jobs { (v : GatewayValue) (opened : List ℕ) (es : List GatewayEvent) (taken : ℕ → List ReplyEntry)
+        (handed : List JobValue) (occurred : List Placed) → Served v opened es taken handed → Occurs v.plans opened es occurred
+        → JobsAre v (handed ++ v.machine.jobs) occurred }
 {}

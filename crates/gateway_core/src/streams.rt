@@ -1,21 +1,23 @@
-ghost use Rattle.std.specs.Prelude.{◌≡◌, ◌==◌, ◌<◌, ◌≤◌, Err, IfOk, OnErr, false, true, not, filter, length, []};
+ghost use Rattle.std.specs.Prelude.{◌≡◌, ◌==◌, ◌<◌, ◌≤◌, ◌^◌, Err, IfOk, OnErr, false, true, not, filter, length, []};
 ghost use Rattle.gateway_core.specs.Ends.{is_stopped_in};
+ghost use Rattle.gateway_core.specs.Gateway.{is_broken_conn, is_ended, outs_of, untaken_of};
 ghost use Rattle.gateway_core.specs.Step.{moment_after};
 ghost use Rattle.gateway_core.specs.Results.{Forgets, ResultTaken, Starved};
+ghost use Rattle.gateway_core.specs.declared.fault.Seen.{Seen};
 ghost use Rattle.gateway_core.specs.Opens.{JobTaken};
-ghost use Rattle.gateway_core.specs.Serving.{Breaks, BringsAt, Closes, Ends, FedTo, gateway_value, HangsUp, IsListening, IsPlaced, IsServing, ListensAt, Opens, Pushes, TakesReply, without_more};
+ghost use Rattle.gateway_core.specs.Serving.{Breaks, BringsAt, Closes, Ends, FedTo, gateway_value, HangsUp, IsListening, IsPlaced, IsServing, ListensAt, Opens, ReadsAt, TakesReply, without_more};
 ghost use Rattle.gateway_core.specs.Store.{MachineValue, broken_at, conn_at, machine_value};
 
-use crate::fault::{StepFault, Took};
+use crate::fault::{OpenError, StepFault, Took};
 use crate::id::{CallId, ConnId};
+use crate::job::Job;
 use crate::machine::cause::Cause;
-use crate::machine::job::Job;
 use crate::machine::store::Machine;
 use crate::machine::stream::Stream;
 use crate::reply::Reply;
 use call_plan::Plans;
 use connect_codec::Outcome;
-use http_pieces::State;
+use http_pieces::{Request, State};
 use std::alloc::{AllocError, Global};
 use std::marker::Model;
 
@@ -35,17 +37,6 @@ pub(crate) struct Streams {
     streams: Vec<Stream>,
     /// How many connections were opened: the number of the next.
     opened: u64,
-}
-
-/// Why no connection was opened.
-#[derive(Clone, Copy, PartialEq, Eq, Debug)]
-pub(crate) enum Refusal {
-    /// As many are open as may be.
-    Full,
-    /// As many were opened as may be.
-    Exhausted,
-    /// Memory was refused.
-    Memory,
 }
 
 impl Model for Streams {
@@ -75,21 +66,22 @@ impl Streams {
 
     /// Opens a connection, and answers its number. A refusal is the first that applies of `Full`, `Exhausted` and `Memory`, and
     /// changes nothing.
-    pub(crate) fn open(&mut self) -> Result<ConnId, Refusal>
+    pub(crate) fn open(&mut self) -> Result<ConnId, OpenError>
         ensures opens { IfOk result (Opens self.old self.new) }
-        ensures full { result ≡ Err Refusal.Full → 64 ≤ length self.old.streams }
+        ensures full { result ≡ Err OpenError.Full → 64 ≤ length self.old.streams }
+        ensures exhausted { result ≡ Err OpenError.Exhausted → 2 ^ 56 ≤ self.old.opened }
         ensures err { OnErr result (self.new ≡ self.old) }
     {
         if self.streams.len() >= MOST_OPEN {
-            return Err(Refusal::Full);
+            return Err(OpenError::Full);
         }
         if self.opened >= MOST_OPENINGS {
-            return Err(Refusal::Exhausted);
+            return Err(OpenError::Exhausted);
         }
         let number = self.opened;
         let room = self.streams.reserve(1);
         if room.is_err() || self.machine.open(self.alloc, number).is_err() {
-            return Err(Refusal::Memory);
+            return Err(OpenError::Memory);
         }
         self.streams.push_reserved(Stream::new(self.alloc, number));
         self.opened += 1;
@@ -106,11 +98,11 @@ impl Streams {
         if self.streams[index].is_over() {
             return Ok(bytes.len());
         }
-        let Ok(taken) = self.push(index, bytes) else {
+        let Ok((taken, request)) = self.read(index, bytes) else {
             self.break_conn(number);
             return Err(StepFault::Memory);
         };
-        self.bring(index);
+        self.bring(index, request);
         if self.machine.is_stopped(number) {
             return Err(StepFault::Memory);
         }
@@ -167,6 +159,7 @@ impl Streams {
     pub(crate) fn result(&mut self, id: &CallId, branch: u32, outcome: Outcome) -> Took
         ensures taken { (between : MachineValue) × ResultTaken id.now branch outcome self.old.machine between result
             × Forgets id.now between self.new.machine }
+        ensures unknown { result.seen ≡ Seen.Unknown → self.new.machine ≡ self.old.machine }
         ensures rest { self.new ≡ record self.old { machine = self.new.machine } }
     {
         self.machine.take_result(self.alloc, id, branch, outcome)
@@ -176,6 +169,7 @@ impl Streams {
     pub(crate) fn starve(&mut self, id: &CallId, branch: u32) -> Took
         ensures starved { (between : MachineValue) × Starved id.now branch self.old.machine between result
             × Forgets id.now between self.new.machine }
+        ensures unknown { result.seen ≡ Seen.Unknown → self.new.machine ≡ self.old.machine }
         ensures rest { self.new ≡ record self.old { machine = self.new.machine } }
     {
         self.machine.starve(id, branch)
@@ -197,6 +191,42 @@ impl Streams {
             return None;
         };
         self.machine.take_reply(index)
+    }
+
+    /// Whether the connection of that number brings nothing more: it is not open, or is broken, or its stream has ended and no
+    /// call of it is undecided.
+    pub(crate) fn is_ended(&self, number: u64) -> bool
+        ensures { result ≡ is_ended number self.now }
+    {
+        match self.place(number) {
+            Some(index) => self.machine.is_stopped(number)
+                || (self.streams[index].is_done() && self.machine.is_idle(index)),
+            None => true,
+        }
+    }
+
+    /// How many replies of the connection of that number can be taken.
+    pub(crate) fn untaken(&self, number: u64) -> usize
+        ensures { result ≡ length (untaken_of number self.now) }
+    {
+        match self.place(number) {
+            Some(index) => self.machine.untaken(index),
+            None => 0,
+        }
+    }
+
+    /// Whether the connection of that number is open and broken.
+    pub(crate) fn is_broken(&self, number: u64) -> bool
+        ensures { result ≡ is_broken_conn number self.now }
+    {
+        self.machine.is_stopped(number)
+    }
+
+    /// How many branches of the call are out.
+    pub(crate) fn branches_out(&self, id: &CallId) -> u32
+        ensures { result ≡ outs_of id.now self.now }
+    {
+        self.machine.branches_out(id)
     }
 
     /// What is kept between two calls. It does nothing.
@@ -234,13 +264,13 @@ impl Streams {
         Some(index)
     }
 
-    /// The reader of the stream at that place takes bytes.
-    fn push(&mut self, index: usize, bytes: &[u8]) -> Result<usize, AllocError>
+    /// The stream at that place takes bytes, at most up to the end of a request, and gives the request that they make whole.
+    fn read(&mut self, index: usize, bytes: &[u8]) -> Result<(usize, Option<Request>), AllocError>
         requires { index < length self.old.streams }
-        ensures ok { IfOk result (λ n. Pushes index n bytes.now self.old self.new) }
+        ensures ok { IfOk result (λ r. ReadsAt index r.0 r.1 bytes.now self.old self.new) }
         ensures err { OnErr result (self.new ≡ self.old) }
     {
-        self.streams[index].push(bytes)
+        self.streams[index].read(bytes)
     }
 
     /// No more is read of the stream at that place.
@@ -258,13 +288,13 @@ impl Streams {
         self.machine.break_conn(number);
     }
 
-    /// What the reader of the stream at that place has come to comes on its connection.
-    fn bring(&mut self, index: usize)
+    /// The request comes on the connection at that place, or the refusal that its stream has come to.
+    fn bring(&mut self, index: usize, request: Option<Request>)
         requires there { index < length self.old.streams }
         requires on { (conn_at index self.old.machine.conns).broken ≡ false }
-        ensures { BringsAt index self.old self.new }
+        ensures { BringsAt index request self.old self.new }
     {
-        if let Some(request) = self.streams[index].take() {
+        if let Some(request) = request {
             self.machine.come(self.alloc, &self.plans, index, request);
             return;
         }

@@ -1,7 +1,12 @@
 pub mod Entries
 pub mod RunLemmas
 pub mod Scripts
-pub mod DeliverLemmas
-pub mod StepLemmas
-pub mod WholeLemmas
 pub mod Existence
+pub mod Flags
+pub mod Gathering
+pub mod RunSteps
+pub mod WholeLemmas
+pub mod EventRuns
+pub mod PieceParts
+pub mod Starting
+pub mod Finally

@@ -1,5 +1,5 @@
 -- Texts that a writer has a beginning of.
-use Rattle.std.specs.Prelude.{◌≡◌, ℕ, ◌+◌, ◌-◌, ◌≤◌, ◌<◌, List, [], ◌∷◌, ◌++◌, length, take, drop, flat_map, get_or, Option, Some, None, Result, Ok, Err, OnErr, OnOk, codes, decimal}
+use Rattle.std.specs.Prelude.{◌≡◌, ℕ, ◌+◌, ◌-◌, ◌≤◌, ◌<◌, List, [], ◌∷◌, ◌++◌, length, take, drop, flat_map, get_or, Option, Some, None, Result, Ok, Err, OnErr, codes, decimal}
 use Rattle.std.specs.List.{enumerate_from}
 use Rattle.std.proofs.Common.{arith, refl, sym, ap, ◌∙◌, append_assoc}
 use Rattle.std.proofs.Math.Seq.{take-add, take-append-add}
@@ -21,13 +21,6 @@ Appends-more (Some xs) (Some ys) (Some zs) n k text s a =
     let cut = take-add n k text in
     let whole : take (length text - n) (drop n text) ≡ drop n text = take_all _ _ (omega (arith, length-drop n text)) in
     grind (arith, common_steps)
-
--- a write took nothing
-pub nothing_more : (old mid new : Option (List ℕ)) (bs more : List ℕ) → Appends old mid bs → Appends mid new (take 0 more) → Appends old new bs
-nothing_more None mid new bs more p q = tt
-nothing_more (Some xs) None new bs more p q = absurd p
-nothing_more (Some xs) (Some ys) None bs more p q = absurd q
-nothing_more (Some xs) (Some ys) (Some zs) bs more p q = q ∙ append-nil ys ∙ p
 
 -- the beginning of a text is that of a longer one
 pub AppendsSome-front : (a b : Option (List ℕ)) (xs ys : List ℕ) → AppendsSome a b xs → AppendsSome a b (xs ++ ys)
@@ -70,10 +63,6 @@ OnErr-from (Err e) p = p
 pub OnErr-map : {A E P Q : Type 0} (r : Result A E) → (P → Q) → OnErr r P → OnErr r Q
 OnErr-map (Ok a) f p = tt
 OnErr-map (Err e) f p = f p
-
-pub OnOk-map : {A E P Q : Type 0} (r : Result A E) → (P → Q) → OnOk r P → OnOk r Q
-OnOk-map (Ok a) f p = f p
-OnOk-map (Err e) f p = tt
 
 -- ---- the lines, of their parts
 

@@ -1,5 +1,5 @@
 pub mod Run
+pub mod Log
+pub mod Stepping
 pub mod RunText
 pub mod Script
-pub mod Today
-pub mod Stands

@@ -12,7 +12,7 @@ use Rattle.call_plan.specs.PlanFile.{whole_number, json_of, plans_of}
 use Rattle.call_plan.specs.declared.error.PlanError.{PlanError}
 use Rattle.call_plan.specs.declared.error.PlanError.TheVariants as plan
 use Rattle.gateway_run.specs.declared.event.Event.{Event}
-use Rattle.gateway_run.specs.declared.event.Event.TheVariants.{Opening, Piece, BranchResult}
+use Rattle.gateway_run.specs.declared.event.Event.TheVariants.{Opening, Piece, HangUp, Moment, BranchResult, Drain, Closing}
 use Rattle.gateway_run.specs.declared.fault.ScriptError.{ScriptError}
 use Rattle.gateway_run.specs.declared.fault.ScriptError.TheVariants.{Memory, NotAScript, Plans, BadEvent}
 
@@ -35,7 +35,7 @@ text_at place d = option_and_then as_str (at place d)
 unfoldable pub number_at : ℕ → ℕ → Data → Option ℕ
 number_at greatest place d = option_and_then (whole_number greatest) (at place d)
 
--- the number of a connection or a request at a place, from 0 to 2^64 - 1
+-- the number of a connection or a request, or the moment, at a place, from 0 to 2^64 - 1
 abbrev pub serial_at : ℕ → Data → Option ℕ
 serial_at = number_at 18446744073709551615
 
@@ -92,8 +92,12 @@ unfoldable pub event_of : Data → Option Event
 event_of d =
     if has_form (codes "open") 1 d then Some Opening else
     (if has_form (codes "piece") 3 d then piece_of d else
+    (if has_form (codes "hangup") 2 d then option_map HangUp (serial_at 1 d) else
+    (if has_form (codes "moment") 2 d then option_map Moment (serial_at 1 d) else
     (if has_form (codes "result") 7 d then result_of d else
-    (if has_form (codes "lost") 4 d then branch_result_of None d else None)))
+    (if has_form (codes "lost") 4 d then branch_result_of None d else
+    (if has_form (codes "drain") 1 d then Some Drain else
+    (if has_form (codes "close") 2 d then option_map Closing (serial_at 1 d) else None)))))))
 
 -- the entries with that event before them
 abbrev pub then_events : Event → Result (List Event) ScriptError → Result (List Event) ScriptError
@@ -103,7 +107,8 @@ then_events e (Err fault) = Err fault
 -- the events of the entries, of which the first stands at that place; the first that is no event is the fault
 abbrev pub events_from : ℕ → Items → Result (List Event) ScriptError
 events_from place no_items = Ok []
-events_from place (item d ds) = option_map_or (λ e. then_events e (events_from (suc place) ds)) (event_of d) (Err (BadEvent place))
+events_from place (item d ds) =
+    option_map_or (λ e. then_events e (events_from (suc place) ds)) (event_of d) (Err (BadEvent place))
 
 -- ---- the script
 
@@ -129,7 +134,8 @@ unfoldable pub plan_list_of : Data → Option Data
 plan_list_of d = option_and_then if_array (get (codes "plans") d)
 
 -- the plans and the events, or the fault of the events
-abbrev pub with_events : List PlanRecord → Result (List Event) ScriptError → Result (List PlanRecord × List Event) ScriptError
+abbrev pub with_events : List PlanRecord → Result (List Event) ScriptError
+    → Result (List PlanRecord × List Event) ScriptError
 with_events plans (Ok events) = Ok (plans, events)
 with_events plans (Err fault) = Err fault
 
@@ -141,7 +147,8 @@ with_plans (Err fault) entries = Err (Plans fault)
 -- The plans and events of a JSON value. Its shape is judged first, then the plans, then the events.
 unfoldable pub script_of : Data → Result (List PlanRecord × List Event) ScriptError
 script_of d =
-    option_map_or (λ plans. option_map_or (λ entries. with_plans (plans_of plans) entries) (entries_of d) (Err NotAScript))
+    option_map_or
+    (λ plans. option_map_or (λ entries. with_plans (plans_of plans) entries) (entries_of d) (Err NotAScript))
     (plan_list_of d) (Err NotAScript)
 
 -- The plans and events of a script's text.

@@ -9,6 +9,14 @@ pub enum Event {
     Opening,
     /// Bytes of a connection's stream come.
     Piece(u64, Bytes),
+    /// A connection's client is gone: nothing more comes of its stream.
+    HangUp(u64),
+    /// This many milliseconds have passed, by the caller's clock.
+    Moment(u64),
     /// A branch of a call ends: connection, request, branch, and how.
     BranchResult(u64, u64, u32, Outcome),
+    /// The gateway is drained: each call ends, and so does each that comes later.
+    Drain,
+    /// A connection is closed, and its calls are dropped.
+    Closing(u64),
 }

@@ -6,6 +6,7 @@ mod delivery;
 mod event;
 mod fault;
 pub mod laws;
+mod log;
 mod outcome;
 mod script;
 mod stepping;

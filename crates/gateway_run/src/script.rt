@@ -18,9 +18,10 @@ const MAX_BRANCH: u64 = 4_294_967_295;
 /// most 127 deep) with the keys `plans`, an array as of a plan file, and `events`, an array of arrays. Other keys are
 /// ignored.
 ///
-/// An event is `["open"]`, `["piece",c,text]`, `["result",c,k,branch,status,type,body]` or `["lost",c,k,branch]`:
-/// c, k and branch are the numbers of a connection, of a request on it and of a branch, status is from 200 to 999,
-/// and type is a text or null.
+/// An event is `["open"]`, `["piece",c,text]`, `["hangup",c]`, `["moment",m]`,
+/// `["result",c,k,branch,status,type,body]`, `["lost",c,k,branch]`, `["drain"]` or `["close",c]`: c, k and branch are
+/// the numbers of a connection, of a request on it and of a branch, m is a moment in milliseconds, status is from 200
+/// to 999, and type is a text or null.
 ///
 /// `NotAScript` for a text that is no UTF-8, no JSON or no such object; then the fault of the plans, as `plans_of`
 /// finds it; then `BadEvent` with the place of the first entry that is no event. `Memory` may stand in place of any.
@@ -107,10 +108,18 @@ fn event_of(alloc: Global, entry: &Value) -> Result<Option<Event>, AllocError>
         Ok(Some(Event::Opening))
     } else if has_form(entry, "piece", 3) {
         piece_of(alloc, entry)
+    } else if has_form(entry, "hangup", 2) {
+        Ok(number_at(entry, 1, u64::MAX).map(Event::HangUp))
+    } else if has_form(entry, "moment", 2) {
+        Ok(number_at(entry, 1, u64::MAX).map(Event::Moment))
     } else if has_form(entry, "result", 7) {
         result_of(alloc, entry)
     } else if has_form(entry, "lost", 4) {
         branch_result_of(alloc, None, entry)
+    } else if has_form(entry, "drain", 1) {
+        Ok(Some(Event::Drain))
+    } else if has_form(entry, "close", 2) {
+        Ok(number_at(entry, 1, u64::MAX).map(Event::Closing))
     } else {
         Ok(None)
     }
@@ -237,7 +246,8 @@ fn status_at(entry: &Value, place: usize) -> Option<StatusCode>
 
 #[tactic(auto, unfolding(crate::specs::Script::content_type_at))]
 fn content_type_at(entry: &Value, place: usize) -> Option<Option<&str>>
-    ensures { option_map (λ content_type. option_map (λ s. s.now) content_type) result ≡ content_type_at place (view entry.now) }
+    ensures { option_map (λ content_type. option_map (λ s. s.now) content_type) result
+        ≡ content_type_at place (view entry.now) }
 {
     let value = entry.get(place)?;
     if value.is_null() {

@@ -1,15 +1,11 @@
-ghost use Rattle.std.specs.Prelude.{◌≡◌, ℕ, ◌↔◌, ◌∷◌, ◌||◌, ◌&&◌, not, List, length, true, false, is_some, if◌then◌else◌};
-ghost use Rattle.connect_codec.specs.declared.answer.Outcome.{Outcome};
-ghost use Rattle.gateway_core.specs.Occurrence.{Occurrence};
-ghost use Rattle.gateway_core.specs.Past.{call_id};
-ghost use Rattle.gateway_core.specs.declared.reply_bytes.ReplyBytes.{ReplyBytes};
-ghost use Rattle.gateway_core.specs.Core.{is_live, core_sees, is_broken_conn, replies_of};
+ghost use Rattle.std.specs.Prelude.{◌≡◌, ◌<◌, ◌∷◌, ℕ, List, length};
+ghost use Rattle.gateway_core.specs.declared.entry.ReplyEntry.{ReplyEntry};
+ghost use Rattle.gateway_core.specs.Events.{GatewayEvent, is_closing_of, most_open, open_connections};
 ghost use Rattle.gateway_core.specs.Job.{JobValue};
-ghost use Rattle.gateway_core.specs.Queue.{IsPrefixOf};
-ghost use Rattle.gateway_core.specs.Starts.{Placed};
-ghost use Rattle.gateway_core.specs.Events.{Before, onto};
-ghost use Rattle.gateway_run.specs.Stands.{StandsForEvents, opened_by, tells_break, tells_piece};
-ghost use Rattle.gateway_run.specs.Today.{gateway_event, is_opening};
+ghost use Rattle.gateway_core.specs.Served.{Served};
+ghost use Rattle.gateway_core.specs.Serving.{KeepsBut};
+ghost use Rattle.gateway_run.specs.Run.{gateway_event};
+ghost use Rattle.gateway_run.specs.Stepping.{Tells, done_of, opened_by, taken_of};
 
 use crate::delivery::deliver;
 use crate::event::Event;
@@ -28,54 +24,57 @@ pub enum Stepped {
     Saw(Took),
     /// The step was not made, or not made whole.
     Fault(StepFault),
+    /// The event was taken, and a connection broke in the step.
+    Broke,
 }
 
 /// Makes the step of one event.
 pub fn step(core: &mut Core, event: Event) -> Stepped
-    // A connection is opened where none was before.
-    ensures opening { event ≡ Event.Opening
-        → result ≡ (if is_some core.old.conn then Stepped.NotOpened OpenError.Full else Stepped.Opened 0) }
-    ensures piece { (conn : ℕ) (bytes : List ℕ) → event ≡ Event.Piece conn bytes
-        → (result ≡ Stepped.Fault StepFault.Gone) ↔ (is_live conn core.old ≡ false) }
-    ensures taken { (conn : ℕ) (bytes : List ℕ) → event ≡ Event.Piece conn bytes → tells_piece result ≡ true }
-    ensures memory { result ≡ Stepped.Fault StepFault.Memory → is_broken_conn core.new.conn ≡ true }
-    ensures done { result ≡ Stepped.Done → is_broken_conn core.new.conn ≡ false }
-    ensures saw { (conn request branch : ℕ) (outcome : Outcome) → event ≡ Event.BranchResult conn request branch outcome
-        → (took : Took) × (result ≡ Stepped.Saw took) × (took.seen ≡ core_sees (call_id conn request) branch core.old) }
-    ensures alone { (conn : ℕ) → result ≡ Stepped.Opened conn → event ≡ Event.Opening }
-    ensures plans { core.new.plans ≡ core.old.plans }
-    ensures connection { is_some core.new.conn ≡ (is_some core.old.conn || is_opening (gateway_event event)) }
-    ensures stays_broken { is_broken_conn core.old.conn ≡ true → is_broken_conn core.new.conn ≡ true }
-
-    // Want of memory is told exactly where it broke the connection.
-    ensures broke { tells_break result ≡ (not (is_broken_conn core.old.conn) && is_broken_conn core.new.conn) }
-
-    // No reply and no job that waits is lost, and where the connection was broken before none is added.
-    ensures keeps_replies { IsPrefixOf (replies_of core.old.conn) (replies_of core.new.conn) }
-    ensures keeps_jobs { IsPrefixOf core.old.jobs core.new.jobs }
-    ensures queues_no_more { is_broken_conn core.old.conn ≡ true → replies_of core.new.conn ≡ replies_of core.old.conn }
-    ensures starts_no_more { is_broken_conn core.old.conn ≡ true → core.new.jobs ≡ core.old.jobs }
-
-    // The core stands for the events with this one added, and for what occurs by it, if its connection did not break.
-    ensures stands { (taken : List ReplyBytes) (handed : List JobValue) (opened : List ℕ) (events : Before) (occurred : List Placed)
-        → StandsForEvents core.old taken handed opened events occurred → is_broken_conn core.new.conn ≡ false
-        → (os : List Occurrence) × StandsForEvents core.new taken handed (opened_by result (length events) opened) (gateway_event event ∷ events) (onto (length events) os occurred) }
+    ensures stands { (opened : List ℕ) (es : List GatewayEvent) (taken : ℕ → List ReplyEntry) (handed : List JobValue)
+        → Served core.old opened es taken handed
+        → Served core.new (opened_by result (length es) opened) (gateway_event event ∷ es) taken handed }
+    ensures tells { Tells (gateway_event event) result core.old core.new }
+    ensures opens { (conn : ℕ) → result ≡ Stepped.Opened conn → event ≡ Event.Opening }
+    ensures few { (conn : ℕ) (opened : List ℕ) (es : List GatewayEvent) (taken : ℕ → List ReplyEntry) (handed : List JobValue)
+        → result ≡ Stepped.Opened conn → Served core.old opened es taken handed → open_connections opened es < most_open }
+    ensures keeps { KeepsBut (λ c. is_closing_of c (gateway_event event)) core.old core.new }
 {
     match event {
         Event::Opening => match core.open_conn() {
             Ok(conn) => Stepped::Opened(conn),
             Err(error) => Stepped::NotOpened(error),
         },
-        Event::Piece(conn, bytes) => match deliver(core, ConnId::of(conn), bytes.as_slice()) {
-            Ok(()) => Stepped::Done,
-            Err(fault) => Stepped::Fault(fault),
-        },
+        Event::Piece(conn, bytes) => done(deliver(core, ConnId::of(conn), bytes.as_slice())),
+        Event::HangUp(conn) => done(core.hang_up(ConnId::of(conn))),
+        Event::Moment(moment) => taken(core.moment(moment)),
         Event::BranchResult(conn, request, branch, outcome) => {
             let call = CallId {
                 conn: ConnId::of(conn),
                 request,
             };
-            Stepped::Saw(core.result(call, branch, outcome))
+            Stepped::Saw(core.result(&call, branch, outcome))
+        }
+        Event::Drain => taken(core.drain()),
+        Event::Closing(conn) => {
+            core.close(ConnId::of(conn));
+            Stepped::Done
         }
     }
+}
+
+/// What a step of one connection came to.
+fn done(answer: Result<(), StepFault>) -> Stepped
+    ensures { result ≡ done_of answer }
+{
+    match answer {
+        Ok(()) => Stepped::Done,
+        Err(fault) => Stepped::Fault(fault),
+    }
+}
+
+/// What a step of all connections came to, in which one broke or none did.
+fn taken(broke: bool) -> Stepped
+    ensures { result ≡ taken_of broke }
+{
+    if broke { Stepped::Broke } else { Stepped::Done }
 }

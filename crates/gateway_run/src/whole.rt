@@ -1,123 +1,121 @@
-ghost use Rattle.std.specs.Prelude.{◌≡◌, ℕ, ◌<◌, ◌++◌, [], false, None, true, List, length, map, filter, option_to_list, IfOk, OnOk};
+ghost use Rattle.std.specs.Prelude.{◌≡◌, ◌∷◌, ◌<◌, [], false, nat_lt, true, ℕ, IfOk, List, OnOk, filter, length, slice_index_or};
 ghost use Rattle.std.specs.List.{range_with_len};
-ghost use Rattle.gateway_core.specs.Core.{conn_at, core_value, is_broken_conn, untaken_of};
+ghost use Rattle.gateway_core.specs.Events.{Before, IsOpened, IsRising, Occurs};
+ghost use Rattle.gateway_core.specs.Served.{Served};
 ghost use Rattle.gateway_core.specs.Starts.{Placed};
-ghost use Rattle.gateway_core.specs.Events.{IsOpened, IsRising, Occurs};
-ghost use Rattle.gateway_run.specs.Run.{HasRun, is_listed, joined, newest_first, queues, start_at, starts_of};
-ghost use Rattle.gateway_run.specs.Today.{first_only, first_opening};
+ghost use Rattle.gateway_run.specs.Log.{HasRun, log_value};
+ghost use Rattle.gateway_run.specs.Run.{QueuedAs, gateway_event, is_listed, is_start_of, newest_first, starts_of};
+ghost use Rattle.gateway_run.specs.Stepping.{CollectsFor, log_after};
 
 use crate::event::Event;
-use crate::outcome::{Run, RunError, Start};
+use crate::log::Log;
+use crate::outcome::{Run, RunError};
 use crate::stepping::{Stepped, step};
 use call_plan::Plans;
-use gateway_core::{ConnId, Core};
-use http_pieces::Bytes;
-use http_pieces::laws::fresh_law;
+use gateway_core::Core;
 use std::alloc::{AllocError, Global};
 
 /// Runs a whole list of events on a new gateway that serves these plans.
 pub fn run(alloc: Global, plans: Plans, events: Vec<Event>) -> Result<Run, RunError>
-    // The openings that succeeded: today the first one alone.
+    // The openings that succeeded, each where fewer connections were open than may be.
     ensures opened { IfOk result (λ run. IsOpened run.opened.items (newest_first events.items)) }
-    ensures first { IfOk result (λ run. run.opened.items ≡ option_to_list (first_opening (newest_first events.items))) }
 
-    // What occurred by the events, if memory was there.
-    ensures occurs { IfOk result (λ run. is_listed 0 run.broken.items ≡ false
-        → (occurred : List Placed) × Occurs plans run.opened.items (newest_first events.items) occurred) }
-
-    // What is queued and what starts is what the definitions say of it, where of a connection's requests the first alone counts.
+    // What is queued for each connection by what occurs; for one that broke, by what had occurred before it did.
     ensures queued { IfOk result (λ run. (occurred : List Placed) → Occurs plans run.opened.items (newest_first events.items) occurred
-        → is_listed 0 run.broken.items ≡ false → run.queued.items ≡ queues (length run.opened.items) (first_only occurred)) }
+        → (c : ℕ) → c < length run.opened.items
+        → QueuedAs c (slice_index_or run.queued.items c []) (is_listed c run.broken.items) occurred) }
+
+    // The starts of each connection that did not break; all of them, where none did.
     ensures starts { IfOk result (λ run. (occurred : List Placed) → Occurs plans run.opened.items (newest_first events.items) occurred
-        → is_listed 0 run.broken.items ≡ false → run.starts.items ≡ starts_of (first_only occurred)) }
+        → (c : ℕ) → is_listed c run.broken.items ≡ false
+        → filter (is_start_of c) run.starts.items ≡ filter (is_start_of c) (starts_of occurred)) }
+    ensures unbroken { IfOk result (λ run. (occurred : List Placed) → Occurs plans run.opened.items (newest_first events.items) occurred
+        → run.broken.items ≡ [] → run.starts.items ≡ starts_of occurred) }
     ensures one_each { IfOk result (λ run. length run.queued.items ≡ length run.opened.items) }
-    ensures broken { IfOk result (λ run. (conn : ℕ) → is_listed conn run.broken.items ≡ true → conn < length run.opened.items) }
+    ensures broken { IfOk result (λ run. (c : ℕ) → is_listed c run.broken.items ≡ true → c < length run.opened.items) }
     ensures rising { IfOk result (λ run. IsRising run.broken.items) }
 {
     let mut core = Core::new(alloc, plans)?;
-    let mut opened = Vec::new(alloc);
-    let mut starts = Vec::new(alloc);
-    take_events(&mut core, events, &mut opened, &mut starts)?;
-    let mut queued = Vec::new(alloc);
-    let mut broken = Vec::new(alloc);
-    take_queues(alloc, &mut core, opened.len(), &mut queued, &mut broken)?;
+    let mut log = Log::new(alloc);
+    take_events(&mut core, &mut log, events)?;
+    collect_all(&mut core, &mut log)?;
+    let broken = listed(alloc, &log.broke)?;
     Ok(Run {
-        opened,
-        queued,
-        starts,
+        opened: log.opened,
+        queued: log.queued,
+        starts: log.starts,
         broken,
     })
 }
 
-/// Makes the steps of these events on a new core, and takes what starts at each.
-fn take_events(
-    core: &mut Core,
-    events: Vec<Event>,
-    opened: &mut Vec<u64>,
-    starts: &mut Vec<Start>,
-) -> Result<(), AllocError>
-    ensures { core.old ≡ core_value core.old.plans None [] → opened.old.items ≡ [] → starts.old.items ≡ []
-        → OnOk result (HasRun core.old.plans core.new opened.new.items starts.new.items (newest_first events.items)) }
+/// Makes the steps of these events.
+fn take_events(core: &mut Core, log: &mut Log, events: Vec<Event>) -> Result<(), AllocError>
+    ensures ran { HasRun (λ c. false) core.old log.old [] → OnOk result (HasRun (λ c. false) core.new log.new (newest_first events.items)) }
+    ensures plans { OnOk result (core.new.plans ≡ core.old.plans) }
 {
-    fresh_law();
     let mut place = 0u64;
     for event in events {
-        if let Stepped::Opened(_) = step(core, event) {
-            opened.push(place)?;
-        }
-        take_starts(core, place, starts)?;
+        take_event(core, log, place, event)?;
         place = place.saturating_add(1);
     }
     Ok(())
 }
 
-/// Takes the jobs that started at the event of this place.
-fn take_starts(core: &mut Core, event: u64, starts: &mut Vec<Start>) -> Result<(), AllocError>
-    ensures starts { OnOk result (starts.new.items ≡ starts.old.items ++ map (start_at event) core.old.jobs) }
-    ensures taken { OnOk result (core.new ≡ core_value core.old.plans core.old.conn []) }
+/// Makes the step of the event of this place. What is queued for a connection that closes by it is taken before.
+fn take_event(core: &mut Core, log: &mut Log, place: u64, event: Event) -> Result<(), AllocError>
+    ensures ran { (es : Before) → length es ≡ place → HasRun (λ c. false) core.old log.old es
+        → OnOk result (HasRun (λ c. false) core.new log.new (gateway_event event ∷ es)) }
+    ensures plans { OnOk result (core.new.plans ≡ core.old.plans) }
 {
-    while let Some(job) = core.take_job() {
-        starts.push(Start {
-            event,
-            conn: job.call().conn.number(),
-            request: job.call().request,
-            branch: job.branch(),
-        })?;
+    collect_for(core, log, &event)?;
+    let stepped = step(core, event);
+    note(log, place, &stepped)?;
+    log.start(core, place)
+}
+
+/// Takes what is queued for the connection that the event closes, if it closes one.
+fn collect_for(core: &mut Core, log: &mut Log, event: &Event) -> Result<(), AllocError>
+    ensures { OnOk result (CollectsFor (gateway_event event.now) core.old core.new log.old log.new) }
+{
+    match event {
+        Event::Closing(conn) => log.collect(core, *conn),
+        _ => Ok(()),
+    }
+}
+
+/// Takes down that a connection was opened at the event of this place, if one was.
+fn note(log: &mut Log, place: u64, stepped: &Stepped) -> Result<(), AllocError>
+    ensures { OnOk result (log.new ≡ log_after stepped.now place log.old) }
+{
+    match stepped {
+        Stepped::Opened(_) => log.open(place),
+        _ => Ok(()),
+    }
+}
+
+/// Takes what is queued for each connection.
+fn collect_all(core: &mut Core, log: &mut Log) -> Result<(), AllocError>
+    ensures ran { (es : Before) → HasRun (λ c. false) core.old log.old es
+        → OnOk result (HasRun (λ c. nat_lt c (length log.old.opened)) core.new log.new es) }
+    ensures opened { OnOk result (log.new.opened ≡ log.old.opened) }
+    ensures plans { OnOk result (core.new.plans ≡ core.old.plans) }
+{
+    for number in 0..log.opened.len() {
+        log.collect(core, number as u64)?;
     }
     Ok(())
 }
 
-/// Takes what is queued for each of the connections below `count`, and tells which are broken.
-fn take_queues(
-    alloc: Global,
-    core: &mut Core,
-    count: usize,
-    queued: &mut Vec<Bytes>,
-    broken: &mut Vec<u64>,
-) -> Result<(), AllocError>
-    ensures queued { OnOk result (queued.new.items ≡ queued.old.items ++ map (λ conn. joined (untaken_of conn core.old)) (range_with_len 0 count)) }
-    ensures broken { OnOk result (broken.new.items ≡ broken.old.items ++ filter (λ conn. is_broken_conn (conn_at conn core.old)) (range_with_len 0 count)) }
+/// The numbers of the connections that broke.
+fn listed(alloc: Global, broke: &Vec<bool>) -> Result<Vec<u64>, AllocError>
+    ensures { IfOk result (λ broken. broken.items
+        ≡ filter (λ c. slice_index_or broke.now.items c false) (range_with_len 0 (length broke.now.items))) }
 {
-    for number in 0..count {
-        let conn = ConnId::of(number as u64);
-        queued.push(take_replies(alloc, core, conn)?)?;
-        if core.is_broken(conn) {
-            broken.push(conn.number())?;
+    let mut broken = Vec::new(alloc);
+    for number in 0..broke.len() {
+        if broke[number] {
+            broken.push(number as u64)?;
         }
     }
-    Ok(())
-}
-
-/// Takes the replies of a connection, joined.
-fn take_replies(alloc: Global, core: &mut Core, conn: ConnId) -> Result<Bytes, AllocError>
-    ensures joined { IfOk result (λ bytes. bytes ≡ joined (untaken_of conn core.old)) }
-    ensures taken { OnOk result (untaken_of conn core.new ≡ []) }
-    ensures others { OnOk result ((other : ℕ) → (other ≡ conn → ⊥) → untaken_of other core.new ≡ untaken_of other core.old) }
-    ensures unbroken { OnOk result ((other : ℕ) → is_broken_conn (conn_at other core.new) ≡ is_broken_conn (conn_at other core.old)) }
-{
-    let mut bytes = Bytes::new(alloc);
-    while let Some(reply) = core.take_reply(conn) {
-        bytes.extend_from_slice(reply.bytes.as_slice())?;
-    }
-    Ok(bytes)
+    Ok(broken)
 }

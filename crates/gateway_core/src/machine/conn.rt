@@ -1,7 +1,9 @@
 ghost use Rattle.std.specs.Prelude.{◌≡◌, ◌+◌, ◌<◌, ◌==◌, length, IfOk, IfSome, OnErr, [], false, if◌then◌else◌, option_map, is_some};
 ghost use Rattle.gateway_core.specs.Conn.{added, entry_in, filled, next_of, without_first, conn_value};
 ghost use Rattle.gateway_core.specs.Machine.{is_full, slot_at};
+ghost use Rattle.gateway_core.specs.Gateway.{are_all_there};
 ghost use Rattle.gateway_core.specs.Past.{call_id};
+ghost use Rattle.gateway_core.specs.Queue.{front};
 ghost use Rattle.gateway_core.specs.Store.{broken_if};
 
 use crate::id::{CallId, ConnId};
@@ -79,6 +81,25 @@ impl Conn {
         ensures { result ≡ is_full self.now.slots }
     {
         self.slots.iter().filter(|slot| slot.is_none()).count() >= MOST_CALLS
+    }
+
+    /// How many of its replies can be taken: those before the first that is not there.
+    pub(crate) fn untaken(&self) -> usize
+        ensures { result ≡ length (front self.now.slots) }
+    {
+        for index in 0..self.slots.len() {
+            if self.slots[index].is_none() {
+                return index;
+            }
+        }
+        self.slots.len()
+    }
+
+    /// Whether each of its requests has its reply.
+    pub(crate) fn is_idle(&self) -> bool
+        ensures { result ≡ are_all_there self.now.slots }
+    {
+        self.untaken() == self.slots.len()
     }
 
     /// The id of its next request.

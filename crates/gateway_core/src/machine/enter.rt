@@ -9,10 +9,10 @@ ghost use Rattle.gateway_core.specs.Occurrence.{Entering};
 ghost use Rattle.gateway_core.specs.Step.{gone, step_to};
 ghost use Rattle.gateway_core.specs.Store.{conn_at, waiting};
 
+use crate::job::Job;
 use crate::machine::arriving::Arriving;
 use crate::machine::asked::Asked;
 use crate::machine::begin::begin;
-use crate::machine::job::Job;
 use crate::machine::kept::Kept;
 use crate::machine::reply::reply_to;
 use crate::machine::store::Machine;

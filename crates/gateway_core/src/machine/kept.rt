@@ -1,5 +1,5 @@
 ghost use Rattle.std.specs.Prelude.{◌≡◌, ℕ, OnOk, OnErr, true, false, if◌then◌else◌, is_some, None as Nothing, Some, option_map, option_to_list, slice_set};
-ghost use Rattle.std.specs.List.{list_any};
+ghost use Rattle.std.specs.List.{count_by, list_any};
 ghost use Rattle.gateway_core.specs.Kept.{IsStep};
 ghost use Rattle.gateway_core.specs.Ends.{ended_call, ended_kept, unanswered, without_reply};
 ghost use Rattle.gateway_core.specs.Reply.{reply_with};
@@ -85,6 +85,13 @@ impl Kept {
     {
         let index = branch as usize;
         index < self.out.len() && self.out[index]
+    }
+
+    /// How many branches are out.
+    pub(crate) fn outs(&self) -> u32
+        ensures { result ≡ count_by (λ b. b) self.now.call.out }
+    {
+        self.group.active()
     }
 
     /// How many branches wait for their start.

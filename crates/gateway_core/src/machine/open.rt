@@ -3,8 +3,8 @@ ghost use Rattle.gateway_core.specs.Opens.{closed_at, opened_as, JobTaken, Reply
 ghost use Rattle.gateway_core.specs.Store.{call_at};
 
 use crate::id::CallId;
+use crate::job::Job;
 use crate::machine::conn::Conn;
-use crate::machine::job::Job;
 use crate::machine::store::{Machine, give_up};
 use crate::reply::Reply;
 use std::alloc::{AllocError, Global};

@@ -9,7 +9,7 @@ ghost use Rattle.gateway_core.specs.declared.fault.Seen.{Seen};
 
 use crate::fault::{Seen, Took};
 use crate::id::CallId;
-use crate::machine::job::Job;
+use crate::job::Job;
 use crate::machine::kept::Kept;
 use crate::machine::reply::reply_to;
 use crate::machine::store::Machine;
@@ -45,19 +45,21 @@ impl Machine {
         branch: u32,
         outcome: Outcome,
     ) -> Took
-        ensures { (between : MachineValue) × ResultTaken id.now branch outcome self.old between result × Forgets id.now between self.new }
+        ensures taken { (between : MachineValue) × ResultTaken id.now branch outcome self.old between result × Forgets id.now between self.new }
+        ensures unknown { result.seen ≡ Seen.Unknown → self.new ≡ self.old }
     {
         let took = self.result(alloc, id, branch, outcome);
-        self.forget(id);
+        self.forget_unless(took.seen, id);
         took
     }
 
     /// A worker found no memory for what a branch ended with: where that counts, its connection breaks.
     pub(crate) fn starve(&mut self, id: &CallId, branch: u32) -> Took
-        ensures { (between : MachineValue) × Starved id.now branch self.old between result × Forgets id.now between self.new }
+        ensures taken { (between : MachineValue) × Starved id.now branch self.old between result × Forgets id.now between self.new }
+        ensures unknown { result.seen ≡ Seen.Unknown → self.new ≡ self.old }
     {
         let took = self.come_back(id, branch);
-        self.forget(id);
+        self.forget_unless(took.seen, id);
         took
     }
 
@@ -95,6 +97,17 @@ impl Machine {
         ensures { self.new ≡ back_at index branch self.old }
     {
         self.calls[index].come_back(branch);
+    }
+
+    /// Forgets the call as `forget` does, unless the result was of no branch that was out.
+    fn forget_unless(&mut self, seen: Seen, id: &CallId)
+        ensures forgets { Forgets id.now self.old self.new }
+        ensures kept { seen ≡ Seen.Unknown → self.new ≡ self.old }
+    {
+        match seen {
+            Seen::Unknown => {}
+            Seen::Counted | Seen::Late => self.forget(id),
+        }
     }
 
     /// Forgets the call, if it can't be decided any more and no branch of it is out.

@@ -1,11 +1,14 @@
-ghost use Rattle.std.specs.Prelude.{◌≡◌, false, true, map, []};
+ghost use Rattle.std.specs.Prelude.{◌≡◌, ◌<◌, false, true, length, map, []};
+ghost use Rattle.std.specs.List.{count_by};
+ghost use Rattle.gateway_core.specs.Gateway.{are_all_there};
+ghost use Rattle.gateway_core.specs.Queue.{front};
 ghost use Rattle.gateway_core.specs.Ends.{is_stopped_in};
 ghost use Rattle.gateway_core.specs.Step.{moment_after};
-ghost use Rattle.gateway_core.specs.Store.{IsFound, broken_at, broken_count, broken_if, given_up_if, fill_first, filled_in, machine_value};
+ghost use Rattle.gateway_core.specs.Store.{IsFound, call_at, conn_at, broken_at, broken_count, broken_if, given_up_if, fill_first, filled_in, machine_value};
 
 use crate::id::CallId;
+use crate::job::Job;
 use crate::machine::conn::Conn;
-use crate::machine::job::Job;
 use crate::machine::kept::Kept;
 use crate::reply::Reply;
 use std::alloc::Global;
@@ -81,6 +84,32 @@ impl Machine {
             }
         }
         false
+    }
+
+    /// How many replies of the connection at that place can be taken.
+    pub(crate) fn untaken(&self, index: usize) -> usize
+        requires { index < length self.now.conns }
+        ensures { result ≡ length (front (conn_at index self.now.conns).slots) }
+    {
+        self.conns[index].untaken()
+    }
+
+    /// Whether each request on the connection at that place has its reply.
+    pub(crate) fn is_idle(&self, index: usize) -> bool
+        requires { index < length self.now.conns }
+        ensures { result ≡ are_all_there (conn_at index self.now.conns).slots }
+    {
+        self.conns[index].is_idle()
+    }
+
+    /// How many branches of the call are out.
+    pub(crate) fn branches_out(&self, id: &CallId) -> u32
+        ensures { result ≡ count_by (λ b. b) (call_at id.now self.now.calls).out }
+    {
+        match self.find(id) {
+            Some(index) => self.calls[index].outs(),
+            None => 0,
+        }
     }
 
     /// How many connections are broken.

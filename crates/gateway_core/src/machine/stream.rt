@@ -1,8 +1,8 @@
-ghost use Rattle.std.specs.Prelude.{◌≡◌, ◌==◌, IfNone, IfOk, IfSome, List, OnErr, Some, ℕ, true};
+ghost use Rattle.std.specs.Prelude.{◌≡◌, ◌==◌, ◌||◌, IfNone, IfOk, IfSome, List, OnErr, Some, ℕ, true};
 ghost use Rattle.http_pieces.specs.Reader.{Waiting, is_over, state_of};
 ghost use Rattle.http_pieces.specs.Request.{HttpRequest};
 ghost use Rattle.gateway_core.specs.Gateway.{new_stream};
-ghost use Rattle.gateway_core.specs.Serving.{Reads, TakesRequest};
+ghost use Rattle.gateway_core.specs.Serving.{Reads, ReadsOn, TakesRequest};
 
 use http_pieces::{Reader, Request, State};
 use std::alloc::{AllocError, Global};
@@ -72,16 +72,33 @@ impl Stream {
         matches!(self.reader.state(), State::Refused(_) | State::Ended)
     }
 
+    /// Whether it brings nothing more: it ended, or its peer hung up.
+    pub(crate) fn is_done(&self) -> bool
+        ensures { result ≡ (is_over self.now.reader.reading || self.now.hung_up) }
+    {
+        self.is_over() || self.hung_up
+    }
+
     /// Takes bytes, at most up to the end of a request, and answers how many.
-    pub(crate) fn push(&mut self, bytes: &[u8]) -> Result<usize, AllocError>
+    fn push(&mut self, bytes: &[u8]) -> Result<usize, AllocError>
         ensures ok { IfOk result (λ n. Reads n bytes.now self.old self.new) }
         ensures err { OnErr result (self.new ≡ self.old) }
     {
         self.reader.push(bytes)
     }
 
+    /// Takes bytes as `push` does, and gives the request that they make whole, if they do.
+    pub(crate) fn read(&mut self, bytes: &[u8]) -> Result<(usize, Option<Request>), AllocError>
+        ensures ok { IfOk result (λ r. ReadsOn r.0 r.1 bytes.now self.old self.new) }
+        ensures err { OnErr result (self.new ≡ self.old) }
+    {
+        let taken = self.push(bytes)?;
+        let request = self.take();
+        Ok((taken, request))
+    }
+
     /// Gives the request that waits, if one does.
-    pub(crate) fn take(&mut self) -> Option<Request>
+    fn take(&mut self) -> Option<Request>
         ensures gives { IfSome result (λ q. TakesRequest q self.old self.new) }
         ensures waits { (q : HttpRequest) → self.old.reader.reading ≡ Waiting q → result ≡ Some q }
         ensures none { IfNone result (self.new ≡ self.old) }

@@ -16,10 +16,13 @@ pub struct Task {
 }
 
 impl Model for Task {
+    ghost use Rattle.std.specs.Prelude.{◌<◌, length};
     ghost use Rattle.std.specs.Arc.{arc_value};
     ghost use Rattle.gateway_core.specs.Job.{TaskValue, task_of};
 
     ghost Value = { TaskValue };
 
     ghost view = { λ t. task_of t.call (arc_value t.asked) t.branch };
+
+    ghost invariant = { λ t. t.branch < length (arc_value t.asked).plan.branches };
 }

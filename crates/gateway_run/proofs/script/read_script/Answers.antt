@@ -18,4 +18,5 @@ returns-in-Ok-clause-refused c =
 pub returns-else-is_memory-clause-refused : goal.returns-else-is_memory-clause-refused
 returns-else-is_memory-clause-refused c =
     λ fault. script_in-none c.args.text.now
-    (c.in-Err.ensures.err (λ (memory : IsMemory c.in-Err.error). let said : IsTrue false = c.if-is_memory.ensures.1 memory in false≢true said))
+    (c.in-Err.ensures.err (λ (memory : IsMemory c.in-Err.error).
+    let said : IsTrue false = c.if-is_memory.ensures.1 memory in false≢true said))

@@ -1,66 +1,87 @@
-use Rattle.std.proofs.Common.{sym, ◌∙◌}
-use Rattle.std.specs.Prelude.{is_some}
-use Rattle.gateway_core.specs.declared.id.CallId.{CallId}
-use Rattle.gateway_core.proofs.Cases.{or_false}
-use Rattle.gateway_run.proofs.StepLemmas.{none_open, opening_event, full_event, delivered_event, result_event, result_keeps, result_breaks, result_waits, Results, Waits}
+use Rattle.std.specs.Prelude.{OnOk}
+use Rattle.std.proofs.Common.{◌≡◌, true, false, refl, ◌∷◌, ◌++◌, [], length, sym, subst}
+use Rattle.gateway_core.specs.Events.{BranchResult, Closing, Drain, HangUp, Moment, Piece}
+use Rattle.gateway_core.specs.Gateway.{is_broken_conn}
+use Rattle.gateway_core.specs.Served.{Served}
+use Rattle.gateway_run.specs.Run.{gateway_event}
+use Rattle.gateway_run.specs.Stepping.{Tells, TellsBreaks, TellsConn, opened_by}
+use Rattle.gateway_run.specs.declared.stepping.Stepped.TheVariants.{Done, NotOpened, Opened, Saw}
+use Rattle.gateway_run.proofs.Starting.{breaks_told, by_done, by_taken, conn_told}
 use Rattle.gateway_run.proofs.stepping.step.Goals as goal
 
 pub returns-in-Ok-clause-stands : goal.returns-in-Ok-clause-stands
-returns-in-Ok-clause-stands c = λ taken handed opened events occurred h fine.
-    let none = none_open c.open_conn.result c.in-Ok.conn c.args.core.now.conn c.in-Ok.is c.open_conn.ensures.full in
-    rw c.in-Opening.is (opening_event c.args.core.now c.open_conn.new.self taken handed opened events occurred none c.in-Ok.ensures.opened.1
-    (c.in-Ok.ensures.stands taken handed _ h.stands) h)
+returns-in-Ok-clause-stands c = λ opened es taken handed h.
+    subst (λ e. Served c.open_conn.new.self (opened ++ length es ∷ []) (gateway_event e ∷ es) taken handed) (sym c.in-Opening.is) (c.in-Ok.ensures.stands opened es taken handed h)
 
-pub returns-in-Opening-clause-stands : goal.returns-in-Opening-clause-stands
-returns-in-Opening-clause-stands c = λ taken handed opened events occurred h fine.
-    rw (c.in-Opening.is, c.in-Err.ensures.unchanged) (full_event c.args.core.now taken handed opened events occurred h)
+pub returns-in-Ok-clause-few : goal.returns-in-Ok-clause-few
+returns-in-Ok-clause-few c = λ conn opened es taken handed same h. c.in-Ok.ensures.few opened es taken handed h
 
-pub returns-in-Ok-deliver-clause-stands : goal.returns-in-Ok-deliver-clause-stands
-returns-in-Ok-deliver-clause-stands c = λ taken handed opened events occurred h fine.
-    rw (c.in-Piece.is, ← c.of.ensures, ← c.as_slice.ensures)
-    (delivered_event c.deliver.result c.args.core.now c.deliver.new.core c.of.result c.as_slice.result.now c.deliver.ensures.gone c.deliver.ensures.unchanged c.deliver.ensures.broken
-    c.deliver.ensures.unbroken c.deliver.ensures.plans c.deliver.ensures.stands taken handed opened events occurred h fine)
+pub returns-in-Err-clause-stands : goal.returns-in-Err-clause-stands
+returns-in-Err-clause-stands c = λ opened es taken handed h.
+    subst (λ e. Served c.open_conn.new.self opened (gateway_event e ∷ es) taken handed) (sym c.in-Opening.is) (c.in-Err.ensures.stands opened es taken handed h)
 
 pub returns-in-Piece-clause-stands : goal.returns-in-Piece-clause-stands
-returns-in-Piece-clause-stands c = λ taken handed opened events occurred h fine.
-    rw (c.in-Piece.is, ← c.of.ensures, ← c.as_slice.ensures)
-    (delivered_event c.deliver.result c.args.core.now c.deliver.new.core c.of.result c.as_slice.result.now c.deliver.ensures.gone c.deliver.ensures.unchanged c.deliver.ensures.broken
-    c.deliver.ensures.unbroken c.deliver.ensures.plans c.deliver.ensures.stands taken handed opened events occurred h fine)
+returns-in-Piece-clause-stands c = λ opened es taken handed h.
+    subst (λ e. Served c.deliver.new.core (opened_by c.done.result (length es) opened) (gateway_event e ∷ es) taken handed) (sym c.in-Piece.is)
+    (subst (λ o. Served c.deliver.new.core o (Piece c.in-Piece.conn c.in-Piece.bytes ∷ es) taken handed) (sym (by_done c.deliver.result c.done.result (length es) opened c.done.ensures))
+    (subst (λ n. Served c.deliver.new.core opened (Piece n c.in-Piece.bytes ∷ es) taken handed) c.of.ensures
+    (subst (λ bytes. Served c.deliver.new.core opened (Piece c.of.result bytes ∷ es) taken handed) c.as_slice.ensures (c.deliver.ensures.stands opened es taken handed h))))
 
--- the call that the event names
-abbrev call : (c : goal.After-result) → CallId
-call c = record { conn = c.of-in-BranchResult.result; request = c.in-BranchResult.request }
+pub returns-in-HangUp-clause-stands : goal.returns-in-HangUp-clause-stands
+returns-in-HangUp-clause-stands c = λ opened es taken handed h.
+    subst (λ e. Served c.hang_up.new.self (opened_by c.done-in-HangUp.result (length es) opened) (gateway_event e ∷ es) taken handed) (sym c.in-HangUp.is)
+    (subst (λ o. Served c.hang_up.new.self o (HangUp c.in-HangUp.conn ∷ es) taken handed) (sym (by_done c.hang_up.result c.done-in-HangUp.result (length es) opened c.done-in-HangUp.ensures))
+    (subst (λ n. Served c.hang_up.new.self opened (HangUp n ∷ es) taken handed) c.of-in-HangUp.ensures (c.hang_up.ensures.stands opened es taken handed h)))
 
--- what the core tells of its result
-results : (c : goal.After-result) → Results c.args.core.now c.result.new.self (call c) c.in-BranchResult.branch c.in-BranchResult.outcome c.result.result
-results c = record { sees = c.result.ensures.seen; unknown = c.result.ensures.unknown; counted = c.result.ensures.counted; late = c.result.ensures.late; broke = c.result.ensures.broke }
+pub returns-in-Moment-clause-stands : goal.returns-in-Moment-clause-stands
+returns-in-Moment-clause-stands c = λ opened es taken handed h.
+    subst (λ e. Served c.moment.new.self (opened_by c.taken.result (length es) opened) (gateway_event e ∷ es) taken handed) (sym c.in-Moment.is)
+    (subst (λ o. Served c.moment.new.self o (Moment c.in-Moment.moment ∷ es) taken handed) (sym (by_taken c.moment.result c.taken.result (length es) opened c.taken.ensures)) (c.moment.ensures.stands opened es taken handed h))
 
-pub returns-clause-connection : goal.returns-clause-connection
-returns-clause-connection c =
-    rw c.in-BranchResult.is ((result_keeps c.args.core.now c.result.new.self (call c) c.in-BranchResult.branch c.in-BranchResult.outcome c.result.result (results c)).0 ∙ sym (or_false (is_some c.args.core.now.conn)))
+pub returns-in-BranchResult-clause-stands : goal.returns-in-BranchResult-clause-stands
+returns-in-BranchResult-clause-stands c = λ opened es taken handed h.
+    subst (λ e. Served c.result.new.self opened (gateway_event e ∷ es) taken handed) (sym c.in-BranchResult.is)
+    (subst (λ n. Served c.result.new.self opened (BranchResult n c.in-BranchResult.request c.in-BranchResult.branch c.in-BranchResult.outcome ∷ es) taken handed) c.of-in-BranchResult.ensures
+    (c.result.ensures.stands opened es taken handed h))
 
-pub returns-clause-stands : goal.returns-clause-stands
-returns-clause-stands c =
-    rw (c.in-BranchResult.is, ← c.of-in-BranchResult.ensures)
-    (result_event c.args.core.now c.result.new.self (call c) c.in-BranchResult.branch c.in-BranchResult.outcome c.result.result (results c)
-    c.result.ensures.plans c.result.ensures.stands)
+pub returns-in-Drain-clause-stands : goal.returns-in-Drain-clause-stands
+returns-in-Drain-clause-stands c = λ opened es taken handed h.
+    subst (λ e. Served c.drain.new.self (opened_by c.taken-in-Drain.result (length es) opened) (gateway_event e ∷ es) taken handed) (sym c.in-Drain.is)
+    (subst (λ o. Served c.drain.new.self o (Drain ∷ es) taken handed) (sym (by_taken c.drain.result c.taken-in-Drain.result (length es) opened c.taken-in-Drain.ensures)) (c.drain.ensures.stands opened es taken handed h))
 
-pub returns-clause-broke : goal.returns-clause-broke
-returns-clause-broke c =
-    result_breaks c.args.core.now c.result.new.self (call c) c.in-BranchResult.branch c.in-BranchResult.outcome c.result.result (results c)
+pub returns-in-Closing-clause-stands : goal.returns-in-Closing-clause-stands
+returns-in-Closing-clause-stands c = λ opened es taken handed h.
+    subst (λ e. Served c.close.new.self opened (gateway_event e ∷ es) taken handed) (sym c.in-Closing.is)
+    (subst (λ n. Served c.close.new.self opened (Closing n ∷ es) taken handed) c.of-in-Closing.ensures (c.close.ensures.stands opened es taken handed h))
 
-waits : (c : goal.After-result) → Waits c.args.core.now c.result.new.self
-waits c =
-    result_waits c.args.core.now c.result.new.self (call c) c.in-BranchResult.branch c.in-BranchResult.outcome c.result.result (results c)
+pub returns-in-Ok-clause-tells : goal.returns-in-Ok-clause-tells
+returns-in-Ok-clause-tells c = subst (λ e. Tells (gateway_event e) (Opened c.in-Ok.conn) c.args.core.now c.open_conn.new.self) (sym c.in-Opening.is)
+    (tt)
 
-pub returns-clause-keeps_replies : goal.returns-clause-keeps_replies
-returns-clause-keeps_replies c = (waits c).replies
+pub returns-in-Err-clause-tells : goal.returns-in-Err-clause-tells
+returns-in-Err-clause-tells c = subst (λ e. Tells (gateway_event e) (NotOpened c.in-Err.error) c.args.core.now c.open_conn.new.self) (sym c.in-Opening.is)
+    (c.in-Err.ensures.unchanged)
 
-pub returns-clause-keeps_jobs : goal.returns-clause-keeps_jobs
-returns-clause-keeps_jobs c = (waits c).jobs
+pub returns-in-Piece-clause-tells : goal.returns-in-Piece-clause-tells
+returns-in-Piece-clause-tells c = subst (λ e. Tells (gateway_event e) c.done.result c.args.core.now c.deliver.new.core) (sym c.in-Piece.is)
+    (subst (λ s. TellsConn c.in-Piece.conn s c.deliver.new.core) (sym c.done.ensures) (conn_told c.in-Piece.conn c.deliver.result c.deliver.new.core (λ e. subst (λ n. is_broken_conn n c.deliver.new.core ≡ true) c.of.ensures (c.deliver.ensures.memory e)) (subst (λ n. OnOk c.deliver.result (is_broken_conn n c.deliver.new.core ≡ false)) c.of.ensures c.deliver.ensures.unbroken)))
 
-pub returns-clause-queues_no_more : goal.returns-clause-queues_no_more
-returns-clause-queues_no_more c = (waits c).queues_no_more
+pub returns-in-HangUp-clause-tells : goal.returns-in-HangUp-clause-tells
+returns-in-HangUp-clause-tells c = subst (λ e. Tells (gateway_event e) c.done-in-HangUp.result c.args.core.now c.hang_up.new.self) (sym c.in-HangUp.is)
+    (subst (λ s. TellsConn c.in-HangUp.conn s c.hang_up.new.self) (sym c.done-in-HangUp.ensures) (conn_told c.in-HangUp.conn c.hang_up.result c.hang_up.new.self (λ e. subst (λ n. is_broken_conn n c.hang_up.new.self ≡ true) c.of-in-HangUp.ensures (c.hang_up.ensures.memory e)) (subst (λ n. OnOk c.hang_up.result (is_broken_conn n c.hang_up.new.self ≡ false)) c.of-in-HangUp.ensures c.hang_up.ensures.unbroken)))
 
-pub returns-clause-starts_no_more : goal.returns-clause-starts_no_more
-returns-clause-starts_no_more c = (waits c).starts_no_more
+pub returns-in-Moment-clause-tells : goal.returns-in-Moment-clause-tells
+returns-in-Moment-clause-tells c = subst (λ e. Tells (gateway_event e) c.taken.result c.args.core.now c.moment.new.self) (sym c.in-Moment.is)
+    (subst (λ s. TellsBreaks s c.args.core.now c.moment.new.self) (sym c.taken.ensures) (breaks_told c.moment.result c.args.core.now c.moment.new.self c.moment.ensures.broke))
+
+pub returns-in-BranchResult-clause-tells : goal.returns-in-BranchResult-clause-tells
+returns-in-BranchResult-clause-tells c = subst (λ e. Tells (gateway_event e) (Saw c.result.result) c.args.core.now c.result.new.self) (sym c.in-BranchResult.is)
+    (c.result.ensures.counted, c.result.ensures.broke)
+
+pub returns-in-Drain-clause-tells : goal.returns-in-Drain-clause-tells
+returns-in-Drain-clause-tells c = subst (λ e. Tells (gateway_event e) c.taken-in-Drain.result c.args.core.now c.drain.new.self) (sym c.in-Drain.is)
+    (subst (λ s. TellsBreaks s c.args.core.now c.drain.new.self) (sym c.taken-in-Drain.ensures) (breaks_told c.drain.result c.args.core.now c.drain.new.self c.drain.ensures.broke))
+
+pub returns-in-Closing-clause-tells : goal.returns-in-Closing-clause-tells
+returns-in-Closing-clause-tells c = subst (λ e. Tells (gateway_event e) Done c.args.core.now c.close.new.self) (sym c.in-Closing.is)
+    (refl)

@@ -1,13 +1,26 @@
-use Rattle.std.proofs.Common.{◌∙◌}
-use Rattle.gateway_core.proofs.CoreLemmas.{sees_judged, result_stands}
+use Rattle.std.proofs.Common.{Some, ◌≡◌, sym, ◌∙◌, subst}
+use Rattle.gateway_core.specs.Gateway.{GatewayValue}
+use Rattle.gateway_core.specs.Served.{Served}
+use Rattle.gateway_core.specs.Serving.{Breaks, Keeps}
+use Rattle.gateway_core.proofs.ServedLemmas.{result_served}
+use Rattle.gateway_core.proofs.Keeping.{result_keeps, unknown_kept}
+use Rattle.gateway_core.proofs.SeenResults.{breaks_of, result_breaks_are, result_broke, result_seen, seen_stands}
+use Rattle.gateway_core.specs.Events.{Occurs}
+use Rattle.gateway_core.specs.Store.{conn_of}
 use Rattle.gateway_core.proofs.gateway.Core.result.Goals as goal
 
-pub returns-clause-judged : goal.returns-clause-judged
-returns-clause-judged c = λ taken handed occurred h.
-    c.see_result.ensures.seen ∙ sees_judged c.args.self.now c.args.call c.args.branch taken handed occurred h
-
-pub returns-clause-stands : goal.returns-clause-stands
-returns-clause-stands c = λ taken handed occurred h fine.
-    result_stands c.args.self.now c.see_result.new.self c.args.call c.args.branch c.args.outcome c.see_result.result.seen
-    (c.see_result.ensures.seen, c.see_result.ensures.unknown, c.see_result.ensures.late, λ conn was there called seen. c.see_result.ensures.counted conn was there called seen fine)
-    taken handed occurred h
+pub returns : goal.returns
+returns c = record {
+  stands = λ opened es taken handed h.
+      let e = c.result.ensures.taken in
+      result_served c.self.inside.streams c.result.new.self opened es taken handed c.serving_law.ensures (subst (λ (x : GatewayValue). Served x opened es taken handed) (sym c.self.view_is) h) c.args.call.now c.args.branch c.args.outcome e.0 c.result.result c.result.ensures.rest e.2 e.1;
+  seen = λ opened es taken handed occurred h o k k_is on.
+      result_seen c.args.call.now c.args.branch c.self.inside.streams.machine c.result.ensures.taken.0 c.result.result c.args.outcome c.result.ensures.taken.1
+      ∙ seen_stands c.args.call.now c.args.branch c.self.inside.streams opened es taken handed occurred (subst (λ (x : GatewayValue). Served x opened es taken handed) (sym c.self.view_is) h)
+      (subst (λ (x : GatewayValue). Occurs x.plans opened es occurred) (sym c.self.view_is) o) k (subst (λ (x : GatewayValue). conn_of c.args.call.now.conn x.machine.conns ≡ Some k) (sym c.self.view_is) k_is) on;
+  counted = λ e. result_broke c.args.call.now c.args.branch c.self.inside.streams.machine c.result.ensures.taken.0 c.result.result c.args.outcome c.result.ensures.taken.1 e;
+  broke = subst (λ (x : GatewayValue). Breaks x c.result.new.self c.result.result.broke) c.self.view_is (breaks_of c.self.inside.streams c.result.new.self c.result.result.broke
+      (result_breaks_are c.args.call.now c.args.branch c.self.inside.streams.machine c.result.ensures.taken.0 c.result.new.self.machine c.result.result c.serving_law.ensures.orderly c.result.ensures.taken.2 c.args.outcome c.result.ensures.taken.1));
+  unknown = λ e. unknown_kept c.self.inside.streams c.result.new.self c.result.ensures.rest (c.result.ensures.unknown e) ∙ c.self.view_is;
+  keeps = subst (λ (x : GatewayValue). Keeps x c.result.new.self) c.self.view_is (result_keeps c.args.call.now c.args.branch c.result.ensures.taken.0 c.result.result c.self.inside.streams c.result.new.self c.result.ensures.rest c.result.ensures.taken.2 c.args.outcome c.result.ensures.taken.1);
+}

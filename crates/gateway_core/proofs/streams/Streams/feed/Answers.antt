@@ -4,10 +4,10 @@ use Rattle.http_pieces.specs.Reader.{is_over}
 use Rattle.gateway_core.specs.declared.fault.StepFault.TheVariants.{Memory}
 use Rattle.gateway_core.specs.Ends.{is_stopped_in}
 use Rattle.gateway_core.specs.Gateway.{GatewayValue, StreamValue, stream_at}
-use Rattle.gateway_core.specs.Serving.{came, dropped, unread}
+use Rattle.gateway_core.specs.Serving.{came, dropped, unread, IsServing}
 use Rattle.gateway_core.specs.Store.{broken_at}
 use Rattle.gateway_core.proofs.BringLemmas.{fed}
-use Rattle.gateway_core.proofs.ServingLemmas.{stream_is_at}
+use Rattle.gateway_core.proofs.ServingLemmas.{read_at, stream_is_at}
 use Rattle.gateway_core.proofs.streams.Streams.feed.Goals as goal
 
 pub returns-then-is_over : goal.returns-then-is_over
@@ -18,14 +18,14 @@ returns-then-is_over c =
     (subst (λ (v : GatewayValue). c.index.result.now ≡ slice_index_or v.streams i c.index.result.now) c.self.view_is c.index.ensures) in
     dropped i c.in-Some.ensures (ap (λ (x : StreamValue). is_over x.reader.reading) (sym x_is) ∙ sym c.is_over.ensures ∙ c.if-is_over.true) refl refl
 
-pub returns-in_default-push : goal.returns-in_default-push
-returns-in_default-push c =
+pub returns-in_default-read : goal.returns-in_default-read
+returns-in_default-read c =
     let s : GatewayValue = c.args.self.now in
     let i : ℕ = c.in-Some.index in
     let x_is : c.index.result.now ≡ stream_at i s.streams = stream_is_at i c.index.result.now s.streams c.in-Some.ensures.stream_there
     (subst (λ (v : GatewayValue). c.index.result.now ≡ slice_index_or v.streams i c.index.result.now) c.self.view_is c.index.ensures) in
     unread i c.in-Some.ensures (ap (λ (x : StreamValue). is_over x.reader.reading) (sym x_is) ∙ sym c.is_over.ensures ∙ c.if-is_over.false) refl
-    (c.break_conn.ensures ∙ ap (λ (v : GatewayValue). record v { machine = broken_at c.args.number v.machine }) c.in_default-push.ensures.err)
+    (c.break_conn.ensures ∙ ap (λ (v : GatewayValue). record v { machine = broken_at c.args.number v.machine }) c.in_default-read.ensures.err)
 
 pub returns-then-is_stopped : goal.returns-then-is_stopped
 returns-then-is_stopped c =
@@ -36,7 +36,9 @@ returns-then-is_stopped c =
     let stopped : is_stopped_in c.args.number c.bring.new.self.machine.conns ≡ true =
     ap (λ (v : GatewayValue). is_stopped_in c.args.number v.machine.conns) (sym c.self-2.view_is) ∙ sym c.is_stopped.ensures ∙ c.if-is_stopped.true in
     came i c.in-Ok.taken c.in-Some.ensures (ap (λ (x : StreamValue). is_over x.reader.reading) (sym x_is) ∙ sym c.is_over.ensures ∙ c.if-is_over.false)
-    (fed i c.in-Ok.taken c.args.bytes.now s c.push.new.self c.bring.new.self c.in-Some.ensures.stream_there c.in-Ok.ensures.ok c.bring.ensures)
+    (fed i c.in-Ok.taken c.in-Ok.request c.args.bytes.now s c.read.new.self c.bring.new.self c.in-Some.ensures.stream_there c.in-Ok.ensures.ok c.bring.ensures)
+    c.in-Ok.ensures.ok.reads.reads.within
+    (λ some. c.in-Ok.ensures.ok.reads.reads.moves some (read_at i s c.in-Some.ensures.stream_there (subst IsServing c.self.view_is c.self.invariant)))
     (sym (ap (λ b. if b then Err Memory else Ok c.in-Ok.taken) stopped))
 
 pub returns : goal.returns
@@ -48,5 +50,7 @@ returns c =
     let on : is_stopped_in c.args.number c.bring.new.self.machine.conns ≡ false =
     ap (λ (v : GatewayValue). is_stopped_in c.args.number v.machine.conns) (sym c.self-2.view_is) ∙ sym c.is_stopped.ensures ∙ c.if-is_stopped.false in
     came i c.in-Ok.taken c.in-Some.ensures (ap (λ (x : StreamValue). is_over x.reader.reading) (sym x_is) ∙ sym c.is_over.ensures ∙ c.if-is_over.false)
-    (fed i c.in-Ok.taken c.args.bytes.now s c.push.new.self c.bring.new.self c.in-Some.ensures.stream_there c.in-Ok.ensures.ok c.bring.ensures)
+    (fed i c.in-Ok.taken c.in-Ok.request c.args.bytes.now s c.read.new.self c.bring.new.self c.in-Some.ensures.stream_there c.in-Ok.ensures.ok c.bring.ensures)
+    c.in-Ok.ensures.ok.reads.reads.within
+    (λ some. c.in-Ok.ensures.ok.reads.reads.moves some (read_at i s c.in-Some.ensures.stream_there (subst IsServing c.self.view_is c.self.invariant)))
     (sym (ap (λ b. if b then Err Memory else Ok c.in-Ok.taken) on))

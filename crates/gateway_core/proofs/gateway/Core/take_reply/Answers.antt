@@ -1,0 +1,19 @@
+use Rattle.std.specs.Prelude.{IfSome}
+use Rattle.gateway_core.specs.Gateway.{next_reply}
+use Rattle.std.proofs.Common.{◌≡◌, sym, ap, ◌∙◌, subst}
+use Rattle.gateway_core.specs.Gateway.{untaken_of, GatewayValue}
+use Rattle.gateway_core.specs.Served.{Served}
+use Rattle.gateway_core.specs.Serving.{TakesOnly, TakesReply}
+use Rattle.gateway_core.proofs.ServedTakes.{reply_served}
+use Rattle.gateway_core.proofs.Keeping.{reply_first, reply_its, reply_none, reply_only}
+use Rattle.gateway_core.proofs.gateway.Core.take_reply.Goals as goal
+
+pub returns : goal.returns
+returns c = record {
+  stands = λ opened es taken handed h. reply_served c.self.inside.streams c.take_reply.new.self opened es taken handed c.serving_law.ensures (subst (λ (x : GatewayValue). Served x opened es taken handed) (sym c.self.view_is) h) c.args.conn c.take_reply.result
+      (subst (λ n. TakesReply n c.self.inside.streams c.take_reply.new.self c.take_reply.result) c.number.ensures c.take_reply.ensures);
+  first = ap (λ (x : GatewayValue). untaken_of c.args.conn x) (sym c.self.view_is) ∙ reply_first c.args.conn c.self.inside.streams c.take_reply.new.self c.serving_law.ensures c.take_reply.result (subst (λ n. TakesReply n c.self.inside.streams c.take_reply.new.self c.take_reply.result) c.number.ensures c.take_reply.ensures);
+  its = subst (λ (x : GatewayValue). IfSome c.take_reply.result (λ r. r.id ≡ next_reply c.args.conn x)) c.self.view_is (reply_its c.args.conn c.self.inside.streams c.take_reply.new.self c.serving_law.ensures c.take_reply.result (subst (λ n. TakesReply n c.self.inside.streams c.take_reply.new.self c.take_reply.result) c.number.ensures c.take_reply.ensures));
+  none = λ e. ap (λ (x : GatewayValue). untaken_of c.args.conn x) (sym c.self.view_is) ∙ reply_none c.args.conn c.self.inside.streams c.take_reply.new.self c.serving_law.ensures c.take_reply.result (subst (λ n. TakesReply n c.self.inside.streams c.take_reply.new.self c.take_reply.result) c.number.ensures c.take_reply.ensures) e;
+  only = subst (λ (x : GatewayValue). TakesOnly x c.take_reply.new.self) c.self.view_is (reply_only c.args.conn c.self.inside.streams c.take_reply.new.self c.serving_law.ensures c.take_reply.result (subst (λ n. TakesReply n c.self.inside.streams c.take_reply.new.self c.take_reply.result) c.number.ensures c.take_reply.ensures));
+}

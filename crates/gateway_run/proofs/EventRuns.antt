@@ -1,0 +1,241 @@
+-- A run with one event more, by what the step and the log make of it.
+use Rattle.std.proofs.Common.{◌≡◌, ℕ, suc, ◌+◌, ◌<◌, ◌≤◌, Bool, true, false, List, [], ◌∷◌, ◌++◌, length, map, refl, sym, ap, ◌∙◌, subst, arith, ⊎_elim}
+use Rattle.std.specs.Prelude.{if◌then◌else◌, ◌||◌, ◌==◌}
+use Rattle.std.proofs.lemmas.Bool.{cases_Bool, eq-eqb, eqb-true, ne_eqb}
+use Rattle.std.proofs.lemmas.List.{length-append}
+use Rattle.gateway_core.specs.declared.entry.ReplyEntry.{ReplyEntry}
+use Rattle.gateway_core.specs.Events.{Before, Closing, GatewayEvent, IsOpened, IsRising, Opening, OpensAt, connections, is_closing_of, is_open, most_open, open_connections, succeeds}
+use Rattle.gateway_core.specs.Events as events
+use Rattle.gateway_core.specs.Gateway.{GatewayValue}
+use Rattle.gateway_core.specs.Past.{count_below}
+use Rattle.gateway_core.specs.Job.{JobValue}
+use Rattle.gateway_core.specs.Served.{HasConns, Served}
+use Rattle.gateway_core.specs.Serving.{KeepsBut}
+use Rattle.gateway_core.specs.Starts.{job_started}
+use Rattle.gateway_core.proofs.CutLemmas.{IsSame, same_before}
+use Rattle.gateway_core.proofs.OpenCount.{count_same}
+use Rattle.gateway_core.proofs.ServedOpens.{grown, occurs_before, succeeds_more}
+use Rattle.gateway_run.specs.Log.{HasRun, LogValue, StartsAll}
+use Rattle.gateway_run.specs.Stepping.{CollectsFor, log_after, opened_by}
+use Rattle.gateway_run.specs.declared.stepping.Stepped.{Stepped}
+use Rattle.gateway_run.specs.declared.stepping.Stepped.TheVariants.{Done, Opened, NotOpened, Saw, Fault, Broke}
+use Rattle.gateway_run.proofs.Flags.{more_default}
+use Rattle.gateway_run.proofs.Gathering.{collected_run}
+use Rattle.gateway_run.proofs.RunSteps.{Steps, run_on}
+
+-- the same connections were gathered
+pub same_gathered : (f g : ℕ → Bool) (v : GatewayValue) (log : LogValue) (es : Before) → ((c : ℕ) → f c ≡ g c) → HasRun f v log es → HasRun g v log es
+same_gathered f g v log es same h = record {
+  taken = h.taken;
+  started = h.started;
+  served = h.served;
+  no_jobs = h.no_jobs;
+  opened_are = h.opened_are;
+  opened_size = h.opened_size;
+  queued_size = h.queued_size;
+  broke_size = h.broke_size;
+  starts_are = h.starts_are;
+  queued_are = h.queued_are;
+  unflagged = λ c off. h.unflagged c (same c ∙ off);
+  flagged = λ c on. h.flagged c (same c ∙ on);
+  collected = λ c on. h.collected c (same c ∙ on);
+  shut = h.shut;
+  unbroken = h.unbroken;
+  all_unbroken = h.all_unbroken;
+}
+
+turned : (a b : ℕ) → (a == b) ≡ (b == a)
+turned a b = ⊎_elim (λ (same : (b == a) ≡ true). eq-eqb a b (sym (eqb-true b a same)) ∙ sym same)
+    (λ (other : (b == a) ≡ false). ne_eqb a b (λ at. let clash : true ≡ false = sym (eq-eqb b a (sym at)) ∙ other in absurd (cc)) ∙ sym other) (cases_Bool (b == a))
+
+-- what is queued for the connection that the event closes was taken
+collected_for : (e : GatewayEvent) (v w : GatewayValue) (log later : LogValue) (es : Before) → HasRun (λ c. false) v log es → CollectsFor e v w log later
+    → HasRun (λ c. is_closing_of c e) w later es
+collected_for e v w log later es h x = by_event e x
+  where
+    kept : (w ≡ v) × (later ≡ log) → HasRun (λ c. false) w later es
+    kept y = subst (λ u. HasRun (λ c. false) u later es) (sym y.0) (subst (λ l. HasRun (λ c. false) v l es) (sym y.1) h)
+
+    by_event : (f : GatewayEvent) → CollectsFor f v w log later → HasRun (λ c. is_closing_of c f) w later es
+    by_event (Closing n) y = same_gathered (λ c. false || c == n) (λ c. n == c) w later es (λ c. turned c n) (collected_run (λ c. false) n v w log later es h y)
+    by_event Opening y = kept y
+    by_event (events.Piece n bytes) y = kept y
+    by_event (events.HangUp n) y = kept y
+    by_event (events.Moment m) y = kept y
+    by_event (events.BranchResult n k i r) y = kept y
+    by_event events.Drain y = kept y
+
+-- ---- the openings that succeeded
+
+rising_more : (opened : List ℕ) (n : ℕ) → IsRising opened → ((place : ℕ) → succeeds opened place ≡ true → place < n) → IsRising (opened ++ n ∷ [])
+rising_more [] n rising below = tt
+rising_more (p ∷ []) n rising below = (below p (ap (λ b. b || false) (eq-eqb p p refl)), tt)
+rising_more (p ∷ q ∷ opened) n rising below = (rising.0, rising_more (q ∷ opened) n rising.1 (λ place its. below place (later (p == place) its)))
+  where
+    later : {b : Bool} (a : Bool) → b ≡ true → (a || b) ≡ true
+    later true e = refl
+    later false e = e
+
+opens_later : (opened : List ℕ) (e : GatewayEvent) (es : Before) (place : ℕ) → OpensAt opened es place → OpensAt opened (e ∷ es) place
+opens_later opened e es place o = record {
+  later = e ∷ o.later;
+  before = o.before;
+  event_is = ap (λ xs. e ∷ xs) o.event_is;
+  place_is = o.place_is;
+  few = o.few;
+}
+
+module _ (e : GatewayEvent) (es : Before) (v w : GatewayValue) (opened : List ℕ) where
+  -- none succeeded at this event
+  steps_on : ((taken : ℕ → List ReplyEntry) (handed : List JobValue) → Served v opened es taken handed → Served w opened (e ∷ es) taken handed)
+      → KeepsBut (λ c. is_closing_of c e) v w → Steps e es v w opened opened
+  steps_on served keeps = record {
+    served = served;
+    plans_are = keeps.plans_are;
+    stays_broken = keeps.stays_broken;
+    opened_are = λ o h. record { rising = o.rising; openings = λ place its. opens_later opened e es place (o.openings place its) };
+    same_count = λ h. refl;
+    same_open = λ h c. refl;
+    before = λ occurred h o. o;
+  }
+
+  -- one did
+  steps_open : e ≡ Opening → open_connections opened es < most_open
+      → ((taken : ℕ → List ReplyEntry) (handed : List JobValue) → Served v opened es taken handed → Served w (opened ++ length es ∷ []) (e ∷ es) taken handed)
+      → KeepsBut (λ c. is_closing_of c e) v w → Steps e es v w opened (opened ++ length es ∷ [])
+  steps_open e_is few served keeps = record {
+    served = served;
+    plans_are = keeps.plans_are;
+    stays_broken = keeps.stays_broken;
+    opened_are = λ o h. record {
+      rising = rising_more opened (length es) o.rising h.below;
+      openings = λ place its. by_place o h place (succeeds opened place) refl its;
+    };
+    same_count = λ h. (same h).connections_are;
+    same_open = λ h c. (same h).open_is c;
+    before = λ occurred h o. occurs_before v.plans opened (opened ++ length es ∷ []) (length es) es occurred (omega arith) (grown opened (length es) h.below) o;
+  }
+    where
+      same : HasConns v opened es → IsSame opened (opened ++ length es ∷ []) es es
+      same h = same_before opened (opened ++ length es ∷ []) (length es) es (omega arith) (grown opened (length es) h.below)
+
+      -- as many were open
+      few_before : (before : Before) → length before ≤ length es → HasConns v opened es → open_connections opened before < most_open → open_connections (opened ++ length es ∷ []) before < most_open
+      few_before before le h lt =
+          let now : IsSame opened (opened ++ length es ∷ []) before before = same_before opened (opened ++ length es ∷ []) (length es) before le (grown opened (length es) h.below) in
+          subst (λ n. n < most_open) (sym (ap (λ n. count_below n (λ c. is_open (opened ++ length es ∷ []) c before)) now.connections_are
+          ∙ count_same (connections opened before) (λ c. is_open (opened ++ length es ∷ []) c before) (λ c. is_open opened c before) (λ c within. now.open_is c))) lt
+
+      shorter : (later before : Before) → es ≡ later ++ Opening ∷ before → length before ≤ length es
+      shorter later before is =
+          let whole : length es ≡ length later + length (Opening ∷ before) = ap (λ (xs : Before). length xs) is ∙ length-append later (Opening ∷ before) in omega (arith, whole)
+
+      by_place : IsOpened opened es → HasConns v opened es → (place : ℕ) (b : Bool) → succeeds opened place ≡ b → succeeds (opened ++ length es ∷ []) place ≡ true
+          → OpensAt (opened ++ length es ∷ []) (e ∷ es) place
+      by_place o h place true x its = let was = o.openings place x in record {
+        later = e ∷ was.later;
+        before = was.before;
+        event_is = ap (λ xs. e ∷ xs) was.event_is;
+        place_is = was.place_is;
+        few = few_before was.before (shorter was.later was.before was.event_is) h was.few;
+      }
+      by_place o h place false x its = record {
+        later = [];
+        before = es;
+        event_is = ap (λ y. y ∷ es) e_is;
+        place_is = eqb-true (length es) place (sym (succeeds_more opened (length es) place ∙ ap (λ b. b || (length es == place)) x) ∙ its);
+        few = few_before es (omega arith) h few;
+      }
+
+-- ---- the event
+
+module _ (e : GatewayEvent) (es : Before) (v u w x : GatewayValue) (log gathered next end : LogValue) (stepped : Stepped) where
+  pub event_run : HasRun (λ c. false) v log es → CollectsFor e v u log gathered
+      → ((opened : List ℕ) (es : Before) (taken : ℕ → List ReplyEntry) (handed : List JobValue) → Served u opened es taken handed
+      → Served w (opened_by stepped (length es) opened) (e ∷ es) taken handed)
+      → ((conn : ℕ) → stepped ≡ Opened conn → e ≡ Opening)
+      → ((conn : ℕ) (opened : List ℕ) (es : Before) (taken : ℕ → List ReplyEntry) (handed : List JobValue) → stepped ≡ Opened conn → Served u opened es taken handed
+      → open_connections opened es < most_open)
+      → KeepsBut (λ c. is_closing_of c e) u w → next ≡ log_after stepped (length es) gathered → StartsAll (length es) w x next end
+      → HasRun (λ c. false) x end (e ∷ es)
+  event_run h collects served opens few keeps next_is starts = by_step stepped refl
+    where
+      mid : HasRun (λ c. is_closing_of c e) u gathered es
+      mid = collected_for e v u log gathered es h collects
+
+      -- how many connections there are then
+      still_open : (r : Stepped) → Served w (opened_by r (length es) gathered.opened) (e ∷ es) mid.taken (map job_started mid.started)
+          → connections (opened_by r (length es) gathered.opened) (e ∷ es) ≡ w.opened
+      still_open r s = s.conns.count_is
+
+      starts_on : (l : LogValue) → next ≡ l → StartsAll (length es) w x l end
+      starts_on l is = subst (λ y. StartsAll (length es) w x y end) is starts
+
+      now : Served w (opened_by stepped (length es) gathered.opened) (e ∷ es) mid.taken (map job_started mid.started)
+      now = served gathered.opened es mid.taken (map job_started mid.started) mid.served
+
+      none_new : (r : Stepped) → stepped ≡ r → ((opened : List ℕ) → opened_by r (length es) opened ≡ opened) → log_after r (length es) gathered ≡ gathered
+          → (e ≡ Opening → succeeds gathered.opened (length es) ≡ false) → HasRun (λ c. false) x end (e ∷ es)
+      none_new r r_is same kept fails = run_on e es u w gathered gathered mid
+          (steps_on e es u w gathered.opened (λ taken handed s. subst (λ o. Served w o (e ∷ es) taken handed) (ap (λ y. opened_by y (length es) gathered.opened) r_is ∙ same gathered.opened)
+          (served gathered.opened es taken handed s)) keeps)
+          (λ c. refl) (λ c. refl) refl x end (starts_on gathered (next_is ∙ ap (λ y. log_after y (length es) gathered) r_is ∙ kept))
+          (mid.opened_size ∙ size) (mid.queued_size ∙ size) (mid.broke_size ∙ size)
+        where
+          served_now : Served w gathered.opened (e ∷ es) mid.taken (map job_started mid.started)
+          served_now = subst (λ o. Served w o (e ∷ es) mid.taken (map job_started mid.started)) (ap (λ y. opened_by y (length es) gathered.opened) r_is ∙ same gathered.opened) now
+
+          no_more : (f : GatewayEvent) → e ≡ f → connections gathered.opened (f ∷ es) ≡ connections gathered.opened es
+          no_more Opening f_is = ap (λ b. if b then suc (connections gathered.opened es) else connections gathered.opened es) (fails f_is)
+          no_more (events.Piece n bytes) f_is = refl
+          no_more (events.HangUp n) f_is = refl
+          no_more (events.Moment m) f_is = refl
+          no_more (events.BranchResult n k i o) f_is = refl
+          no_more events.Drain f_is = refl
+          no_more (Closing n) f_is = refl
+
+          size : u.opened ≡ w.opened
+          size = sym mid.served.conns.count_is ∙ sym (no_more e refl) ∙ served_now.conns.count_is
+
+      not_yet : succeeds gathered.opened (length es) ≡ false
+      not_yet = by_it (succeeds gathered.opened (length es)) refl
+        where
+          by_it : (b : Bool) → succeeds gathered.opened (length es) ≡ b → succeeds gathered.opened (length es) ≡ false
+          by_it true y = absurd (let lt = mid.served.conns.below (length es) y in omega (arith, lt))
+          by_it false y = y
+
+      by_step : (r : Stepped) → stepped ≡ r → HasRun (λ c. false) x end (e ∷ es)
+      by_step (Opened conn) r_is = run_on e es u w gathered (log_after (Opened conn) (length es) gathered) mid
+          (steps_open e es u w gathered.opened e_is (few conn gathered.opened es mid.taken (map job_started mid.started) r_is mid.served)
+          (λ taken handed s. subst (λ o. Served w o (e ∷ es) taken handed) (ap (λ y. opened_by y (length es) gathered.opened) r_is) (served gathered.opened es taken handed s)) keeps)
+          (λ c. more_default gathered.queued c []) (λ c. more_default gathered.broke c false) refl x end (starts_on (log_after (Opened conn) (length es) gathered) (next_is ∙ ap (λ y. log_after y (length es) gathered) r_is))
+          (length-append gathered.opened (length es ∷ []) ∙ (let a = mid.opened_size in omega (arith, a, size)))
+          (length-append gathered.queued ([] ∷ []) ∙ (let a = mid.queued_size in omega (arith, a, size)))
+          (length-append gathered.broke (false ∷ []) ∙ (let a = mid.broke_size in omega (arith, a, size)))
+        where
+          e_is : e ≡ Opening
+          e_is = opens conn r_is
+
+          served_now : Served w (gathered.opened ++ length es ∷ []) (e ∷ es) mid.taken (map job_started mid.started)
+          served_now = subst (λ o. Served w o (e ∷ es) mid.taken (map job_started mid.started)) (ap (λ y. opened_by y (length es) gathered.opened) r_is) now
+
+          same : IsSame gathered.opened (gathered.opened ++ length es ∷ []) es es
+          same = same_before gathered.opened (gathered.opened ++ length es ∷ []) (length es) es (omega arith) (grown gathered.opened (length es) mid.served.conns.below)
+
+          succeeded : succeeds (gathered.opened ++ length es ∷ []) (length es) ≡ true
+          succeeded = succeeds_more gathered.opened (length es) (length es) ∙ ap (λ b. succeeds gathered.opened (length es) || b) (eq-eqb (length es) (length es) refl) ∙ or_true (succeeds gathered.opened (length es))
+            where
+              or_true : (b : Bool) → (b || true) ≡ true
+              or_true true = refl
+              or_true false = refl
+
+          size : w.opened ≡ u.opened + 1
+          size =
+              let n : connections (gathered.opened ++ length es ∷ []) es ≡ u.opened = same.connections_are ∙ mid.served.conns.count_is in
+              sym served_now.conns.count_is ∙ ap (λ y. connections (gathered.opened ++ length es ∷ []) (y ∷ es)) e_is
+              ∙ ap (λ b. if b then suc (connections (gathered.opened ++ length es ∷ []) es) else connections (gathered.opened ++ length es ∷ []) es) succeeded ∙ (omega (arith, n))
+      by_step Done r_is = none_new Done r_is (λ opened. refl) refl (λ o. not_yet)
+      by_step (NotOpened error) r_is = none_new (NotOpened error) r_is (λ opened. refl) refl (λ o. not_yet)
+      by_step (Saw took) r_is = none_new (Saw took) r_is (λ opened. refl) refl (λ o. not_yet)
+      by_step (Fault fault) r_is = none_new (Fault fault) r_is (λ opened. refl) refl (λ o. not_yet)
+      by_step Broke r_is = none_new Broke r_is (λ opened. refl) refl (λ o. not_yet)

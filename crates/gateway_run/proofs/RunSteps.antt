@@ -1,0 +1,269 @@
+-- How a run goes on with one event more.
+use Rattle.std.proofs.Common.{◌≡◌, ℕ, ◌+◌, ◌<◌, Bool, true, false, List, [], ◌∷◌, ◌++◌, length, map, Option, None, Some, refl, sym, ap, ◌∙◌, subst, arith, append-nil, append_assoc}
+use Rattle.std.specs.Prelude.{if◌then◌else◌, ◌&&◌, ◌||◌, not, filter, is_some, nat_lt, option_to_list}
+use Rattle.std.specs.Option.{option_map_or}
+use Rattle.std.proofs.lemmas.Bool.{lt-ltb, ltb-true, ltb-false}
+use Rattle.std.proofs.lemmas.List.{append_cancel_left, map-append}
+use Rattle.std.proofs.lemmas.List.Elements.{filter-append}
+use Rattle.gateway_core.specs.declared.entry.ReplyEntry.{ReplyEntry}
+use Rattle.gateway_core.specs.Breaks.{is_of}
+use Rattle.gateway_core.specs.Conn.{ConnValue}
+use Rattle.gateway_core.specs.EventAdds.{EventAdds, IsShut}
+use Rattle.gateway_core.specs.Events.{Before, GatewayEvent, IsOpened, Occurs, connections, is_closing_of, is_open}
+use Rattle.gateway_core.specs.Gateway.{GatewayValue, is_broken_conn}
+use Rattle.gateway_core.specs.Job.{JobValue}
+use Rattle.gateway_core.specs.Past.{marked}
+use Rattle.gateway_core.specs.Queue.{IsPrefixOf, queued_entries}
+use Rattle.gateway_core.specs.Served.{HasConns, JobsAre, QueueIs, Served}
+use Rattle.gateway_core.specs.Starts.{Placed, job_started, jobs, occurrences, start, starts}
+use Rattle.gateway_core.specs.Store.{conn_of}
+use Rattle.gateway_core.proofs.CutLemmas.{jobs_of_starts}
+use Rattle.gateway_core.proofs.EventStarts.{event_adds}
+use Rattle.gateway_core.proofs.Standings.{jobs_stand}
+use Rattle.gateway_run.specs.Log.{HasRun, LogValue, StartsAll, flag_at, is_flagged, is_open_conn, is_started_on, queue_at}
+use Rattle.gateway_run.specs.Run.{run_start, start_at}
+use Rattle.gateway_run.proofs.Flags.{beyond, jobs_again, jobs_on, or_false_left, or_false_right, same_jobs, starts_at, starts_on}
+
+-- ---- what an event leaves as it was
+
+-- a queue of a connection for which nothing is added
+still_queue : (c : ℕ) (queue : List ReplyEntry) (b : Bool) (before after newer : List Placed) → after ≡ newer ++ before
+    → queued_entries c (marked (occurrences after)) ≡ queued_entries c (marked (occurrences before)) → QueueIs c queue b before → QueueIs c queue b after
+still_queue c queue false before after newer after_is same h = h ∙ sym same
+still_queue c queue true before after newer after_is same (since, at, older, is, breaks, queue_is) =
+    (newer ++ since, at, older, after_is ∙ ap (λ xs. newer ++ xs) is ∙ regroup newer since (option_to_list at) older, breaks, queue_is)
+  where
+    regroup : (a b d e : List Placed) → a ++ (b ++ d ++ e) ≡ (a ++ b) ++ d ++ e
+    regroup a b d e = sym (append_assoc a (b ++ d) e) ∙ ap (λ xs. xs ++ e) (sym (append_assoc a b d))
+
+-- of a list that begins another and goes on, nothing goes on where the other is no longer
+no_more : {A : Type 0} (xs ys zs : List A) → IsPrefixOf (xs ++ ys) zs → zs ≡ xs → ys ≡ []
+no_more xs ys zs (rest, is) same = empty ys rest (append_cancel_left xs (ys ++ rest) [] (append_assoc' xs ys rest ∙ sym is ∙ same ∙ sym (append-nil xs)))
+  where
+    append_assoc' : {A : Type 0} (a b d : List A) → a ++ (b ++ d) ≡ (a ++ b) ++ d
+    append_assoc' a b d = sym (append_assoc a b d)
+
+    empty : {A : Type 0} (a b : List A) → a ++ b ≡ [] → a ≡ []
+    empty [] b e = refl
+    empty (x ∷ a) b e = absurd (cc)
+
+-- ---- one event
+
+-- what the step of an event comes to
+pub record Steps (e : GatewayEvent) (es : Before) (v w : GatewayValue) (opened later : List ℕ) : Type 0 where
+  pub served : (taken : ℕ → List ReplyEntry) (handed : List JobValue) → Served v opened es taken handed → Served w later (e ∷ es) taken handed
+  pub plans_are : w.plans ≡ v.plans
+  pub stays_broken : (c : ℕ) → is_closing_of c e ≡ false → is_broken_conn c v ≡ true → is_broken_conn c w ≡ true
+  pub opened_are : IsOpened opened es → HasConns v opened es → IsOpened later (e ∷ es)
+  pub same_count : HasConns v opened es → connections later es ≡ connections opened es
+  pub same_open : HasConns v opened es → (c : ℕ) → is_open later c es ≡ is_open opened c es
+  pub before : (occurred : List Placed) → HasConns v opened es → Occurs v.plans later es occurred → Occurs v.plans opened es occurred
+
+module _ (e : GatewayEvent) (es : Before) (v w : GatewayValue) (log next : LogValue) (h : HasRun (λ c. is_closing_of c e) v log es) (s : Steps e es v w log.opened next.opened)
+    (queued_are : (c : ℕ) → queue_at c next ≡ queue_at c log) (flags_are : (c : ℕ) → flag_at c next ≡ flag_at c log) (starts_same : next.starts ≡ log.starts) where
+  served : Served w next.opened (e ∷ es) h.taken (map job_started h.started)
+  served = s.served h.taken (map job_started h.started) h.served
+
+  abbrev new : List JobValue
+  new = w.machine.jobs
+
+  open_before : (c : ℕ) → is_open next.opened c es ≡ is_open_conn c v
+  open_before c = s.same_open h.served.conns c ∙ h.served.conns.open_are c
+
+  count_before : connections next.opened es ≡ v.opened
+  count_before = s.same_count h.served.conns ∙ h.served.conns.count_is
+
+  open_now : (c : ℕ) → is_open next.opened c (e ∷ es) ≡ is_open_conn c w
+  open_now c = served.conns.open_are c
+
+  -- a connection that is open behind the event and was known before was open, and does not close by it
+  parts : (a b : Bool) → (a && not b) ≡ true → (a ≡ true) × (b ≡ false)
+  parts true false x = (refl, refl)
+  parts true true x = absurd (cc)
+  parts false b x = absurd (cc)
+
+  module _ (occurred : List Placed) (o : Occurs w.plans next.opened (e ∷ es) occurred) where
+    abbrev now : Occurs v.plans next.opened (e ∷ es) occurred
+    now = subst (λ plans. Occurs plans next.opened (e ∷ es) occurred) s.plans_are o
+
+    abbrev past : List Placed
+    past = now.0
+
+    was_next : Occurs v.plans next.opened es past
+    was_next = now.1
+
+    was : Occurs v.plans log.opened es past
+    was = s.before past h.served.conns was_next
+
+    adds : EventAdds next.opened e es past occurred
+    adds = event_adds v.plans next.opened e es past occurred was_next now
+
+    stand : JobsAre w (map job_started h.started ++ new) occurred
+    stand = jobs_stand w next.opened (e ∷ es) h.taken (map job_started h.started) occurred served o
+
+    jobs_then : jobs (marked (occurrences occurred)) ≡ jobs (marked (occurrences past)) ++ adds.started
+    jobs_then =
+        sym (jobs_of_starts occurred) ∙ ap (map job_started) adds.starts_are
+        ∙ map-append job_started (starts past) (map (start (length es)) adds.started)
+        ∙ ap (λ js. js ++ map job_started (map (start (length es)) adds.started)) (jobs_of_starts past)
+        ∙ ap (λ js. jobs (marked (occurrences past)) ++ js) (jobs_again (length es) adds.started)
+
+    shut_is : (c : ℕ) → c < w.opened → is_open_conn c w ≡ false → IsShut next.opened e es c
+    shut_is c lt off = by_known (nat_lt c (connections next.opened es)) refl
+      where
+        by_known : (b : Bool) → nat_lt c (connections next.opened es) ≡ b → IsShut next.opened e es c
+        by_known true x = record { known = ltb-true c (connections next.opened es) x; shut = open_now c ∙ off }
+        by_known false x = absurd (
+            let on : is_open next.opened c (e ∷ es) ≡ true =
+            ap (λ b. if b then is_open next.opened c es && not (is_closing_of c e) else nat_lt c (connections next.opened (e ∷ es))) x
+            ∙ lt-ltb c (connections next.opened (e ∷ es)) (let n = served.conns.count_is in omega (arith, n, lt)) in
+            let clash : true ≡ false = sym on ∙ open_now c ∙ off in cc)
+
+    -- ---- the starts of a connection
+
+    module _ (c : ℕ) (started_are : filter (is_started_on c) h.started ≡ filter (is_started_on c) (starts past)) where
+      jobs_before : filter (is_of c) (map job_started h.started) ≡ filter (is_of c) (jobs (marked (occurrences past)))
+      jobs_before =
+          jobs_on c h.started ∙ ap (map job_started) started_are ∙ sym (jobs_on c (starts past)) ∙ ap (filter (is_of c)) (jobs_of_starts past)
+
+      from_all : filter (is_of c) (map job_started h.started ++ new) ≡ filter (is_of c) (jobs (marked (occurrences occurred))) → filter (is_of c) new ≡ filter (is_of c) adds.started
+      from_all all = append_cancel_left (filter (is_of c) (map job_started h.started)) (filter (is_of c) new) (filter (is_of c) adds.started)
+          (sym (filter-append (is_of c) (map job_started h.started) new) ∙ all ∙ ap (filter (is_of c)) jobs_then
+          ∙ filter-append (is_of c) (jobs (marked (occurrences past))) adds.started ∙ ap (λ js. js ++ filter (is_of c) adds.started) (sym jobs_before))
+
+      when_shut : IsShut next.opened e es c → filter (is_of c) new ≡ filter (is_of c) adds.started
+      when_shut shut =
+          let none : filter (is_of c) adds.started ≡ [] = adds.none_shut c shut in
+          let same : filter (is_of c) (jobs (marked (occurrences occurred))) ≡ filter (is_of c) (map job_started h.started) =
+          ap (filter (is_of c)) jobs_then ∙ filter-append (is_of c) (jobs (marked (occurrences past))) adds.started
+          ∙ ap (λ js. filter (is_of c) (jobs (marked (occurrences past))) ++ js) none ∙ append-nil (filter (is_of c) (jobs (marked (occurrences past)))) ∙ sym jobs_before in
+          no_more (filter (is_of c) (map job_started h.started)) (filter (is_of c) new) (filter (is_of c) (jobs (marked (occurrences occurred))))
+          (subst (λ xs. IsPrefixOf xs (filter (is_of c) (jobs (marked (occurrences occurred))))) (filter-append (is_of c) (map job_started h.started) new) (stand.others c)) same
+          ∙ sym none
+
+      new_are : is_broken_conn c w ≡ false → filter (is_of c) new ≡ filter (is_of c) adds.started
+      new_are on = by_conn (conn_of c w.machine.conns) refl
+        where
+          by_conn : (k : Option ConnValue) → conn_of c w.machine.conns ≡ k → filter (is_of c) new ≡ filter (is_of c) adds.started
+          by_conn (Some k) k_is = from_all (stand.unbroken c k k_is (sym (ap (λ x. option_map_or (λ (y : ConnValue). y.broken) x false) k_is) ∙ on))
+          by_conn None k_is = by_opened (nat_lt c w.opened) refl
+            where
+              by_opened : (b : Bool) → nat_lt c w.opened ≡ b → filter (is_of c) new ≡ filter (is_of c) adds.started
+              by_opened true x = when_shut (shut_is c (ltb-true c w.opened x) (ap (λ y. is_some y) k_is))
+              by_opened false x = from_all (stand.unopened c (ltb-false c w.opened x))
+
+      then_are : is_broken_conn c w ≡ false → filter (is_started_on c) (h.started ++ map (start (length es)) new) ≡ filter (is_started_on c) (starts occurred)
+      then_are on =
+          filter-append (is_started_on c) h.started (map (start (length es)) new)
+          ∙ ap (λ xs. xs ++ filter (is_started_on c) (map (start (length es)) new)) started_are
+          ∙ ap (λ xs. filter (is_started_on c) (starts past) ++ xs) (starts_on c (length es) new ∙ ap (map (start (length es))) (new_are on) ∙ sym (starts_on c (length es) adds.started))
+          ∙ sym (filter-append (is_started_on c) (starts past) (map (start (length es)) adds.started))
+          ∙ sym (ap (filter (is_started_on c)) adds.starts_are)
+
+  -- what is unflagged now was so before
+  was_unflagged : (c : ℕ) → flag_at c next ≡ false → is_broken_conn c w ≡ false → is_flagged c v log ≡ false
+  was_unflagged c off on = by_break (is_broken_conn c v) refl
+    where
+      flag : flag_at c log ≡ false
+      flag = sym (flags_are c) ∙ off
+
+      by_break : (b : Bool) → is_broken_conn c v ≡ b → is_flagged c v log ≡ false
+      by_break false x = ap (λ b. b || is_broken_conn c v) flag ∙ x
+      by_break true x = by_closing (is_closing_of c e) refl
+        where
+          there : is_open_conn c v ≡ true
+          there = by_conn (conn_of c v.machine.conns) refl
+            where
+              by_conn : (k : Option ConnValue) → conn_of c v.machine.conns ≡ k → is_open_conn c v ≡ true
+              by_conn (Some k) k_is = ap (λ y. is_some y) k_is
+              by_conn None k_is = absurd (let clash : true ≡ false = sym x ∙ ap (λ y. option_map_or (λ (z : ConnValue). z.broken) y false) k_is in cc)
+
+          by_closing : (b : Bool) → is_closing_of c e ≡ b → is_flagged c v log ≡ false
+          by_closing true y = absurd (let clash : true ≡ false = sym x ∙ sym (h.flagged c y there) ∙ flag in cc)
+          by_closing false y = absurd (let clash : true ≡ false = sym (s.stays_broken c y x) ∙ on in cc)
+
+  -- ---- the whole
+
+  pub run_on : (x : GatewayValue) (end : LogValue) → StartsAll (length es) w x next end → length next.opened ≡ w.opened → length next.queued ≡ w.opened → length next.broke ≡ w.opened
+      → HasRun (λ c. false) x end (e ∷ es)
+  run_on x end t opened_size queued_size broke_size = subst (λ y. HasRun (λ c. false) y end (e ∷ es)) (sym t.rest) (subst (λ l. HasRun (λ c. false) last l (e ∷ es)) (sym t.log_is) (record {
+    taken = h.taken;
+    started = h.started ++ map (start (length es)) new;
+    served = subst (λ js. Served last next.opened (e ∷ es) h.taken js) (sym handed_are)
+        (subst (λ y. Served y next.opened (e ∷ es) h.taken (map job_started h.started ++ new)) t.rest (t.served next.opened (e ∷ es) h.taken (map job_started h.started) served));
+    no_jobs = refl;
+    opened_are = s.opened_are h.opened_are h.served.conns;
+    opened_size = opened_size;
+    queued_size = queued_size;
+    broke_size = broke_size;
+    starts_are = ap (λ xs. xs ++ map (start_at (length es)) new) (starts_same ∙ h.starts_are) ∙ ap (λ xs. map run_start h.started ++ xs) (starts_at (length es) new)
+        ∙ sym (map-append run_start h.started (map (start (length es)) new));
+    queued_are = λ c. queued_are c ∙ h.queued_are c;
+    unflagged = λ c gathered there. flags_are c ∙ open_unflagged c there;
+    flagged = λ c gathered there. absurd (cc);
+    collected = λ c gathered there occurred o. absurd (cc);
+    shut = λ c lt off occurred o. subst (λ b. QueueIs c (h.taken c) b occurred) (sym (flags_are c)) (queue_shut c lt off occurred o);
+    unbroken = λ c off occurred o. then_are occurred o c (h.unbroken c (was_unflagged c (flag_off c off) (broken_off c off)) (past occurred o) (was occurred o)) (broken_off c off);
+    all_unbroken = λ off occurred o. all_starts off occurred o;
+  }))
+    where
+      last : GatewayValue
+      last = record w { machine = record w.machine { jobs = [] } }
+
+      end_now : LogValue
+      end_now = record next { starts = next.starts ++ map (start_at (length es)) new }
+
+      flag_off : (c : ℕ) → is_flagged c last end_now ≡ false → flag_at c next ≡ false
+      flag_off c off = or_false_left (flag_at c next) (is_broken_conn c w) off
+
+      broken_off : (c : ℕ) → is_flagged c last end_now ≡ false → is_broken_conn c w ≡ false
+      broken_off c off = or_false_right (flag_at c next) (is_broken_conn c w) off
+
+      handed_are : map job_started (h.started ++ map (start (length es)) new) ≡ map job_started h.started ++ new
+      handed_are = map-append job_started h.started (map (start (length es)) new) ∙ ap (λ js. map job_started h.started ++ js) (jobs_again (length es) new)
+
+      open_unflagged : (c : ℕ) → is_open_conn c w ≡ true → flag_at c log ≡ false
+      open_unflagged c there = by_known (nat_lt c (connections next.opened es)) refl
+        where
+          by_known : (b : Bool) → nat_lt c (connections next.opened es) ≡ b → flag_at c log ≡ false
+          by_known true y =
+              let on : (is_open next.opened c es && not (is_closing_of c e)) ≡ true =
+              sym (ap (λ b. if b then is_open next.opened c es && not (is_closing_of c e) else nat_lt c (connections next.opened (e ∷ es))) y) ∙ open_now c ∙ there in
+              let both = parts (is_open next.opened c es) (is_closing_of c e) on in
+              by_open (is_open_conn c v) refl both.0 both.1
+            where
+              by_open : (b : Bool) → is_open_conn c v ≡ b → is_open next.opened c es ≡ true → is_closing_of c e ≡ false → flag_at c log ≡ false
+              by_open true z opens stays = h.unflagged c stays z
+              by_open false z opens stays = absurd (let clash : true ≡ false = sym opens ∙ open_before c ∙ z in cc)
+          by_known false y = beyond log.broke c false (let a = h.broke_size in let b = ltb-false c (connections next.opened es) y in let n = count_before in omega (arith, a, b, n))
+
+      queue_shut : (c : ℕ) → c < w.opened → is_open_conn c w ≡ false → (occurred : List Placed) → Occurs w.plans next.opened (e ∷ es) occurred → QueueIs c (h.taken c) (flag_at c log) occurred
+      queue_shut c lt off occurred o =
+          still_queue c (h.taken c) (flag_at c log) (past occurred o) occurred (adds occurred o).newer (adds occurred o).after_is ((adds occurred o).queue_shut c shut) (by_open (is_open_conn c v) refl)
+        where
+          shut : IsShut next.opened e es c
+          shut = shut_is occurred o c lt off
+
+          by_open : (b : Bool) → is_open_conn c v ≡ b → QueueIs c (h.taken c) (flag_at c log) (past occurred o)
+          by_open false z = h.shut c (let a = shut.known in let n = count_before in omega (arith, a, n)) z (past occurred o) (was occurred o)
+          by_open true z = h.collected c (closing (is_closing_of c e) closes) z (past occurred o) (was occurred o)
+            where
+              closes : not (is_closing_of c e) ≡ false
+              closes = sym (ap (λ b. if b then is_open next.opened c es && not (is_closing_of c e) else nat_lt c (connections next.opened (e ∷ es))) (lt-ltb c (connections next.opened es) shut.known)
+                  ∙ ap (λ b. b && not (is_closing_of c e)) (open_before c ∙ z)) ∙ shut.shut
+
+              closing : (b : Bool) → not b ≡ false → b ≡ true
+              closing true x = refl
+              closing false x = absurd (cc)
+
+      all_starts : ((c : ℕ) → is_flagged c last end_now ≡ false) → (occurred : List Placed) → Occurs w.plans next.opened (e ∷ es) occurred
+          → h.started ++ map (start (length es)) new ≡ starts occurred
+      all_starts off occurred o =
+          ap (λ xs. xs ++ map (start (length es)) new) started_are ∙ ap (λ js. starts (past occurred o) ++ map (start (length es)) js) new_is ∙ sym (adds occurred o).starts_are
+        where
+          started_are : h.started ≡ starts (past occurred o)
+          started_are = h.all_unbroken (λ c. was_unflagged c (flag_off c (off c)) (broken_off c (off c))) (past occurred o) (was occurred o)
+
+          new_is : new ≡ (adds occurred o).started
+          new_is = same_jobs (adds occurred o).conn new (adds occurred o).started (adds occurred o).of_one
+              (λ c. new_are occurred o c (ap (filter (is_started_on c)) started_are) (broken_off c (off c)))

@@ -1,0 +1,78 @@
+-- Jobs that are taken one by one.
+use Rattle.std.proofs.Common.{◌≡◌, ℕ, Bool, true, false, List, [], ◌++◌, refl, sym, ap, ◌∙◌, subst, append-nil, append_assoc}
+use Rattle.std.specs.Prelude.{⊤, OnOk, Option, Result, Ok, Err, option_map, option_to_list}
+use Rattle.gateway_core.specs.declared.fault.StepFault.{StepFault}
+use Rattle.gateway_run.specs.Stepping.{TellsBreaks, TellsConn, done_of, opened_by, taken_of}
+use Rattle.gateway_run.specs.declared.stepping.Stepped.{Stepped}
+use Rattle.gateway_core.specs.declared.entry.ReplyEntry.{ReplyEntry}
+use Rattle.gateway_core.specs.Events.{Before}
+use Rattle.gateway_core.specs.Gateway.{GatewayValue, is_broken_conn}
+use Rattle.gateway_core.specs.Serving.{Breaks}
+use Rattle.gateway_core.specs.declared.fault.StepFault.TheVariants.{Gone, Memory}
+use Rattle.gateway_core.specs.Job.{HandedJob, JobValue}
+use Rattle.gateway_core.specs.Served.{Served}
+use Rattle.gateway_run.specs.Log.{log_value}
+use Rattle.gateway_run.specs.declared.outcome.Start.{Start}
+
+abbrev pub with_jobs : List JobValue → GatewayValue → GatewayValue
+with_jobs js v = record v { machine = record v.machine { jobs = js } }
+
+-- the first jobs were taken
+pub record Started (v w : GatewayValue) : Type 0 where
+  pub gone : List JobValue
+  pub jobs_are : v.machine.jobs ≡ gone ++ w.machine.jobs
+  pub rest : w ≡ with_jobs w.machine.jobs v
+  pub served : (opened : List ℕ) (es : Before) (taken : ℕ → List ReplyEntry) (handed : List JobValue) → Served v opened es taken handed → Served w opened es taken (handed ++ gone)
+
+pub one_started : (u v w : GatewayValue) (job : Option HandedJob) → Started u v
+    → ((opened : List ℕ) (es : Before) (taken : ℕ → List ReplyEntry) (handed : List JobValue) → Served v opened es taken handed
+    → Served w opened es taken (handed ++ option_to_list (option_map (λ (j : HandedJob). j.job) job)))
+    → v.machine.jobs ≡ option_to_list (option_map (λ (j : HandedJob). j.job) job) ++ w.machine.jobs
+    → w ≡ with_jobs w.machine.jobs v → Started u w
+one_started u v w job s stands first rest = record {
+  gone = s.gone ++ option_to_list (option_map (λ (j : HandedJob). j.job) job);
+  jobs_are = s.jobs_are ∙ ap (λ js. s.gone ++ js) first ∙ sym (append_assoc s.gone (option_to_list (option_map (λ (j : HandedJob). j.job) job)) w.machine.jobs);
+  rest = rest ∙ ap (with_jobs w.machine.jobs) s.rest;
+  served = λ opened es taken handed h. subst (λ js. Served w opened es taken js) (append_assoc handed s.gone (option_to_list (option_map (λ (j : HandedJob). j.job) job)))
+      (stands opened es taken (handed ++ s.gone) (s.served opened es taken handed h));
+}
+
+-- where none is left, all were
+pub all_started : (v w : GatewayValue) → Started v w → w.machine.jobs ≡ [] → (w ≡ with_jobs [] v)
+    × ((opened : List ℕ) (es : Before) (taken : ℕ → List ReplyEntry) (handed : List JobValue) → Served v opened es taken handed → Served w opened es taken (handed ++ v.machine.jobs))
+all_started v w s none = (
+  s.rest ∙ ap (λ js. with_jobs js v) none,
+  λ opened es taken handed h. subst (λ js. Served w opened es taken (handed ++ js)) (sym (s.jobs_are ∙ ap (λ js. s.gone ++ js) none ∙ append-nil s.gone)) (s.served opened es taken handed h),
+)
+
+-- a log by its parts
+pub log_same : {o o' : List ℕ} {q q' : List (List ℕ)} {b b' : List Bool} {s s' : List Start} → o ≡ o' → q ≡ q' → b ≡ b' → s ≡ s' → log_value o q b s ≡ log_value o' q' b' s'
+log_same {o} {o'} {q} {q'} {b} {b'} {s} {s'} os qs bs ss =
+    ap (λ x. log_value x q b s) os ∙ ap (λ x. log_value o' x b s) qs ∙ ap (λ x. log_value o' q' x s) bs ∙ ap (λ x. log_value o' q' b' x) ss
+
+-- ---- an event that is no opening opens none
+
+pub by_done : (answer : Result ⊤ StepFault) (stepped : Stepped) (place : ℕ) (opened : List ℕ) → stepped ≡ done_of answer → opened_by stepped place opened ≡ opened
+by_done answer stepped place opened is = ap (λ s. opened_by s place opened) is ∙ none answer
+  where
+    none : (r : Result ⊤ StepFault) → opened_by (done_of r) place opened ≡ opened
+    none (Ok all) = refl
+    none (Err fault) = refl
+
+pub by_taken : (broke : Bool) (stepped : Stepped) (place : ℕ) (opened : List ℕ) → stepped ≡ taken_of broke → opened_by stepped place opened ≡ opened
+by_taken broke stepped place opened is = ap (λ s. opened_by s place opened) is ∙ none broke
+  where
+    none : (b : Bool) → opened_by (taken_of b) place opened ≡ opened
+    none true = refl
+    none false = refl
+
+-- ---- what is told
+
+pub conn_told : (n : ℕ) (answer : Result ⊤ StepFault) (w : GatewayValue) → (answer ≡ Err Memory → is_broken_conn n w ≡ true) → OnOk answer (is_broken_conn n w ≡ false) → TellsConn n (done_of answer) w
+conn_told n (Ok all) w h fine = fine
+conn_told n (Err Gone) w h fine = tt
+conn_told n (Err Memory) w h fine = h refl
+
+pub breaks_told : (broke : Bool) (v w : GatewayValue) → Breaks v w broke → TellsBreaks (taken_of broke) v w
+breaks_told true v w h = h
+breaks_told false v w h = h

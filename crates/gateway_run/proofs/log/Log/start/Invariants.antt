@@ -1,0 +1,16 @@
+use Rattle.std.proofs.Common.{◌≡◌, ◌++◌, map, length}
+use Rattle.gateway_run.specs.Run.{start_at}
+use Rattle.gateway_run.proofs.Starting.{Started}
+use Rattle.gateway_run.proofs.log.Log.start.Given as goal
+
+abbrev pub invariant-loop-job : goal.invariant-loop-job
+invariant-loop-job l = record {
+  started : Started l.initial.core l.core;
+  opened_is : l.self-inside.opened ≡ l.initial.self-inside.opened;
+  queued_is : l.self-inside.queued ≡ l.initial.self-inside.queued;
+  broke_is : l.self-inside.broke ≡ l.initial.self-inside.broke;
+  starts_are : l.self-inside.starts.items ++ map (start_at l.event) l.core.machine.jobs ≡ l.initial.self-inside.starts.items ++ map (start_at l.event) l.initial.core.machine.jobs;
+}
+
+abbrev pub decreases-loop-job : goal.decreases-loop-job
+decreases-loop-job l = length l.core.machine.jobs

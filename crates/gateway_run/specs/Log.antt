@@ -1,0 +1,89 @@
+-- What a run takes down as it goes, and how it stands for the events so far.
+use Rattle.std.specs.Prelude.{◌≡◌, ℕ, ◌<◌, ◌≤◌, Bool, true, false, ◌||◌, if◌then◌else◌, ◌==◌, List, [], ◌++◌, length, map, filter, is_some, slice_index_or, slice_set}
+use Rattle.gateway_core.specs.declared.entry.ReplyEntry.{ReplyEntry}
+use Rattle.gateway_core.specs.Breaks.{is_of}
+use Rattle.gateway_core.specs.Events.{Before, IsOpened, Occurs}
+use Rattle.gateway_core.specs.Gateway.{GatewayValue, is_broken_conn, untaken_of}
+use Rattle.gateway_core.specs.Job.{JobValue}
+use Rattle.gateway_core.specs.Served.{QueueIs, Served}
+use Rattle.gateway_core.specs.Serving.{TakesOnly}
+use Rattle.gateway_core.specs.Starts.{Placed, job_started, starts}
+use Rattle.gateway_core.specs.Starts as core
+use Rattle.gateway_core.specs.Store.{conn_of}
+use Rattle.gateway_run.specs.declared.outcome.Start.{Start}
+use Rattle.gateway_run.specs.Run.{bytes_of, run_start, start_at}
+
+pub record LogValue : Type 0 where
+  -- the places of the openings that succeeded
+  pub opened : List ℕ
+  -- what was taken for each connection, and whether it was broken as it was looked at last
+  pub queued : List (List ℕ)
+  pub broke : List Bool
+  pub starts : List Start
+
+abbrev pub log_value : List ℕ → List (List ℕ) → List Bool → List Start → LogValue
+log_value opened queued broke starts = record { opened = opened; queued = queued; broke = broke; starts = starts }
+
+abbrev pub queue_at : ℕ → LogValue → List ℕ
+queue_at c log = slice_index_or log.queued c []
+
+abbrev pub flag_at : ℕ → LogValue → Bool
+flag_at c log = slice_index_or log.broke c false
+
+-- ---- what is taken
+
+-- these replies of the connection were taken, and nothing else changed
+pub record Took (n : ℕ) (entries : List ReplyEntry) (v w : GatewayValue) : Type 0 where
+  pub only : TakesOnly v w
+  pub untaken_are : untaken_of n v ≡ entries ++ untaken_of n w
+  pub served : (opened : List ℕ) (es : Before) (taken : ℕ → List ReplyEntry) (handed : List JobValue) → Served v opened es taken handed
+      → (later : ℕ → List ReplyEntry) × Served w opened es later handed × ((c : ℕ) → later c ≡ (if c == n then taken c ++ entries else taken c))
+
+-- the log, in which this stands behind what was queued for the connection, and whether it is broken
+abbrev pub log_with : ℕ → List ℕ → Bool → LogValue → LogValue
+log_with n bytes broken log = record log { queued = slice_set log.queued n (queue_at n log ++ bytes); broke = slice_set log.broke n (flag_at n log || broken) }
+
+-- what is queued for a connection was taken, if it was opened
+pub data Collects (n : ℕ) (v w : GatewayValue) (log later : LogValue) : Type 0 where
+  absent : length log.queued ≤ n → w ≡ v → later ≡ log → Collects n v w log later
+  gathers : n < length log.queued → Took n (untaken_of n v) v w → later ≡ log_with n (bytes_of (untaken_of n v)) (is_broken_conn n v) log → Collects n v w log later
+
+-- all jobs were taken
+pub record StartsAll (place : ℕ) (v w : GatewayValue) (log later : LogValue) : Type 0 where
+  pub rest : w ≡ record v { machine = record v.machine { jobs = [] } }
+  pub served : (opened : List ℕ) (es : Before) (taken : ℕ → List ReplyEntry) (handed : List JobValue) → Served v opened es taken handed
+      → Served w opened es taken (handed ++ v.machine.jobs)
+  pub log_is : later ≡ record log { starts = log.starts ++ map (start_at place) v.machine.jobs }
+
+-- ---- how it stands for the events
+
+abbrev pub is_open_conn : ℕ → GatewayValue → Bool
+is_open_conn c v = is_some (conn_of c v.machine.conns)
+
+abbrev pub is_flagged : ℕ → GatewayValue → LogValue → Bool
+is_flagged c v log = flag_at c log || is_broken_conn c v
+
+abbrev pub is_started_on : ℕ → core.Start → Bool
+is_started_on c s = is_of c s.job
+
+-- how far a run is after these events, newest first, where what is queued was taken for those of the open connections of which this is so
+pub record HasRun (gathered : ℕ → Bool) (v : GatewayValue) (log : LogValue) (es : Before) : Type 0 where
+  pub taken : ℕ → List ReplyEntry
+  pub started : List core.Start
+  pub served : Served v log.opened es taken (map job_started started)
+  pub no_jobs : v.machine.jobs ≡ []
+  pub opened_are : IsOpened log.opened es
+  pub opened_size : length log.opened ≡ v.opened
+  pub queued_size : length log.queued ≡ v.opened
+  pub broke_size : length log.broke ≡ v.opened
+  pub starts_are : log.starts ≡ map run_start started
+  pub queued_are : (c : ℕ) → queue_at c log ≡ bytes_of (taken c)
+  pub unflagged : (c : ℕ) → gathered c ≡ false → is_open_conn c v ≡ true → flag_at c log ≡ false
+  pub flagged : (c : ℕ) → gathered c ≡ true → is_open_conn c v ≡ true → flag_at c log ≡ is_broken_conn c v
+  pub collected : (c : ℕ) → gathered c ≡ true → is_open_conn c v ≡ true → (occurred : List Placed) → Occurs v.plans log.opened es occurred
+      → QueueIs c (taken c) (flag_at c log) occurred
+  pub shut : (c : ℕ) → c < v.opened → is_open_conn c v ≡ false → (occurred : List Placed) → Occurs v.plans log.opened es occurred
+      → QueueIs c (taken c) (flag_at c log) occurred
+  pub unbroken : (c : ℕ) → is_flagged c v log ≡ false → (occurred : List Placed) → Occurs v.plans log.opened es occurred
+      → filter (is_started_on c) started ≡ filter (is_started_on c) (starts occurred)
+  pub all_unbroken : ((c : ℕ) → is_flagged c v log ≡ false) → (occurred : List Placed) → Occurs v.plans log.opened es occurred → started ≡ starts occurred

@@ -1,0 +1,103 @@
+ghost use Rattle.std.specs.Prelude.{◌≡◌, ◌++◌, ◌∷◌, OnOk, [], false};
+ghost use Rattle.gateway_core.specs.Gateway.{untaken_of};
+ghost use Rattle.gateway_run.specs.Log.{Collects, StartsAll, Took, log_value};
+ghost use Rattle.gateway_run.specs.Run.{bytes_of};
+
+use crate::outcome::Start;
+use gateway_core::{ConnId, Core};
+use http_pieces::Bytes;
+use std::alloc::{AllocError, Global};
+use std::marker::Model;
+
+/// What a run takes down as it goes.
+#[derive(Drop)]
+pub(crate) struct Log {
+    alloc: Global,
+    /// The places of the openings that succeeded.
+    pub(crate) opened: Vec<u64>,
+    /// The bytes that were queued for each connection and are taken.
+    pub(crate) queued: Vec<Bytes>,
+    /// Whether each connection was broken as it was looked at last.
+    pub(crate) broke: Vec<bool>,
+    pub(crate) starts: Vec<Start>,
+}
+
+impl Model for Log {
+    ghost use Rattle.std.specs.Prelude.{◌≡◌, length};
+    ghost use Rattle.gateway_run.specs.Log.{LogValue, log_value};
+
+    ghost Value = { LogValue };
+
+    ghost view = { λ l. log_value l.opened.items l.queued.items l.broke.items l.starts.items };
+
+    ghost invariant = { λ l. length l.broke.items ≡ length l.queued.items };
+}
+
+impl Log {
+    /// Nothing was taken down yet.
+    pub(crate) fn new(alloc: Global) -> Log
+        ensures { result ≡ log_value [] [] [] [] }
+    {
+        Log {
+            alloc,
+            opened: Vec::new(alloc),
+            queued: Vec::new(alloc),
+            broke: Vec::new(alloc),
+            starts: Vec::new(alloc),
+        }
+    }
+
+    /// Takes what is queued for the connection of that number, if it was opened, and whether it is broken.
+    pub(crate) fn collect(&mut self, core: &mut Core, number: u64) -> Result<(), AllocError>
+        ensures { OnOk result (Collects number core.old core.new self.old self.new) }
+    {
+        let index = number as usize;
+        if index >= self.queued.len() {
+            return Ok(());
+        }
+        let broken = core.is_broken(ConnId::of(number));
+        take_replies(core, ConnId::of(number), &mut self.queued[index])?;
+        self.broke[index] = self.broke[index] || broken;
+        Ok(())
+    }
+
+    /// Makes room for a connection that was opened at the event of this place.
+    pub(crate) fn open(&mut self, place: u64) -> Result<(), AllocError>
+        ensures { OnOk result (self.new
+            ≡ log_value (self.old.opened ++ place ∷ []) (self.old.queued ++ [] ∷ []) (self.old.broke ++ false ∷ []) self.old.starts) }
+    {
+        self.opened.reserve(1)?;
+        self.queued.reserve(1)?;
+        self.broke.reserve(1)?;
+        self.opened.push_reserved(place);
+        self.queued.push_reserved(Bytes::new(self.alloc));
+        self.broke.push_reserved(false);
+        Ok(())
+    }
+
+    /// Takes the jobs that started at the event of this place.
+    pub(crate) fn start(&mut self, core: &mut Core, event: u64) -> Result<(), AllocError>
+        ensures { OnOk result (StartsAll event core.old core.new self.old self.new) }
+    {
+        while let Some(job) = core.take_job() {
+            self.starts.push(Start {
+                event,
+                conn: job.call().conn.number(),
+                request: job.call().request,
+                branch: job.branch(),
+            })?;
+        }
+        Ok(())
+    }
+}
+
+/// Takes the replies of a connection, behind the bytes.
+fn take_replies(core: &mut Core, conn: ConnId, bytes: &mut Bytes) -> Result<(), AllocError>
+    ensures took { OnOk result (Took conn (untaken_of conn core.old) core.old core.new) }
+    ensures bytes { OnOk result (bytes.new ≡ bytes.old ++ bytes_of (untaken_of conn core.old)) }
+{
+    while let Some(reply) = core.take_reply(conn) {
+        bytes.extend_from_slice(reply.bytes())?;
+    }
+    Ok(())
+}
