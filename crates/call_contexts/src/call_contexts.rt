@@ -168,6 +168,20 @@ impl<V: Drop, H: Drop> CallContexts<V, H> {
         calls::has(&self.calls, ctx) && has_ended(&self.tree, ctx)
     }
 
+    /// Whether a connection of that context stands.
+    pub fn has_conn(&self, conn: CtxId) -> bool
+        ensures { result ≡ is_conn conn self.now.standing.conns }
+    {
+        calls::is_among(&self.conns, conn)
+    }
+
+    /// Whether a call of that connection stands.
+    pub fn has_calls(&self, conn: CtxId) -> bool
+        ensures { result ≡ list_any (λ c. same c.conn conn) self.now.standing.calls }
+    {
+        calls::has_of(&self.calls, conn)
+    }
+
     /// Calls the hook of a call with what ended it, and lets go of its contexts. None where no call has that context.
     pub fn end<E: Drop, O>(&mut self, ctx: CtxId, event: E) -> Option<Result<O, AllocError>>
     where

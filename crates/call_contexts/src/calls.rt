@@ -14,6 +14,20 @@ pub(crate) fn has(calls: &[Life], ctx: CtxId) -> bool
     calls.iter().any(|life| life.ctx == ctx)
 }
 
+/// Whether that context is one of these.
+pub(crate) fn is_among(contexts: &[CtxId], ctx: CtxId) -> bool
+    ensures { result ≡ list_any (λ x. same x ctx) contexts.now }
+{
+    contexts.iter().any(|other| *other == ctx)
+}
+
+/// Whether a call is of that connection.
+pub(crate) fn has_of(calls: &[Life], conn: CtxId) -> bool
+    ensures { result ≡ list_any (λ l. same l.conn conn) calls.now }
+{
+    calls.iter().any(|life| life.conn == conn)
+}
+
 /// The first call of that context.
 pub(crate) fn find(calls: &[Life], ctx: CtxId) -> Option<Life>
     ensures { result ≡ life_at ctx calls.now }

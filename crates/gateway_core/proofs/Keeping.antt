@@ -75,7 +75,7 @@ same_back v w same c l l_is on = (l, ap (conn_of c) (sym same) ∙ l_is, on)
 
 -- ---- openings and closings
 
-pub opening_keeps : (v w : GatewayValue) (r : Result ℕ OpenError) → IfOk r (Opens v w) → OnErr r (w ≡ v) → Keeps v w
+pub opening_keeps : {E : Type 0} → (v w : GatewayValue) (r : Result ℕ E) → IfOk r (Opens v w) → OnErr r (w ≡ v) → Keeps v w
 opening_keeps v w (Err e) ok err = keeps_all v w err
 opening_keeps v w (Ok n) ok err = record {
   plans_are = ok.plans_are;
@@ -90,7 +90,7 @@ opening_keeps v w (Ok n) ok err = record {
         ap (λ o. option_map_or (λ (x : ConnValue). x.broken) (option_or o (if v.opened == c then Some (conn_value v.opened 0 [] false) else None)) false) e
         ∙ sym (broken_of c v.machine.conns k e) ∙ stopped
 
-pub opened_number : (v w : GatewayValue) (r : Result ℕ OpenError) → IfOk r (Opens v w) → IfOk r (λ n. n ≡ v.opened)
+pub opened_number : {E : Type 0} → (v w : GatewayValue) (r : Result ℕ E) → IfOk r (Opens v w) → IfOk r (λ n. n ≡ v.opened)
 opened_number v w (Ok n) o = o.number_is
 opened_number v w (Err e) o = tt
 

@@ -125,7 +125,7 @@ open_count v opened es serving h =
     within c e false x = absurd (
         let clash : true ≡ false = sym e ∙ sym (conn_by_number c v.machine.conns) ∙ ap (λ o. is_some o) (serving.no_conn c (ltb-false c v.opened x)) in cc)
 
-pub few_open : (v w : GatewayValue) (r : Result ℕ OpenError) (opened : List ℕ) (es : Before) → IsServing v → IfOk r (Opens v w) → HasConns v opened es → IfOk r (λ _. open_connections opened es < 64)
+pub few_open : {E : Type 0} → (v w : GatewayValue) (r : Result ℕ E) (opened : List ℕ) (es : Before) → IsServing v → IfOk r (Opens v w) → HasConns v opened es → IfOk r (λ _. open_connections opened es < 64)
 few_open v w (Err e) opened es serving ok h = tt
 few_open v w (Ok n) opened es serving ok h =
     let few : length v.streams < 64 = ok.few in

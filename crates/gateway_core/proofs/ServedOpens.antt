@@ -308,7 +308,7 @@ module _ (v w : GatewayValue) (opened : List ℕ) (es : Before) (taken : ℕ →
           gone c false e none = stream_is c ∙ ap (λ b. if b then None else stream_of c v.streams) e ∙ none
 
 -- an opening, whether it succeeds or not
-pub opening_stands : (v w : GatewayValue) (result : Result ℕ OpenError) (opened : List ℕ) (es : Before) (taken : ℕ → List ReplyEntry) (handed : List JobValue) → Served v opened es taken handed
+pub opening_stands : {E : Type 0} → (v w : GatewayValue) (result : Result ℕ E) (opened : List ℕ) (es : Before) (taken : ℕ → List ReplyEntry) (handed : List JobValue) → Served v opened es taken handed
     → ((number : ℕ) → Opens v w number → Served w (opened ++ length es ∷ []) (Opening ∷ es) taken handed)
     → IsServing v → IfOk result (Opens v w) → OnErr result (w ≡ v)
     → MatchResult result (λ _. Served w (opened ++ length es ∷ []) (Opening ∷ es) taken handed) (λ _. Served w opened (Opening ∷ es) taken handed)

@@ -1,4 +1,4 @@
-ghost use Rattle.std.specs.Prelude.{◌≡◌, ◌==◌, ◌↔◌, ◌^◌, ◌∷◌, ◌++◌, ◌<◌, ◌≤◌, [], Err, IfOk, IfSome, None, OnErr, OnOk, Some, false, is_some, ℕ, List, MatchResult, length, option_map, option_to_list, take, true};
+ghost use Rattle.std.specs.Prelude.{◌≡◌, ◌==◌, ◌↔◌, ◌^◌, ◌∷◌, ◌++◌, ◌<◌, ◌≤◌, [], Err, IfOk, IfErr, IfSome, None, OnErr, OnOk, Some, false, is_some, ℕ, List, MatchResult, length, option_map, option_to_list, take, true};
 ghost use Rattle.connect_codec.specs.declared.answer.Outcome.{Outcome as Outcomes};
 ghost use Rattle.gateway_core.specs.declared.entry.ReplyEntry.{ReplyEntry};
 ghost use Rattle.gateway_core.specs.Gateway.{is_broken_conn, is_ended, next_reply, outs_of, untaken_of};
@@ -13,10 +13,12 @@ ghost use Rattle.gateway_core.specs.Job.{HandedJob, JobValue};
 ghost use Rattle.gateway_core.specs.Served.{Served, ServedUpTo, with_reply};
 
 use crate::fault::{OpenError, StepFault, Took};
+use crate::hook::ReplyHook;
 use crate::id::{CallId, ConnId};
 use crate::job::Job;
 use crate::reply::Reply;
 use crate::served_laws::opening_law;
+use crate::stock::Stock;
 use crate::streams::Streams;
 use call_plan::Plans;
 use connect_codec::Outcome;
@@ -25,11 +27,11 @@ use std::marker::Model;
 
 /// The gateway: connections whose requests are answered by asking backends. It does no input or output and reads no clock.
 #[derive(Drop)]
-pub struct Core {
-    streams: Streams,
+pub struct Core<H> {
+    streams: Streams<H>,
 }
 
-impl Model for Core {
+impl<H> Model for Core<H> {
     ghost use Rattle.gateway_core.specs.Gateway.{GatewayValue};
 
     ghost Value = { GatewayValue };
@@ -37,19 +39,19 @@ impl Model for Core {
     ghost view = { λ c. c.streams };
 }
 
-impl Core {
+impl<H: ReplyHook + Drop> Core<H> {
     /// A gateway that serves these plans, with no connection.
-    pub fn new(alloc: Global, plans: Plans) -> Result<Core, AllocError>
+    pub fn new(alloc: Global, plans: Plans) -> Result<Core<H>, AllocError>
         ensures plans { IfOk result (λ core. core.plans ≡ plans) }
         ensures stands { IfOk result (λ core. Served core [] [] (λ c. []) []) }
     {
-        Ok(Core {
-            streams: Streams::new(alloc, plans),
-        })
+        let streams = Streams::new(alloc, plans)?;
+        Ok(Core { streams })
     }
 
-    /// Opens a connection. A refusal is the first that applies of `Full`, `Exhausted` and `Memory`, and changes nothing.
-    pub fn open_conn(&mut self) -> Result<ConnId, OpenError>
+    /// Opens a connection, each of whose calls gets one of these hooks. A refusal is the first that applies of `Full`,
+    /// `Exhausted` and `Memory`; it changes nothing, and the hooks come back.
+    pub fn open_conn(&mut self, stock: Stock<H>) -> Result<ConnId, (Stock<H>, OpenError)>
         ensures stands { (opened : List ℕ) (es : List GatewayEvent) (taken : ℕ → List ReplyEntry) (handed : List JobValue)
             → Served self.old opened es taken handed
             → MatchResult result (λ _. Served self.new (opened ++ length es ∷ []) (Opening ∷ es) taken handed)
@@ -57,14 +59,15 @@ impl Core {
         ensures few { (opened : List ℕ) (es : List GatewayEvent) (taken : ℕ → List ReplyEntry) (handed : List JobValue)
             → Served self.old opened es taken handed → IfOk result (λ _. open_connections opened es < most_open) }
         ensures number { IfOk result (λ conn. conn ≡ self.old.opened) }
-        ensures full { result ≡ Err OpenError.Full → most_open ≤ length self.old.streams }
-        ensures exhausted { result ≡ Err OpenError.Exhausted → 2 ^ 56 ≤ self.old.opened }
+        ensures full { IfErr result (λ e. e.1 ≡ OpenError.Full → most_open ≤ length self.old.streams) }
+        ensures exhausted { IfErr result (λ e. e.1 ≡ OpenError.Exhausted → 2 ^ 56 ≤ self.old.opened) }
+        ensures back { IfErr result (λ e. e.0 ≡ stock) }
         ensures unchanged { OnErr result (self.new ≡ self.old) }
         ensures keeps { Keeps self.old self.new }
     {
         self.streams.serving_law();
         opening_law();
-        self.streams.open()
+        self.streams.open(stock)
     }
 
     /// Takes bytes of a connection's stream, at most up to the end of a request, and answers how many.

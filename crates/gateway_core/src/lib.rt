@@ -3,6 +3,7 @@
 #![tactic(auto)]
 
 mod answers;
+mod contexts;
 mod ending;
 mod entry;
 mod event;
@@ -34,4 +35,4 @@ pub use job::Job;
 pub use record::CallRecord;
 pub use reply::Reply;
 pub use reply_bytes::ReplyBytes;
-pub use stock::Stock;
+pub use stock::{HOOKS, Stock};

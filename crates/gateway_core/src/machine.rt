@@ -1,6 +1,6 @@
 //! The machine: connections' slots, calls and jobs, and what each occurrence makes of them.
 mod arriving;
-mod asked;
+pub(crate) mod asked;
 mod begin;
 pub(crate) mod cause;
 mod conn;

@@ -4,7 +4,7 @@ ghost use Rattle.http_pieces.specs.Request.{most_requests};
 use std::marker::Model;
 
 /// How many hooks a connection brings: one for each request that it may make.
-const HOOKS: usize = 100;
+pub const HOOKS: usize = 100;
 
 /// The hooks of a connection, one for each request that it may make.
 #[derive(Drop)]
@@ -35,7 +35,7 @@ impl<H> Stock<H> {
     }
 
     /// Takes the first hook.
-    pub fn take(&mut self) -> Option<H>
+    pub(crate) fn take(&mut self) -> Option<H>
         ensures first { IfSome result (λ hook. self.old ≡ hook ∷ self.new) }
         ensures none { IfNone result ((self.old ≡ []) × (self.new ≡ [])) }
     {
@@ -43,12 +43,5 @@ impl<H> Stock<H> {
             return None;
         }
         Some(self.hooks.remove(0))
-    }
-
-    /// How many hooks there are yet.
-    pub fn left(&self) -> usize
-        ensures { result ≡ length self.now }
-    {
-        self.hooks.len()
     }
 }

@@ -1,4 +1,4 @@
-ghost use Rattle.std.specs.Prelude.{◌≡◌, ◌==◌, ◌<◌, ◌≤◌, ◌^◌, Err, IfOk, OnErr, false, true, not, filter, length, []};
+ghost use Rattle.std.specs.Prelude.{◌≡◌, ◌==◌, ◌<◌, ◌≤◌, ◌^◌, IfOk, IfErr, OnErr, false, true, not, filter, length, []};
 ghost use Rattle.gateway_core.specs.Ends.{is_stopped_in};
 ghost use Rattle.gateway_core.specs.Gateway.{is_broken_conn, is_ended, outs_of, untaken_of};
 ghost use Rattle.gateway_core.specs.Step.{moment_after};
@@ -8,13 +8,16 @@ ghost use Rattle.gateway_core.specs.Opens.{JobTaken};
 ghost use Rattle.gateway_core.specs.Serving.{Breaks, BringsAt, Closes, Ends, FedTo, gateway_value, HangsUp, IsListening, IsPlaced, IsServing, ListensAt, Opens, ReadsAt, TakesReply, without_more};
 ghost use Rattle.gateway_core.specs.Store.{MachineValue, broken_at, conn_at, machine_value};
 
+use crate::contexts::Contexts;
 use crate::fault::{OpenError, StepFault, Took};
+use crate::hook::ReplyHook;
 use crate::id::{CallId, ConnId};
 use crate::job::Job;
 use crate::machine::cause::Cause;
 use crate::machine::store::Machine;
 use crate::machine::stream::Stream;
 use crate::reply::Reply;
+use crate::stock::Stock;
 use call_plan::Plans;
 use connect_codec::Outcome;
 use http_pieces::{Request, State};
@@ -29,17 +32,18 @@ const MOST_OPENINGS: u64 = 1 << 56;
 
 /// The open connections with their streams.
 #[derive(Drop)]
-pub(crate) struct Streams {
+pub(crate) struct Streams<H> {
     alloc: Global,
     plans: Plans,
     machine: Machine,
+    contexts: Contexts<H>,
     /// One of each connection that is open.
     streams: Vec<Stream>,
     /// How many connections were opened: the number of the next.
     opened: u64,
 }
 
-impl Model for Streams {
+impl<H> Model for Streams<H> {
     ghost use Rattle.gateway_core.specs.Gateway.{GatewayValue};
     ghost use Rattle.gateway_core.specs.Serving.{gateway_value, IsServing};
 
@@ -50,39 +54,48 @@ impl Model for Streams {
     ghost invariant = { λ s. IsServing (gateway_value s.plans s.machine s.streams.items s.opened) };
 }
 
-impl Streams {
+impl<H: ReplyHook + Drop> Streams<H> {
     /// No connection is open.
-    pub(crate) fn new(alloc: Global, plans: Plans) -> Streams
-        ensures { result ≡ gateway_value plans (machine_value 0 false [] [] []) [] 0 }
+    pub(crate) fn new(alloc: Global, plans: Plans) -> Result<Streams<H>, AllocError>
+        ensures { IfOk result (λ streams. streams ≡ gateway_value plans (machine_value 0 false [] [] []) [] 0) }
     {
-        Streams {
+        Ok(Streams {
             alloc,
             plans,
             machine: Machine::new(alloc),
+            contexts: Contexts::new(alloc)?,
             streams: Vec::new(alloc),
             opened: 0,
-        }
+        })
     }
 
-    /// Opens a connection, and answers its number. A refusal is the first that applies of `Full`, `Exhausted` and `Memory`, and
-    /// changes nothing.
-    pub(crate) fn open(&mut self) -> Result<ConnId, OpenError>
+    /// Opens a connection with these hooks, and answers its number. A refusal is the first that applies of `Full`, `Exhausted`
+    /// and `Memory`; it changes nothing, and the hooks come back.
+    pub(crate) fn open(&mut self, stock: Stock<H>) -> Result<ConnId, (Stock<H>, OpenError)>
         ensures opens { IfOk result (Opens self.old self.new) }
-        ensures full { result ≡ Err OpenError.Full → 64 ≤ length self.old.streams }
-        ensures exhausted { result ≡ Err OpenError.Exhausted → 2 ^ 56 ≤ self.old.opened }
+        ensures full { IfErr result (λ e. e.1 ≡ OpenError.Full → 64 ≤ length self.old.streams) }
+        ensures exhausted { IfErr result (λ e. e.1 ≡ OpenError.Exhausted → 2 ^ 56 ≤ self.old.opened) }
+        ensures back { IfErr result (λ e. e.0 ≡ stock) }
         ensures err { OnErr result (self.new ≡ self.old) }
     {
         if self.streams.len() >= MOST_OPEN {
-            return Err(OpenError::Full);
+            return Err((stock, OpenError::Full));
         }
         if self.opened >= MOST_OPENINGS {
-            return Err(OpenError::Exhausted);
+            return Err((stock, OpenError::Exhausted));
         }
         let number = self.opened;
-        let room = self.streams.reserve(1);
-        if room.is_err() || self.machine.open(self.alloc, number).is_err() {
-            return Err(OpenError::Memory);
-        }
+        let Ok(()) = self.streams.reserve(1) else {
+            return Err((stock, OpenError::Memory));
+        };
+        let Ok(ctx) = self.contexts.prepare() else {
+            return Err((stock, OpenError::Memory));
+        };
+        let Ok(()) = self.machine.open(self.alloc, number) else {
+            self.contexts.release(ctx);
+            return Err((stock, OpenError::Memory));
+        };
+        self.contexts.open(number, ctx, stock);
         self.streams.push_reserved(Stream::new(self.alloc, number));
         self.opened += 1;
         Ok(ConnId::of(number))
@@ -151,6 +164,7 @@ impl Streams {
             return false;
         }
         self.machine.close(number);
+        self.contexts.close(number);
         close_in(&mut self.streams, number);
         true
     }
@@ -162,7 +176,8 @@ impl Streams {
         ensures unknown { result.seen ≡ Seen.Unknown → self.new.machine ≡ self.old.machine }
         ensures rest { self.new ≡ record self.old { machine = self.new.machine } }
     {
-        self.machine.take_result(self.alloc, id, branch, outcome)
+        self.machine
+            .take_result(self.alloc, &mut self.contexts, id, branch, outcome)
     }
 
     /// A worker found no memory for what a branch ended with: where that counts, its connection breaks.
@@ -172,7 +187,7 @@ impl Streams {
         ensures unknown { result.seen ≡ Seen.Unknown → self.new.machine ≡ self.old.machine }
         ensures rest { self.new ≡ record self.old { machine = self.new.machine } }
     {
-        self.machine.starve(id, branch)
+        self.machine.starve(&mut self.contexts, id, branch)
     }
 
     /// Hands out the next job, in order of start.
@@ -285,7 +300,7 @@ impl Streams {
     fn break_conn(&mut self, number: u64)
         ensures { self.new ≡ record self.old { machine = broken_at number self.old.machine } }
     {
-        self.machine.break_conn(number);
+        self.machine.break_conn(&mut self.contexts, number);
     }
 
     /// The request comes on the connection at that place, or the refusal that its stream has come to.
@@ -295,11 +310,12 @@ impl Streams {
         ensures { BringsAt index request self.old self.new }
     {
         if let Some(request) = request {
-            self.machine.come(self.alloc, &self.plans, index, request);
+            self.machine.come(self.alloc, &mut self.contexts, &self.plans, index, request);
             return;
         }
         if let State::Refused(refusal) = self.streams[index].state() {
-            self.machine.stop(self.alloc, index, refusal);
+            self.machine
+                .stop(self.alloc, &mut self.contexts, index, refusal);
         }
     }
 
@@ -309,7 +325,9 @@ impl Streams {
         ensures broke { Breaks self.old self.new result }
     {
         let before = self.machine.broken();
-        self.machine.end_calls(self.alloc, cause);
+        self.contexts.tell(cause);
+        self.machine
+            .end_calls(self.alloc, &mut self.contexts, cause);
         self.machine.broken() > before
     }
 }

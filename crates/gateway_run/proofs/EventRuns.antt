@@ -20,6 +20,7 @@ use Rattle.gateway_run.specs.Stepping.{CollectsFor, log_after, opened_by}
 use Rattle.gateway_run.specs.declared.stepping.Stepped.{Stepped}
 use Rattle.gateway_run.specs.declared.stepping.Stepped.TheVariants.{Done, Opened, NotOpened, Saw, Fault, Broke}
 use Rattle.gateway_run.proofs.Flags.{more_default}
+use Rattle.gateway_run.proofs.CoreLaws.{EventLaws, StandingLaws}
 use Rattle.gateway_run.proofs.Gathering.{collected_run}
 use Rattle.gateway_run.proofs.RunSteps.{Steps, run_on}
 
@@ -49,15 +50,15 @@ turned a b = ⊎_elim (λ (same : (b == a) ≡ true). eq-eqb a b (sym (eqb-true 
     (λ (other : (b == a) ≡ false). ne_eqb a b (λ at. let clash : true ≡ false = sym (eq-eqb b a (sym at)) ∙ other in absurd (cc)) ∙ sym other) (cases_Bool (b == a))
 
 -- what is queued for the connection that the event closes was taken
-collected_for : (e : GatewayEvent) (v w : GatewayValue) (log later : LogValue) (es : Before) → HasRun (λ c. false) v log es → CollectsFor e v w log later
+collected_for : (standing : StandingLaws) (e : GatewayEvent) (v w : GatewayValue) (log later : LogValue) (es : Before) → HasRun (λ c. false) v log es → CollectsFor e v w log later
     → HasRun (λ c. is_closing_of c e) w later es
-collected_for e v w log later es h x = by_event e x
+collected_for standing e v w log later es h x = by_event e x
   where
     kept : (w ≡ v) × (later ≡ log) → HasRun (λ c. false) w later es
     kept y = subst (λ u. HasRun (λ c. false) u later es) (sym y.0) (subst (λ l. HasRun (λ c. false) v l es) (sym y.1) h)
 
     by_event : (f : GatewayEvent) → CollectsFor f v w log later → HasRun (λ c. is_closing_of c f) w later es
-    by_event (Closing n) y = same_gathered (λ c. false || c == n) (λ c. n == c) w later es (λ c. turned c n) (collected_run (λ c. false) n v w log later es h y)
+    by_event (Closing n) y = same_gathered (λ c. false || c == n) (λ c. n == c) w later es (λ c. turned c n) (collected_run standing (λ c. false) n v w log later es h y)
     by_event Opening y = kept y
     by_event (events.Piece n bytes) y = kept y
     by_event (events.HangUp n) y = kept y
@@ -149,7 +150,7 @@ module _ (e : GatewayEvent) (es : Before) (v w : GatewayValue) (opened : List �
 
 -- ---- the event
 
-module _ (e : GatewayEvent) (es : Before) (v u w x : GatewayValue) (log gathered next end : LogValue) (stepped : Stepped) where
+module _ {H : Type 0} (event : EventLaws) (standing : StandingLaws) (e : GatewayEvent) (es : Before) (v u w x : GatewayValue) (log gathered next end : LogValue) (stepped : Stepped H) where
   pub event_run : HasRun (λ c. false) v log es → CollectsFor e v u log gathered
       → ((opened : List ℕ) (es : Before) (taken : ℕ → List ReplyEntry) (handed : List JobValue) → Served u opened es taken handed
       → Served w (opened_by stepped (length es) opened) (e ∷ es) taken handed)
@@ -161,10 +162,10 @@ module _ (e : GatewayEvent) (es : Before) (v u w x : GatewayValue) (log gathered
   event_run h collects served opens few keeps next_is starts = by_step stepped refl
     where
       mid : HasRun (λ c. is_closing_of c e) u gathered es
-      mid = collected_for e v u log gathered es h collects
+      mid = collected_for standing e v u log gathered es h collects
 
       -- how many connections there are then
-      still_open : (r : Stepped) → Served w (opened_by r (length es) gathered.opened) (e ∷ es) mid.taken (map job_started mid.started)
+      still_open : (r : Stepped H) → Served w (opened_by r (length es) gathered.opened) (e ∷ es) mid.taken (map job_started mid.started)
           → connections (opened_by r (length es) gathered.opened) (e ∷ es) ≡ w.opened
       still_open r s = s.conns.count_is
 
@@ -174,9 +175,9 @@ module _ (e : GatewayEvent) (es : Before) (v u w x : GatewayValue) (log gathered
       now : Served w (opened_by stepped (length es) gathered.opened) (e ∷ es) mid.taken (map job_started mid.started)
       now = served gathered.opened es mid.taken (map job_started mid.started) mid.served
 
-      none_new : (r : Stepped) → stepped ≡ r → ((opened : List ℕ) → opened_by r (length es) opened ≡ opened) → log_after r (length es) gathered ≡ gathered
+      none_new : (r : Stepped H) → stepped ≡ r → ((opened : List ℕ) → opened_by r (length es) opened ≡ opened) → log_after r (length es) gathered ≡ gathered
           → (e ≡ Opening → succeeds gathered.opened (length es) ≡ false) → HasRun (λ c. false) x end (e ∷ es)
-      none_new r r_is same kept fails = run_on e es u w gathered gathered mid
+      none_new r r_is same kept fails = run_on event standing e es u w gathered gathered mid
           (steps_on e es u w gathered.opened (λ taken handed s. subst (λ o. Served w o (e ∷ es) taken handed) (ap (λ y. opened_by y (length es) gathered.opened) r_is ∙ same gathered.opened)
           (served gathered.opened es taken handed s)) keeps)
           (λ c. refl) (λ c. refl) refl x end (starts_on gathered (next_is ∙ ap (λ y. log_after y (length es) gathered) r_is ∙ kept))
@@ -204,11 +205,11 @@ module _ (e : GatewayEvent) (es : Before) (v u w x : GatewayValue) (log gathered
           by_it true y = absurd (let lt = mid.served.conns.below (length es) y in omega (arith, lt))
           by_it false y = y
 
-      by_step : (r : Stepped) → stepped ≡ r → HasRun (λ c. false) x end (e ∷ es)
-      by_step (Opened conn) r_is = run_on e es u w gathered (log_after (Opened conn) (length es) gathered) mid
+      by_step : (r : Stepped H) → stepped ≡ r → HasRun (λ c. false) x end (e ∷ es)
+      by_step (Opened conn) r_is = run_on event standing e es u w gathered (log_after {H = H} (Opened conn) (length es) gathered) mid
           (steps_open e es u w gathered.opened e_is (few conn gathered.opened es mid.taken (map job_started mid.started) r_is mid.served)
           (λ taken handed s. subst (λ o. Served w o (e ∷ es) taken handed) (ap (λ y. opened_by y (length es) gathered.opened) r_is) (served gathered.opened es taken handed s)) keeps)
-          (λ c. more_default gathered.queued c []) (λ c. more_default gathered.broke c false) refl x end (starts_on (log_after (Opened conn) (length es) gathered) (next_is ∙ ap (λ y. log_after y (length es) gathered) r_is))
+          (λ c. more_default gathered.queued c []) (λ c. more_default gathered.broke c false) refl x end (starts_on (log_after {H = H} (Opened conn) (length es) gathered) (next_is ∙ ap (λ y. log_after y (length es) gathered) r_is))
           (length-append gathered.opened (length es ∷ []) ∙ (let a = mid.opened_size in omega (arith, a, size)))
           (length-append gathered.queued ([] ∷ []) ∙ (let a = mid.queued_size in omega (arith, a, size)))
           (length-append gathered.broke (false ∷ []) ∙ (let a = mid.broke_size in omega (arith, a, size)))
@@ -235,7 +236,7 @@ module _ (e : GatewayEvent) (es : Before) (v u w x : GatewayValue) (log gathered
               sym served_now.conns.count_is ∙ ap (λ y. connections (gathered.opened ++ length es ∷ []) (y ∷ es)) e_is
               ∙ ap (λ b. if b then suc (connections (gathered.opened ++ length es ∷ []) es) else connections (gathered.opened ++ length es ∷ []) es) succeeded ∙ (omega (arith, n))
       by_step Done r_is = none_new Done r_is (λ opened. refl) refl (λ o. not_yet)
-      by_step (NotOpened error) r_is = none_new (NotOpened error) r_is (λ opened. refl) refl (λ o. not_yet)
+      by_step (NotOpened hooks error) r_is = none_new (NotOpened hooks error) r_is (λ opened. refl) refl (λ o. not_yet)
       by_step (Saw took) r_is = none_new (Saw took) r_is (λ opened. refl) refl (λ o. not_yet)
       by_step (Fault fault) r_is = none_new (Fault fault) r_is (λ opened. refl) refl (λ o. not_yet)
       by_step Broke r_is = none_new Broke r_is (λ opened. refl) refl (λ o. not_yet)

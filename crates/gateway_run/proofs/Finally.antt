@@ -4,19 +4,20 @@ use Rattle.std.specs.Prelude.{OnOk, ◌||◌, ◌==◌, filter, is_some, nat_lt,
 use Rattle.std.specs.List.{range_with_len}
 use Rattle.std.specs.Option.{option_map_or}
 use Rattle.std.proofs.lemmas.Bool.{cases_Bool, eq-eqb, eqb-true, lt-ltb, le-ltb, ltb-true, ltb-false}
+use Rattle.call_plan.specs.Plan.{PlanRecord}
 use Rattle.gateway_core.specs.Conn.{ConnValue}
 use Rattle.gateway_core.specs.Events.{Before, Closing, GatewayEvent, IsRising, Occurs, Opening}
 use Rattle.gateway_core.specs.Events as events
 use Rattle.gateway_core.specs.Gateway.{GatewayValue, is_broken_conn}
 use Rattle.gateway_core.specs.Served.{QueueIs, Served}
-use Rattle.gateway_core.specs.Starts.{Placed, starts}
+use Rattle.gateway_core.specs.Starts.{Placed, job_started, starts}
 use Rattle.gateway_core.specs.Store.{conn_of}
-use Rattle.gateway_core.proofs.CutLemmas.{open_known}
-use Rattle.gateway_core.proofs.Standings.{jobs_stand}
 use Rattle.gateway_run.specs.Log.{Collects, absent, gathers, HasRun, LogValue, flag_at, is_flagged, is_open_conn, is_started_on, log_value, queue_at}
-use Rattle.gateway_run.specs.Run.{QueuedAs, bytes_of, is_listed, is_start_of, run_start, starts_of}
+use Rattle.gateway_run.specs.Run.{IsRun, QueuedAs, StartedAs, bytes_of, is_listed, is_start_of, run_start, starts_of}
 use Rattle.gateway_run.specs.Stepping.{CollectsFor}
+use Rattle.gateway_run.proofs.CoreLaws.{StandingLaws}
 use Rattle.gateway_run.proofs.Flags.{beyond, run_starts_on, same_jobs}
+use Rattle.gateway_run.proofs.Stopped.{StopLaws, open_known, started_as, stops}
 use Rattle.gateway_run.proofs.WholeLemmas.{filter_rising, listed_at, listed_below}
 
 pub on_then : {X E : Type 0} {A B : Type 0} (r : Result X E) → OnOk r A → (A → B) → OnOk r B
@@ -61,12 +62,12 @@ at_default (y ∷ xs) (suc n) x d lt e = at_default xs n x d (omega (arith, lt))
 
 -- ---- a run of no events
 
-pub run_first : (v : GatewayValue) (log : LogValue) → Served v [] [] (λ c. []) [] → log ≡ log_value [] [] [] [] → HasRun (λ c. false) v log []
-run_first v log served log_is = subst (λ l. HasRun (λ c. false) v l []) (sym log_is) (record {
+pub run_first : (standing : StandingLaws) (v : GatewayValue) (log : LogValue) → Served v [] [] (λ c. []) [] → log ≡ log_value [] [] [] [] → HasRun (λ c. false) v log []
+run_first standing v log served log_is = subst (λ l. HasRun (λ c. false) v l []) (sym log_is) (record {
   taken = λ c. [];
   started = [];
   served = served;
-  no_jobs = same_jobs 0 v.machine.jobs [] refl (λ c. (jobs_stand v [] [] (λ n. []) [] [] served refl).unopened c (let n = served.conns.count_is in omega (arith, n)));
+  no_jobs = same_jobs 0 v.machine.jobs [] refl (λ c. (standing.jobs v [] [] (λ n. []) [] [] served refl).unopened c (let n = served.conns.count_is in omega (arith, n)));
   opened_are = record { rising = tt; openings = λ place its. absurd (cc) };
   opened_size = served.conns.count_is;
   queued_size = served.conns.count_is;
@@ -89,7 +90,7 @@ run_first v log served log_is = subst (λ l. HasRun (λ c. false) v l []) (sym l
 
 -- ---- a run whose events were all taken
 
-module _ (count : ℕ) (v : GatewayValue) (log : LogValue) (es : Before) (broken : List ℕ) (h : HasRun (λ c. nat_lt c count) v log es) (count_is : length log.opened ≡ count)
+module _ (laws : StopLaws) (count : ℕ) (v : GatewayValue) (log : LogValue) (es : Before) (broken : List ℕ) (h : HasRun (λ c. nat_lt c count) v log es) (count_is : length log.opened ≡ count)
     (broken_is : broken ≡ filter (λ c. slice_index_or log.broke c false) (range_with_len 0 (length log.broke))) where
   sizes : length log.broke ≡ count
   sizes = h.broke_size ∙ sym h.opened_size ∙ count_is
@@ -112,7 +113,7 @@ module _ (count : ℕ) (v : GatewayValue) (log : LogValue) (es : Before) (broken
       let n = h.served.conns.count_is in
       let m = h.opened_size in omega (arith, lt, n, m, count_is))
 
-  pub run_queued : (occurred : List Placed) → Occurs v.plans log.opened es occurred → (c : ℕ) → c < length log.opened → QueuedAs c (queue_at c log) (is_listed c broken) occurred
+  run_queued : (occurred : List Placed) → Occurs v.plans log.opened es occurred → (c : ℕ) → c < length log.opened → QueuedAs c (queue_at c log) (is_listed c broken) occurred
   run_queued occurred o c lt = subst (λ b. QueuedAs c (queue_at c log) b occurred) (sym (flag_is c)) (by_open (is_open_conn c v) refl)
     where
       told : (b : Bool) → QueueIs c (h.taken c) b occurred → QueuedAs c (queue_at c log) b occurred
@@ -137,19 +138,41 @@ module _ (count : ℕ) (v : GatewayValue) (log : LogValue) (es : Before) (broken
           by_conn None k_is off = ap (λ x. option_map_or (λ (y : ConnValue). y.broken) x false) k_is
           by_conn (Some k) k_is off = absurd (let clash : true ≡ false = sym (ap (λ x. is_some x) k_is) ∙ off in cc)
 
-  pub run_starts : (occurred : List Placed) → Occurs v.plans log.opened es occurred → (c : ℕ) → is_listed c broken ≡ false
+  run_starts : (occurred : List Placed) → Occurs v.plans log.opened es occurred → (c : ℕ) → is_listed c broken ≡ false
       → filter (is_start_of c) log.starts ≡ filter (is_start_of c) (starts_of occurred)
   run_starts occurred o c off =
       ap (filter (is_start_of c)) h.starts_are ∙ run_starts_on c h.started ∙ ap (map run_start) (h.unbroken c (unflagged c off) occurred o) ∙ sym (run_starts_on c (starts occurred))
 
-  pub run_all_starts : (occurred : List Placed) → Occurs v.plans log.opened es occurred → broken ≡ [] → log.starts ≡ starts_of occurred
+  run_all_starts : (occurred : List Placed) → Occurs v.plans log.opened es occurred → broken ≡ [] → log.starts ≡ starts_of occurred
   run_all_starts occurred o none = h.starts_are ∙ ap (map run_start) (h.all_unbroken (λ c. unflagged c (ap (is_listed c) none)) occurred o)
 
-  pub run_below : (c : ℕ) → is_listed c broken ≡ true → c < length log.opened
+  run_below : (c : ℕ) → is_listed c broken ≡ true → c < length log.opened
   run_below c e = let lt = listed_below (λ n. slice_index_or log.broke n false) 0 (length log.broke) c (sym (ap (is_listed c) broken_is) ∙ e) in omega (arith, lt, sizes, count_is)
 
-  pub run_rising : IsRising broken
+  run_rising : IsRising broken
   run_rising = subst IsRising (sym broken_is) (filter_rising (λ c. slice_index_or log.broke c false) 0 (length log.broke))
 
-  pub run_sizes : length log.queued ≡ length log.opened
+  run_sizes : length log.queued ≡ length log.opened
   run_sizes = h.queued_size ∙ sym h.opened_size
+
+  run_stopped : (occurred : List Placed) → Occurs v.plans log.opened es occurred → (c : ℕ) → is_listed c broken ≡ true → StartedAs c log.starts occurred
+  run_stopped occurred o c on = subst (λ xs. StartedAs c xs occurred) (sym h.starts_are)
+      (started_as laws c occurred h.started (stops laws v log.opened es h.taken (map job_started h.started) occurred c h.served o h.no_jobs
+      (let lt = run_below c on in let m = h.opened_size in omega (arith, lt, m))
+      (λ there. sym (h.flagged c (open_below c there) there) ∙ sym (flag_is c) ∙ on)))
+
+  -- all of it
+  pub run_is : (plans : List PlanRecord) → v.plans ≡ plans → IsRun plans es log.opened log.queued log.starts broken
+  run_is plans plans_are = record {
+    opened_are = h.opened_are;
+    queued_are = λ occurred o c lt. run_queued occurred (its occurred o) c lt;
+    starts_are = λ occurred o c off. run_starts occurred (its occurred o) c off;
+    stopped = λ occurred o c on. run_stopped occurred (its occurred o) c on;
+    unbroken = λ occurred o none. run_all_starts occurred (its occurred o) none;
+    one_each = run_sizes;
+    known = run_below;
+    rising = run_rising;
+  }
+    where
+      its : (occurred : List Placed) → Occurs plans log.opened es occurred → Occurs v.plans log.opened es occurred
+      its occurred o = subst (λ ps. Occurs ps log.opened es occurred) (sym plans_are) o

@@ -1,5 +1,5 @@
 -- What a run takes from the gateway: replies and jobs.
-use Rattle.std.proofs.Common.{◌≡◌, ℕ, ◌+◌, ◌<◌, ◌≤◌, Bool, true, false, List, [], ◌∷◌, ◌++◌, length, map, Option, None, Some, refl, sym, ap, ◌∙◌, subst, arith, append-nil, append_assoc, ⊎_elim, inl, inr}
+use Rattle.std.proofs.Common.{◌≡◌, ℕ, ◌<◌, ◌≤◌, Bool, true, false, List, [], ◌∷◌, ◌++◌, length, map, Option, None, Some, refl, sym, ap, ◌∙◌, subst, arith, append-nil, append_assoc, ⊎_elim, inl, inr}
 use Rattle.std.specs.Prelude.{◌⊎◌, if◌then◌else◌, ◌||◌, ◌==◌, flat_map, is_some, option_map, option_to_list}
 use Rattle.std.specs.Option.{option_map_or}
 use Rattle.std.proofs.lemmas.Bool.{cases_Bool, eq-eqb, eqb-true, ne_eqb}
@@ -17,11 +17,11 @@ use Rattle.gateway_core.specs.Served.{QueueIs, Served, with_reply}
 use Rattle.gateway_core.specs.Serving.{TakesOnly}
 use Rattle.gateway_core.specs.Starts.{Placed, job_started}
 use Rattle.gateway_core.specs.Store.{conn_of}
-use Rattle.gateway_core.proofs.CutLemmas.{open_known}
-use Rattle.gateway_core.proofs.Standings.{queue_stands}
 use Rattle.gateway_run.specs.Log.{Collects, absent, gathers, HasRun, LogValue, Took, flag_at, is_flagged, is_open_conn, log_with, queue_at}
 use Rattle.gateway_run.specs.Run.{bytes_of}
+use Rattle.gateway_run.proofs.CoreLaws.{StandingLaws}
 use Rattle.gateway_run.proofs.Flags.{or_false_right, set_here, set_other}
+use Rattle.gateway_run.proofs.Stopped.{open_known}
 
 only_then : (u v w : GatewayValue) → TakesOnly u v → TakesOnly v w → TakesOnly u w
 only_then u v w a b = record {
@@ -33,6 +33,17 @@ only_then u v w a b = record {
 }
 
 -- one reply more, or none
+pub took_none : (n : ℕ) (v : GatewayValue) → Took n [] v v
+took_none n v = record {
+  only = record { plans_are = refl; opened_is = refl; jobs_are = refl; open_are = λ c. refl; broken_are = λ c. refl };
+  untaken_are = refl;
+  served = λ opened es taken handed h. (taken, h, λ c. same c (c == n) (taken c));
+}
+  where
+    same : (c : ℕ) (b : Bool) (es : List ReplyEntry) → es ≡ (if b then es ++ [] else es)
+    same c true es = sym (append-nil es)
+    same c false es = refl
+
 pub took_more : (n : ℕ) (entries : List ReplyEntry) (reply : Option ReplyValue) (u v w : GatewayValue) → Took n entries u v
     → ((opened : List ℕ) (es : Before) (taken : ℕ → List ReplyEntry) (handed : List JobValue) → Served v opened es taken handed → Served w opened es (with_reply n reply taken) handed)
     → untaken_of n v ≡ option_to_list (option_map (λ (r : ReplyValue). r.entry) reply) ++ untaken_of n w → TakesOnly v w
@@ -68,7 +79,7 @@ bytes_both xs ys = ap (flat_map (λ (r : ReplyBytes). r.bytes)) (map-append answ
 
 -- ---- a run whose log gathered what is queued for one connection more
 
-module _ (gathered : ℕ → Bool) (n : ℕ) (v w : GatewayValue) (log later : LogValue) (es : Before) (h : HasRun gathered v log es) where
+module _ (standing : StandingLaws) (gathered : ℕ → Bool) (n : ℕ) (v w : GatewayValue) (log later : LogValue) (es : Before) (h : HasRun gathered v log es) where
   same_run : w ≡ v → later ≡ log → length log.queued ≤ n → HasRun (λ c. gathered c || c == n) w later es
   same_run w_is later_is beyond = subst (λ x. HasRun (λ c. gathered c || c == n) x later es) (sym w_is) (subst (λ l. HasRun (λ c. gathered c || c == n) v l es) (sym later_is) (record {
     taken = h.taken;
@@ -183,7 +194,7 @@ module _ (gathered : ℕ → Bool) (n : ℕ) (v w : GatewayValue) (log later : L
             let broken : flag_at n next ≡ k.broken = flag_now there (gathered n) refl ∙ ap (λ x. option_map_or (λ (y : ConnValue). y.broken) x false) k_is in
             subst (λ b. QueueIs n (s.0 n) b occurred) (sym broken)
             (subst (λ q. QueueIs n q k.broken occurred) (ap (λ xs. s.0 n ++ xs) none ∙ append-nil (s.0 n))
-            (queue_stands n k w log.opened es s.0 (map job_started h.started) occurred s.1 o k_is))
+            (standing.queue n k w log.opened es s.0 (map job_started h.started) occurred s.1 o k_is))
 
     gather : (c : ℕ) → (gathered c || c == n) ≡ true → is_open_conn c w ≡ true → (occurred : List Placed) → Occurs w.plans log.opened es occurred → (c ≡ n) ⊎ (c ≡ n → ⊥)
         → QueueIs c (s.0 c) (flag_at c next) occurred

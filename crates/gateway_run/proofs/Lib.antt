@@ -10,3 +10,10 @@ pub mod EventRuns
 pub mod PieceParts
 pub mod Starting
 pub mod Finally
+pub mod OneReply
+pub mod CallAnswers
+pub mod FromStreams
+pub mod Occurring
+pub mod Shifts
+pub mod Stopped
+pub mod CoreLaws

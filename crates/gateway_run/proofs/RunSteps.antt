@@ -1,5 +1,5 @@
 -- How a run goes on with one event more.
-use Rattle.std.proofs.Common.{◌≡◌, ℕ, ◌+◌, ◌<◌, Bool, true, false, List, [], ◌∷◌, ◌++◌, length, map, Option, None, Some, refl, sym, ap, ◌∙◌, subst, arith, append-nil, append_assoc}
+use Rattle.std.proofs.Common.{◌≡◌, ℕ, ◌<◌, Bool, true, false, List, [], ◌∷◌, ◌++◌, length, map, Option, None, Some, refl, sym, ap, ◌∙◌, subst, arith, append-nil, append_assoc}
 use Rattle.std.specs.Prelude.{if◌then◌else◌, ◌&&◌, ◌||◌, not, filter, is_some, nat_lt, option_to_list}
 use Rattle.std.specs.Option.{option_map_or}
 use Rattle.std.proofs.lemmas.Bool.{lt-ltb, ltb-true, ltb-false}
@@ -17,11 +17,9 @@ use Rattle.gateway_core.specs.Queue.{IsPrefixOf, queued_entries}
 use Rattle.gateway_core.specs.Served.{HasConns, JobsAre, QueueIs, Served}
 use Rattle.gateway_core.specs.Starts.{Placed, job_started, jobs, occurrences, start, starts}
 use Rattle.gateway_core.specs.Store.{conn_of}
-use Rattle.gateway_core.proofs.CutLemmas.{jobs_of_starts}
-use Rattle.gateway_core.proofs.EventStarts.{event_adds}
-use Rattle.gateway_core.proofs.Standings.{jobs_stand}
 use Rattle.gateway_run.specs.Log.{HasRun, LogValue, StartsAll, flag_at, is_flagged, is_open_conn, is_started_on, queue_at}
 use Rattle.gateway_run.specs.Run.{run_start, start_at}
+use Rattle.gateway_run.proofs.CoreLaws.{EventLaws, StandingLaws}
 use Rattle.gateway_run.proofs.Flags.{beyond, jobs_again, jobs_on, or_false_left, or_false_right, same_jobs, starts_at, starts_on}
 
 -- ---- what an event leaves as it was
@@ -59,7 +57,7 @@ pub record Steps (e : GatewayEvent) (es : Before) (v w : GatewayValue) (opened l
   pub same_open : HasConns v opened es → (c : ℕ) → is_open later c es ≡ is_open opened c es
   pub before : (occurred : List Placed) → HasConns v opened es → Occurs v.plans later es occurred → Occurs v.plans opened es occurred
 
-module _ (e : GatewayEvent) (es : Before) (v w : GatewayValue) (log next : LogValue) (h : HasRun (λ c. is_closing_of c e) v log es) (s : Steps e es v w log.opened next.opened)
+module _ (event : EventLaws) (standing : StandingLaws) (e : GatewayEvent) (es : Before) (v w : GatewayValue) (log next : LogValue) (h : HasRun (λ c. is_closing_of c e) v log es) (s : Steps e es v w log.opened next.opened)
     (queued_are : (c : ℕ) → queue_at c next ≡ queue_at c log) (flags_are : (c : ℕ) → flag_at c next ≡ flag_at c log) (starts_same : next.starts ≡ log.starts) where
   served : Served w next.opened (e ∷ es) h.taken (map job_started h.started)
   served = s.served h.taken (map job_started h.started) h.served
@@ -96,16 +94,16 @@ module _ (e : GatewayEvent) (es : Before) (v w : GatewayValue) (log next : LogVa
     was = s.before past h.served.conns was_next
 
     adds : EventAdds next.opened e es past occurred
-    adds = event_adds v.plans next.opened e es past occurred was_next now
+    adds = event.adds v.plans next.opened e es past occurred was_next now
 
     stand : JobsAre w (map job_started h.started ++ new) occurred
-    stand = jobs_stand w next.opened (e ∷ es) h.taken (map job_started h.started) occurred served o
+    stand = standing.jobs w next.opened (e ∷ es) h.taken (map job_started h.started) occurred served o
 
     jobs_then : jobs (marked (occurrences occurred)) ≡ jobs (marked (occurrences past)) ++ adds.started
     jobs_then =
-        sym (jobs_of_starts occurred) ∙ ap (map job_started) adds.starts_are
+        sym (event.started occurred) ∙ ap (map job_started) adds.starts_are
         ∙ map-append job_started (starts past) (map (start (length es)) adds.started)
-        ∙ ap (λ js. js ++ map job_started (map (start (length es)) adds.started)) (jobs_of_starts past)
+        ∙ ap (λ js. js ++ map job_started (map (start (length es)) adds.started)) (event.started past)
         ∙ ap (λ js. jobs (marked (occurrences past)) ++ js) (jobs_again (length es) adds.started)
 
     shut_is : (c : ℕ) → c < w.opened → is_open_conn c w ≡ false → IsShut next.opened e es c
@@ -124,7 +122,7 @@ module _ (e : GatewayEvent) (es : Before) (v w : GatewayValue) (log next : LogVa
     module _ (c : ℕ) (started_are : filter (is_started_on c) h.started ≡ filter (is_started_on c) (starts past)) where
       jobs_before : filter (is_of c) (map job_started h.started) ≡ filter (is_of c) (jobs (marked (occurrences past)))
       jobs_before =
-          jobs_on c h.started ∙ ap (map job_started) started_are ∙ sym (jobs_on c (starts past)) ∙ ap (filter (is_of c)) (jobs_of_starts past)
+          jobs_on c h.started ∙ ap (map job_started) started_are ∙ sym (jobs_on c (starts past)) ∙ ap (filter (is_of c)) (event.started past)
 
       from_all : filter (is_of c) (map job_started h.started ++ new) ≡ filter (is_of c) (jobs (marked (occurrences occurred))) → filter (is_of c) new ≡ filter (is_of c) adds.started
       from_all all = append_cancel_left (filter (is_of c) (map job_started h.started)) (filter (is_of c) new) (filter (is_of c) adds.started)

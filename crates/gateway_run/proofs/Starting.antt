@@ -1,9 +1,11 @@
 -- Jobs that are taken one by one.
-use Rattle.std.proofs.Common.{◌≡◌, ℕ, Bool, true, false, List, [], ◌++◌, refl, sym, ap, ◌∙◌, subst, append-nil, append_assoc}
-use Rattle.std.specs.Prelude.{⊤, OnOk, Option, Result, Ok, Err, option_map, option_to_list}
+use Rattle.std.proofs.Common.{◌≡◌, ℕ, Bool, true, false, List, [], ◌∷◌, ◌++◌, refl, sym, ap, ◌∙◌, subst, append-nil, append_assoc}
+use Rattle.std.specs.Prelude.{⊤, OnOk, IfOk, MatchResult, Option, Result, Ok, Err, option_map, option_to_list}
+use Rattle.gateway_core.specs.declared.fault.OpenError.{OpenError}
 use Rattle.gateway_core.specs.declared.fault.StepFault.{StepFault}
-use Rattle.gateway_run.specs.Stepping.{TellsBreaks, TellsConn, done_of, opened_by, taken_of}
+use Rattle.gateway_run.specs.Stepping.{TellsBreaks, TellsConn, done_of, opened_by, opening_of, taken_of}
 use Rattle.gateway_run.specs.declared.stepping.Stepped.{Stepped}
+use Rattle.gateway_run.specs.declared.stepping.Stepped.TheVariants.{NotOpened, Opened}
 use Rattle.gateway_core.specs.declared.entry.ReplyEntry.{ReplyEntry}
 use Rattle.gateway_core.specs.Events.{Before}
 use Rattle.gateway_core.specs.Gateway.{GatewayValue, is_broken_conn}
@@ -52,27 +54,40 @@ log_same {o} {o'} {q} {q'} {b} {b'} {s} {s'} os qs bs ss =
 
 -- ---- an event that is no opening opens none
 
-pub by_done : (answer : Result ⊤ StepFault) (stepped : Stepped) (place : ℕ) (opened : List ℕ) → stepped ≡ done_of answer → opened_by stepped place opened ≡ opened
-by_done answer stepped place opened is = ap (λ s. opened_by s place opened) is ∙ none answer
+pub by_done : {H : Type 0} → (answer : Result ⊤ StepFault) (stepped : Stepped H) (place : ℕ) (opened : List ℕ) → stepped ≡ done_of answer → opened_by stepped place opened ≡ opened
+by_done {H} answer stepped place opened is = ap (λ s. opened_by s place opened) is ∙ none answer
   where
-    none : (r : Result ⊤ StepFault) → opened_by (done_of r) place opened ≡ opened
+    none : (r : Result ⊤ StepFault) → opened_by (done_of {H = H} r) place opened ≡ opened
     none (Ok all) = refl
     none (Err fault) = refl
 
-pub by_taken : (broke : Bool) (stepped : Stepped) (place : ℕ) (opened : List ℕ) → stepped ≡ taken_of broke → opened_by stepped place opened ≡ opened
-by_taken broke stepped place opened is = ap (λ s. opened_by s place opened) is ∙ none broke
+pub by_taken : {H : Type 0} → (broke : Bool) (stepped : Stepped H) (place : ℕ) (opened : List ℕ) → stepped ≡ taken_of broke → opened_by stepped place opened ≡ opened
+by_taken {H} broke stepped place opened is = ap (λ s. opened_by s place opened) is ∙ none broke
   where
-    none : (b : Bool) → opened_by (taken_of b) place opened ≡ opened
+    none : (b : Bool) → opened_by (taken_of {H = H} b) place opened ≡ opened
     none true = refl
     none false = refl
 
+-- ---- an opening
+
+module _ {H : Type 0} where
+  pub by_opening : (P : List ℕ → Type 0) (answer : Result ℕ (List H × OpenError)) (stepped : Stepped H) (place : ℕ) (opened : List ℕ) → stepped ≡ opening_of answer
+      → MatchResult answer (λ _. P (opened ++ place ∷ [])) (λ _. P opened) → P (opened_by stepped place opened)
+  by_opening P (Ok conn) stepped place opened is h = subst (λ s. P (opened_by s place opened)) (sym is) h
+  by_opening P (Err refused) stepped place opened is h = subst (λ s. P (opened_by s place opened)) (sym is) h
+
+  pub few_told : (Q : Type 0) (answer : Result ℕ (List H × OpenError)) (stepped : Stepped H) (conn : ℕ) → stepped ≡ opening_of answer → stepped ≡ Opened conn
+      → IfOk answer (λ _. Q) → Q
+  few_told Q (Ok n) stepped conn is told q = q
+  few_told Q (Err refused) stepped conn is told q = absurd (cc)
+
 -- ---- what is told
 
-pub conn_told : (n : ℕ) (answer : Result ⊤ StepFault) (w : GatewayValue) → (answer ≡ Err Memory → is_broken_conn n w ≡ true) → OnOk answer (is_broken_conn n w ≡ false) → TellsConn n (done_of answer) w
-conn_told n (Ok all) w h fine = fine
-conn_told n (Err Gone) w h fine = tt
-conn_told n (Err Memory) w h fine = h refl
+pub conn_told : (H : Type 0) (n : ℕ) (answer : Result ⊤ StepFault) (w : GatewayValue) → (answer ≡ Err Memory → is_broken_conn n w ≡ true) → OnOk answer (is_broken_conn n w ≡ false) → TellsConn n (done_of {H = H} answer) w
+conn_told H n (Ok all) w h fine = fine
+conn_told H n (Err Gone) w h fine = tt
+conn_told H n (Err Memory) w h fine = h refl
 
-pub breaks_told : (broke : Bool) (v w : GatewayValue) → Breaks v w broke → TellsBreaks (taken_of broke) v w
-breaks_told true v w h = h
-breaks_told false v w h = h
+pub breaks_told : (H : Type 0) (broke : Bool) (v w : GatewayValue) → Breaks v w broke → TellsBreaks (taken_of {H = H} broke) v w
+breaks_told H true v w h = h
+breaks_told H false v w h = h

@@ -1,12 +1,19 @@
 -- The list of a run's events, and the connections that it lists as broken.
 use Rattle.std.proofs.Common.{◌≡◌, ℕ, zero, suc, ◌+◌, ◌<◌, ◌≤◌, Bool, true, false, List, [], ◌∷◌, ◌++◌, map, refl, sym, ap, ◌∙◌, arith, append-nil, append_assoc, ⊎_elim}
 use Rattle.std.specs.Prelude.{◌||◌, if◌then◌else◌, ◌==◌, filter, nat_lt}
-use Rattle.std.specs.List.{range_with_len}
+use Rattle.std.specs.List.{count_by, range_with_len}
 use Rattle.std.proofs.lemmas.Bool.{cases_Bool, cond_both, eq-eqb, eqb-true, ltb-true, ltb-false, ne_eqb}
 use Rattle.std.proofs.lemmas.List.Elements.{filter-append}
 use Rattle.std.proofs.lemmas.List.FromFn.{map-range_with_len_more}
 use Rattle.gateway_core.specs.Events.{IsRising}
-use Rattle.gateway_run.specs.Run.{is_listed}
+use Rattle.std.specs.Prelude.{◌↔◌, Result, Ok, Err, length, reverse}
+use Rattle.std.specs.Result.{IsErrAnd}
+use Rattle.std.proofs.lemmas.List.{length-map, length-reverse, map-append, reverse-append}
+use Rattle.std.proofs.lemmas.List.Sums.{sum_by-cons}
+use Rattle.gateway_run.specs.declared.event.Event.{Event}
+use Rattle.gateway_run.specs.declared.outcome.RunError.{RunError}
+use Rattle.gateway_run.specs.declared.outcome.RunError.TheVariants.{Memory, Stocks}
+use Rattle.gateway_run.specs.Run.{gateway_event, is_listed, is_opening, newest_first, openings_at}
 
 range_more : (a n : ℕ) → range_with_len a (n + 1) ≡ range_with_len a n ++ (a + n) ∷ []
 range_more a n =
@@ -98,3 +105,28 @@ listed_at p k (suc n) c le lt = ⊎_elim
     next : (k ≡ c → ⊥) → k + 1 ≤ c
     next ne = ⊎_elim (λ (lt : nat_lt k c ≡ true). let x = ltb-true k c lt in omega (arith, x))
         (λ (ge : nat_lt k c ≡ false). absurd (ne (let x = ltb-false k c ge in omega (arith, x, le)))) (cases_Bool (nat_lt k c))
+
+-- ---- the events, newest first
+
+pub newest_more : (es : List Event) (e : Event) → newest_first (es ++ e ∷ []) ≡ gateway_event e ∷ newest_first es
+newest_more es e = ap reverse (map-append gateway_event es (e ∷ [])) ∙ reverse-append (map gateway_event es) (gateway_event e ∷ [])
+
+pub newest_size : (es : List Event) → length (newest_first es) ≡ length es
+newest_size es = length-reverse (map gateway_event es) ∙ length-map es gateway_event
+
+-- ---- one stock for each opening
+
+module _ {T : Type 0} where
+  pub no_stocks : (r : Result T RunError) (n m : ℕ) → IsErrAnd r (λ e. e ≡ Memory) → n ≡ m → (r ≡ Err Stocks) ↔ ((n == m) ≡ false)
+  no_stocks (Ok t) n m told same = absurd told
+  no_stocks (Err e) n m told same = (λ is. absurd (cc), λ off. absurd (let on = eq-eqb n m same in cc))
+
+  pub ok_stocked : (t : T) (n m : ℕ) → n ≡ m → (Ok t ≡ Err Stocks) ↔ ((n == m) ≡ false)
+  ok_stocked t n m same = (λ is. absurd (cc), λ off. absurd (let on = eq-eqb n m same in cc))
+
+-- an opening takes one of the stocks, and so one is left for each other
+pub stock_left : (e : Event) (old rest : List Event) (n m : ℕ) → old ≡ e ∷ rest → n ≡ count_by is_opening old → n ≡ openings_at e + m → m ≡ count_by is_opening rest
+stock_left e old rest n m is all left =
+    let more : count_by is_opening (e ∷ rest) ≡ openings_at e + count_by is_opening rest = sum_by-cons (λ x. if is_opening x then 1 else 0) e rest in
+    let here : n ≡ count_by is_opening (e ∷ rest) = all ∙ ap (λ xs. count_by is_opening xs) is in
+    omega (arith, left, here, more)

@@ -3,3 +3,4 @@ pub mod Log
 pub mod Stepping
 pub mod RunText
 pub mod Script
+pub mod Headline

@@ -1,11 +1,14 @@
 -- What a run comes to: the openings that succeeded, what is queued for each connection, and what starts.
-use Rattle.std.specs.Prelude.{◌≡◌, ℕ, Bool, true, false, ◌==◌, List, map, reverse}
+use Rattle.std.specs.Prelude.{◌≡◌, ℕ, ◌<◌, Bool, true, false, if◌then◌else◌, ◌==◌, List, [], ◌++◌, filter, length, map, reverse, slice_index_or, Option, option_map, option_to_list}
 use Rattle.std.specs.List.{flat_map, list_any}
+use Rattle.call_plan.specs.Plan.{PlanRecord}
 use Rattle.gateway_core.specs.declared.entry.ReplyEntry.{ReplyEntry}
+use Rattle.gateway_core.specs.declared.id.CallId.{CallId}
 use Rattle.gateway_core.specs.Breaks.{BrokeAtEvent}
-use Rattle.gateway_core.specs.Events.{Before, GatewayEvent, Opening, Piece, HangUp, Moment, BranchResult, Drain, Closing}
+use Rattle.gateway_core.specs.Events.{Before, GatewayEvent, IsOpened, IsRising, Occurs, Opening, Piece, HangUp, Moment, BranchResult, Drain, Closing}
+use Rattle.gateway_core.specs.Fate.{breaks_at}
 use Rattle.gateway_core.specs.Job.{JobValue}
-use Rattle.gateway_core.specs.Past.{marked}
+use Rattle.gateway_core.specs.Past.{call_id, marked}
 use Rattle.gateway_core.specs.Queue.{answer_of, queued}
 use Rattle.gateway_core.specs.Starts.{Placed, occurrences, starts}
 use Rattle.gateway_core.specs.Starts as core
@@ -22,6 +25,15 @@ gateway_event (taken.Moment moment) = Moment moment
 gateway_event (taken.BranchResult conn request branch outcome) = BranchResult conn request branch outcome
 gateway_event taken.Drain = Drain
 gateway_event (taken.Closing conn) = Closing conn
+
+-- it opens a connection
+abbrev pub is_opening : Event → Bool
+is_opening taken.Opening = true
+is_opening _ = false
+
+-- how many stocks of hooks it takes
+abbrev pub openings_at : Event → ℕ
+openings_at event = if is_opening event then 1 else 0
 
 -- these events, newest first
 abbrev pub newest_first : List Event → Before
@@ -58,3 +70,29 @@ starts_of placed = map run_start (starts placed)
 -- the start is of a call of that connection
 abbrev pub is_start_of : ℕ → Start → Bool
 is_start_of c s = s.conn == c
+
+-- which branch it is, whatever the event
+abbrev pub branch_started : Start → CallId × ℕ
+branch_started s = (call_id s.conn s.request, s.branch)
+
+-- of the connection those branches have started that did by what came before it broke
+abbrev pub StartedAs : ℕ → List Start → List Placed → Type 0
+StartedAs c begun placed =
+    (since : List Placed) × (at : Option Placed) × (older : List Placed)
+    × (placed ≡ since ++ option_to_list at ++ older) × (breaks_at c (option_map (λ o. o.1) at) (marked (occurrences older)) ≡ true)
+    × (map branch_started (filter (is_start_of c) begun) ≡ map branch_started (filter (is_start_of c) (starts_of older)))
+
+-- ---- the outcome
+
+-- what a run of these events, newest first, comes to: each field is a clause of `run`
+pub record IsRun (plans : List PlanRecord) (es : Before) (opened : List ℕ) (queued : List (List ℕ)) (begun : List Start) (broken : List ℕ) : Type 0 where
+  pub opened_are : IsOpened opened es
+  pub queued_are : (occurred : List Placed) → Occurs plans opened es occurred → (c : ℕ) → c < length opened
+      → QueuedAs c (slice_index_or queued c []) (is_listed c broken) occurred
+  pub starts_are : (occurred : List Placed) → Occurs plans opened es occurred → (c : ℕ) → is_listed c broken ≡ false
+      → filter (is_start_of c) begun ≡ filter (is_start_of c) (starts_of occurred)
+  pub stopped : (occurred : List Placed) → Occurs plans opened es occurred → (c : ℕ) → is_listed c broken ≡ true → StartedAs c begun occurred
+  pub unbroken : (occurred : List Placed) → Occurs plans opened es occurred → broken ≡ [] → begun ≡ starts_of occurred
+  pub one_each : length queued ≡ length opened
+  pub known : (c : ℕ) → is_listed c broken ≡ true → c < length opened
+  pub rising : IsRising broken

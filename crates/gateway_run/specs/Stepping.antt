@@ -2,6 +2,7 @@
 use Rattle.std.specs.Prelude.{◌≡◌, ⊤, ℕ, Bool, true, false, List, [], ◌∷◌, ◌++◌, Result, Ok, Err}
 use Rattle.gateway_core.specs.Events.{GatewayEvent, Opening, Piece, HangUp, Moment, BranchResult, Drain, Closing}
 use Rattle.gateway_core.specs.declared.fault.Seen.TheVariants.{Counted}
+use Rattle.gateway_core.specs.declared.fault.OpenError.{OpenError}
 use Rattle.gateway_core.specs.declared.fault.StepFault.{StepFault}
 use Rattle.gateway_core.specs.declared.fault.StepFault.TheVariants.{Gone, Memory}
 use Rattle.gateway_core.specs.Gateway.{GatewayValue, is_broken_conn}
@@ -11,12 +12,12 @@ use Rattle.gateway_run.specs.declared.stepping.Stepped.{Stepped}
 use Rattle.gateway_run.specs.declared.stepping.Stepped.TheVariants.{Broke, Done, Fault, NotOpened, Opened, Saw}
 
 -- the places of the openings that succeeded, after an event at that place that came to this
-abbrev pub opened_by : Stepped → ℕ → List ℕ → List ℕ
+abbrev pub opened_by : {H : Type 0} → Stepped H → ℕ → List ℕ → List ℕ
 opened_by (Opened conn) place opened = opened ++ place ∷ []
 opened_by _ place opened = opened
 
 -- the log with room for the connection that was opened, if one was
-abbrev pub log_after : Stepped → ℕ → LogValue → LogValue
+abbrev pub log_after : {H : Type 0} → Stepped H → ℕ → LogValue → LogValue
 log_after (Opened conn) place log = log_value (log.opened ++ place ∷ []) (log.queued ++ [] ∷ []) (log.broke ++ false ∷ []) log.starts
 log_after _ place log = log
 
@@ -27,43 +28,48 @@ CollectsFor _ v w log later = (w ≡ v) × (later ≡ log)
 
 -- ---- what a step comes to
 
+-- an opening
+abbrev pub opening_of : {H : Type 0} → Result ℕ (List H × OpenError) → Stepped H
+opening_of (Ok conn) = Opened conn
+opening_of (Err refused) = NotOpened refused.0 refused.1
+
 -- a step of one connection
-abbrev pub done_of : Result ⊤ StepFault → Stepped
+abbrev pub done_of : {H : Type 0} → Result ⊤ StepFault → Stepped H
 done_of (Ok all) = Done
 done_of (Err fault) = Fault fault
 
 -- a step of all connections, in which one broke or none did
-abbrev pub taken_of : Bool → Stepped
+abbrev pub taken_of : {H : Type 0} → Bool → Stepped H
 taken_of true = Broke
 taken_of false = Done
 
 -- ---- what a step tells
 
 -- a connection was opened, or none was and nothing changed
-abbrev pub TellsOpening : Stepped → GatewayValue → GatewayValue → Type 0
+abbrev pub TellsOpening : {H : Type 0} → Stepped H → GatewayValue → GatewayValue → Type 0
 TellsOpening (Opened conn) v w = ⊤
-TellsOpening (NotOpened error) v w = w ≡ v
+TellsOpening (NotOpened hooks error) v w = w ≡ v
 TellsOpening _ v w = ⊥
 
 -- want of memory is told exactly where the connection broke
-abbrev pub TellsConn : ℕ → Stepped → GatewayValue → Type 0
+abbrev pub TellsConn : {H : Type 0} → ℕ → Stepped H → GatewayValue → Type 0
 TellsConn conn Done w = is_broken_conn conn w ≡ false
 TellsConn conn (Fault Gone) w = ⊤
 TellsConn conn (Fault Memory) w = is_broken_conn conn w ≡ true
 TellsConn conn _ w = ⊥
 
 -- that a connection broke is told exactly where one did
-abbrev pub TellsBreaks : Stepped → GatewayValue → GatewayValue → Type 0
+abbrev pub TellsBreaks : {H : Type 0} → Stepped H → GatewayValue → GatewayValue → Type 0
 TellsBreaks Done v w = Breaks v w false
 TellsBreaks Broke v w = Breaks v w true
 TellsBreaks _ v w = ⊥
 
 -- a connection breaks only by a result that counts, which is told exactly where it does
-abbrev pub TellsResult : Stepped → GatewayValue → GatewayValue → Type 0
+abbrev pub TellsResult : {H : Type 0} → Stepped H → GatewayValue → GatewayValue → Type 0
 TellsResult (Saw took) v w = (took.broke ≡ true → took.seen ≡ Counted) × Breaks v w took.broke
 TellsResult _ v w = ⊥
 
-abbrev pub Tells : GatewayEvent → Stepped → GatewayValue → GatewayValue → Type 0
+abbrev pub Tells : {H : Type 0} → GatewayEvent → Stepped H → GatewayValue → GatewayValue → Type 0
 Tells Opening stepped v w = TellsOpening stepped v w
 Tells (Piece conn bytes) stepped v w = TellsConn conn stepped w
 Tells (HangUp conn) stepped v w = TellsConn conn stepped w

@@ -7,12 +7,16 @@ ghost use Rattle.gateway_core.specs.Served.{Served};
 ghost use Rattle.gateway_core.specs.Serving.{IsDeaf, Keeps};
 
 use gateway_core::served_laws::parts_law;
-use gateway_core::{ConnId, Core, StepFault};
+use gateway_core::{ConnId, Core, ReplyHook, StepFault};
 
 /// Feeds a whole piece of a connection's stream to the core, request by request.
 ///
 /// `Gone` where the connection is not open, hung up or is broken, and then nothing changed; `Memory` where it broke on the way.
-pub fn deliver(core: &mut Core, conn: ConnId, piece: &[u8]) -> Result<(), StepFault>
+pub fn deliver<H: ReplyHook + Drop>(
+    core: &mut Core<H>,
+    conn: ConnId,
+    piece: &[u8],
+) -> Result<(), StepFault>
     ensures stands { (opened : List ℕ) (es : List GatewayEvent) (taken : ℕ → List ReplyEntry) (handed : List JobValue)
         → Served core.old opened es taken handed → Served core.new opened (Piece conn piece.now ∷ es) taken handed }
     ensures gone { (result ≡ Err StepFault.Gone) ↔ IsDeaf conn core.old }

@@ -1,3 +1,7 @@
+ghost use Rattle.std.specs.Prelude.{◌≡◌};
+ghost use Rattle.std.specs.List.{count_by};
+ghost use Rattle.gateway_run.specs.Run.{is_opening};
+
 use connect_codec::Outcome;
 use http_pieces::Bytes;
 
@@ -19,4 +23,20 @@ pub enum Event {
     Drain,
     /// A connection is closed, and its calls are dropped.
     Closing(u64),
+}
+
+impl Event {
+    /// Whether it opens a connection.
+    pub(crate) fn is_opening(&self) -> bool
+        ensures { result ≡ is_opening self.now }
+    {
+        matches!(self, Event::Opening)
+    }
+}
+
+/// How many of the events are openings: so many stocks of hooks a run of them takes.
+pub fn openings(events: &[Event]) -> usize
+    ensures { result ≡ count_by is_opening events.now }
+{
+    events.iter().filter(|event| event.is_opening()).count()
 }

@@ -14,7 +14,7 @@ mod text;
 mod whole;
 
 pub use delivery::deliver;
-pub use event::Event;
+pub use event::{Event, openings};
 pub use fault::ScriptError;
 pub use outcome::{Run, RunError, Start};
 pub use script::read_script;

@@ -4,7 +4,7 @@ ghost use Rattle.gateway_run.specs.Log.{Collects, StartsAll, Took, log_value};
 ghost use Rattle.gateway_run.specs.Run.{bytes_of};
 
 use crate::outcome::Start;
-use gateway_core::{ConnId, Core};
+use gateway_core::{ConnId, Core, ReplyHook};
 use http_pieces::Bytes;
 use std::alloc::{AllocError, Global};
 use std::marker::Model;
@@ -48,7 +48,11 @@ impl Log {
     }
 
     /// Takes what is queued for the connection of that number, if it was opened, and whether it is broken.
-    pub(crate) fn collect(&mut self, core: &mut Core, number: u64) -> Result<(), AllocError>
+    pub(crate) fn collect<H: ReplyHook + Drop>(
+        &mut self,
+        core: &mut Core<H>,
+        number: u64,
+    ) -> Result<(), AllocError>
         ensures { OnOk result (Collects number core.old core.new self.old self.new) }
     {
         let index = number as usize;
@@ -76,7 +80,11 @@ impl Log {
     }
 
     /// Takes the jobs that started at the event of this place.
-    pub(crate) fn start(&mut self, core: &mut Core, event: u64) -> Result<(), AllocError>
+    pub(crate) fn start<H: ReplyHook + Drop>(
+        &mut self,
+        core: &mut Core<H>,
+        event: u64,
+    ) -> Result<(), AllocError>
         ensures { OnOk result (StartsAll event core.old core.new self.old self.new) }
     {
         while let Some(job) = core.take_job() {
@@ -92,7 +100,11 @@ impl Log {
 }
 
 /// Takes the replies of a connection, behind the bytes.
-fn take_replies(core: &mut Core, conn: ConnId, bytes: &mut Bytes) -> Result<(), AllocError>
+fn take_replies<H: ReplyHook + Drop>(
+    core: &mut Core<H>,
+    conn: ConnId,
+    bytes: &mut Bytes,
+) -> Result<(), AllocError>
     ensures took { OnOk result (Took conn (untaken_of conn core.old) core.old core.new) }
     ensures bytes { OnOk result (bytes.new ≡ bytes.old ++ bytes_of (untaken_of conn core.old)) }
 {

@@ -1,3 +1,6 @@
+ghost use Rattle.std.specs.Prelude.{◌≡◌};
+ghost use Rattle.gateway_run.specs.declared.outcome.RunError.TheVariants.{Memory};
+
 use http_pieces::Bytes;
 use std::alloc::AllocError;
 use thiserror::Error;
@@ -28,7 +31,18 @@ pub struct Start {
 /// Why a run has no outcome.
 #[derive(Clone, Copy, PartialEq, Eq, Debug, Error)]
 pub enum RunError {
+    /// There is not one stock of hooks for each opening.
+    #[error("not one stock of hooks for each opening")]
+    Stocks,
     /// The core, or the run's own lists, found no memory.
     #[error("no memory")]
-    Memory(#[from(alloc)] AllocError),
+    Memory,
+}
+
+impl From<AllocError> for RunError {
+    ghost from_gives = { λ _ e. e ≡ Memory };
+
+    fn from(_error: AllocError) -> RunError {
+        RunError::Memory
+    }
 }

@@ -1,25 +1,25 @@
-ghost use Rattle.std.specs.Prelude.{◌≡◌, ◌<◌, ◌∷◌, ℕ, List, length};
+ghost use Rattle.std.specs.Prelude.{◌≡◌, ◌<◌, ◌∷◌, ℕ, List, Some, is_some, length};
 ghost use Rattle.gateway_core.specs.declared.entry.ReplyEntry.{ReplyEntry};
 ghost use Rattle.gateway_core.specs.Events.{GatewayEvent, is_closing_of, most_open, open_connections};
 ghost use Rattle.gateway_core.specs.Job.{JobValue};
 ghost use Rattle.gateway_core.specs.Served.{Served};
 ghost use Rattle.gateway_core.specs.Serving.{KeepsBut};
-ghost use Rattle.gateway_run.specs.Run.{gateway_event};
-ghost use Rattle.gateway_run.specs.Stepping.{Tells, done_of, opened_by, taken_of};
+ghost use Rattle.gateway_run.specs.Run.{gateway_event, is_opening};
+ghost use Rattle.gateway_run.specs.Stepping.{Tells, done_of, opened_by, opening_of, taken_of};
 
 use crate::delivery::deliver;
 use crate::event::Event;
-use gateway_core::{CallId, ConnId, Core, OpenError, StepFault, Took};
+use gateway_core::{CallId, ConnId, Core, OpenError, ReplyHook, StepFault, Stock, Took};
 
 /// What one event came to.
-#[derive(Debug, Drop, PartialEq, Eq)]
-pub enum Stepped {
+#[derive(Drop)]
+pub enum Stepped<H> {
     /// The event was taken.
     Done,
     /// A connection was opened.
     Opened(ConnId),
-    /// None was.
-    NotOpened(OpenError),
+    /// None was, and its hooks come back.
+    NotOpened(Stock<H>, OpenError),
     /// A branch's result was seen so.
     Saw(Took),
     /// The step was not made, or not made whole.
@@ -28,8 +28,13 @@ pub enum Stepped {
     Broke,
 }
 
-/// Makes the step of one event.
-pub fn step(core: &mut Core, event: Event) -> Stepped
+/// Makes the step of one event. An opening takes the hooks of its connection's calls.
+pub fn step<H: ReplyHook + Drop>(
+    core: &mut Core<H>,
+    event: Event,
+    stock: Option<Stock<H>>,
+) -> Stepped<H>
+    requires { is_some stock ≡ is_opening event }
     ensures stands { (opened : List ℕ) (es : List GatewayEvent) (taken : ℕ → List ReplyEntry) (handed : List JobValue)
         → Served core.old opened es taken handed
         → Served core.new (opened_by result (length es) opened) (gateway_event event ∷ es) taken handed }
@@ -37,12 +42,13 @@ pub fn step(core: &mut Core, event: Event) -> Stepped
     ensures opens { (conn : ℕ) → result ≡ Stepped.Opened conn → event ≡ Event.Opening }
     ensures few { (conn : ℕ) (opened : List ℕ) (es : List GatewayEvent) (taken : ℕ → List ReplyEntry) (handed : List JobValue)
         → result ≡ Stepped.Opened conn → Served core.old opened es taken handed → open_connections opened es < most_open }
+    ensures back { (hooks : List H) (error : _) → result ≡ Stepped.NotOpened hooks error → stock ≡ Some hooks }
     ensures keeps { KeepsBut (λ c. is_closing_of c (gateway_event event)) core.old core.new }
 {
     match event {
-        Event::Opening => match core.open_conn() {
-            Ok(conn) => Stepped::Opened(conn),
-            Err(error) => Stepped::NotOpened(error),
+        Event::Opening => match stock {
+            Some(stock) => opened(core.open_conn(stock)),
+            None => unreachable!(),
         },
         Event::Piece(conn, bytes) => done(deliver(core, ConnId::of(conn), bytes.as_slice())),
         Event::HangUp(conn) => done(core.hang_up(ConnId::of(conn))),
@@ -62,8 +68,18 @@ pub fn step(core: &mut Core, event: Event) -> Stepped
     }
 }
 
+/// What an opening came to.
+fn opened<H: Drop>(answer: Result<ConnId, (Stock<H>, OpenError)>) -> Stepped<H>
+    ensures { result ≡ opening_of answer }
+{
+    match answer {
+        Ok(conn) => Stepped::Opened(conn),
+        Err(refused) => Stepped::NotOpened(refused.0, refused.1),
+    }
+}
+
 /// What a step of one connection came to.
-fn done(answer: Result<(), StepFault>) -> Stepped
+fn done<H: Drop>(answer: Result<(), StepFault>) -> Stepped<H>
     ensures { result ≡ done_of answer }
 {
     match answer {
@@ -73,7 +89,7 @@ fn done(answer: Result<(), StepFault>) -> Stepped
 }
 
 /// What a step of all connections came to, in which one broke or none did.
-fn taken(broke: bool) -> Stepped
+fn taken<H: Drop>(broke: bool) -> Stepped<H>
     ensures { result ≡ taken_of broke }
 {
     if broke { Stepped::Broke } else { Stepped::Done }

@@ -1,43 +1,85 @@
-ghost use Rattle.std.specs.Prelude.{◌≡◌, ◌∷◌, ◌<◌, [], false, nat_lt, true, ℕ, IfOk, List, OnOk, filter, length, slice_index_or};
-ghost use Rattle.std.specs.List.{range_with_len};
+ghost use Rattle.std.specs.Prelude.{◌≡◌, ◌∷◌, ◌<◌, ◌≤◌, ◌+◌, ◌==◌, ◌↔◌, [], Err, false, nat_lt, true, ℕ, IfOk, List, OnOk, filter, is_some, length, not, slice_index_or};
+ghost use Rattle.std.specs.List.{count_by, range_with_len};
+ghost use Rattle.std.specs.Vec.Iter.{into_iter_items};
 ghost use Rattle.gateway_core.specs.Events.{Before, IsOpened, IsRising, Occurs};
 ghost use Rattle.gateway_core.specs.Served.{Served};
 ghost use Rattle.gateway_core.specs.Starts.{Placed};
 ghost use Rattle.gateway_run.specs.Log.{HasRun, log_value};
-ghost use Rattle.gateway_run.specs.Run.{QueuedAs, gateway_event, is_listed, is_start_of, newest_first, starts_of};
+ghost use Rattle.gateway_run.specs.Run.{IsRun, QueuedAs, StartedAs, gateway_event, is_listed, is_opening, is_start_of};
+ghost use Rattle.gateway_run.specs.Run.{newest_first, openings_at, starts_of};
 ghost use Rattle.gateway_run.specs.Stepping.{CollectsFor, log_after};
 
-use crate::event::Event;
+use crate::event::{Event, openings};
 use crate::log::Log;
 use crate::outcome::{Run, RunError};
 use crate::stepping::{Stepped, step};
 use call_plan::Plans;
-use gateway_core::Core;
+use gateway_core::laws::event_law;
+use gateway_core::machine_laws::jobs_law;
+use gateway_core::served_laws::standing_law;
+use gateway_core::{Core, ReplyHook, Stock};
 use std::alloc::{AllocError, Global};
+use std::vec::IntoIter;
 
-/// Runs a whole list of events on a new gateway that serves these plans.
-pub fn run(alloc: Global, plans: Plans, events: Vec<Event>) -> Result<Run, RunError>
+/// Runs a whole list of events on a new gateway that serves these plans, with a stock of hooks for each opening.
+///
+/// `Stocks` exactly where there is not one stock for each opening; `Memory` where the core or the run's lists found none.
+pub fn run<H: ReplyHook + Drop>(
+    alloc: Global,
+    plans: Plans,
+    events: Vec<Event>,
+    stocks: Vec<Stock<H>>,
+) -> Result<Run, RunError>
+    ensures stocks { (result ≡ Err RunError.Stocks) ↔ ((length stocks.items == count_by is_opening events.items) ≡ false) }
+
     // The openings that succeeded, each where fewer connections were open than may be.
     ensures opened { IfOk result (λ run. IsOpened run.opened.items (newest_first events.items)) }
 
     // What is queued for each connection by what occurs; for one that broke, by what had occurred before it did.
-    ensures queued { IfOk result (λ run. (occurred : List Placed) → Occurs plans run.opened.items (newest_first events.items) occurred
-        → (c : ℕ) → c < length run.opened.items
+    ensures queued { IfOk result (λ run. (occurred : List Placed)
+        → Occurs plans run.opened.items (newest_first events.items) occurred → (c : ℕ) → c < length run.opened.items
         → QueuedAs c (slice_index_or run.queued.items c []) (is_listed c run.broken.items) occurred) }
 
-    // The starts of each connection that did not break; all of them, where none did.
-    ensures starts { IfOk result (λ run. (occurred : List Placed) → Occurs plans run.opened.items (newest_first events.items) occurred
-        → (c : ℕ) → is_listed c run.broken.items ≡ false
+    // The starts of each connection that did not break, and all of them, where none did. Of one that broke those
+    // branches have started which had by what occurred before it did.
+    ensures starts { IfOk result (λ run. (occurred : List Placed)
+        → Occurs plans run.opened.items (newest_first events.items) occurred → (c : ℕ)
+        → is_listed c run.broken.items ≡ false
         → filter (is_start_of c) run.starts.items ≡ filter (is_start_of c) (starts_of occurred)) }
-    ensures unbroken { IfOk result (λ run. (occurred : List Placed) → Occurs plans run.opened.items (newest_first events.items) occurred
+    ensures stopped { IfOk result (λ run. (occurred : List Placed)
+        → Occurs plans run.opened.items (newest_first events.items) occurred → (c : ℕ)
+        → is_listed c run.broken.items ≡ true → StartedAs c run.starts.items occurred) }
+    ensures unbroken { IfOk result (λ run. (occurred : List Placed)
+        → Occurs plans run.opened.items (newest_first events.items) occurred
         → run.broken.items ≡ [] → run.starts.items ≡ starts_of occurred) }
     ensures one_each { IfOk result (λ run. length run.queued.items ≡ length run.opened.items) }
     ensures broken { IfOk result (λ run. (c : ℕ) → is_listed c run.broken.items ≡ true → c < length run.opened.items) }
     ensures rising { IfOk result (λ run. IsRising run.broken.items) }
 {
+    if stocks.len() != openings(&events) {
+        return Err(RunError::Stocks);
+    }
+    let run = whole_run(alloc, plans, events, stocks)?;
+    Ok(run)
+}
+
+/// The same, with one stock for each opening and in one clause.
+fn whole_run<H: ReplyHook + Drop>(
+    alloc: Global,
+    plans: Plans,
+    events: Vec<Event>,
+    stocks: Vec<Stock<H>>,
+) -> Result<Run, AllocError>
+    requires { length stocks.items ≡ count_by is_opening events.items }
+    ensures { IfOk result (λ run. IsRun plans (newest_first events.items)
+        run.opened.items run.queued.items run.starts.items run.broken.items) }
+{
+    event_law();
+    jobs_law();
+    standing_law();
     let mut core = Core::new(alloc, plans)?;
     let mut log = Log::new(alloc);
-    take_events(&mut core, &mut log, events)?;
+    take_events(&mut core, &mut log, events, stocks)?;
     collect_all(&mut core, &mut log)?;
     let broken = listed(alloc, &log.broke)?;
     Ok(Run {
@@ -48,33 +90,68 @@ pub fn run(alloc: Global, plans: Plans, events: Vec<Event>) -> Result<Run, RunEr
     })
 }
 
-/// Makes the steps of these events.
-fn take_events(core: &mut Core, log: &mut Log, events: Vec<Event>) -> Result<(), AllocError>
-    ensures ran { HasRun (λ c. false) core.old log.old [] → OnOk result (HasRun (λ c. false) core.new log.new (newest_first events.items)) }
+/// Makes the steps of these events, of which each opening takes the next stock.
+fn take_events<H: ReplyHook + Drop>(
+    core: &mut Core<H>,
+    log: &mut Log,
+    events: Vec<Event>,
+    stocks: Vec<Stock<H>>,
+) -> Result<(), AllocError>
+    requires { length stocks.items ≡ count_by is_opening events.items }
+    ensures ran { HasRun (λ c. false) core.old log.old []
+        → OnOk result (HasRun (λ c. false) core.new log.new (newest_first events.items)) }
     ensures plans { OnOk result (core.new.plans ≡ core.old.plans) }
 {
     let mut place = 0u64;
+    let mut stocks = stocks.into_iter();
     for event in events {
-        take_event(core, log, place, event)?;
+        let stock = stock_for(&event, &mut stocks);
+        take_event(core, log, place, event, stock)?;
         place = place.saturating_add(1);
     }
     Ok(())
 }
 
+/// The stock for the event: the next one for an opening, and none for any other.
+fn stock_for<H: Drop>(event: &Event, stocks: &mut IntoIter<Stock<H>>) -> Option<Stock<H>>
+    requires { openings_at event.now ≤ length (into_iter_items stocks.old) }
+    ensures given { is_some result ≡ is_opening event.now }
+    ensures left { length (into_iter_items stocks.old) ≡ openings_at event.now + length (into_iter_items stocks.new) }
+{
+    if event.is_opening() {
+        stocks.next()
+    } else {
+        None
+    }
+}
+
 /// Makes the step of the event of this place. What is queued for a connection that closes by it is taken before.
-fn take_event(core: &mut Core, log: &mut Log, place: u64, event: Event) -> Result<(), AllocError>
+fn take_event<H: ReplyHook + Drop>(
+    core: &mut Core<H>,
+    log: &mut Log,
+    place: u64,
+    event: Event,
+    stock: Option<Stock<H>>,
+) -> Result<(), AllocError>
+    requires { is_some stock ≡ is_opening event }
     ensures ran { (es : Before) → length es ≡ place → HasRun (λ c. false) core.old log.old es
         → OnOk result (HasRun (λ c. false) core.new log.new (gateway_event event ∷ es)) }
     ensures plans { OnOk result (core.new.plans ≡ core.old.plans) }
 {
+    event_law();
+    standing_law();
     collect_for(core, log, &event)?;
-    let stepped = step(core, event);
+    let stepped = step(core, event, stock);
     note(log, place, &stepped)?;
     log.start(core, place)
 }
 
 /// Takes what is queued for the connection that the event closes, if it closes one.
-fn collect_for(core: &mut Core, log: &mut Log, event: &Event) -> Result<(), AllocError>
+fn collect_for<H: ReplyHook + Drop>(
+    core: &mut Core<H>,
+    log: &mut Log,
+    event: &Event,
+) -> Result<(), AllocError>
     ensures { OnOk result (CollectsFor (gateway_event event.now) core.old core.new log.old log.new) }
 {
     match event {
@@ -84,7 +161,7 @@ fn collect_for(core: &mut Core, log: &mut Log, event: &Event) -> Result<(), Allo
 }
 
 /// Takes down that a connection was opened at the event of this place, if one was.
-fn note(log: &mut Log, place: u64, stepped: &Stepped) -> Result<(), AllocError>
+fn note<H: Drop>(log: &mut Log, place: u64, stepped: &Stepped<H>) -> Result<(), AllocError>
     ensures { OnOk result (log.new ≡ log_after stepped.now place log.old) }
 {
     match stepped {
@@ -94,12 +171,13 @@ fn note(log: &mut Log, place: u64, stepped: &Stepped) -> Result<(), AllocError>
 }
 
 /// Takes what is queued for each connection.
-fn collect_all(core: &mut Core, log: &mut Log) -> Result<(), AllocError>
+fn collect_all<H: ReplyHook + Drop>(core: &mut Core<H>, log: &mut Log) -> Result<(), AllocError>
     ensures ran { (es : Before) → HasRun (λ c. false) core.old log.old es
         → OnOk result (HasRun (λ c. nat_lt c (length log.old.opened)) core.new log.new es) }
     ensures opened { OnOk result (log.new.opened ≡ log.old.opened) }
     ensures plans { OnOk result (core.new.plans ≡ core.old.plans) }
 {
+    standing_law();
     for number in 0..log.opened.len() {
         log.collect(core, number as u64)?;
     }

@@ -1,7 +1,9 @@
 ghost use Rattle.std.specs.Prelude.{◌≡◌, ◌<◌, length};
 ghost use Rattle.gateway_core.specs.Ends.{AreApart, CallsEnd, caused, EndedAt, IsSettled, settled_at, SettledBelow};
 
+use crate::contexts::Contexts;
 use crate::event::CallEvent;
+use crate::hook::ReplyHook;
 use crate::id::CallId;
 use crate::machine::asked::Asked;
 use crate::machine::cause::Cause;
@@ -24,13 +26,19 @@ impl Asked {
 
 impl Machine {
     /// Ends the call at that place, if this does; its connection breaks where memory is refused to its reply.
-    pub(crate) fn end_call(&mut self, alloc: Global, index: usize, cause: &Cause)
+    pub(crate) fn end_call<H: ReplyHook + Drop>(
+        &mut self,
+        alloc: Global,
+        contexts: &mut Contexts<H>,
+        index: usize,
+        cause: &Cause,
+    )
         requires { index < length self.old.calls }
         ensures { EndedAt cause.now index self.old self.new }
     {
-        if self.calls[index].end_by(alloc, cause).is_err() {
+        if self.calls[index].end_by(alloc, contexts, cause).is_err() {
             let id = self.calls[index].id();
-            self.break_conn(id.conn.number());
+            self.break_conn(contexts, id.conn.number());
         }
     }
 
@@ -44,13 +52,18 @@ impl Machine {
     }
 
     /// Ends all calls that this ends: their replies go into their slots. Where memory is refused to one of them, its connection breaks.
-    pub(crate) fn end_calls(&mut self, alloc: Global, cause: &Cause)
+    pub(crate) fn end_calls<H: ReplyHook + Drop>(
+        &mut self,
+        alloc: Global,
+        contexts: &mut Contexts<H>,
+        cause: &Cause,
+    )
         requires settled { IsSettled self.old }
         requires apart { AreApart self.old.calls }
         ensures { CallsEnd cause.now self.old self.new }
     {
         for index in 0..self.calls.len() {
-            self.end_call(alloc, index, cause);
+            self.end_call(alloc, contexts, index, cause);
         }
         self.settle_all();
     }

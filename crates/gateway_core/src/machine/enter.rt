@@ -9,6 +9,8 @@ ghost use Rattle.gateway_core.specs.Occurrence.{Entering};
 ghost use Rattle.gateway_core.specs.Step.{gone, step_to};
 ghost use Rattle.gateway_core.specs.Store.{conn_at, waiting};
 
+use crate::contexts::Contexts;
+use crate::hook::ReplyHook;
 use crate::job::Job;
 use crate::machine::arriving::Arriving;
 use crate::machine::asked::Asked;
@@ -27,32 +29,49 @@ use std::collections::VecDeque;
 
 impl Machine {
     /// A request comes on the connection at that place, which breaks where memory is refused.
-    pub(crate) fn come(&mut self, alloc: Global, plans: &Plans, index: usize, request: Request)
+    pub(crate) fn come<H: ReplyHook + Drop>(
+        &mut self,
+        alloc: Global,
+        contexts: &mut Contexts<H>,
+        plans: &Plans,
+        index: usize,
+        request: Request,
+    )
         requires { index < length self.old.conns }
         ensures { Enters index (Entering.Request request (arrival_of plans.now request)) self.old self.new }
     {
-        if self.take_in(alloc, plans, index, request).is_err() {
+        if self
+            .take_in(alloc, contexts, plans, index, request)
+            .is_err()
+        {
             let number = self.conns[index].number;
-            self.break_conn(number);
+            self.break_conn(contexts, number);
         }
     }
 
     /// The stream of the connection at that place is refused; the connection breaks where memory is.
-    pub(crate) fn stop(&mut self, alloc: Global, index: usize, refusal: Refusal)
+    pub(crate) fn stop<H: ReplyHook + Drop>(
+        &mut self,
+        alloc: Global,
+        contexts: &mut Contexts<H>,
+        index: usize,
+        refusal: Refusal,
+    )
         requires { index < length self.old.conns }
         ensures { Enters index (Entering.Refused refusal) self.old self.new }
     {
         if self.refuse(alloc, index, refusal).is_err() {
             let number = self.conns[index].number;
-            self.break_conn(number);
+            self.break_conn(contexts, number);
         }
     }
 
     /// A request comes on the connection at that place: it is answered at once, or begins a call. Where memory is refused,
     /// nothing changes.
-    fn take_in(
+    fn take_in<H: ReplyHook + Drop>(
         &mut self,
         alloc: Global,
+        contexts: &mut Contexts<H>,
         plans: &Plans,
         index: usize,
         request: Request,
@@ -62,16 +81,17 @@ impl Machine {
             ≡ entered_at index (arriving_at index (Entering.Request request (arrival_of plans.now request)) self.old) self.old) }
         ensures err { OnErr result (self.new ≡ self.old) }
     {
-        match self.arriving(alloc, plans, index, request)? {
+        match self.arriving(alloc, contexts, plans, index, request)? {
             Arriving::Answered(reply) => self.answer(index, reply),
             Arriving::Begins(asked) => self.begin(alloc, index, asked),
         }
     }
 
-    /// What a request comes to on the connection at that place. It changes nothing.
-    fn arriving(
+    /// What a request comes to on the connection at that place. A call gets its context; nothing else changes.
+    fn arriving<H: ReplyHook + Drop>(
         &self,
         alloc: Global,
+        contexts: &mut Contexts<H>,
         plans: &Plans,
         index: usize,
         request: Request,
@@ -92,7 +112,7 @@ impl Machine {
             } => match plan {
                 Some(plan) => {
                     let asked = Asked::new(alloc, plan, request, timeout, request_id, self.moment)?;
-                    self.asking(alloc, index, asked)
+                    self.asking(alloc, contexts, index, asked)
                 }
                 None => unreachable!(),
             },
@@ -105,7 +125,13 @@ impl Machine {
     }
 
     /// What a call that is asked for on the connection at that place comes to: it is crowded out, ends as it comes, or begins.
-    fn asking(&self, alloc: Global, index: usize, asked: Asked) -> Result<Arriving, AllocError>
+    fn asking<H: ReplyHook + Drop>(
+        &self,
+        alloc: Global,
+        contexts: &mut Contexts<H>,
+        index: usize,
+        asked: Asked,
+    ) -> Result<Arriving, AllocError>
         requires { index < length self.now.conns }
         ensures { IfOk result (λ arriving. ComesTo arriving (next_of (conn_at index self.now.conns)) self.now.moment (asking_at index asked self.now)) }
     {
@@ -114,9 +140,11 @@ impl Machine {
             let reply = Reply::crowded(alloc, conn.next_id(), asked.request.closes())?;
             return Ok(Arriving::Answered(reply));
         }
+        let id = conn.next_id();
+        contexts.begin(&id, &asked, self.moment)?;
         match asked.ends_first(self.moment, self.drained) {
             Some(event) => {
-                let reply = reply_to(alloc, conn.next_id(), asked.end(alloc, event)?)?;
+                let reply = reply_to(alloc, contexts, id, asked.end(alloc, event)?)?;
                 Ok(Arriving::Answered(reply))
             }
             None => Ok(Arriving::Begins(asked)),

@@ -9,8 +9,10 @@ ghost use Rattle.gateway_core.specs.Store.{given_up_if, waiting_in};
 ghost use Rattle.gateway_core.specs.declared.fault.Seen.{Seen};
 ghost use Rattle.gateway_core.specs.Step.{has_out, next_out, result_on};
 
+use crate::contexts::Contexts;
 use crate::event::CallEvent;
 use crate::fault::Seen;
+use crate::hook::ReplyHook;
 use crate::id::CallId;
 use crate::machine::cause::Cause;
 use crate::machine::live::Live;
@@ -170,7 +172,12 @@ impl Kept {
     }
 
     /// Ends the call, if this does, and makes its reply. Where memory is refused to that, it has none.
-    pub(crate) fn end_by(&mut self, alloc: Global, cause: &Cause) -> Result<(), AllocError>
+    pub(crate) fn end_by<H: ReplyHook + Drop>(
+        &mut self,
+        alloc: Global,
+        contexts: &mut Contexts<H>,
+        cause: &Cause,
+    ) -> Result<(), AllocError>
         ensures ended { OnOk result (self.new ≡ ended_kept cause.now self.old) }
         ensures refused { OnErr result ((is_some (ended_call cause.now self.old.id self.old.call).reply ≡ true) × (self.new ≡ unanswered self.old)) }
     {
@@ -182,7 +189,7 @@ impl Kept {
             return Ok(());
         };
         self.group.clear_queue();
-        let reply = reply_to(alloc, self.id, live.end(event))?;
+        let reply = reply_to(alloc, contexts, self.id, live.end(event))?;
         self.reply = Some(reply);
         Ok(())
     }

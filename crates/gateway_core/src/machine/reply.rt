@@ -5,7 +5,9 @@ ghost use Rattle.gateway_core.specs.Queue.{call_reply};
 ghost use Rattle.gateway_core.specs.Reply.{reply_with};
 ghost use Rattle.gateway_core.specs.declared.entry.ReplyEntry.{ReplyEntry};
 
-use crate::ending::{Ending, ending_of, ending_reply};
+use crate::contexts::Contexts;
+use crate::ending::{Ending, ending_of};
+use crate::hook::ReplyHook;
 use crate::id::CallId;
 use crate::joined::joined;
 use crate::record::CallRecord;
@@ -13,21 +15,34 @@ use crate::reply::Reply;
 use http_pieces::Bytes;
 use std::alloc::{AllocError, Global};
 
-/// The reply to a decided call.
-pub(crate) fn reply_to(alloc: Global, id: CallId, call: CallRecord) -> Result<Reply, AllocError>
+/// The reply to a decided call: an error is told by its hook, and where it succeeded its hook is dropped uncalled.
+pub(crate) fn reply_to<H: ReplyHook + Drop>(
+    alloc: Global,
+    contexts: &mut Contexts<H>,
+    id: CallId,
+    call: CallRecord,
+) -> Result<Reply, AllocError>
     ensures { IfOk result (λ reply. reply ≡ reply_with id (ReplyEntry.Call call)) }
 {
-    let bytes = bytes_of(alloc, &call)?;
+    let bytes = bytes_of(alloc, contexts, &id, &call)?;
     Ok(Reply::of_call(id, call, bytes))
 }
 
 /// Its bytes: the error of its last event, or the answers joined.
-fn bytes_of(alloc: Global, call: &CallRecord) -> Result<Bytes, AllocError>
+fn bytes_of<H: ReplyHook + Drop>(
+    alloc: Global,
+    contexts: &mut Contexts<H>,
+    id: &CallId,
+    call: &CallRecord,
+) -> Result<Bytes, AllocError>
     ensures { IfOk result (λ bytes. bytes ≡ (call_reply call.now).bytes) }
 {
     match last_ending(alloc, call)? {
-        Some(ending) => ending_reply(alloc, ending),
-        None => joined(alloc, &call.plan, &call.events, call.last),
+        Some(ending) => contexts.end(id, ending),
+        None => {
+            contexts.abandon(id);
+            joined(alloc, &call.plan, &call.events, call.last)
+        }
     }
 }
 

@@ -7,7 +7,9 @@ ghost use Rattle.gateway_core.specs.Step.{has_out};
 ghost use Rattle.gateway_core.specs.Store.{MachineValue, broken_at, kept_at};
 ghost use Rattle.gateway_core.specs.declared.fault.Seen.{Seen};
 
+use crate::contexts::Contexts;
 use crate::fault::{Seen, Took};
+use crate::hook::ReplyHook;
 use crate::id::CallId;
 use crate::job::Job;
 use crate::machine::kept::Kept;
@@ -21,7 +23,14 @@ use std::collections::VecDeque;
 
 impl Machine {
     /// A branch of a call ends with that outcome.
-    fn result(&mut self, alloc: Global, id: &CallId, branch: u32, outcome: Outcome) -> Took
+    fn result<H: ReplyHook + Drop>(
+        &mut self,
+        alloc: Global,
+        contexts: &mut Contexts<H>,
+        id: &CallId,
+        branch: u32,
+        outcome: Outcome,
+    ) -> Took
         ensures { ResultTaken id.now branch outcome self.old self.new result }
     {
         let Some(index) = self.find(id) else {
@@ -33,14 +42,15 @@ impl Machine {
         let seen = self.calls[index].seen();
         let taken = self.calls[index].take_result(branch, outcome);
         start(&mut self.jobs, taken.next, self.moment);
-        let broke = self.decide(alloc, id, taken.decided);
+        let broke = self.decide(alloc, contexts, id, taken.decided);
         Took { seen, broke }
     }
 
     /// A branch of a call ends with that outcome. A call that is over, and of which no branch is out, is forgotten.
-    pub(crate) fn take_result(
+    pub(crate) fn take_result<H: ReplyHook + Drop>(
         &mut self,
         alloc: Global,
+        contexts: &mut Contexts<H>,
         id: &CallId,
         branch: u32,
         outcome: Outcome,
@@ -48,23 +58,33 @@ impl Machine {
         ensures taken { (between : MachineValue) × ResultTaken id.now branch outcome self.old between result × Forgets id.now between self.new }
         ensures unknown { result.seen ≡ Seen.Unknown → self.new ≡ self.old }
     {
-        let took = self.result(alloc, id, branch, outcome);
+        let took = self.result(alloc, contexts, id, branch, outcome);
         self.forget_unless(took.seen, id);
         took
     }
 
     /// A worker found no memory for what a branch ended with: where that counts, its connection breaks.
-    pub(crate) fn starve(&mut self, id: &CallId, branch: u32) -> Took
+    pub(crate) fn starve<H: ReplyHook + Drop>(
+        &mut self,
+        contexts: &mut Contexts<H>,
+        id: &CallId,
+        branch: u32,
+    ) -> Took
         ensures taken { (between : MachineValue) × Starved id.now branch self.old between result × Forgets id.now between self.new }
         ensures unknown { result.seen ≡ Seen.Unknown → self.new ≡ self.old }
     {
-        let took = self.come_back(id, branch);
+        let took = self.come_back(contexts, id, branch);
         self.forget_unless(took.seen, id);
         took
     }
 
     /// A branch comes back with nothing: where that counts, its connection breaks.
-    fn come_back(&mut self, id: &CallId, branch: u32) -> Took
+    fn come_back<H: ReplyHook + Drop>(
+        &mut self,
+        contexts: &mut Contexts<H>,
+        id: &CallId,
+        branch: u32,
+    ) -> Took
         ensures { Starved id.now branch self.old self.new result }
     {
         let Some(index) = self.find(id) else {
@@ -75,17 +95,22 @@ impl Machine {
         }
         let seen = self.calls[index].seen();
         let broke = self.calls[index].is_live();
-        self.break_if(broke, id.conn.number());
+        self.break_if(contexts, broke, id.conn.number());
         self.give_back(index, branch);
         Took { seen, broke }
     }
 
     /// Breaks the connection, if that is so.
-    fn break_if(&mut self, broke: bool, number: u64)
+    fn break_if<H: ReplyHook + Drop>(
+        &mut self,
+        contexts: &mut Contexts<H>,
+        broke: bool,
+        number: u64,
+    )
         ensures { self.new ≡ (if broke then broken_at number self.old else self.old) }
     {
         if broke {
-            self.break_conn(number);
+            self.break_conn(contexts, number);
         }
     }
 
@@ -123,19 +148,25 @@ impl Machine {
     }
 
     /// Puts the reply to a call into its slot, if it was decided. True where memory is refused to the reply: its connection breaks.
-    fn decide(&mut self, alloc: Global, id: &CallId, decided: Option<CallRecord>) -> bool
+    fn decide<H: ReplyHook + Drop>(
+        &mut self,
+        alloc: Global,
+        contexts: &mut Contexts<H>,
+        id: &CallId,
+        decided: Option<CallRecord>,
+    ) -> bool
         ensures { DecidedBy id.now decided self.old self.new result }
     {
         let Some(decided) = decided else {
             return false;
         };
-        match reply_to(alloc, *id, decided) {
+        match reply_to(alloc, contexts, *id, decided) {
             Ok(reply) => {
                 self.fill(Some(reply));
                 false
             }
             Err(AllocError) => {
-                self.break_conn(id.conn.number());
+                self.break_conn(contexts, id.conn.number());
                 true
             }
         }

@@ -6,6 +6,8 @@ ghost use Rattle.gateway_core.specs.Ends.{is_stopped_in};
 ghost use Rattle.gateway_core.specs.Step.{moment_after};
 ghost use Rattle.gateway_core.specs.Store.{IsFound, call_at, conn_at, broken_at, broken_count, broken_if, given_up_if, fill_first, filled_in, machine_value};
 
+use crate::contexts::Contexts;
+use crate::hook::ReplyHook;
 use crate::id::CallId;
 use crate::job::Job;
 use crate::machine::conn::Conn;
@@ -132,9 +134,14 @@ impl Machine {
     }
 
     /// Memory was refused in a step of the connection: it breaks, and its calls can't be decided any more.
-    pub(crate) fn break_conn(&mut self, number: u64)
+    pub(crate) fn break_conn<H: ReplyHook + Drop>(
+        &mut self,
+        contexts: &mut Contexts<H>,
+        number: u64,
+    )
         ensures { self.new ≡ broken_at number self.old }
     {
+        contexts.close(number);
         give_up(&mut self.calls, number);
         break_in(&mut self.conns, number);
     }

@@ -1,7 +1,9 @@
-use Rattle.std.proofs.Common.{ap}
+use Rattle.std.proofs.Common.{ap, sym, ◌∙◌}
 use Rattle.gateway_core.specs.Past.{marked}
 use Rattle.gateway_core.specs.Queue.{queued}
-use Rattle.gateway_core.proofs.CutLemmas.{any_cut, same_starts}
+use Rattle.gateway_core.specs.Starts.{jobs}
+use Rattle.gateway_core.proofs.CutLemmas.{any_cut}
+use Rattle.gateway_run.proofs.Shifts.{is_shifted}
 use Rattle.gateway_run.proofs.laws.any_cut_law.Goals as goal
 
 pub returns-clause-same : goal.returns-clause-same
@@ -11,4 +13,7 @@ pub returns-clause-queued : goal.returns-clause-queued
 returns-clause-queued c = λ a b conn e. ap (λ os. queued conn (marked os)) e
 
 pub returns-clause-starts : goal.returns-clause-starts
-returns-clause-starts c = same_starts
+returns-clause-starts c = λ a b e. c.event_law.ensures.jobs a ∙ ap (λ os. jobs (marked os)) e ∙ sym (c.event_law.ensures.jobs b)
+
+pub returns-clause-shifts : goal.returns-clause-shifts
+returns-clause-shifts c = is_shifted

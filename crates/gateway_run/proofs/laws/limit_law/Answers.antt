@@ -1,6 +1,5 @@
 use Rattle.gateway_core.specs.Starts.{occurrences}
-use Rattle.gateway_core.proofs.LimitLemmas.{outs_limit}
 use Rattle.gateway_run.proofs.laws.limit_law.Goals as goal
 
 pub returns : goal.returns
-returns c = λ plans opened events occurred id called occurs called_is. outs_limit id (occurrences occurred) called called_is
+returns c = λ plans opened events occurred id called occurs called_is. c.limit_law.ensures id (occurrences occurred) called called_is

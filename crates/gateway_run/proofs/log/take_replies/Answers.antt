@@ -4,11 +4,14 @@ use Rattle.gateway_core.specs.Gateway.{untaken_of}
 use Rattle.gateway_core.specs.Queue.{answer_of}
 use Rattle.gateway_run.specs.Log.{Took}
 use Rattle.gateway_run.specs.Run.{bytes_of}
-use Rattle.gateway_run.proofs.Gathering.{bytes_more, took_more}
+use Rattle.gateway_run.proofs.Gathering.{bytes_more, took_more, took_none}
 use Rattle.gateway_run.proofs.log.take_replies.Goals as goal
 
+pub loop-reply-init : goal.loop-reply-init
+loop-reply-init g c = ([], took_none c.args.conn c.args.core.now, sym (append-nil c.args.bytes.now))
+
 pub loop-reply-preserved : goal.loop-reply-preserved
-loop-reply-preserved c =
+loop-reply-preserved g c =
     let was = c.loop-reply.invariant in
     let e : ReplyEntry = c.in-Some.reply.entry in (
       was.0 ++ e ∷ [],
@@ -18,7 +21,7 @@ loop-reply-preserved c =
     )
 
 pub returns-clause-took : goal.returns-clause-took
-returns-clause-took c =
+returns-clause-took g c =
     let was = c.loop-reply.invariant in
     let t : Took c.args.conn (was.0 ++ []) c.args.core.now c.take_reply.new.self =
     took_more c.args.conn was.0 None c.args.core.now c.loop-reply.core c.take_reply.new.self was.1 c.in_default.ensures.stands c.in_default.ensures.first c.in_default.ensures.only in
@@ -26,6 +29,6 @@ returns-clause-took c =
     subst (λ es. Took c.args.conn es c.args.core.now c.take_reply.new.self) (sym (t.untaken_are ∙ ap (λ es. (was.0 ++ []) ++ es) none ∙ append-nil (was.0 ++ []))) t
 
 pub returns-clause-bytes : goal.returns-clause-bytes
-returns-clause-bytes c =
+returns-clause-bytes g c =
     let was = c.loop-reply.invariant in
     was.2 ∙ ap (λ (es : List ReplyEntry). c.args.bytes.now ++ bytes_of es) (sym (was.1.untaken_are ∙ ap (λ es. was.0 ++ es) (c.take_reply.ensures.none c.in_default.is) ∙ append-nil was.0))

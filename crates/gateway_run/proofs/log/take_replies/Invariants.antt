@@ -6,7 +6,7 @@ use Rattle.gateway_run.specs.Run.{bytes_of}
 use Rattle.gateway_run.proofs.log.take_replies.Given as goal
 
 abbrev pub invariant-loop-reply : goal.invariant-loop-reply
-invariant-loop-reply l = (entries : List ReplyEntry) × Took l.conn entries l.initial.core l.core × (l.bytes ≡ l.initial.bytes ++ bytes_of entries)
+invariant-loop-reply g l = (entries : List ReplyEntry) × Took l.conn entries l.initial.core l.core × (l.bytes ≡ l.initial.bytes ++ bytes_of entries)
 
 abbrev pub decreases-loop-reply : goal.decreases-loop-reply
-decreases-loop-reply l = length (untaken_of l.conn l.core)
+decreases-loop-reply g l = length (untaken_of l.conn l.core)

@@ -1,87 +1,77 @@
 use Rattle.std.specs.Prelude.{OnOk}
-use Rattle.std.proofs.Common.{◌≡◌, true, false, refl, ◌∷◌, ◌++◌, [], length, sym, subst}
-use Rattle.gateway_core.specs.Events.{BranchResult, Closing, Drain, HangUp, Moment, Piece}
+use Rattle.std.proofs.Common.{◌≡◌, true, false, refl, ◌∷◌, length, ◌<◌, sym, subst}
+use Rattle.gateway_core.specs.Events.{BranchResult, Closing, Drain, HangUp, Moment, Opening, Piece, most_open, open_connections}
 use Rattle.gateway_core.specs.Gateway.{is_broken_conn}
 use Rattle.gateway_core.specs.Served.{Served}
 use Rattle.gateway_run.specs.Run.{gateway_event}
 use Rattle.gateway_run.specs.Stepping.{Tells, TellsBreaks, TellsConn, opened_by}
-use Rattle.gateway_run.specs.declared.stepping.Stepped.TheVariants.{Done, NotOpened, Opened, Saw}
-use Rattle.gateway_run.proofs.Starting.{breaks_told, by_done, by_taken, conn_told}
+use Rattle.gateway_run.specs.declared.stepping.Stepped.TheVariants.{Done, Saw}
+use Rattle.gateway_run.proofs.Starting.{breaks_told, by_done, by_opening, by_taken, conn_told, few_told}
 use Rattle.gateway_run.proofs.stepping.step.Goals as goal
 
-pub returns-in-Ok-clause-stands : goal.returns-in-Ok-clause-stands
-returns-in-Ok-clause-stands c = λ opened es taken handed h.
-    subst (λ e. Served c.open_conn.new.self (opened ++ length es ∷ []) (gateway_event e ∷ es) taken handed) (sym c.in-Opening.is) (c.in-Ok.ensures.stands opened es taken handed h)
+pub returns-in-Some-clause-stands : goal.returns-in-Some-clause-stands
+returns-in-Some-clause-stands g c = λ opened es taken handed h.
+    subst (λ e. Served c.open_conn.new.self (opened_by c.opened.result (length es) opened) (gateway_event e ∷ es) taken handed) (sym c.in-Opening.is)
+    (by_opening (λ o. Served c.open_conn.new.self o (Opening ∷ es) taken handed) c.open_conn.result c.opened.result (length es) opened c.opened.ensures (c.open_conn.ensures.stands opened es taken handed h))
 
-pub returns-in-Ok-clause-few : goal.returns-in-Ok-clause-few
-returns-in-Ok-clause-few c = λ conn opened es taken handed same h. c.in-Ok.ensures.few opened es taken handed h
-
-pub returns-in-Err-clause-stands : goal.returns-in-Err-clause-stands
-returns-in-Err-clause-stands c = λ opened es taken handed h.
-    subst (λ e. Served c.open_conn.new.self opened (gateway_event e ∷ es) taken handed) (sym c.in-Opening.is) (c.in-Err.ensures.stands opened es taken handed h)
+pub returns-in-Some-clause-few : goal.returns-in-Some-clause-few
+returns-in-Some-clause-few g c = λ conn opened es taken handed told h.
+    few_told (open_connections opened es < most_open) c.open_conn.result c.opened.result conn c.opened.ensures told (c.open_conn.ensures.few opened es taken handed h)
 
 pub returns-in-Piece-clause-stands : goal.returns-in-Piece-clause-stands
-returns-in-Piece-clause-stands c = λ opened es taken handed h.
+returns-in-Piece-clause-stands g c = λ opened es taken handed h.
     subst (λ e. Served c.deliver.new.core (opened_by c.done.result (length es) opened) (gateway_event e ∷ es) taken handed) (sym c.in-Piece.is)
     (subst (λ o. Served c.deliver.new.core o (Piece c.in-Piece.conn c.in-Piece.bytes ∷ es) taken handed) (sym (by_done c.deliver.result c.done.result (length es) opened c.done.ensures))
     (subst (λ n. Served c.deliver.new.core opened (Piece n c.in-Piece.bytes ∷ es) taken handed) c.of.ensures
     (subst (λ bytes. Served c.deliver.new.core opened (Piece c.of.result bytes ∷ es) taken handed) c.as_slice.ensures (c.deliver.ensures.stands opened es taken handed h))))
 
 pub returns-in-HangUp-clause-stands : goal.returns-in-HangUp-clause-stands
-returns-in-HangUp-clause-stands c = λ opened es taken handed h.
+returns-in-HangUp-clause-stands g c = λ opened es taken handed h.
     subst (λ e. Served c.hang_up.new.self (opened_by c.done-in-HangUp.result (length es) opened) (gateway_event e ∷ es) taken handed) (sym c.in-HangUp.is)
     (subst (λ o. Served c.hang_up.new.self o (HangUp c.in-HangUp.conn ∷ es) taken handed) (sym (by_done c.hang_up.result c.done-in-HangUp.result (length es) opened c.done-in-HangUp.ensures))
     (subst (λ n. Served c.hang_up.new.self opened (HangUp n ∷ es) taken handed) c.of-in-HangUp.ensures (c.hang_up.ensures.stands opened es taken handed h)))
 
 pub returns-in-Moment-clause-stands : goal.returns-in-Moment-clause-stands
-returns-in-Moment-clause-stands c = λ opened es taken handed h.
+returns-in-Moment-clause-stands g c = λ opened es taken handed h.
     subst (λ e. Served c.moment.new.self (opened_by c.taken.result (length es) opened) (gateway_event e ∷ es) taken handed) (sym c.in-Moment.is)
     (subst (λ o. Served c.moment.new.self o (Moment c.in-Moment.moment ∷ es) taken handed) (sym (by_taken c.moment.result c.taken.result (length es) opened c.taken.ensures)) (c.moment.ensures.stands opened es taken handed h))
 
 pub returns-in-BranchResult-clause-stands : goal.returns-in-BranchResult-clause-stands
-returns-in-BranchResult-clause-stands c = λ opened es taken handed h.
+returns-in-BranchResult-clause-stands g c = λ opened es taken handed h.
     subst (λ e. Served c.result.new.self opened (gateway_event e ∷ es) taken handed) (sym c.in-BranchResult.is)
     (subst (λ n. Served c.result.new.self opened (BranchResult n c.in-BranchResult.request c.in-BranchResult.branch c.in-BranchResult.outcome ∷ es) taken handed) c.of-in-BranchResult.ensures
     (c.result.ensures.stands opened es taken handed h))
 
 pub returns-in-Drain-clause-stands : goal.returns-in-Drain-clause-stands
-returns-in-Drain-clause-stands c = λ opened es taken handed h.
+returns-in-Drain-clause-stands g c = λ opened es taken handed h.
     subst (λ e. Served c.drain.new.self (opened_by c.taken-in-Drain.result (length es) opened) (gateway_event e ∷ es) taken handed) (sym c.in-Drain.is)
     (subst (λ o. Served c.drain.new.self o (Drain ∷ es) taken handed) (sym (by_taken c.drain.result c.taken-in-Drain.result (length es) opened c.taken-in-Drain.ensures)) (c.drain.ensures.stands opened es taken handed h))
 
 pub returns-in-Closing-clause-stands : goal.returns-in-Closing-clause-stands
-returns-in-Closing-clause-stands c = λ opened es taken handed h.
+returns-in-Closing-clause-stands g c = λ opened es taken handed h.
     subst (λ e. Served c.close.new.self opened (gateway_event e ∷ es) taken handed) (sym c.in-Closing.is)
     (subst (λ n. Served c.close.new.self opened (Closing n ∷ es) taken handed) c.of-in-Closing.ensures (c.close.ensures.stands opened es taken handed h))
 
-pub returns-in-Ok-clause-tells : goal.returns-in-Ok-clause-tells
-returns-in-Ok-clause-tells c = subst (λ e. Tells (gateway_event e) (Opened c.in-Ok.conn) c.args.core.now c.open_conn.new.self) (sym c.in-Opening.is)
-    (tt)
-
-pub returns-in-Err-clause-tells : goal.returns-in-Err-clause-tells
-returns-in-Err-clause-tells c = subst (λ e. Tells (gateway_event e) (NotOpened c.in-Err.error) c.args.core.now c.open_conn.new.self) (sym c.in-Opening.is)
-    (c.in-Err.ensures.unchanged)
-
 pub returns-in-Piece-clause-tells : goal.returns-in-Piece-clause-tells
-returns-in-Piece-clause-tells c = subst (λ e. Tells (gateway_event e) c.done.result c.args.core.now c.deliver.new.core) (sym c.in-Piece.is)
-    (subst (λ s. TellsConn c.in-Piece.conn s c.deliver.new.core) (sym c.done.ensures) (conn_told c.in-Piece.conn c.deliver.result c.deliver.new.core (λ e. subst (λ n. is_broken_conn n c.deliver.new.core ≡ true) c.of.ensures (c.deliver.ensures.memory e)) (subst (λ n. OnOk c.deliver.result (is_broken_conn n c.deliver.new.core ≡ false)) c.of.ensures c.deliver.ensures.unbroken)))
+returns-in-Piece-clause-tells g c = subst (λ e. Tells (gateway_event e) c.done.result c.args.core.now c.deliver.new.core) (sym c.in-Piece.is)
+    (subst (λ s. TellsConn c.in-Piece.conn s c.deliver.new.core) (sym c.done.ensures) (conn_told _ c.in-Piece.conn c.deliver.result c.deliver.new.core (λ e. subst (λ n. is_broken_conn n c.deliver.new.core ≡ true) c.of.ensures (c.deliver.ensures.memory e)) (subst (λ n. OnOk c.deliver.result (is_broken_conn n c.deliver.new.core ≡ false)) c.of.ensures c.deliver.ensures.unbroken)))
 
 pub returns-in-HangUp-clause-tells : goal.returns-in-HangUp-clause-tells
-returns-in-HangUp-clause-tells c = subst (λ e. Tells (gateway_event e) c.done-in-HangUp.result c.args.core.now c.hang_up.new.self) (sym c.in-HangUp.is)
-    (subst (λ s. TellsConn c.in-HangUp.conn s c.hang_up.new.self) (sym c.done-in-HangUp.ensures) (conn_told c.in-HangUp.conn c.hang_up.result c.hang_up.new.self (λ e. subst (λ n. is_broken_conn n c.hang_up.new.self ≡ true) c.of-in-HangUp.ensures (c.hang_up.ensures.memory e)) (subst (λ n. OnOk c.hang_up.result (is_broken_conn n c.hang_up.new.self ≡ false)) c.of-in-HangUp.ensures c.hang_up.ensures.unbroken)))
+returns-in-HangUp-clause-tells g c = subst (λ e. Tells (gateway_event e) c.done-in-HangUp.result c.args.core.now c.hang_up.new.self) (sym c.in-HangUp.is)
+    (subst (λ s. TellsConn c.in-HangUp.conn s c.hang_up.new.self) (sym c.done-in-HangUp.ensures) (conn_told _ c.in-HangUp.conn c.hang_up.result c.hang_up.new.self (λ e. subst (λ n. is_broken_conn n c.hang_up.new.self ≡ true) c.of-in-HangUp.ensures (c.hang_up.ensures.memory e)) (subst (λ n. OnOk c.hang_up.result (is_broken_conn n c.hang_up.new.self ≡ false)) c.of-in-HangUp.ensures c.hang_up.ensures.unbroken)))
 
 pub returns-in-Moment-clause-tells : goal.returns-in-Moment-clause-tells
-returns-in-Moment-clause-tells c = subst (λ e. Tells (gateway_event e) c.taken.result c.args.core.now c.moment.new.self) (sym c.in-Moment.is)
-    (subst (λ s. TellsBreaks s c.args.core.now c.moment.new.self) (sym c.taken.ensures) (breaks_told c.moment.result c.args.core.now c.moment.new.self c.moment.ensures.broke))
+returns-in-Moment-clause-tells g c = subst (λ e. Tells (gateway_event e) c.taken.result c.args.core.now c.moment.new.self) (sym c.in-Moment.is)
+    (subst (λ s. TellsBreaks s c.args.core.now c.moment.new.self) (sym c.taken.ensures) (breaks_told _ c.moment.result c.args.core.now c.moment.new.self c.moment.ensures.broke))
 
 pub returns-in-BranchResult-clause-tells : goal.returns-in-BranchResult-clause-tells
-returns-in-BranchResult-clause-tells c = subst (λ e. Tells (gateway_event e) (Saw c.result.result) c.args.core.now c.result.new.self) (sym c.in-BranchResult.is)
+returns-in-BranchResult-clause-tells g c = subst (λ e. Tells (gateway_event e) (Saw c.result.result) c.args.core.now c.result.new.self) (sym c.in-BranchResult.is)
     (c.result.ensures.counted, c.result.ensures.broke)
 
 pub returns-in-Drain-clause-tells : goal.returns-in-Drain-clause-tells
-returns-in-Drain-clause-tells c = subst (λ e. Tells (gateway_event e) c.taken-in-Drain.result c.args.core.now c.drain.new.self) (sym c.in-Drain.is)
-    (subst (λ s. TellsBreaks s c.args.core.now c.drain.new.self) (sym c.taken-in-Drain.ensures) (breaks_told c.drain.result c.args.core.now c.drain.new.self c.drain.ensures.broke))
+returns-in-Drain-clause-tells g c = subst (λ e. Tells (gateway_event e) c.taken-in-Drain.result c.args.core.now c.drain.new.self) (sym c.in-Drain.is)
+    (subst (λ s. TellsBreaks s c.args.core.now c.drain.new.self) (sym c.taken-in-Drain.ensures) (breaks_told _ c.drain.result c.args.core.now c.drain.new.self c.drain.ensures.broke))
 
 pub returns-in-Closing-clause-tells : goal.returns-in-Closing-clause-tells
-returns-in-Closing-clause-tells c = subst (λ e. Tells (gateway_event e) Done c.args.core.now c.close.new.self) (sym c.in-Closing.is)
+returns-in-Closing-clause-tells g c = subst (λ e. Tells (gateway_event e) Done c.args.core.now c.close.new.self) (sym c.in-Closing.is)
     (refl)

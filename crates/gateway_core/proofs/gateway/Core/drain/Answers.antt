@@ -8,7 +8,7 @@ use Rattle.gateway_core.proofs.Keeping.{ended_keeps}
 use Rattle.gateway_core.proofs.gateway.Core.drain.Goals as goal
 
 pub returns : goal.returns
-returns c = record {
+returns g c = record {
   stands = λ opened es taken handed h. drain_served c.self.inside.streams c.drain.new.self opened es taken handed c.serving_law.ensures (subst (λ (x : GatewayValue). Served x opened es taken handed) (sym c.self.view_is) h) c.drain.ensures.ends;
   broke = subst (λ (x : GatewayValue). Breaks x c.drain.new.self c.drain.result) c.self.view_is c.drain.ensures.broke;
   keeps = subst (λ (x : GatewayValue). Keeps x c.drain.new.self) c.self.view_is (ended_keeps Drained (record c.self.inside.streams.machine { drained = true }) c.self.inside.streams c.drain.new.self refl c.drain.ensures.ends);

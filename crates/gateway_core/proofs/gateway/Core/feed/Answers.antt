@@ -9,7 +9,7 @@ use Rattle.gateway_core.proofs.Keeping.{fed_deaf, fed_fine, fed_gone, fed_heard,
 use Rattle.gateway_core.proofs.gateway.Core.feed.Goals as goal
 
 pub returns : goal.returns
-returns c = record {
+returns g c = record {
   stands = λ fed opened es taken handed h.
       fed_stands c.args.conn fed c.args.bytes.now c.self.inside.streams c.feed-fed.new.self c.feed-fed.result opened es taken handed c.serving_law.ensures c.serving_law-2.ensures
       (subst (λ (x : GatewayValue). ServedUpTo c.args.conn fed x opened es taken handed) (sym c.self.view_is) h)

@@ -9,7 +9,7 @@ use Rattle.gateway_core.proofs.Keeping.{hung_deaf, hung_fine, hung_gone, hung_ke
 use Rattle.gateway_core.proofs.gateway.Core.hang_up.Goals as goal
 
 pub returns : goal.returns
-returns c = record {
+returns g c = record {
   stands = λ opened es taken handed h. hang_up_served c.args.conn c.self.inside.streams c.hang_up.new.self c.hang_up.result opened es taken handed c.serving_law.ensures (subst (λ (x : GatewayValue). Served x opened es taken handed) (sym c.self.view_is) h)
       (subst (λ n. HangsUp n c.self.inside.streams c.hang_up.new.self c.hang_up.result) c.number.ensures c.hang_up.ensures);
   gone = subst (λ (x : GatewayValue). (c.hang_up.result ≡ Err Gone) ↔ IsDeaf c.args.conn x) c.self.view_is (hung_deaf c.args.conn c.self.inside.streams c.serving_law.ensures c.hang_up.new.self c.hang_up.result (subst (λ n. HangsUp n c.self.inside.streams c.hang_up.new.self c.hang_up.result) c.number.ensures c.hang_up.ensures));

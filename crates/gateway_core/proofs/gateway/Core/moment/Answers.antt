@@ -9,7 +9,7 @@ use Rattle.gateway_core.proofs.Keeping.{ended_keeps}
 use Rattle.gateway_core.proofs.gateway.Core.moment.Goals as goal
 
 pub returns : goal.returns
-returns c = record {
+returns g c = record {
   stands = λ opened es taken handed h. moment_served c.self.inside.streams c.moment.new.self opened es taken handed c.serving_law.ensures (subst (λ (x : GatewayValue). Served x opened es taken handed) (sym c.self.view_is) h) c.args.moment c.moment.ensures.ends;
   broke = subst (λ (x : GatewayValue). Breaks x c.moment.new.self c.moment.result) c.self.view_is c.moment.ensures.broke;
   keeps = subst (λ (x : GatewayValue). Keeps x c.moment.new.self) c.self.view_is (ended_keeps (Reached (moment_after c.self.inside.streams.machine.moment c.args.moment)) (record c.self.inside.streams.machine { moment = moment_after c.self.inside.streams.machine.moment c.args.moment }) c.self.inside.streams c.moment.new.self refl c.moment.ensures.ends);

@@ -2,4 +2,4 @@ use Rattle.gateway_core.proofs.ServedFirst.{first_served}
 use Rattle.gateway_core.proofs.gateway.Core.new.Goals as goal
 
 pub returns-clause-stands : goal.returns-clause-stands
-returns-clause-stands c = first_served c.args.plans c.new.result c.new.ensures
+returns-clause-stands g c = first_served c.args.plans c.in_ok-streams.streams c.in_ok-streams.ensures

@@ -10,7 +10,7 @@ use Rattle.gateway_core.specs.Store.{conn_of}
 use Rattle.gateway_core.proofs.gateway.Core.result.Goals as goal
 
 pub returns : goal.returns
-returns c = record {
+returns g c = record {
   stands = λ opened es taken handed h.
       let e = c.result.ensures.taken in
       result_served c.self.inside.streams c.result.new.self opened es taken handed c.serving_law.ensures (subst (λ (x : GatewayValue). Served x opened es taken handed) (sym c.self.view_is) h) c.args.call.now c.args.branch c.args.outcome e.0 c.result.result c.result.ensures.rest e.2 e.1;

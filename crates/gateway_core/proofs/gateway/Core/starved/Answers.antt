@@ -10,7 +10,7 @@ use Rattle.gateway_core.specs.Store.{conn_of}
 use Rattle.gateway_core.proofs.gateway.Core.starved.Goals as goal
 
 pub returns : goal.returns
-returns c = record {
+returns g c = record {
   stands = λ outcome opened es taken handed h.
       let e = c.starve.ensures.starved in
       starved_served c.self.inside.streams c.starve.new.self opened es taken handed c.serving_law.ensures (subst (λ (x : GatewayValue). Served x opened es taken handed) (sym c.self.view_is) h) c.args.call.now c.args.branch outcome e.0 c.starve.result c.starve.ensures.rest e.2 e.1;

@@ -8,7 +8,7 @@ use Rattle.gateway_core.proofs.Keeping.{job_rest}
 use Rattle.gateway_core.proofs.gateway.Core.take_job.Goals as goal
 
 pub returns : goal.returns
-returns c = record {
+returns g c = record {
   stands = λ opened es taken handed h. job_served c.self.inside.streams c.take_job.new.self opened es taken handed c.serving_law.ensures (subst (λ (x : GatewayValue). Served x opened es taken handed) (sym c.self.view_is) h) c.take_job.result c.take_job.ensures.taken c.take_job.ensures.rest;
   first = ap (λ (x : GatewayValue). x.machine.jobs) (sym c.self.view_is) ∙ c.take_job.ensures.taken.first;
   wanted = λ j e. c.take_job.ensures.taken.wanted j e ∙ ap (λ (x : GatewayValue). is_some (call_at j.job.call x.machine.calls).live) c.self.view_is;

@@ -9,7 +9,7 @@ use Rattle.gateway_core.proofs.Keeping.{reply_first, reply_its, reply_none, repl
 use Rattle.gateway_core.proofs.gateway.Core.take_reply.Goals as goal
 
 pub returns : goal.returns
-returns c = record {
+returns g c = record {
   stands = λ opened es taken handed h. reply_served c.self.inside.streams c.take_reply.new.self opened es taken handed c.serving_law.ensures (subst (λ (x : GatewayValue). Served x opened es taken handed) (sym c.self.view_is) h) c.args.conn c.take_reply.result
       (subst (λ n. TakesReply n c.self.inside.streams c.take_reply.new.self c.take_reply.result) c.number.ensures c.take_reply.ensures);
   first = ap (λ (x : GatewayValue). untaken_of c.args.conn x) (sym c.self.view_is) ∙ reply_first c.args.conn c.self.inside.streams c.take_reply.new.self c.serving_law.ensures c.take_reply.result (subst (λ n. TakesReply n c.self.inside.streams c.take_reply.new.self c.take_reply.result) c.number.ensures c.take_reply.ensures);

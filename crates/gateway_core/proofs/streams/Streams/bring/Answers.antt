@@ -10,7 +10,7 @@ use Rattle.gateway_core.proofs.ServingLemmas.{entered_serving, stream_is_at}
 use Rattle.gateway_core.proofs.streams.Streams.bring.Goals as goal
 
 pub invariant_of-self : goal.invariant_of-self
-invariant_of-self c =
+invariant_of-self g c =
     let v : GatewayValue = gateway_value c.self.inside.plans c.self.inside.machine c.self.inside.streams.items c.self.inside.opened in
     let i : ℕ = c.args.index in
     let lt : i < length v.streams = subst (λ (x : GatewayValue). i < length x.streams) (sym c.self.view_is) c.requires.there in
@@ -18,7 +18,7 @@ invariant_of-self c =
     entered_serving i (Request c.in-Some.request (arrival_of v.plans c.in-Some.request)) c.come.new.self v lt on c.come.ensures c.self.invariant
 
 pub invariant_of-self-in-Refused : goal.invariant_of-self-in-Refused
-invariant_of-self-in-Refused c =
+invariant_of-self-in-Refused g c =
     let v : GatewayValue = gateway_value c.self.inside.plans c.self.inside.machine c.self.inside.streams.items c.self.inside.opened in
     let i : ℕ = c.args.index in
     let lt : i < length v.streams = subst (λ (x : GatewayValue). i < length x.streams) (sym c.self.view_is) c.requires.there in
@@ -26,7 +26,7 @@ invariant_of-self-in-Refused c =
     entered_serving i (Refused c.in-Refused.refusal) c.stop.new.self v lt on c.stop.ensures c.self.invariant
 
 pub returns-in-Refused : goal.returns-in-Refused
-returns-in-Refused c =
+returns-in-Refused g c =
     let v : GatewayValue = gateway_value c.self.inside.plans c.self.inside.machine c.self.inside.streams.items c.self.inside.opened in
     let i : ℕ = c.args.index in
     let lt : i < length v.streams = subst (λ (x : GatewayValue). i < length x.streams) (sym c.self.view_is) c.requires.there in

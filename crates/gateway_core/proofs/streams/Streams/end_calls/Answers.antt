@@ -9,12 +9,12 @@ use Rattle.gateway_core.proofs.ServingLemmas.{keeps_ended, machine_kept}
 use Rattle.gateway_core.proofs.streams.Streams.end_calls.Goals as goal
 
 pub invariant_of-self : goal.invariant_of-self
-invariant_of-self c =
+invariant_of-self g c =
     let v : GatewayValue = gateway_value c.self.inside.plans c.self.inside.machine c.self.inside.streams.items c.self.inside.opened in
     machine_kept v c.end_calls.new.self (keeps_ended c.args.cause.now v.machine c.end_calls.new.self c.end_calls.ensures) c.self.invariant
 
 pub returns-clause-broke : goal.returns-clause-broke
-returns-clause-broke c =
+returns-clause-broke g c =
     let v : GatewayValue = gateway_value c.self.inside.plans c.self.inside.machine c.self.inside.streams.items c.self.inside.opened in
     subst (λ (x : GatewayValue). Breaks x (gateway_value v.plans c.end_calls.new.self v.streams v.opened) (nat_lt c.broken-before.result c.broken.result)) c.self.view_is
     (ends_breaks c.args.cause.now v (gateway_value v.plans c.end_calls.new.self v.streams v.opened) (nat_lt c.broken-before.result c.broken.result) c.self.invariant.orderly.conns_apart

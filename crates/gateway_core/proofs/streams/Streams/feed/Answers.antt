@@ -11,7 +11,7 @@ use Rattle.gateway_core.proofs.ServingLemmas.{read_at, stream_is_at}
 use Rattle.gateway_core.proofs.streams.Streams.feed.Goals as goal
 
 pub returns-then-is_over : goal.returns-then-is_over
-returns-then-is_over c =
+returns-then-is_over g c =
     let s : GatewayValue = c.args.self.now in
     let i : ℕ = c.in-Some.index in
     let x_is : c.index.result.now ≡ stream_at i s.streams = stream_is_at i c.index.result.now s.streams c.in-Some.ensures.stream_there
@@ -19,7 +19,7 @@ returns-then-is_over c =
     dropped i c.in-Some.ensures (ap (λ (x : StreamValue). is_over x.reader.reading) (sym x_is) ∙ sym c.is_over.ensures ∙ c.if-is_over.true) refl refl
 
 pub returns-in_default-read : goal.returns-in_default-read
-returns-in_default-read c =
+returns-in_default-read g c =
     let s : GatewayValue = c.args.self.now in
     let i : ℕ = c.in-Some.index in
     let x_is : c.index.result.now ≡ stream_at i s.streams = stream_is_at i c.index.result.now s.streams c.in-Some.ensures.stream_there
@@ -28,7 +28,7 @@ returns-in_default-read c =
     (c.break_conn.ensures ∙ ap (λ (v : GatewayValue). record v { machine = broken_at c.args.number v.machine }) c.in_default-read.ensures.err)
 
 pub returns-then-is_stopped : goal.returns-then-is_stopped
-returns-then-is_stopped c =
+returns-then-is_stopped g c =
     let s : GatewayValue = c.args.self.now in
     let i : ℕ = c.in-Some.index in
     let x_is : c.index.result.now ≡ stream_at i s.streams = stream_is_at i c.index.result.now s.streams c.in-Some.ensures.stream_there
@@ -42,7 +42,7 @@ returns-then-is_stopped c =
     (sym (ap (λ b. if b then Err Memory else Ok c.in-Ok.taken) stopped))
 
 pub returns : goal.returns
-returns c =
+returns g c =
     let s : GatewayValue = c.args.self.now in
     let i : ℕ = c.in-Some.index in
     let x_is : c.index.result.now ≡ stream_at i s.streams = stream_is_at i c.index.result.now s.streams c.in-Some.ensures.stream_there

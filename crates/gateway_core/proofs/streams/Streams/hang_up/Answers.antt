@@ -8,7 +8,7 @@ use Rattle.gateway_core.specs.Serving.{hung}
 use Rattle.gateway_core.proofs.streams.Streams.hang_up.Goals as goal
 
 pub returns-then-is_stopped : goal.returns-then-is_stopped
-returns-then-is_stopped c =
+returns-then-is_stopped g c =
     let w : GatewayValue = c.end_calls.new.self in
     let stopped : is_stopped_in c.args.number w.machine.conns ≡ true =
     ap (λ (v : GatewayValue). is_stopped_in c.args.number v.machine.conns) (sym c.self.view_is) ∙ sym c.is_stopped.ensures ∙ c.if-is_stopped.true in
@@ -16,7 +16,7 @@ returns-then-is_stopped c =
     (c.end_calls.ensures.ends.rest ∙ ap (λ (x : GatewayValue). record x { machine = w.machine }) c.stop_reading.ensures) (sym (ap (λ b. if b then Err Memory else Ok tt) stopped))
 
 pub returns : goal.returns
-returns c =
+returns g c =
     let w : GatewayValue = c.end_calls.new.self in
     let on : is_stopped_in c.args.number w.machine.conns ≡ false =
     ap (λ (v : GatewayValue). is_stopped_in c.args.number v.machine.conns) (sym c.self.view_is) ∙ sym c.is_stopped.ensures ∙ c.if-is_stopped.false in

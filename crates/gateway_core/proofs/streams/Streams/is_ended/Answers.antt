@@ -9,14 +9,14 @@ use Rattle.gateway_core.proofs.ServingLemmas.{ended_is, none_placed, stopped_is,
 use Rattle.gateway_core.proofs.streams.Streams.is_ended.Goals as goal
 
 pub returns-in-None : goal.returns-in-None
-returns-in-None c =
+returns-in-None g c =
     let v : GatewayValue = c.args.self.now in
     let serving : IsServing v = subst IsServing c.self.view_is c.self.invariant in
     sym (ap (λ o. option_map_or (λ (k : ConnValue). option_map_or (λ (s : StreamValue). has_ended k s) (stream_of c.args.number v.streams) true) o true)
     (none_placed c.args.number v serving c.in-None.ensures))
 
 pub returns-then-is_done : goal.returns-then-is_done
-returns-then-is_done c =
+returns-then-is_done g c =
     let v : GatewayValue = c.args.self.now in
     let i : ℕ = c.in-Some.index in
     let serving : IsServing v = subst IsServing c.self.view_is c.self.invariant in
@@ -30,7 +30,7 @@ returns-then-is_done c =
     ∙ ap (λ b. b && are_all_there (conn_at i v.machine.conns).slots) done)
 
 pub returns-else-is_done : goal.returns-else-is_done
-returns-else-is_done c =
+returns-else-is_done g c =
     let v : GatewayValue = c.args.self.now in
     let i : ℕ = c.in-Some.index in
     let serving : IsServing v = subst IsServing c.self.view_is c.self.invariant in

@@ -6,10 +6,10 @@ use Rattle.gateway_core.proofs.ServingLemmas.{deaf_none, deaf_off, listens_on, s
 use Rattle.gateway_core.proofs.streams.Streams.listening.Goals as goal
 
 pub returns-in_default : goal.returns-in_default
-returns-in_default c = deaf_none c.args.number c.args.self.now c.in_default.ensures
+returns-in_default g c = deaf_none c.args.number c.args.self.now c.in_default.ensures
 
 pub returns-then-has_hung_up : goal.returns-then-has_hung_up
-returns-then-has_hung_up c =
+returns-then-has_hung_up g c =
     let s : GatewayValue = c.args.self.now in
     let x_is : c.index.result.now ≡ stream_at c.in-Some.index s.streams = stream_is_at c.in-Some.index c.index.result.now s.streams c.in-Some.ensures.0
     (subst (λ (v : GatewayValue). c.index.result.now ≡ slice_index_or v.streams c.in-Some.index c.index.result.now) c.self.view_is c.index.ensures) in
@@ -17,12 +17,12 @@ returns-then-has_hung_up c =
     (inl (ap (λ (x : StreamValue). x.hung_up) (sym x_is) ∙ sym c.has_hung_up.ensures ∙ c.if-has_hung_up.true))
 
 pub returns-then-is_stopped : goal.returns-then-is_stopped
-returns-then-is_stopped c =
+returns-then-is_stopped g c =
     deaf_off c.args.number c.in-Some.index c.args.self.now (subst IsServing c.self.view_is c.self.invariant) c.in-Some.ensures
     (inr (ap (λ (v : GatewayValue). is_stopped_in c.args.number v.machine.conns) (sym c.self.view_is) ∙ sym c.is_stopped.ensures ∙ c.if-is_stopped.true))
 
 pub returns : goal.returns
-returns c =
+returns g c =
     let s : GatewayValue = c.args.self.now in
     let x_is : c.index.result.now ≡ stream_at c.in-Some.index s.streams = stream_is_at c.in-Some.index c.index.result.now s.streams c.in-Some.ensures.0
     (subst (λ (v : GatewayValue). c.index.result.now ≡ slice_index_or v.streams c.in-Some.index c.index.result.now) c.self.view_is c.index.ensures) in

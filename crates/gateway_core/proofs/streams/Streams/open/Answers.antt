@@ -1,12 +1,11 @@
 use Rattle.std.proofs.Common.{sym, ap, ◌++◌, ◌∷◌, [], ◌∙◌}
 use Rattle.gateway_core.specs.Serving.{gateway_value}
 use Rattle.gateway_core.proofs.ServingLemmas.{opened_serving}
-use Rattle.gateway_core.proofs.StoreLemmas.{on_ok}
 use Rattle.gateway_core.proofs.streams.Streams.open.Goals as goal
 
 pub invariant_of-self-2 : goal.invariant_of-self-2
-invariant_of-self-2 c =
+invariant_of-self-2 g c =
     opened_serving (gateway_value c.self.inside.plans c.self.inside.machine c.self.inside.streams.items c.self.inside.opened) c.open.new.self c.push_reserved.new.self.items
     (c.self.invariant)
-    (on_ok c.open.result _ c.open.ensures.ok (sym c.is_err-else-is_err.ensures.value ∙ c.if-is_err-2.false))
-    (c.push_reserved.ensures.items ∙ ap (λ ss. ss ++ c.new.result ∷ []) c.reserve-room.ensures.items ∙ ap (λ s. c.self.inside.streams.items ++ s ∷ []) c.new.ensures)
+    c.in-Ok-open.ensures.ok
+    (c.push_reserved.ensures.items ∙ ap (λ ss. ss ++ c.new.result ∷ []) c.reserve.ensures.items ∙ ap (λ s. c.self.inside.streams.items ++ s ∷ []) c.new.ensures)

@@ -7,7 +7,7 @@ use Rattle.gateway_core.proofs.ServingLemmas.{read_at, stream_is_at, stream_kept
 use Rattle.gateway_core.proofs.streams.Streams.read.Goals as goal
 
 pub invariant_of-self : goal.invariant_of-self
-invariant_of-self c =
+invariant_of-self g c =
     let v : GatewayValue = gateway_value c.self.inside.plans c.self.inside.machine c.self.inside.streams.items c.self.inside.opened in
     let lt : c.args.index < length v.streams = subst (λ (x : GatewayValue). c.args.index < length x.streams) (sym c.self.view_is) c.requires in
     let x_is : c.index_mut.result.now ≡ stream_at c.args.index v.streams = stream_is_at c.args.index c.index_mut.result.now v.streams lt c.index_mut.ensures.value in
@@ -17,7 +17,7 @@ invariant_of-self c =
     c.self.invariant
 
 pub returns-clause-ok : goal.returns-clause-ok
-returns-clause-ok c =
+returns-clause-ok g c =
     let v : GatewayValue = gateway_value c.self.inside.plans c.self.inside.machine c.self.inside.streams.items c.self.inside.opened in
     let lt : c.args.index < length v.streams = subst (λ (x : GatewayValue). c.args.index < length x.streams) (sym c.self.view_is) c.requires in
     let x_is : c.index_mut.result.now ≡ stream_at c.args.index v.streams = stream_is_at c.args.index c.index_mut.result.now v.streams lt c.index_mut.ensures.value in
@@ -26,7 +26,7 @@ returns-clause-ok c =
     (reads_at c.read.result c.args.index c.args.bytes.now c.read.new.self v (subst (λ (s : StreamValue). IfOk c.read.result (λ r. ReadsOn r.0 r.1 c.args.bytes.now s c.read.new.self)) x_is c.read.ensures.ok))
 
 pub returns-clause-err : goal.returns-clause-err
-returns-clause-err c =
+returns-clause-err g c =
     let v : GatewayValue = gateway_value c.self.inside.plans c.self.inside.machine c.self.inside.streams.items c.self.inside.opened in
     let lt : c.args.index < length v.streams = subst (λ (x : GatewayValue). c.args.index < length x.streams) (sym c.self.view_is) c.requires in
     let x_is : c.index_mut.result.now ≡ stream_at c.args.index v.streams = stream_is_at c.args.index c.index_mut.result.now v.streams lt c.index_mut.ensures.value in

@@ -5,10 +5,10 @@ use Rattle.gateway_core.proofs.ServingLemmas.{conn_numbered, conn_there, keeps_r
 use Rattle.gateway_core.proofs.streams.Streams.take_reply.Goals as goal
 
 pub returns-in_default : goal.returns-in_default
-returns-in_default c = absent (none_placed c.args.number c.args.self.now (subst IsServing c.self.view_is c.self.invariant) c.in_default.ensures) refl refl
+returns-in_default g c = absent (none_placed c.args.number c.args.self.now (subst IsServing c.self.view_is c.self.invariant) c.in_default.ensures) refl refl
 
 pub invariant_of-self : goal.invariant_of-self
-invariant_of-self c =
+invariant_of-self g c =
     let v : GatewayValue = gateway_value c.self.inside.plans c.self.inside.machine c.self.inside.streams.items c.self.inside.opened in
     let p : IsPlaced c.args.number v.streams (Some c.in-Some.index) =
     subst (λ (x : GatewayValue). IsPlaced c.args.number x.streams (Some c.in-Some.index)) (sym c.self.view_is) c.in-Some.ensures in
@@ -16,7 +16,7 @@ invariant_of-self c =
     (keeps_reply c.in-Some.index v.machine c.take_reply.new.self c.take_reply.result (conn_there c.args.number c.in-Some.index v c.self.invariant p) c.take_reply.ensures) c.self.invariant
 
 pub returns : goal.returns
-returns c =
+returns g c =
     let v : GatewayValue = gateway_value c.self.inside.plans c.self.inside.machine c.self.inside.streams.items c.self.inside.opened in
     let p : IsPlaced c.args.number v.streams (Some c.in-Some.index) =
     subst (λ (x : GatewayValue). IsPlaced c.args.number x.streams (Some c.in-Some.index)) (sym c.self.view_is) c.in-Some.ensures in

@@ -10,7 +10,7 @@ use Rattle.gateway_core.proofs.ServingLemmas.{none_placed, untaken_is}
 use Rattle.gateway_core.proofs.streams.Streams.untaken.Goals as goal
 
 pub returns-in-Some : goal.returns-in-Some
-returns-in-Some c =
+returns-in-Some g c =
     let v : GatewayValue = c.args.self.now in
     let serving : IsServing v = subst IsServing c.self.view_is c.self.invariant in
     c.untaken.ensures ∙ ap (λ (w : GatewayValue). length (front (slots_at c.in-Some.index w))) c.self.view_is
@@ -20,7 +20,7 @@ returns-in-Some c =
     slots_at i w = (conn_at i w.machine.conns).slots
 
 pub returns-in-None : goal.returns-in-None
-returns-in-None c =
+returns-in-None g c =
     let v : GatewayValue = c.args.self.now in
     let serving : IsServing v = subst IsServing c.self.view_is c.self.invariant in
     sym (ap (λ o. length (option_map_or (λ (k : ConnValue). front k.slots) o [])) (none_placed c.args.number v serving c.in-None.ensures))

@@ -6,7 +6,7 @@ use Rattle.gateway_run.proofs.Starting.{all_started, log_same, one_started}
 use Rattle.gateway_run.proofs.log.Log.start.Goals as goal
 
 pub loop-job-preserved : goal.loop-job-preserved
-loop-job-preserved c = record {
+loop-job-preserved g c = record {
   started = one_started c.args.core.now c.loop-job.core c.take_job.new.self c.take_job.result c.loop-job.invariant.started c.take_job.ensures.stands c.take_job.ensures.first c.take_job.ensures.rest;
   opened_is = c.loop-job.invariant.opened_is;
   queued_is = c.loop-job.invariant.queued_is;
@@ -22,7 +22,7 @@ loop-job-preserved c = record {
 }
 
 pub returns : goal.returns
-returns c =
+returns g c =
     let none : c.take_job.new.self.machine.jobs ≡ [] = sym c.in_default.ensures.first ∙ c.take_job.ensures.none c.in_default.is in
     let all = all_started c.args.core.now c.take_job.new.self
     (one_started c.args.core.now c.loop-job.core c.take_job.new.self c.take_job.result c.loop-job.invariant.started c.take_job.ensures.stands c.take_job.ensures.first c.take_job.ensures.rest) none in

@@ -4,7 +4,7 @@ use Rattle.gateway_run.proofs.Starting.{Started}
 use Rattle.gateway_run.proofs.log.Log.start.Given as goal
 
 abbrev pub invariant-loop-job : goal.invariant-loop-job
-invariant-loop-job l = record {
+invariant-loop-job g l = record {
   started : Started l.initial.core l.core;
   opened_is : l.self-inside.opened ≡ l.initial.self-inside.opened;
   queued_is : l.self-inside.queued ≡ l.initial.self-inside.queued;
@@ -13,4 +13,4 @@ invariant-loop-job l = record {
 }
 
 abbrev pub decreases-loop-job : goal.decreases-loop-job
-decreases-loop-job l = length l.core.machine.jobs
+decreases-loop-job g l = length l.core.machine.jobs

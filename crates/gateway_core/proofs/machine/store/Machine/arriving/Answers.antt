@@ -4,9 +4,9 @@ use Rattle.gateway_core.proofs.ArrivalLemmas.{no_call, timely}
 use Rattle.gateway_core.proofs.machine.store.Machine.arriving.Goals as goal
 
 pub new-requires-clause-timely : goal.new-requires-clause-timely
-new-requires-clause-timely c =
+new-requires-clause-timely g c =
     timely c.timeout_law.ensures c.args.request c.is_some.result c.in_ok-verdict.verdict c.in-Ask.timeout c.in-Ask.request_id c.in_ok-verdict.ensures.first_rule c.in-Ask.is
 
 pub unreachable-requires : goal.unreachable-requires
-unreachable-requires c =
+unreachable-requires g c =
     no_call c.args.request c.is_some.result c.in_ok-verdict.verdict c.in-Ask.timeout c.in-Ask.request_id c.in_ok-verdict.ensures.first_rule c.in-Ask.is (c.is_some.ensures ∙ ap is_some c.in-None-plan.is)

@@ -4,4 +4,4 @@ use Rattle.gateway_core.proofs.StoreLemmas.{waiting_less}
 use Rattle.gateway_core.proofs.machine.store.Machine.break_conn.Goals as goal
 
 pub invariant_of-self : goal.invariant_of-self
-invariant_of-self c = (let room = c.self.invariant.0 in omega (arith, room, waiting_less c.args.number c.self.inside.calls.items, ap waiting c.give_up.ensures), c.self.invariant.1)
+invariant_of-self g c = (let room = c.self.invariant.0 in omega (arith, room, waiting_less c.args.number c.self.inside.calls.items, ap waiting c.give_up.ensures), c.self.invariant.1)

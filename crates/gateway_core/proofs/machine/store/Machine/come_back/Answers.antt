@@ -11,10 +11,10 @@ use Rattle.gateway_core.proofs.StarveSteps.{back_ready}
 use Rattle.gateway_core.proofs.machine.store.Machine.come_back.Goals as goal
 
 pub returns-in_default : goal.returns-in_default
-returns-in_default c = inl (ap (λ x. has_out x c.args.branch) (call_missing c.args.id.now c.args.self.now.calls c.in_default.ensures), c.unknown.ensures, refl)
+returns-in_default g c = inl (ap (λ x. has_out x c.args.branch) (call_missing c.args.id.now c.args.self.now.calls c.in_default.ensures), c.unknown.ensures, refl)
 
 pub returns-then-not-is_out : goal.returns-then-not-is_out
-returns-then-not-is_out c =
+returns-then-not-is_out g c =
     let s : MachineValue = c.args.self.now in
     let items : c.self.inside.calls.items ≡ s.calls = ap (λ (m : MachineValue). m.calls) c.self.view_is in
     inl (
@@ -26,7 +26,7 @@ returns-then-not-is_out c =
     )
 
 pub give_back-requires-clause-kept : goal.give_back-requires-clause-kept
-give_back-requires-clause-kept c =
+give_back-requires-clause-kept g c =
     let s : MachineValue = c.args.self.now in
     let i : ℕ = c.in-Some.index in
     let items : c.self.inside.calls.items ≡ s.calls = ap (λ (m : MachineValue). m.calls) c.self.view_is in
@@ -38,7 +38,7 @@ give_back-requires-clause-kept c =
     c.break_if.ensures out).0
 
 pub give_back-requires-clause-out : goal.give_back-requires-clause-out
-give_back-requires-clause-out c =
+give_back-requires-clause-out g c =
     let s : MachineValue = c.args.self.now in
     let i : ℕ = c.in-Some.index in
     let items : c.self.inside.calls.items ≡ s.calls = ap (λ (m : MachineValue). m.calls) c.self.view_is in
@@ -50,7 +50,7 @@ give_back-requires-clause-out c =
     c.break_if.ensures out).1
 
 pub give_back-requires-clause-over : goal.give_back-requires-clause-over
-give_back-requires-clause-over c =
+give_back-requires-clause-over g c =
     let s : MachineValue = c.args.self.now in
     let i : ℕ = c.in-Some.index in
     let items : c.self.inside.calls.items ≡ s.calls = ap (λ (m : MachineValue). m.calls) c.self.view_is in
@@ -62,7 +62,7 @@ give_back-requires-clause-over c =
     c.break_if.ensures out).2
 
 pub returns : goal.returns
-returns c =
+returns g c =
     let s : MachineValue = c.args.self.now in
     let i : ℕ = c.in-Some.index in
     let items : c.self.inside.calls.items ≡ s.calls = ap (λ (m : MachineValue). m.calls) c.self.view_is in

@@ -9,7 +9,7 @@ use Rattle.gateway_core.proofs.StoreLemmas.{item_is, broke_at, on_err}
 use Rattle.gateway_core.proofs.machine.store.Machine.end_call.Goals as goal
 
 pub returns-then-is_err : goal.returns-then-is_err
-returns-then-is_err c =
+returns-then-is_err g c =
     let s : MachineValue = c.args.self.now in
     let i : ℕ = c.args.index in
     let x : KeptValue = c.index_mut.result.now in

@@ -2,4 +2,4 @@ use Rattle.gateway_core.specs.Ends.{EndedBelow}
 use Rattle.gateway_core.proofs.machine.store.Machine.end_calls.Given as goal
 
 abbrev pub invariant-loop-index : goal.invariant-loop-index
-invariant-loop-index l = EndedBelow l.cause l.index l.fn.self l.self
+invariant-loop-index g l = EndedBelow l.cause l.index l.fn.self l.self

@@ -11,10 +11,10 @@ use Rattle.gateway_core.proofs.ResultLemmas.{found_out, next_waits, waits_then, 
 use Rattle.gateway_core.proofs.machine.store.Machine.result.Goals as goal
 
 pub returns-in_default : goal.returns-in_default
-returns-in_default c = inl (ap (λ x. has_out x c.args.branch) (call_missing c.args.id.now c.args.self.now.calls c.in_default.ensures), c.unknown.ensures, refl)
+returns-in_default g c = inl (ap (λ x. has_out x c.args.branch) (call_missing c.args.id.now c.args.self.now.calls c.in_default.ensures), c.unknown.ensures, refl)
 
 pub returns-then-not-is_out : goal.returns-then-not-is_out
-returns-then-not-is_out c =
+returns-then-not-is_out g c =
     let s : MachineValue = c.args.self.now in
     let items : c.self.inside.calls.items ≡ s.calls = ap (λ (m : MachineValue). m.calls) c.self.view_is in
     inl (
@@ -26,7 +26,7 @@ returns-then-not-is_out c =
     )
 
 pub start-requires : goal.start-requires
-start-requires c =
+start-requires g c =
     let items : c.self.inside.calls.items ≡ c.args.self.now.calls = ap (λ (m : MachineValue). m.calls) c.self.view_is in
     let x_is : c.index_mut.result.now ≡ kept_at c.in-Some.index c.self.inside.calls.items =
     item_is c.self.inside.calls.items c.self.inside.calls.items c.in-Some.index c.index_mut.result.now refl (subst (λ xs. c.in-Some.index < length xs) (sym items) c.in-Some.ensures.0) c.index_mut.ensures.value in
@@ -40,7 +40,7 @@ start-requires c =
     )
 
 pub invariant_of-self : goal.invariant_of-self
-invariant_of-self c =
+invariant_of-self g c =
     let items : c.self.inside.calls.items ≡ c.args.self.now.calls = ap (λ (m : MachineValue). m.calls) c.self.view_is in
     let x_is : c.index_mut.result.now ≡ kept_at c.in-Some.index c.self.inside.calls.items =
     item_is c.self.inside.calls.items c.self.inside.calls.items c.in-Some.index c.index_mut.result.now refl (subst (λ xs. c.in-Some.index < length xs) (sym items) c.in-Some.ensures.0) c.index_mut.ensures.value in (
@@ -58,7 +58,7 @@ invariant_of-self c =
     )
 
 pub returns : goal.returns
-returns c =
+returns g c =
     let s : MachineValue = c.args.self.now in
     let i : ℕ = c.in-Some.index in
     let items : c.self.inside.calls.items ≡ s.calls = ap (λ (m : MachineValue). m.calls) c.self.view_is in

@@ -3,7 +3,7 @@ use Rattle.gateway_core.proofs.Keeping.{unknown_starved}
 use Rattle.gateway_core.proofs.machine.store.Machine.starve.Goals as goal
 
 pub returns : goal.returns
-returns c = record {
+returns g c = record {
   taken = (c.come_back-took.new.self, c.come_back-took.ensures, c.forget_unless.ensures.forgets);
   unknown = λ e. c.forget_unless.ensures.kept e ∙ unknown_starved c.args.id.now c.args.branch c.args.self.now c.come_back-took.new.self c.come_back-took.result c.come_back-took.ensures e;
 }

@@ -3,7 +3,7 @@ use Rattle.gateway_core.proofs.Keeping.{unknown_result}
 use Rattle.gateway_core.proofs.machine.store.Machine.take_result.Goals as goal
 
 pub returns : goal.returns
-returns c = record {
+returns g c = record {
   taken = (c.result-took.new.self, c.result-took.ensures, c.forget_unless.ensures.forgets);
   unknown = λ e. c.forget_unless.ensures.kept e ∙ unknown_result c.args.id.now c.args.branch c.args.outcome c.args.self.now c.result-took.new.self c.result-took.result c.result-took.ensures e;
 }

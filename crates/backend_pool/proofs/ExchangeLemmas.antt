@@ -1,0 +1,85 @@
+-- Lemmas on what was written and read in an exchange.
+use Rattle.std.specs.Prelude.{◌≡◌, ℕ, ◌+◌, ◌-◌, ◌<◌, ◌≤◌, ◌⊎◌, List, [], ◌++◌, length, take, drop, min, Option, Some, None, MatchOption}
+use Rattle.std.proofs.Common.{arith, subst, ap, ◌∙◌, append_assoc, length-append, ⊎_elim}
+use Rattle.http_pieces.specs.Cut.{Complete, IsCut}
+use Rattle.http_pieces.specs.ReplyHead.{reply_kind}
+use Rattle.http_pieces.specs.ReplyReader.{HasReadReply, HasReadReplyTo, ReplyReading, ReplyReaderValue, Partial, Waiting, Stopped, Done}
+use Rattle.http_pieces.specs.declared.reply.HttpReply.{HttpReply}
+use Rattle.backend_pool.specs.declared.asked.Asked.TheVariants.{Reply}
+use Rattle.backend_pool.specs.Exchange.{BeginsWithReply, ReadsReply, TakesIn}
+use Rattle.std.proofs.Math.Seq.{take-add}
+use Rattle.std.proofs.lemmas.List.{take_all, length-take, length-drop, take-append-drop, take-append-le, drop-drop, drop_all}
+use Rattle.std.proofs.KnownBytes.{Consumes-trans}
+use Rattle.std.proofs.lemmas.Grind.{common_steps}
+use Rattle.std.specs.Io.KnownBytes.{Appends, Consumes}
+
+pub Appends-more : (old mid new : Option (List ℕ)) (n k : ℕ) (text : List ℕ)
+    → Appends old mid (take n text) → Appends mid new (take k (take (length text - n) (drop n text))) → Appends old new (take (n + k) text)
+Appends-more None mid new n k text s a = tt
+Appends-more (Some xs) None new n k text s a = absurd s
+Appends-more (Some xs) (Some ys) None n k text s a = absurd a
+Appends-more (Some xs) (Some ys) (Some zs) n k text s a =
+    let cut = take-add n k text in
+    let whole : take (length text - n) (drop n text) ≡ drop n text = take_all _ _ (omega (arith, length-drop n text)) in
+    grind (arith, common_steps)
+
+-- ---- what was read
+
+reply_cut : (reading : ReplyReading) (text : List ℕ) (reply : HttpReply) → HasReadReplyTo reading text (Some reply) → BeginsWithReply text reply
+reply_cut (Partial left) text reply h = absurd (cc h.0)
+reply_cut (Waiting q) text reply h = absurd (cc h.0)
+reply_cut (Stopped f) text reply h = absurd (cc h.0)
+reply_cut Done text reply h =
+    let same : h.0 ≡ reply = cc in (h.1, subst (λ q. IsCut reply_kind text (Complete q h.1)) same h.3)
+
+abbrev pub RepliesStay : Type 0
+RepliesStay =
+    (text more : List ℕ) (q : HttpReply) (rest : List ℕ) → IsCut reply_kind text (Complete q rest) → IsCut reply_kind (text ++ more) (Complete q (rest ++ more))
+
+-- a text that begins with a reply does so with more behind it
+begins_longer : RepliesStay → (bytes chunk : List ℕ) (n : ℕ) (reply : HttpReply) → BeginsWithReply (bytes ++ take n chunk) reply → BeginsWithReply (bytes ++ chunk) reply
+begins_longer stay bytes chunk n reply b =
+    let longer = stay (bytes ++ take n chunk) (drop n chunk) reply b.0 b.1 in
+    let whole : (bytes ++ take n chunk) ++ drop n chunk ≡ bytes ++ chunk = append_assoc bytes (take n chunk) (drop n chunk) ∙ ap (λ xs. bytes ++ xs) (take-append-drop n chunk) in
+    (b.0 ++ drop n chunk, subst (λ text. IsCut reply_kind text (Complete reply (b.0 ++ drop n chunk))) whole longer)
+
+abbrev pub MayHaveReply : ReplyReaderValue → List ℕ → Option HttpReply → Type 0
+MayHaveReply reader text reply = MatchOption reply (HasReadReply reader text None) (λ q. HasReadReply reader text (Some q))
+
+-- a reader that has no reply took the whole piece
+pub takes_in : RepliesStay → (bytes piece : List ℕ) (n : ℕ) (pushed reader : ReplyReaderValue) (reply : Option HttpReply)
+    → (n ≡ length piece) ⊎ ((q : HttpReply) × (pushed.reading ≡ Waiting q)) → ((q : HttpReply) → pushed.reading ≡ Waiting q → reply ≡ Some q)
+    → MayHaveReply reader (bytes ++ take n piece) reply → TakesIn reader (bytes ++ piece) reply
+takes_in stay bytes piece n pushed reader None all waits h =
+    ⊎_elim (λ e. subst (λ xs. HasReadReply reader (bytes ++ xs) None) (take_all n piece (omega (arith, e))) h) (λ w. absurd (cc (waits w.0 w.1))) all
+takes_in stay bytes piece n pushed reader (Some q) all waits h = begins_longer stay bytes piece n q (reply_cut reader.reading _ q h.reads)
+
+-- ---- a reader over memory
+
+-- what the first bytes of those left and the rest of the buffer give is those bytes
+pub step_given : (bytes buffer given : List ℕ) (at n : ℕ) → given ≡ take n (drop at bytes) → at + n ≤ length bytes
+    → drop at bytes ≡ take n (given ++ drop n buffer) ++ drop (at + n) bytes
+step_given bytes buffer given at n given_is fits =
+    let size : length given ≡ n = omega (arith, ap length given_is, length-take n (drop at bytes), length-drop at bytes) in
+    let whole : take n given ≡ given = take_all n given (omega (arith, size)) in
+    let first : take n (given ++ drop n buffer) ≡ given = take-append-le n given (drop n buffer) (omega (arith, size)) ∙ whole in
+    let rest : drop n (drop at bytes) ≡ drop (at + n) bytes = drop-drop n at bytes in
+    let joined : take n (drop at bytes) ++ drop n (drop at bytes) ≡ drop at bytes = take-append-drop n (drop at bytes) in
+    cc
+
+-- where none is given to a buffer with room, none is left
+pub step_ended : (bytes buffer given : List ℕ) (at n step : ℕ) → given ≡ take n (drop at bytes) → n ≡ min (min (length bytes - at) (length buffer)) step
+    → 0 < step → n ≡ 0 → 0 < length (given ++ drop n buffer) → drop (at + n) bytes ≡ []
+step_ended bytes buffer given at n step given_is n_is some none room =
+    let short : length given ≤ 0 = omega (arith, ap length given_is, length-take n (drop at bytes)) in
+    let filled : 0 < length buffer = omega (arith, length-append given (drop n buffer), length-drop n buffer) in
+    drop_all (at + n) bytes (omega arith)
+
+-- ---- one reply
+
+-- what was read up to a reply
+pub reads_reply : (old mid new : Option (List ℕ)) (bytes piece : List ℕ) (given reply : HttpReply)
+    → Consumes old mid bytes → Consumes mid new piece → BeginsWithReply (bytes ++ piece) given → Reply given ≡ Reply reply → ReadsReply old new reply
+reads_reply old mid new bytes piece given reply first second begins is =
+    let same : given ≡ reply = cc in
+    (bytes ++ piece, Consumes-trans old mid new bytes piece first second, subst (λ q. BeginsWithReply (bytes ++ piece) q) same begins)

@@ -1,0 +1,3 @@
+mod WorkLemmas
+mod ExchangeLemmas
+mod BookLemmas

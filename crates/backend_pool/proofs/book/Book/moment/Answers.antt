@@ -1,0 +1,15 @@
+use Rattle.std.proofs.Common.{arith}
+use Rattle.gateway_core.specs.Events.{Moment}
+use Rattle.backend_pool.proofs.BookLemmas.{reached_by, takes_event}
+use Rattle.backend_pool.proofs.book.Book.moment.Goals as goal
+
+pub invariant_of-self : goal.invariant_of-self
+invariant_of-self g c =
+    let book = c.self.inside in
+    reached_by (Moment c.args.moment) book.core c.moment.new.self book.bytes book.jobs book.results book.bytes book.results c.moment.ensures.stands (omega arith) (omega arith) c.self.invariant
+
+pub returns-clause-stands : goal.returns-clause-stands
+returns-clause-stands g c =
+    let book = c.self.inside in
+    takes_event (Moment c.args.moment) c.args.self.now book.core c.moment.new.self book.bytes book.jobs book.results book.bytes book.results c.self.view_is c.moment.ensures.stands (omega arith)
+    (omega arith)

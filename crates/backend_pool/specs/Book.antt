@@ -1,0 +1,104 @@
+-- The core with its three totals, and the events that it stands for.
+use Rattle.std.specs.Prelude.{◌≡◌, ⊤, ℕ, ◌+◌, ◌^◌, true, false, List, [], ◌∷◌, ◌++◌, length, Option, Some, None, Result, Err, OnOk, ◌↔◌, is_some, option_map, option_to_list}
+use Rattle.gateway_core.specs.declared.entry.ReplyEntry.{ReplyEntry}
+use Rattle.gateway_core.specs.declared.fault.Seen.TheVariants.{Counted, Unknown}
+use Rattle.gateway_core.specs.declared.fault.StepFault.{StepFault}
+use Rattle.gateway_core.specs.declared.fault.StepFault.TheVariants.{Gone, Memory}
+use Rattle.gateway_core.specs.declared.fault.Took.{Took}
+use Rattle.gateway_core.specs.Events.{Before, BranchResult, GatewayEvent, Piece}
+use Rattle.gateway_core.specs.Gateway.{GatewayValue, is_broken_conn}
+use Rattle.gateway_core.specs.Job.{HandedJob, JobValue}
+use Rattle.gateway_core.specs.Reply.{ReplyValue}
+use Rattle.gateway_core.specs.Served.{Served}
+use Rattle.gateway_core.specs.Serving.{Breaks, IsDeaf}
+use Rattle.gateway_core.specs.Store.{call_at}
+use Rattle.backend_pool.specs.declared.shares.Totals.{Totals}
+use Rattle.backend_pool.specs.declared.next_reply.NextReply.{NextReply}
+use Rattle.backend_pool.specs.declared.next_reply.NextReply.TheVariants.{Ready, Pending, Over}
+
+-- the core, and the totals of bytes, jobs and results
+pub record BookValue : Type 0 where
+  pub core : GatewayValue
+  pub bytes : ℕ
+  pub jobs : ℕ
+  pub results : ℕ
+
+abbrev pub book_value : GatewayValue → ℕ → ℕ → ℕ → BookValue
+book_value core bytes jobs results = record { core = core; bytes = bytes; jobs = jobs; results = results }
+
+abbrev pub totals_of : BookValue → Totals
+totals_of b = record { bytes = b.bytes; jobs = b.jobs; results = b.results }
+
+-- no total is greater (this project's choice)
+abbrev pub most_total : ℕ
+most_total = 2 ^ 62
+
+-- ---- totals
+
+-- the bytes that an event brings
+abbrev pub bytes_in : GatewayEvent → ℕ
+bytes_in (Piece conn bytes) = length bytes
+bytes_in _ = 0
+
+-- the results that an event brings
+abbrev pub results_in : GatewayEvent → ℕ
+results_in (BranchResult conn request branch outcome) = 1
+results_in _ = 0
+
+abbrev pub bytes_of : Before → ℕ
+bytes_of [] = 0
+bytes_of (e ∷ before) = bytes_of before + bytes_in e
+
+abbrev pub results_of : Before → ℕ
+results_of [] = 0
+results_of (e ∷ before) = results_of before + results_in e
+
+-- ---- what a book stands for
+
+-- the core after these events, newest first, with these replies and jobs taken; and the totals are those of the pieces, the jobs taken and the results
+pub record BookStands (b : BookValue) (opened : List ℕ) (events : Before) (taken : ℕ → List ReplyEntry) (handed : List JobValue) : Type 0 where
+  pub served : Served b.core opened events taken handed
+  pub bytes_are : b.bytes ≡ bytes_of events
+  pub jobs_are : b.jobs ≡ length handed
+  pub results_are : b.results ≡ results_of events
+
+-- whatever it stood for, it stands for that and this event more
+abbrev pub TakesEvent : GatewayEvent → BookValue → BookValue → Type 0
+TakesEvent e b c =
+    (opened : List ℕ) (events : Before) (taken : ℕ → List ReplyEntry) (handed : List JobValue) → BookStands b opened events taken handed
+    → BookStands c opened (e ∷ events) taken handed
+
+-- there are events that it stands for
+abbrev pub IsReached : BookValue → Type 0
+IsReached b =
+    (opened : List ℕ) × (events : Before) × (taken : ℕ → List ReplyEntry) × (handed : List JobValue) × BookStands b opened events taken handed
+
+-- ---- what a call tells
+
+-- how a step of one connection went: `Gone` exactly where none of its pieces is taken, and then nothing changed; `Memory` only where it is now broken
+pub record TellsStep (conn : ℕ) (result : Result ⊤ StepFault) (v w : GatewayValue) : Type 0 where
+  pub gone : (result ≡ Err Gone) ↔ IsDeaf conn v
+  pub unchanged : result ≡ Err Gone → w ≡ v
+  pub memory : result ≡ Err Memory → is_broken_conn conn w ≡ true
+  pub unbroken : OnOk result (is_broken_conn conn w ≡ false)
+
+-- a connection breaks only by a result that counts, and nothing changes by one of a branch that is not out
+pub record TellsTook (took : Took) (v w : GatewayValue) : Type 0 where
+  pub counted : took.broke ≡ true → took.seen ≡ Counted
+  pub broke : Breaks v w took.broke
+  pub unknown : took.seen ≡ Unknown → w ≡ v
+
+abbrev pub job_list : Option HandedJob → List JobValue
+job_list job = option_to_list (option_map (λ j. j.job) job)
+
+-- the first job that waits is given, and whether it is wanted; none only where none waits
+pub record GivesJob (job : Option HandedJob) (v w : GatewayValue) : Type 0 where
+  pub first : v.machine.jobs ≡ job_list job ++ w.machine.jobs
+  pub none : job ≡ None → v.machine.jobs ≡ []
+  pub wanted : (j : HandedJob) → job ≡ Some j → j.wanted ≡ is_some (call_at j.job.call v.machine.calls).live
+
+-- the reply that is given, if one is
+abbrev pub reply_given : NextReply → Option ReplyValue
+reply_given (Ready reply) = Some reply
+reply_given Pending = None
+reply_given Over = None

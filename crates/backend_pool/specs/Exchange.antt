@@ -1,0 +1,25 @@
+-- A request and its reply over one connection.
+use Rattle.std.specs.Prelude.{ℕ, ◌≤◌, Bool, true, false, List, Option, Some, None, length, take}
+use Rattle.std.specs.Io.KnownBytes.{Appends, Consumes}
+use Rattle.http_pieces.specs.Cut.{Complete, IsCut}
+use Rattle.http_pieces.specs.ReplyHead.{reply_kind}
+use Rattle.http_pieces.specs.ReplyReader.{HasReadReply, ReplyReaderValue}
+use Rattle.http_pieces.specs.declared.reply.HttpReply.{HttpReply}
+
+-- known bytes grew by the text, or by the first few of it
+abbrev pub Sends : Option (List ℕ) → Option (List ℕ) → List ℕ → Bool → Type 0
+Sends old new text true = Appends old new text
+Sends old new text false = (n : ℕ) × (n ≤ length text) × Appends old new (take n text)
+
+-- the text begins with this reply
+abbrev pub BeginsWithReply : List ℕ → HttpReply → Type 0
+BeginsWithReply text reply = (rest : List ℕ) × IsCut reply_kind text (Complete reply rest)
+
+-- bytes were read that begin with this reply
+abbrev pub ReadsReply : Option (List ℕ) → Option (List ℕ) → HttpReply → Type 0
+ReadsReply old new reply = (bytes : List ℕ) × Consumes old new bytes × BeginsWithReply bytes reply
+
+-- the text has no whole reply yet and was read by this reader, or begins with the reply that is given
+abbrev pub TakesIn : ReplyReaderValue → List ℕ → Option HttpReply → Type 0
+TakesIn reader text None = HasReadReply reader text None
+TakesIn reader text (Some reply) = BeginsWithReply text reply

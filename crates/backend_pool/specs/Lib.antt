@@ -1,0 +1,3 @@
+pub mod Work
+pub mod Exchange
+pub mod Book

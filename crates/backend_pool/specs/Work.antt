@@ -1,0 +1,82 @@
+-- What a worker does with the jobs that it takes.
+use Rattle.std.specs.Prelude.{◌≡◌, ℕ, ◌≤◌, ⊤, Bool, true, false, List, [], ◌∷◌, ◌++◌, length, Option, Some, None, MatchBool}
+use Rattle.std.specs.List.{AllZip}
+use Rattle.connect_codec.specs.declared.answer.Outcome.{Outcome}
+use Rattle.connect_codec.specs.Outcome.{outcome_of}
+use Rattle.gateway_core.specs.Job.{HandedJob}
+use Rattle.backend_pool.specs.declared.asked.Asked.{Asked}
+use Rattle.backend_pool.specs.declared.asked.Asked.TheVariants.{Reply, Lost, NoMemory}
+use Rattle.backend_pool.specs.declared.desk_record.DeskRecord.{DeskRecord}
+
+-- ---- what is recorded of a job
+
+-- the outcome that an answer comes to; for want of memory there is none
+abbrev pub outcome_of_asked : Asked → Option Outcome
+outcome_of_asked (Reply reply) = Some (outcome_of (Some reply))
+outcome_of_asked Lost = Some (outcome_of None)
+outcome_of_asked NoMemory = None
+
+-- the answer is one that the backend gives for the job; a job that is not wanted is not asked, and counts as lost
+abbrev pub ComesOf : (HandedJob → Asked → Type 0) → HandedJob → Asked → Type 0
+ComesOf gives job asked = MatchBool job.wanted (gives job asked) (asked ≡ Lost)
+
+-- the outcome is that of such an answer; there is none where no memory was found for one
+abbrev pub IsOutcomeOf : (HandedJob → Asked → Type 0) → HandedJob → Option Outcome → Type 0
+IsOutcomeOf gives job None = ⊤
+IsOutcomeOf gives job (Some outcome) = (asked : Asked) × ComesOf gives job asked × (outcome_of_asked asked ≡ Some outcome)
+
+-- the record has the job's call and branch, and such an outcome
+pub record IsRecordOf (gives : HandedJob → Asked → Type 0) (job : HandedJob) (entry : DeskRecord) : Type 0 where
+  pub call_is : entry.call ≡ job.job.call
+  pub branch_is : entry.branch ≡ job.job.branch
+  pub outcome_is : IsOutcomeOf gives job entry.outcome
+
+abbrev pub desk_record : HandedJob → Option Outcome → DeskRecord
+desk_record job outcome = record { call = job.job.call; branch = job.job.branch; outcome = outcome }
+
+-- ---- desks
+
+-- what a desk in memory tells: the jobs that wait at it, and what was recorded, in order
+pub record Told : Type 0 where
+  pub waiting : List HandedJob
+  pub records : List DeskRecord
+
+-- the first job that waits is given, or nothing changes
+abbrev pub NextTells : Option Told → Option Told → Option HandedJob → Type 0
+NextTells None new job = ⊤
+NextTells (Some old) None job = ⊥
+NextTells (Some old) (Some new) None = new ≡ old
+NextTells (Some old) (Some new) (Some job) = (old.waiting ≡ job ∷ new.waiting) × (new.records ≡ old.records)
+
+-- the outcome is recorded behind what was, or nothing changes
+abbrev pub RecordTells : Option Told → Option Told → HandedJob → Option Outcome → Bool → Type 0
+RecordTells None new job outcome result = ⊤
+RecordTells (Some old) None job outcome result = ⊥
+RecordTells (Some old) (Some new) job outcome true = (new.waiting ≡ old.waiting) × (new.records ≡ old.records ++ desk_record job outcome ∷ [])
+RecordTells (Some old) (Some new) job outcome false = new ≡ old
+
+-- a desk in memory: what it tells, and how many jobs it gave
+pub record DeskValue : Type 0 where
+  pub told : Told
+  pub given : ℕ
+
+abbrev pub desk_value : List HandedJob → List DeskRecord → ℕ → DeskValue
+desk_value waiting records given = record { told = record { waiting = waiting; records = records }; given = given }
+
+-- ---- the work
+
+-- these jobs were taken, in order, and for each of them one record was made, in order, but for so many of the last ones
+pub record Works (gives : HandedJob → Asked → Type 0) (most : ℕ) (old new : Told) : Type 0 where
+  pub jobs : List HandedJob
+  pub last : List HandedJob
+  pub written : List DeskRecord
+  pub took : old.waiting ≡ (jobs ++ last) ++ new.waiting
+  pub wrote : new.records ≡ old.records ++ written
+  pub each : AllZip (IsRecordOf gives) jobs written
+  pub few : length last ≤ most
+
+-- the same of a desk that tells its records
+abbrev pub WorksAt : (HandedJob → Asked → Type 0) → ℕ → Option Told → Option Told → Type 0
+WorksAt gives most None new = ⊤
+WorksAt gives most (Some old) None = ⊥
+WorksAt gives most (Some old) (Some new) = Works gives most old new

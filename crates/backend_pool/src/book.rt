@@ -1,0 +1,311 @@
+ghost use Rattle.std.specs.Prelude.{◌≡◌, ◌==◌, ◌+◌, ◌<◌, ◌≤◌, ◌^◌, ◌∷◌, ◌++◌, [], IfErr, IfOk, IfSome, List, MatchResult, None, OnErr, OnOk, Some, false, true, is_some, length, option_map, option_to_list, ℕ};
+ghost use Rattle.connect_codec.specs.declared.answer.Outcome.{Outcome as Outcomes};
+ghost use Rattle.gateway_core.specs.declared.entry.ReplyEntry.{ReplyEntry};
+ghost use Rattle.gateway_core.specs.Conn.{ConnValue};
+ghost use Rattle.gateway_core.specs.Events.{Before, BranchResult, Closing, Drain, HangUp, Moment, Occurs, Opening, Piece, most_open, open_connections};
+ghost use Rattle.gateway_core.specs.Gateway.{is_ended, next_reply, untaken_of};
+ghost use Rattle.gateway_core.specs.Job.{JobValue};
+ghost use Rattle.gateway_core.specs.Past.{judged, marked};
+ghost use Rattle.gateway_core.specs.Served.{Served, with_reply};
+ghost use Rattle.gateway_core.specs.Serving.{Breaks, TakesOnly};
+ghost use Rattle.gateway_core.specs.Starts.{Placed, occurrences};
+ghost use Rattle.gateway_core.specs.Store.{conn_of};
+ghost use Rattle.backend_pool.specs.declared.next_reply.NextReply.{NextReply};
+ghost use Rattle.backend_pool.specs.Book.{BookStands, GivesJob, TakesEvent, TellsStep, TellsTook, book_value, job_list, most_total, reply_given, totals_of};
+
+use crate::counter::Counter;
+use crate::ledger_full::LedgerFull;
+use crate::next_reply::NextReply;
+use crate::shares::{Blanks, Shares, Totals};
+use call_plan::Plans;
+use connect_codec::Outcome;
+use gateway_core::{CallId, ConnId, Core, Job, OpenError, ReplyHook, StepFault, Stock, Took};
+use gateway_run::deliver;
+use std::alloc::{AllocError, Global};
+use std::marker::Model;
+use std::sync::ledger::{Ledger, Share};
+
+/// The core with its totals: of the bytes that came, the jobs that were taken, and the results.
+///
+/// Each book stands for some list of events. Its calls `opening`, `piece`, `hang_up`, `moment`, `result`, `starved`,
+/// `drain` and `closing` are one event each; `take_job` and `take_reply` are none.
+#[derive(Drop)]
+pub struct Book<H, L: Ledger, J: Ledger, K: Ledger> {
+    core: Core<H>,
+    bytes: Counter<L>,
+    jobs: Counter<J>,
+    results: Counter<K>,
+}
+
+impl<H, L: Ledger, J: Ledger, K: Ledger> Model for Book<H, L, J, K> {
+    ghost use Rattle.backend_pool.specs.Book.{BookValue, IsReached, book_value};
+
+    ghost Value = { BookValue };
+
+    ghost view = { λ b. book_value b.core b.bytes b.jobs b.results };
+
+    ghost invariant = { λ b. IsReached (book_value b.core b.bytes b.jobs b.results) };
+}
+
+impl<H: ReplyHook + Drop, L: Ledger, J: Ledger, K: Ledger> Book<H, L, J, K> {
+    /// A core that serves these plans, with no connection and totals of 0, and the whole of each ledger.
+    pub fn new(
+        alloc: Global,
+        plans: Plans,
+        blanks: Blanks,
+    ) -> Result<(Book<H, L, J, K>, Shares<L, J, K>), AllocError>
+        requires names { (blanks.bytes.name ≡ L.name) × (blanks.jobs.name ≡ J.name) × (blanks.results.name ≡ K.name) }
+        requires parts { (blanks.bytes.parts ≡ L.parts) × (blanks.jobs.parts ≡ J.parts)
+            × (blanks.results.parts ≡ K.parts) }
+        ensures stands { IfOk result (λ r. BookStands r.0 [] [] (λ c. []) []) }
+        ensures plans { IfOk result (λ r. r.0.core.plans ≡ plans) }
+        ensures whole { IfOk result (λ r. (r.1.bytes.parts ≡ L.parts) × (r.1.jobs.parts ≡ J.parts)
+            × (r.1.results.parts ≡ K.parts)) }
+        ensures amounts { IfOk result (λ r. (r.1.bytes.amount ≡ 0) × (r.1.jobs.amount ≡ 0)
+            × (r.1.results.amount ≡ 0)) }
+    {
+        let core = Core::new(alloc, plans)?;
+        let Blanks {
+            bytes,
+            jobs,
+            results,
+        } = blanks;
+        let (bytes_book, bytes) = bytes.open::<L>();
+        let (jobs_book, jobs) = jobs.open::<J>();
+        let (results_book, results) = results.open::<K>();
+        let book = Book {
+            core,
+            bytes: Counter::new(bytes_book),
+            jobs: Counter::new(jobs_book),
+            results: Counter::new(results_book),
+        };
+        let shares = Shares {
+            bytes,
+            jobs,
+            results,
+        };
+        Ok((book, shares))
+    }
+
+    /// Opens a connection, each of whose calls gets one of these hooks. A refusal is the first that applies of `Full`,
+    /// `Exhausted` and `Memory`; it changes nothing, and the hooks come back.
+    pub fn opening(&mut self, stock: Stock<H>) -> Result<ConnId, (Stock<H>, OpenError)>
+        ensures stands { (opened : List ℕ) (es : Before) (taken : ℕ → List ReplyEntry) (handed : List JobValue)
+            → BookStands self.old opened es taken handed
+            → MatchResult result (λ _. BookStands self.new (opened ++ length es ∷ []) (Opening ∷ es) taken handed)
+            (λ _. BookStands self.new opened (Opening ∷ es) taken handed) }
+        ensures few { (opened : List ℕ) (es : Before) (taken : ℕ → List ReplyEntry) (handed : List JobValue)
+            → BookStands self.old opened es taken handed
+            → IfOk result (λ _. open_connections opened es < most_open) }
+        ensures number { IfOk result (λ conn. conn ≡ self.old.core.opened) }
+        ensures full { IfErr result (λ e. e.1 ≡ OpenError.Full → most_open ≤ length self.old.core.streams) }
+        ensures exhausted { IfErr result (λ e. e.1 ≡ OpenError.Exhausted → 2 ^ 56 ≤ self.old.core.opened) }
+        ensures back { IfErr result (λ e. e.0 ≡ stock) }
+        ensures unchanged { OnErr result (self.new ≡ self.old) }
+        ensures counts { self.new ≡ record self.old { core = self.new.core } }
+    {
+        self.core.open_conn(stock)
+    }
+
+    /// Feeds a whole piece of a connection's stream, and adds its length to the total of bytes, also where it is
+    /// `Gone`.
+    pub fn piece(
+        &mut self,
+        conn: ConnId,
+        bytes: &[u8],
+        mine: &mut Share<L>,
+    ) -> Result<Result<(), StepFault>, LedgerFull>
+        requires { 0 < mine.old.parts }
+        ensures stands { OnOk result (TakesEvent (Piece conn bytes.now) self.old self.new) }
+        ensures tells { IfOk result (λ step. TellsStep conn step self.old.core self.new.core) }
+        ensures counts { OnOk result
+            (self.new ≡ record self.old { core = self.new.core; bytes = self.old.bytes + length bytes.now }) }
+        ensures full { MatchResult result (λ _. self.old.bytes + length bytes.now ≤ most_total)
+            (λ _. most_total < self.old.bytes + length bytes.now) }
+        ensures unchanged { OnErr result (self.new ≡ self.old) }
+        ensures share { MatchResult result (λ _. mine.new.amount ≡ mine.old.amount + length bytes.now)
+            (λ _. mine.new.amount ≡ mine.old.amount) }
+        ensures parts { mine.new.parts ≡ mine.old.parts }
+    {
+        let length = bytes.len() as u64;
+        if !self.bytes.has_room(length) {
+            return Err(LedgerFull);
+        }
+        self.bytes.add(mine, length);
+        Ok(deliver(&mut self.core, conn, bytes))
+    }
+
+    /// The peer of a connection hung up.
+    pub fn hang_up(&mut self, conn: ConnId) -> Result<(), StepFault>
+        ensures stands { TakesEvent (HangUp conn) self.old self.new }
+        ensures tells { TellsStep conn result self.old.core self.new.core }
+        ensures counts { self.new ≡ record self.old { core = self.new.core } }
+    {
+        self.core.hang_up(conn)
+    }
+
+    /// A moment has come, in milliseconds. True where a connection broke in the step.
+    pub fn moment(&mut self, moment: u64) -> bool
+        ensures stands { TakesEvent (Moment moment) self.old self.new }
+        ensures broke { Breaks self.old.core self.new.core result }
+        ensures counts { self.new ≡ record self.old { core = self.new.core } }
+    {
+        self.core.moment(moment)
+    }
+
+    /// The drain has begun. True where a connection broke in the step.
+    pub fn drain(&mut self) -> bool
+        ensures stands { TakesEvent Drain self.old self.new }
+        ensures broke { Breaks self.old.core self.new.core result }
+        ensures counts { self.new ≡ record self.old { core = self.new.core } }
+    {
+        self.core.drain()
+    }
+
+    /// Closes a connection, and answers whether it was open.
+    pub fn closing(&mut self, conn: ConnId) -> bool
+        ensures stands { TakesEvent (Closing conn) self.old self.new }
+        ensures closed { result ≡ is_some (conn_of conn self.old.core.machine.conns) }
+        ensures counts { self.new ≡ record self.old { core = self.new.core } }
+    {
+        self.core.close(conn)
+    }
+
+    /// A branch of a call ends with that outcome. Adds 1 to the total of results, however it is seen.
+    pub fn result(
+        &mut self,
+        call: &CallId,
+        branch: u32,
+        outcome: Outcome,
+        mine: &mut Share<K>,
+    ) -> Result<Took, LedgerFull>
+        requires { 0 < mine.old.parts }
+        ensures stands { OnOk result
+            (TakesEvent (BranchResult call.now.conn call.now.request branch outcome) self.old self.new) }
+        ensures seen { (opened : List ℕ) (es : Before) (taken : ℕ → List ReplyEntry) (handed : List JobValue)
+            (occurred : List Placed) → BookStands self.old opened es taken handed
+            → Occurs self.old.core.plans opened es occurred
+            → (k : ConnValue) → conn_of call.now.conn self.old.core.machine.conns ≡ Some k → k.broken ≡ false
+            → IfOk result (λ took. took.seen ≡ judged call.now branch (marked (occurrences occurred))) }
+        ensures tells { IfOk result (λ took. TellsTook took self.old.core self.new.core) }
+        ensures counts { OnOk result
+            (self.new ≡ record self.old { core = self.new.core; results = self.old.results + 1 }) }
+        ensures full { MatchResult result (λ _. self.old.results + 1 ≤ most_total)
+            (λ _. most_total < self.old.results + 1) }
+        ensures unchanged { OnErr result (self.new ≡ self.old) }
+        ensures share { MatchResult result (λ _. mine.new.amount ≡ mine.old.amount + 1)
+            (λ _. mine.new.amount ≡ mine.old.amount) }
+        ensures parts { mine.new.parts ≡ mine.old.parts }
+    {
+        if !self.results.has_room(1) {
+            return Err(LedgerFull);
+        }
+        self.results.add(mine, 1);
+        Ok(self.core.result(call, branch, outcome))
+    }
+
+    /// A worker found no memory for what a branch ended with, whatever that was. Adds 1 to the total of results.
+    pub fn starved(
+        &mut self,
+        call: &CallId,
+        branch: u32,
+        mine: &mut Share<K>,
+    ) -> Result<Took, LedgerFull>
+        requires { 0 < mine.old.parts }
+        ensures stands { OnOk result
+            ((outcome : Outcomes)
+            → TakesEvent (BranchResult call.now.conn call.now.request branch outcome) self.old self.new) }
+        ensures seen { (opened : List ℕ) (es : Before) (taken : ℕ → List ReplyEntry) (handed : List JobValue)
+            (occurred : List Placed) → BookStands self.old opened es taken handed
+            → Occurs self.old.core.plans opened es occurred
+            → (k : ConnValue) → conn_of call.now.conn self.old.core.machine.conns ≡ Some k → k.broken ≡ false
+            → IfOk result (λ took. took.seen ≡ judged call.now branch (marked (occurrences occurred))) }
+        ensures tells { IfOk result (λ took. TellsTook took self.old.core self.new.core) }
+        ensures counts { OnOk result
+            (self.new ≡ record self.old { core = self.new.core; results = self.old.results + 1 }) }
+        ensures full { MatchResult result (λ _. self.old.results + 1 ≤ most_total)
+            (λ _. most_total < self.old.results + 1) }
+        ensures unchanged { OnErr result (self.new ≡ self.old) }
+        ensures share { MatchResult result (λ _. mine.new.amount ≡ mine.old.amount + 1)
+            (λ _. mine.new.amount ≡ mine.old.amount) }
+        ensures parts { mine.new.parts ≡ mine.old.parts }
+    {
+        if !self.results.has_room(1) {
+            return Err(LedgerFull);
+        }
+        self.results.add(mine, 1);
+        Ok(self.core.starved(call, branch))
+    }
+
+    /// Hands out the next job, in order of start, and adds 1 to the total of jobs where there is one. At a total of
+    /// 2^62 it answers `LedgerFull`.
+    pub fn take_job(&mut self, mine: &mut Share<J>) -> Result<Option<Job>, LedgerFull>
+        requires { 0 < mine.old.parts }
+        ensures stands { IfOk result (λ job.
+            (opened : List ℕ) (es : Before) (taken : ℕ → List ReplyEntry) (handed : List JobValue)
+            → BookStands self.old opened es taken handed
+            → BookStands self.new opened es taken (handed ++ job_list job)) }
+        ensures gives { IfOk result (λ job. GivesJob job self.old.core self.new.core) }
+        ensures rest { IfOk result (λ job. self.new ≡ record self.old {
+          core = record self.old.core { machine = record self.old.core.machine { jobs = self.new.core.machine.jobs } };
+          jobs = self.old.jobs + length (job_list job);
+        }) }
+        ensures full { MatchResult result (λ _. self.old.jobs + 1 ≤ most_total)
+            (λ _. most_total < self.old.jobs + 1) }
+        ensures unchanged { OnErr result (self.new ≡ self.old) }
+        ensures share { MatchResult result (λ job. mine.new.amount ≡ mine.old.amount + length (job_list job))
+            (λ _. mine.new.amount ≡ mine.old.amount) }
+        ensures parts { mine.new.parts ≡ mine.old.parts }
+    {
+        if !self.jobs.has_room(1) {
+            return Err(LedgerFull);
+        }
+        let Some(job) = self.core.take_job() else {
+            return Ok(None);
+        };
+        self.jobs.add(mine, 1);
+        Ok(Some(job))
+    }
+
+    /// Hands out the next reply of a connection, in order of its requests.
+    pub fn take_reply(&mut self, conn: ConnId) -> NextReply
+        ensures stands { (opened : List ℕ) (es : Before) (taken : ℕ → List ReplyEntry) (handed : List JobValue)
+            → BookStands self.old opened es taken handed
+            → BookStands self.new opened es (with_reply conn (reply_given result) taken) handed }
+        ensures first { untaken_of conn self.old.core
+            ≡ option_to_list (option_map (λ r. r.entry) (reply_given result)) ++ untaken_of conn self.new.core }
+        ensures its { IfSome (reply_given result) (λ r. r.id ≡ next_reply conn self.old.core) }
+        ensures none { reply_given result ≡ None → untaken_of conn self.old.core ≡ [] }
+        ensures pending { result ≡ NextReply.Pending → is_ended conn self.new.core ≡ false }
+        ensures over { result ≡ NextReply.Over → is_ended conn self.new.core ≡ true }
+        ensures only { TakesOnly self.old.core self.new.core }
+        ensures counts { self.new ≡ record self.old { core = self.new.core } }
+    {
+        let reply = self.core.take_reply(conn);
+        NextReply::of(reply, self.core.ended(conn))
+    }
+
+    /// The totals. Shares have no more than those, and where they have all parts of a ledger they have all of its
+    /// total.
+    pub fn totals(&mut self, shares: &mut Shares<L, J, K>) -> Totals
+        ensures totals { result ≡ totals_of self.old }
+        ensures bound { (shares.old.bytes.amount ≤ result.bytes) × (shares.old.jobs.amount ≤ result.jobs)
+            × (shares.old.results.amount ≤ result.results) }
+        ensures bytes { shares.old.bytes.parts ≡ L.parts → shares.old.bytes.amount ≡ result.bytes }
+        ensures jobs { shares.old.jobs.parts ≡ J.parts → shares.old.jobs.amount ≡ result.jobs }
+        ensures results { shares.old.results.parts ≡ K.parts → shares.old.results.amount ≡ result.results }
+        ensures unchanged { self.new ≡ self.old }
+        ensures amounts { (shares.new.bytes.amount ≡ shares.old.bytes.amount)
+            × (shares.new.jobs.amount ≡ shares.old.jobs.amount)
+            × (shares.new.results.amount ≡ shares.old.results.amount) }
+        ensures parts { (shares.new.bytes.parts ≡ shares.old.bytes.parts)
+            × (shares.new.jobs.parts ≡ shares.old.jobs.parts)
+            × (shares.new.results.parts ≡ shares.old.results.parts) }
+    {
+        Totals {
+            bytes: self.bytes.audit(&mut shares.bytes),
+            jobs: self.jobs.audit(&mut shares.jobs),
+            results: self.results.audit(&mut shares.results),
+        }
+    }
+}

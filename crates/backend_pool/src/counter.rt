@@ -1,0 +1,68 @@
+ghost use Rattle.std.specs.Prelude.{◌≡◌, ◌+◌, ◌<◌, ◌≤◌, IsTrue, ◌↔◌};
+ghost use Rattle.backend_pool.specs.Book.{most_total};
+
+use std::marker::Model;
+use std::sync::ledger::{self, Ledger, Share};
+
+/// No total is greater.
+const MOST: u64 = 1 << 62;
+
+/// A total beside its ledger: the sum of what the holders of shares have added.
+#[derive(Drop)]
+pub struct Counter<L: Ledger> {
+    total: u64,
+    ledger: ledger::Book<L>,
+}
+
+impl<L: Ledger> Model for Counter<L> {
+    ghost use Rattle.std.specs.Prelude.{◌≡◌, ◌≤◌, ℕ};
+    ghost use Rattle.backend_pool.specs.Book.{most_total};
+
+    ghost Value = { ℕ };
+
+    ghost view = { λ c. c.total };
+
+    ghost invariant = { λ c. (c.total ≡ c.ledger.total) × (c.total ≤ most_total) };
+}
+
+impl<L: Ledger> Counter<L> {
+    /// A total of 0, over a new ledger.
+    pub fn new(ledger: ledger::Book<L>) -> Counter<L>
+        requires { ledger.total ≡ 0 }
+        ensures { result ≡ 0 }
+    {
+        Counter { total: 0, ledger }
+    }
+
+    /// Whether so much more can be added.
+    pub fn has_room(&self, amount: u64) -> bool
+        ensures { IsTrue result ↔ (self.now + amount ≤ most_total) }
+    {
+        amount <= MOST - self.total
+    }
+
+    /// Adds to the total and to the holder's share.
+    pub fn add(&mut self, mine: &mut Share<L>, amount: u64)
+        requires parts { 0 < mine.old.parts }
+        requires room { self.old + amount ≤ most_total }
+        ensures total { self.new ≡ self.old + amount }
+        ensures amount { mine.new.amount ≡ mine.old.amount + amount }
+        ensures parts { mine.new.parts ≡ mine.old.parts }
+    {
+        self.ledger.add(mine, amount);
+        self.total += amount;
+    }
+
+    /// The total. A share has no more than that, and one with all parts has all of it.
+    pub fn audit(&mut self, mine: &mut Share<L>) -> u64
+        ensures total { result ≡ self.old }
+        ensures bound { mine.old.amount ≤ result }
+        ensures whole { mine.old.parts ≡ L.parts → mine.old.amount ≡ result }
+        ensures unchanged { self.new ≡ self.old }
+        ensures amount { mine.new.amount ≡ mine.old.amount }
+        ensures parts { mine.new.parts ≡ mine.old.parts }
+    {
+        self.ledger.audit(mine);
+        self.total
+    }
+}

@@ -1,0 +1,95 @@
+ghost use Rattle.std.specs.Prelude.{◌≡◌, ◌+◌, ◌≤◌};
+
+use crate::backend::Backend;
+use crate::desk::Desk;
+use crate::gate::Gate;
+use crate::shared::Shared;
+use crate::shares::WorkerShares;
+use crate::working::work;
+use connect_codec::Outcome;
+use gateway_core::{Job, ReplyHook};
+use std::alloc::Global;
+use std::net::Net;
+use std::sync::Wait;
+use std::sync::ledger::{Ledger, Share};
+use std::time::Clock;
+
+/// A desk over the lock, each of whose calls is one hold.
+struct LockDesk<'a, H, L: Ledger, J: Ledger, K: Ledger> {
+    shared: &'a Shared<H, L, J, K>,
+    jobs: Share<J>,
+    results: Share<K>,
+    ghost jobs_part: { jobs.parts ≡ 1 },
+    ghost results_part: { results.parts ≡ 1 },
+}
+
+impl<H: ReplyHook + Drop, L: Ledger, J: Ledger, K: Ledger> Desk for LockDesk<'_, H, L, J, K> {
+    ghost gave = { λ d. d.jobs.amount };
+
+    ghost took = { λ d. d.results.amount };
+
+    fn next<R: Wait>(&mut self, rt: &R) -> Option<Job> {
+        let mut state = self.shared.state.lock(rt);
+        for _ in rt.forever() {
+            let Ok(job) = state.book.take_job(&mut self.jobs) else {
+                return None;
+            };
+            if job.is_some() || state.shut {
+                return job;
+            }
+            state = self.shared.jobs.wait(rt, state);
+        }
+        unreachable!()
+    }
+
+    fn record<R: Wait>(&mut self, rt: &R, job: &Job, outcome: Option<Outcome>) -> bool {
+        let call = job.call();
+        let mut state = self.shared.state.lock(rt);
+        let took = match outcome {
+            Some(outcome) => state
+                .book
+                .result(&call, job.branch(), outcome, &mut self.results),
+            None => state.book.starved(&call, job.branch(), &mut self.results),
+        };
+        self.shared.wake();
+        took.is_ok()
+    }
+}
+
+/// Works at the lock until it is shut and no job waits, or a total would pass 2^62, and gives the shares back.
+pub fn worker<
+    R: Net + Clock + Wait,
+    A: Backend,
+    G: Gate,
+    H: ReplyHook + Drop,
+    L: Ledger,
+    J: Ledger,
+    K: Ledger,
+>(
+    rt: &R,
+    alloc: Global,
+    shared: &Shared<H, L, J, K>,
+    backend: &A,
+    gate: &G,
+    shares: WorkerShares<J, K>,
+) -> WorkerShares<J, K>
+    requires parts { (shares.jobs.parts ≡ 1) × (shares.results.parts ≡ 1) }
+    ensures parts { (result.jobs.parts ≡ 1) × (result.results.parts ≡ 1) }
+    ensures grown { shares.jobs.amount ≤ result.jobs.amount }
+    ensures no_more { result.results.amount + shares.jobs.amount ≤ shares.results.amount + result.jobs.amount }
+    ensures one_less { shares.results.amount + result.jobs.amount ≤ result.results.amount + shares.jobs.amount + 1 }
+{
+    let WorkerShares { jobs, results } = shares;
+    let mut desk = LockDesk {
+        shared,
+        jobs,
+        results,
+    };
+    work(rt, alloc, &mut desk, backend, gate);
+    let LockDesk {
+        shared: _,
+        jobs,
+        results,
+    } = desk;
+    WorkerShares { jobs, results }
+}

@@ -1,0 +1,80 @@
+use crate::asked::Asked;
+use crate::backend::Backend;
+use crate::timed_stream::{TimedStream, time_left};
+use crate::wire::exchange;
+use connect_codec::{BranchAsk, branch_request};
+use gateway_core::Job;
+use std::alloc::Global;
+use std::io;
+use std::io::ErrorKind;
+use std::net::{Net, OpenStream, TcpStream, ToSocketAddrs};
+use std::time::{Clock, Duration, Instant};
+
+/// Asks each job's backend over a TCP connection of its own, for no longer than the job's call had yet as the branch
+/// started: a wait that lasts longer fails, and the job is lost. A job whose call has no deadline waits as long as its
+/// backend lets it.
+#[derive(Clone, Copy, Debug)]
+pub struct RemoteBackend {
+    alloc: Global,
+}
+
+impl RemoteBackend {
+    /// A backend whose requests and replies are kept on this allocator.
+    pub fn new(alloc: Global) -> RemoteBackend {
+        RemoteBackend { alloc }
+    }
+}
+
+impl Backend for RemoteBackend {
+    ghost gives = { λ job asked. Unit {0} };
+
+    fn ask<R: Net + Clock>(&self, rt: &R, job: &Job) -> Asked {
+        let ask = BranchAsk {
+            address: job.address(),
+            path: job.path(),
+            remaining: job.remaining(),
+            request_id: job.request_id(),
+            body: job.body(),
+        };
+        let Ok(request) = branch_request(self.alloc, &ask) else {
+            return Asked::NoMemory;
+        };
+        let Ok((mut reads, mut writes)) = connect(rt, job.address(), job.remaining()) else {
+            return Asked::Lost;
+        };
+        exchange(self.alloc, &mut reads, &mut writes, request.as_slice())
+    }
+}
+
+/// Both ends of a new connection to the address, for so many milliseconds from now on.
+fn connect<'a, R: Net + Clock>(
+    rt: &'a R,
+    address: &str,
+    remaining: Option<u64>,
+) -> io::Result<(TimedStream<'a, R, R::Stream>, TimedStream<'a, R, R::Stream>)> {
+    let until = match remaining {
+        Some(milliseconds) => Instant::now(rt)?.checked_add(Duration::from_millis(milliseconds)),
+        None => None,
+    };
+    let stream = open(rt, address, until)?;
+    stream.set_nodelay(true)?;
+    let other = stream.try_clone()?;
+    Ok((
+        TimedStream::new(rt, stream, until),
+        TimedStream::new(rt, other, until),
+    ))
+}
+
+/// Tries each of the address's own addresses in turn (RFC 9110, section 4.3.3).
+fn open<R: Net + Clock>(rt: &R, address: &str, until: Option<Instant>) -> io::Result<R::Stream> {
+    for at in address.to_socket_addrs(rt)? {
+        let tried = match time_left(rt, until)? {
+            Some(left) => TcpStream::connect_timeout(rt, &at, left),
+            None => TcpStream::connect(rt, at),
+        };
+        if tried.is_ok() {
+            return tried;
+        }
+    }
+    Err(io::Error::from(ErrorKind::ConnectionRefused))
+}

@@ -1,0 +1,3 @@
+mod TellLemmas
+mod PumpLemmas
+mod WriteLemmas

@@ -1,0 +1,128 @@
+-- What a read, a piece and the hang-up add to what was pumped.
+use Rattle.std.specs.Prelude.{◌≡◌, ℕ, ◌+◌, ◌≤◌, List, [], ◌∷◌, ◌++◌, length, Option, refl}
+use Rattle.std.proofs.Common.{arith, sym, append-nil, subst, length-append, lit≤}
+use Rattle.std.proofs.lemmas.Grind.{common_steps, flat_map-append}
+use Rattle.std.specs.Io.KnownBytes.{Consumes}
+use Rattle.connections.specs.declared.inlet.Fed.{Fed}
+use Rattle.connections.specs.declared.inlet.Fed.TheVariants.{Go, Stop, Full}
+use Rattle.connections.specs.declared.inlet.Heard.{Heard}
+use Rattle.connections.specs.declared.inlet.Heard.TheVariants.{Piece}
+use Rattle.connections.specs.Told.{Tells}
+use Rattle.connections.specs.Pumps.{Pumps, Counts, taken_of, ends_by, answered, joined}
+use Rattle.connections.proofs.TellLemmas.{Tells-refl, Tells-trans, Consumes-refl, Consumes-trans}
+
+none_of : {A : Type 0} (xs : List A) → length xs ≡ 0 → xs ≡ []
+none_of [] is = refl
+none_of (x ∷ xs) is = absurd (omega arith)
+
+joined-more : (pieces : List (List ℕ)) (piece : List ℕ) → joined (pieces ++ piece ∷ []) ≡ joined pieces ++ piece
+joined-more pieces piece = grind (arith, common_steps, flat_map-append (λ (p : List ℕ). p) pieces (piece ∷ []))
+
+joined-one : (piece : List ℕ) → joined (piece ∷ []) ≡ piece
+joined-one piece = append-nil piece
+
+count_of : (final : List (List ℕ)) (k n j : ℕ) → length final ≡ 0 → j ≡ k + n + length (taken_of (joined final) Go) → j ≡ k + n
+count_of [] k n j none counted = omega arith
+count_of (x ∷ xs) k n j none counted = absurd (omega arith)
+
+-- nothing was read
+pub Pumps-refl : (a : Option (List ℕ)) (t : Option (List Heard)) (k : ℕ) → Pumps 0 a a t t k k Go []
+Pumps-refl a t k = record {
+  pieces = [];
+  final = [];
+  one_at_most = refl;
+  few = lit≤ tt;
+  read = Consumes-refl a;
+  given = Tells-refl t;
+  counted = omega arith;
+}
+
+-- a piece that ends the reading
+ended : (n : ℕ) (a b c : Option (List ℕ)) (t s u : Option (List Heard)) (k j i : ℕ) (bytes : List ℕ) (fed : Fed)
+    → Pumps n a b t s k j Go [] → Consumes b c bytes → Tells s u (Piece bytes fed ∷ []) → i ≡ j + length (taken_of bytes fed) → ends_by fed ≡ 1
+    → Pumps (n + 1) a c t u k i fed []
+ended n a b c t s u k j i bytes fed p read told counted one =
+    let none = none_of p.final p.one_at_most in
+    let before : joined p.pieces ++ joined p.final ≡ joined p.pieces = rw none (append-nil _) in
+    let heard : (answered Go p.pieces ++ answered Go p.final) ++ [] ≡ answered Go p.pieces = rw none (grind (arith, common_steps)) in
+    let count : j ≡ k + length (joined p.pieces) = count_of p.final _ _ _ p.one_at_most p.counted in
+    record {
+      pieces = p.pieces;
+      final = bytes ∷ [];
+      one_at_most = sym one;
+      few = (let few = p.few in omega (arith, few));
+      read = rw (joined-one bytes) (Consumes-trans a b c _ _ (subst (λ xs. Consumes a b xs) before p.read) read);
+      given = rw (append-nil (answered Go p.pieces ++ answered fed (bytes ∷ []))) (Tells-trans t s u _ _ (subst (λ xs. Tells t s xs) heard p.given) told);
+      counted = rw (joined-one bytes) (omega (arith, count, counted));
+    }
+
+-- one read more, and what the inlet said to it
+pub Pumps-more : (n : ℕ) (a b c : Option (List ℕ)) (t s u : Option (List Heard)) (k j i : ℕ) (bytes : List ℕ) (fed : Fed)
+    → Pumps n a b t s k j Go [] → Consumes b c bytes → Tells s u (Piece bytes fed ∷ []) → i ≡ j + length (taken_of bytes fed) → Pumps (n + 1) a c t u k i fed []
+Pumps-more n a b c t s u k j i bytes Stop p read told counted = ended n a b c t s u k j i bytes Stop p read told counted refl
+Pumps-more n a b c t s u k j i bytes Full p read told counted = ended n a b c t s u k j i bytes Full p read told counted refl
+Pumps-more n a b c t s u k j i bytes Go p read told counted =
+    let none = none_of p.final p.one_at_most in
+    let before : joined p.pieces ++ joined p.final ≡ joined p.pieces = rw none (append-nil _) in
+    let heard : (answered Go p.pieces ++ answered Go p.final) ++ [] ≡ answered Go p.pieces = rw none (grind (arith, common_steps)) in
+    let count : j ≡ k + length (joined p.pieces) = count_of p.final _ _ _ p.one_at_most p.counted in
+    let all : joined (p.pieces ++ bytes ∷ []) ++ [] ≡ joined p.pieces ++ bytes = rw (joined-more p.pieces bytes) (append-nil _) in
+    let news : (answered Go (p.pieces ++ bytes ∷ []) ++ []) ++ [] ≡ answered Go p.pieces ++ Piece bytes Go ∷ [] = grind (arith, common_steps) in
+    record {
+      pieces = p.pieces ++ bytes ∷ [];
+      final = [];
+      one_at_most = refl;
+      few = omega (arith, p.few, length-append p.pieces (bytes ∷ []));
+      read = rw all (Consumes-trans a b c _ _ (subst (λ xs. Consumes a b xs) before p.read) read);
+      given = rw news (Tells-trans t s u _ _ (subst (λ xs. Tells t s xs) heard p.given) told);
+      counted = rw (joined-more p.pieces bytes) (omega (arith, count, counted, length-append (joined p.pieces) bytes));
+    }
+
+-- what is told behind the pieces
+pub Pumps-then : (n : ℕ) (a b : Option (List ℕ)) (t s u : Option (List Heard)) (k j i : ℕ) (fed : Fed) (last : List Heard)
+    → Pumps n a b t s k j fed [] → Tells s u last → i ≡ j → Pumps n a b t u k i fed last
+Pumps-then n a b t s u k j i fed last p told same = record {
+  pieces = p.pieces;
+  final = p.final;
+  one_at_most = p.one_at_most;
+  few = p.few;
+  read = p.read;
+  given =
+      let heard : (answered Go p.pieces ++ answered fed p.final) ++ [] ≡ answered Go p.pieces ++ answered fed p.final = append-nil _ in
+      Tells-trans t s u _ _ (subst (λ xs. Tells t s xs) heard p.given) told;
+  counted = omega (arith, p.counted, same);
+}
+
+taken_all : (a b : Option (List ℕ)) (k i : ℕ) (fed : Fed) (xs ys : List ℕ) → Consumes a b (xs ++ ys) → i ≡ k + length xs + length ys → Counts a b k i fed
+taken_all a b k i fed xs ys read counted = record {
+  taken = xs ++ ys;
+  refused = [];
+  read = rw (append-nil (xs ++ ys)) read;
+  counted = omega (arith, counted, length-append xs ys);
+  all_taken = λ _. refl;
+}
+
+-- what was counted, of a reading that told nothing
+pub Counts-of : (n : ℕ) (a b : Option (List ℕ)) (t u : Option (List Heard)) (k i : ℕ) (fed : Fed) (last : List Heard) → Pumps n a b t u k i fed last → Counts a b k i fed
+Counts-of n a b t u k i Full last p = record {
+  taken = joined p.pieces;
+  refused = joined p.final;
+  read = p.read;
+  counted = omega (arith, p.counted);
+  all_taken = λ is_not. absurd (is_not refl);
+}
+Counts-of n a b t u k i Go last p = taken_all a b k i Go (joined p.pieces) (joined p.final) p.read p.counted
+Counts-of n a b t u k i Stop last p = taken_all a b k i Stop (joined p.pieces) (joined p.final) p.read p.counted
+
+-- at most so many pieces, and so at most more
+pub Pumps-most : (n m : ℕ) (a b : Option (List ℕ)) (t u : Option (List Heard)) (k i : ℕ) (fed : Fed) (last : List Heard)
+    → Pumps n a b t u k i fed last → n ≤ m → Pumps m a b t u k i fed last
+Pumps-most n m a b t u k i fed last p le = record {
+  pieces = p.pieces;
+  final = p.final;
+  one_at_most = p.one_at_most;
+  few = omega (arith, p.few, le);
+  read = p.read;
+  given = p.given;
+  counted = p.counted;
+}

@@ -1,0 +1,6 @@
+use Rattle.std.proofs.Common.{rules}
+use Rattle.connections.proofs.WriteLemmas.{Appends-more}
+use Rattle.connections.proofs.writing.send.Goals as goal
+
+pub loop-sent-preserved : goal.loop-sent-preserved
+loop-sent-preserved g c = (search rules, Appends-more _ _ _ _ _ _ c.loop-sent.invariant.1 c.in-Ok.ensures.bytes)

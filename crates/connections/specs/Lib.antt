@@ -1,0 +1,3 @@
+pub mod Told
+pub mod Pumps
+pub mod Writes

@@ -1,0 +1,19 @@
+//! The sides of a connection: one thread reads its stream, one writes its replies; and the thread of the clock.
+#![tactic(auto)]
+
+mod clock;
+pub mod fakes;
+mod inlet;
+mod lock_inlet;
+mod lock_replies;
+mod pumping;
+mod queue;
+mod sides;
+mod writing;
+
+pub use clock::Clock;
+pub use inlet::{Fed, Heard, Inlet};
+pub use pumping::pump;
+pub use queue::{Handed, ReplyQueue};
+pub use sides::{clock_side, read_side, write_side};
+pub use writing::write_replies;

@@ -1,0 +1,27 @@
+-- What is known of the core's definitions and of what it stands for: the laws of the crate below that the proofs of a run use.
+use Rattle.std.specs.Prelude.{◌≡◌, ℕ, List, ◌∷◌, ◌++◌, map, Some}
+use Rattle.call_plan.specs.Plan.{PlanRecord}
+use Rattle.gateway_core.specs.declared.entry.ReplyEntry.{ReplyEntry}
+use Rattle.gateway_core.specs.Conn.{ConnValue}
+use Rattle.gateway_core.specs.EventAdds.{EventAdds}
+use Rattle.gateway_core.specs.Events.{Before, GatewayEvent, Occurs}
+use Rattle.gateway_core.specs.Gateway.{GatewayValue}
+use Rattle.gateway_core.specs.Job.{JobValue}
+use Rattle.gateway_core.specs.Past.{marked}
+use Rattle.gateway_core.specs.Queue.{front}
+use Rattle.gateway_core.specs.Served.{JobsAre, QueueIs, Served}
+use Rattle.gateway_core.specs.Starts.{Placed, job_started, jobs, occurrences, starts}
+use Rattle.gateway_core.specs.Store.{conn_of}
+
+-- what one event adds, and whose jobs the starts are
+pub record EventLaws : Type 0 where
+  pub adds : (plans : List PlanRecord) (opened : List ℕ) (e : GatewayEvent) (es : Before) (before after : List Placed)
+      → Occurs plans opened es before → Occurs plans opened (e ∷ es) after → EventAdds opened e es before after
+  pub started : (placed : List Placed) → map job_started (starts placed) ≡ jobs (marked (occurrences placed))
+
+-- what the core has queued and started, by the events that it stands for
+pub record StandingLaws : Type 0 where
+  pub queue : (c : ℕ) (k : ConnValue) (v : GatewayValue) (opened : List ℕ) (es : Before) (taken : ℕ → List ReplyEntry) (handed : List JobValue) (occurred : List Placed)
+      → Served v opened es taken handed → Occurs v.plans opened es occurred → conn_of c v.machine.conns ≡ Some k → QueueIs c (taken c ++ front k.slots) k.broken occurred
+  pub jobs : (v : GatewayValue) (opened : List ℕ) (es : Before) (taken : ℕ → List ReplyEntry) (handed : List JobValue) (occurred : List Placed)
+      → Served v opened es taken handed → Occurs v.plans opened es occurred → JobsAre v (handed ++ v.machine.jobs) occurred
