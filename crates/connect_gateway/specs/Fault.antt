@@ -31,3 +31,16 @@ IsOfInput Script = ⊤
 IsOfInput Memory = ⊤
 IsOfInput Io = ⊤
 IsOfInput _ = ⊥
+
+-- the faults that reading a plan file may give
+abbrev pub IsOfPlanInput : Fault → Type 0
+IsOfPlanInput Plans = ⊤
+IsOfPlanInput Memory = ⊤
+IsOfPlanInput Io = ⊤
+IsOfPlanInput _ = ⊥
+
+-- and reading any text
+abbrev pub IsOfReading : Fault → Type 0
+IsOfReading Memory = ⊤
+IsOfReading Io = ⊤
+IsOfReading _ = ⊥

@@ -1,43 +1,35 @@
 //! The gateway's program. `connect_gateway replay` runs the script on standard input and writes what was
-//! queued for each connection to standard output.
+//! queued for each connection to standard output. `connect_gateway serve` serves clients over TCP.
 #![tactic(auto)]
 
+mod clock;
+mod connection;
+mod crew;
 mod fault;
 mod input;
+mod plain_hook;
+mod serve;
 mod task;
 mod words;
 
 pub use fault::Fault;
-use gateway_core::{CallHook, Ending, HOOKS, Stock, ending_reply};
+use gateway_core::Stock;
 use gateway_run::{RunError, openings, run, write_run};
-use http_pieces::Bytes;
-pub use input::read_input;
-use std::alloc::{AllocError, Global};
+pub use input::{read_input, read_plan_input};
+use plain_hook::{PlainHook, stock};
+use std::fs::Files;
 use std::io::{self, BufWriter, Write};
+use std::net::{Net, TcpListener, TcpStream};
 use std::process::ExitCode;
 use std::rt::Env;
-pub use task::{Task, task_of};
+use std::sync::Wait;
+use std::thread::Threads;
+use std::time::Clock;
+pub use task::{Service, Task, task_of};
 pub use words::read_words;
 
-/// The hooks of a connection, made in place: a function may not hand out a box that it made.
-macro_rules! stock {
-    ($alloc:expr) => {{
-        let alloc: Global = $alloc;
-        let mut hooks = Vec::new(alloc);
-        for _hook in 0..HOOKS {
-            let call: Box<dyn FnOnce(Ending) -> Result<Bytes, AllocError> + Send> =
-                Box::new(alloc, move |ending: Ending| ending_reply(alloc, ending))?;
-            hooks.push(CallHook::new(call))?;
-        }
-        match Stock::of(hooks) {
-            Ok(stock) => stock,
-            Err(_) => unreachable!(),
-        }
-    }};
-}
-
 fn main(rt: HostRuntime) -> ExitCode {
-    match run_words(&rt) {
+    match run_words(rt) {
         Ok(()) => ExitCode::SUCCESS,
         Err(fault) => {
             // Nothing is left to do where standard error fails too.
@@ -48,15 +40,30 @@ fn main(rt: HostRuntime) -> ExitCode {
 }
 
 /// Does what the machine's words ask for.
-fn run_words(rt: &(impl Print + Input + Env + AllocGlobal)) -> Result<(), Fault> {
+fn run_words<
+    R: Net<Listener = TcpListener, Stream = TcpStream>
+        + Print
+        + Input
+        + Env
+        + AllocGlobal
+        + Files
+        + Clock
+        + Threads
+        + Wait
+        + Copy
+        + Send
+        + Sync
+        + 'static,
+>(rt: R) -> Result<(), Fault> {
     let alloc = rt.alloc();
-    let owned = read_words(rt)?;
+    let owned = read_words(&rt)?;
     let mut words = Vec::new(alloc);
     for word in &owned {
         words.push(word.as_str())?;
     }
     match task_of(alloc, words.as_slice())? {
-        Task::Replay => replay(rt),
+        Task::Replay => replay(&rt),
+        Task::Serve(service) => serve::serve(rt, &service),
     }
 }
 
@@ -64,9 +71,9 @@ fn run_words(rt: &(impl Print + Input + Env + AllocGlobal)) -> Result<(), Fault>
 fn replay(rt: &(impl Print + Input + AllocGlobal)) -> Result<(), Fault> {
     let alloc = rt.alloc();
     let (plans, events) = read_input(alloc, &mut rt.reader())?;
-    let mut stocks: Vec<Stock<CallHook>> = Vec::new(alloc);
+    let mut stocks: Vec<Stock<PlainHook>> = Vec::new(alloc);
     for _opening in 0..openings(&events) {
-        stocks.push(stock!(alloc))?;
+        stocks.push(stock(alloc)?)?;
     }
     let run = match run(alloc, plans, events, stocks) {
         Ok(run) => run,

@@ -1,34 +1,73 @@
-ghost use Rattle.std.specs.Prelude.{IfErr};
+ghost use Rattle.std.specs.Prelude.{IfErr, IfOk, IfSome, ◌≤◌};
 ghost use Rattle.connect_gateway.specs.Fault.{IsOfWords};
+ghost use Rattle.connect_gateway.specs.Task.{IsInRange};
 
 use crate::fault::Fault;
 use clap::error::ErrorKind;
-use clap::{Command, Error};
+use clap::{Arg, ArgMatches, Command, Error, value_parser};
+use http_pieces::Text;
 use std::alloc::{AllocError, Global};
 
+/// So many workers are the most.
+const MOST_WORKERS: u32 = 64;
+
+/// So many accepted streams are the most that can be asked for.
+const MOST_CONNECTIONS: u64 = 1_000_000;
+
 /// What the words ask for.
-#[derive(Clone, Copy, PartialEq, Eq, Debug)]
+#[derive(Drop, PartialEq, Eq, Debug)]
 pub enum Task {
     /// Runs the script on standard input.
     Replay,
+    /// Serves clients over TCP.
+    Serve(Service),
+}
+
+/// How clients are to be served.
+#[derive(Drop, PartialEq, Eq, Debug)]
+pub struct Service {
+    /// The address to listen at, as it was given: a host and a port.
+    pub listen: Text,
+    /// The path of the plan file, as it was given.
+    pub plans: Text,
+    /// How many threads ask backends: 1 to 64.
+    pub workers: u32,
+    /// How many streams are accepted before the program ends, 1 to 1,000,000; None where it goes on.
+    pub connections: Option<u64>,
 }
 
 /// Reads the machine's words, the program's name first. All but a task are `Fault::Words`, a request for help too;
 /// want of memory is `Fault::Memory`.
 pub fn task_of(alloc: Global, words: &[&str]) -> Result<Task, Fault>
-    ensures { IfErr result IsOfWords }
+    ensures faults { IfErr result IsOfWords }
+    ensures in_range { IfOk result IsInRange }
 {
     let command = command(alloc).map_err(|_| Fault::Memory)?;
     let matches = command.try_get_matches_from(words).map_err(refusal)?;
     match matches.subcommand() {
         Some(("replay", _)) => Ok(Task::Replay),
+        Some(("serve", options)) => service_of(alloc, options),
         _ => Err(Fault::Words),
     }
 }
 
 fn command<'a>(alloc: Global) -> Result<Command<'a>, AllocError> {
     let replay = Command::new(alloc, "replay");
-    Command::new(alloc, "connect_gateway").subcommand(replay)
+    let serve = Command::new(alloc, "serve")
+        .arg(Arg::new(alloc, "listen").long("listen").required(true))?
+        .arg(Arg::new(alloc, "plans").long("plans").required(true))?
+        .arg(number(alloc, "workers").required(true))?
+        .arg(number(alloc, "connections"))?;
+    Command::new(alloc, "connect_gateway")
+        .subcommand(replay)?
+        .subcommand(serve)
+}
+
+/// An option whose value is a whole number.
+fn number<'a>(alloc: Global, name: &'a str) -> Arg<'a> {
+    Arg::new(alloc, name)
+        .long(name)
+        .value_parser(value_parser!(u64))
 }
 
 fn refusal(error: Error) -> Fault
@@ -38,4 +77,36 @@ fn refusal(error: Error) -> Fault
         ErrorKind::OutOfMemory => Fault::Memory,
         _ => Fault::Words,
     }
+}
+
+fn service_of(alloc: Global, options: &ArgMatches<'_>) -> Result<Task, Fault>
+    ensures faults { IfErr result IsOfWords }
+    ensures in_range { IfOk result IsInRange }
+{
+    let workers = match options.get_one::<u32>("workers") {
+        Some(workers) if 1 <= workers && workers <= MOST_WORKERS => workers,
+        _ => return Err(Fault::Words),
+    };
+    let connections = options.get_one::<u64>("connections");
+    if let Some(count) = connections {
+        if count < 1 || MOST_CONNECTIONS < count {
+            return Err(Fault::Words);
+        }
+    }
+    Ok(Task::Serve(Service {
+        listen: text_of(alloc, options, "listen")?,
+        plans: text_of(alloc, options, "plans")?,
+        workers,
+        connections,
+    }))
+}
+
+/// The value of an option.
+fn text_of(alloc: Global, options: &ArgMatches<'_>, name: &str) -> Result<Text, Fault>
+    ensures { IfErr result IsOfWords }
+{
+    let Some(text) = options.get_str(name) else {
+        return Err(Fault::Words);
+    };
+    Ok(Text::from_str(alloc, text)?)
 }

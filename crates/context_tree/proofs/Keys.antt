@@ -23,11 +23,11 @@ or_right : (a b : Bool) → b ≡ true → (a || b) ≡ true
 or_right true b is = refl
 or_right false b is = is
 
-neither : (a b : Bool) → (a || b) ≡ false → (a ≡ false) × (b ≡ false)
+pub neither : (a b : Bool) → (a || b) ≡ false → (a ≡ false) × (b ≡ false)
 neither true b is = cc
 neither false b is = (refl, is)
 
-none : (a b : Bool) → a ≡ false → b ≡ false → (a || b) ≡ false
+pub none : (a b : Bool) → a ≡ false → b ≡ false → (a || b) ≡ false
 none true b is other = cc
 none false b is other = other
 

@@ -7,7 +7,10 @@ pub mod Marking
 pub mod Enders
 pub mod Ordering
 pub mod Keys
+pub mod Chaining
+pub mod Places
 pub mod WalkSteps
+pub mod Turns
 pub mod Standing
 pub mod Queueing
 pub mod Timing

@@ -1,9 +1,8 @@
 -- A walk goes on by one context.
-use Rattle.std.proofs.Common.{◌≡◌, refl, sym, ap, subst, ◌∙◌, arith, ℕ, zero, suc, ◌+◌, ◌-◌, ◌^◌, ◌<◌, ◌≤◌, List, [], ◌∷◌, ◌++◌, length, map, Option, Some, None, Bool, true, false, inl, inr, ⊎_elim, option_map, slice_index_or, slice_set, append_assoc, length-append}
+use Rattle.std.proofs.Common.{◌≡◌, refl, sym, ap, subst, ◌∙◌, arith, ℕ, zero, suc, ◌+◌, ◌-◌, ◌^◌, ◌<◌, ◌≤◌, List, [], ◌∷◌, ◌++◌, length, map, Option, Some, None, Bool, true, false, inl, inr, ⊎_elim, option_map, slice_set, append_assoc, length-append}
 use Rattle.std.specs.Prelude.{◌||◌, ◌&&◌, ◌==◌, not, is_some, is_none, if◌then◌else◌, filter, option_and_then}
 use Rattle.std.specs.Option.{option_map_or}
 use Rattle.std.proofs.lemmas.Bool.{cases_Bool, cases_lt, eqb-true, eq-eqb, ne_eqb}
-use Rattle.std.proofs.Math.Seq.{get_or-append_seam}
 use Rattle.std.proofs.lemmas.List.{append-nil, get_or-set_same, get_or-set_other}
 use Rattle.timer_heap.specs.Timers.{Timer, Timing, without}
 use Rattle.context_tree.specs.declared.node.Ending.{Ending}
@@ -11,8 +10,8 @@ use Rattle.context_tree.specs.declared.node.Links.{Links}
 use Rattle.context_tree.specs.declared.node.Node.{Node}
 use Rattle.context_tree.specs.Context.{Id, parent_of, follows}
 use Rattle.context_tree.specs.Links.{slot_of, parent_in, number_in, links_in, child_at, no_links, IsLinked}
-use Rattle.context_tree.specs.Walks.{is_in, AreApart, keys_of, with_end, is_live_at, is_ended_with, id_in, EndsAt, IsReady, Start, IsVisited, IsReachedBy, IsWalk, IsWalking, IsWalkingOn, IsWalked}
-use Rattle.context_tree.proofs.Keys.{apart_front, apart_push, few_below, in_append, in_last, in_left, in_one, in_push, in_right, not_in}
+use Rattle.context_tree.specs.Walks.{is_in, keys_of, with_end, is_live_at, is_ended_with, id_in, EndsAt, IsReady, Start, IsVisited, IsReachedBy, IsWalk, IsWalkingOn}
+use Rattle.context_tree.proofs.Keys.{apart_push, in_append, in_last, in_left, in_one, in_push, not_in}
 use Rattle.context_tree.proofs.Lineage.{some_same}
 use Rattle.context_tree.proofs.Marking.{in_range}
 use Rattle.context_tree.proofs.Linking.{apart, all_reached, only_children, places_rise, same_linked}
@@ -37,7 +36,7 @@ map_length : {A B : Type 0} (f : A → B) (xs : List A) → length (map f xs) �
 map_length f [] = refl
 map_length f (x ∷ xs) = let rest : length (map f xs) ≡ length xs = map_length f xs in omega (arith, rest)
 
-map_both : {A B : Type 0} (f : A → B) (xs ys : List A) → map f (xs ++ ys) ≡ map f xs ++ map f ys
+pub map_both : {A B : Type 0} (f : A → B) (xs ys : List A) → map f (xs ++ ys) ≡ map f xs ++ map f ys
 map_both f [] ys = refl
 map_both f (x ∷ xs) ys = ap (λ l. f x ∷ l) (map_both f xs ys)
 
@@ -120,37 +119,21 @@ module _ {C V : Type 0} where
     pub stays : (k : ℕ) → test k ≡ false → slot_of new k ≡ slot_of old k
     stays k miss = is k ∙ ap (λ b. if b then with_end e (slot_of old k) else slot_of old k) miss
 
-  live_there : (o : Option (Node C V)) → option_map_or (λ (n : Node C V). is_none n.ending) o false ≡ true → is_some o ≡ true
+  pub live_there : (o : Option (Node C V)) → option_map_or (λ (n : Node C V). is_none n.ending) o false ≡ true → is_some o ≡ true
   live_there None is = cc
   live_there (Some n) is = refl
 
   -- ---- one is ended
 
-  not_done : (slots : List (Option (Node C V))) (done : List Id) (room key : ℕ) → IsReady slots done room → is_live_at slots key ≡ true → is_in key (keys_of done) ≡ false
+  pub not_done : (slots : List (Option (Node C V))) (done : List Id) (room key : ℕ) → IsReady slots done room → is_live_at slots key ≡ true → is_in key (keys_of done) ≡ false
   not_done slots done room key r live = not_in key (keys_of done) (λ is. not_both (is_live_at slots key) live (r.ended key is).0)
 
-  pub push_room : (slots : List (Option (Node C V))) (done : List Id) (room key : ℕ) → IsReady slots done room → is_live_at slots key ≡ true → length done < room
-  push_room slots done room key r live =
-      let all : List ℕ = keys_of done ++ key ∷ [] in
-      let apart : AreApart all = apart_push (keys_of done) key r.apart (not_done slots done room key r live) in
-      let low : length all ≤ room = few_below all room apart (λ k is. in_push k key (keys_of done) (k < room) is
-      (λ old. r.within k (r.ended k old).1)
-      (λ e. r.within k (rw e (live_there (slot_of slots key) live)))) in
-      let long : length all ≡ length (keys_of done) + 1 = length-append (keys_of done) (key ∷ []) in
-      let same : length (keys_of done) ≡ length done = keys_length done in
-      omega (arith, low, long, same)
+  pub live_room : (slots : List (Option (Node C V))) (done : List Id) (room key : ℕ) → IsReady slots done room → is_live_at slots key ≡ true → key < room
+  live_room slots done room key r live = r.within key (live_there (slot_of slots key) live)
 
-  -- for one that comes into a vacant slot there is room too
-  pub new_room : (slots : List (Option (Node C V))) (done : List Id) (room more key : ℕ) → IsReady slots done room → slot_of slots key ≡ None → room ≤ more → key < more → length done < more
-  new_room slots done room more key r vacant le here =
-      let all : List ℕ = keys_of done ++ key ∷ [] in
-      let out : is_in key (keys_of done) ≡ false = not_in key (keys_of done) (λ is. let there : is_some (slot_of slots key) ≡ true = (r.ended key is).1 in not_both (is_some (slot_of slots key)) there (ap is_some vacant)) in
-      let low : length all ≤ more = few_below all more (apart_push (keys_of done) key r.apart out) (λ k is. in_push k key (keys_of done) (k < more) is
-      (λ old. let was : k < room = r.within k (r.ended k old).1 in omega (arith, was, le))
-      (λ e. rw e here)) in
-      let long : length all ≡ length (keys_of done) + 1 = length-append (keys_of done) (key ∷ []) in
-      let same : length (keys_of done) ≡ length done = keys_length done in
-      omega (arith, low, long, same)
+  -- one that comes into a vacant slot does not wait
+  pub not_there : (slots : List (Option (Node C V))) (done : List Id) (room key : ℕ) → IsReady slots done room → slot_of slots key ≡ None → is_in key (keys_of done) ≡ false
+  not_there slots done room key r vacant = not_in key (keys_of done) (λ is. let there : is_some (slot_of slots key) ≡ true = (r.ended key is).1 in not_both (is_some (slot_of slots key)) there (ap is_some vacant))
 
   pub ready_step : (slots new : List (Option (Node C V))) (done : List Id) (room : ℕ) (id : Id) (e : Ending C) → IsReady slots done room → is_live_at slots id.1 ≡ true → EndsAt slots new id.1 e → IsReady new (done ++ id ∷ []) room
   ready_step slots new done room id e r live ends =
@@ -540,110 +523,3 @@ module _ {C V : Type 0} where
       by_slot : (o : Option (Node C V)) → option_map_or (λ (n : Node C V). is_none n.ending && is_some (follows n.kind)) o false ≡ true → option_map_or (λ (n : Node C V). is_none n.ending) o false ≡ true
       by_slot None is = cc
       by_slot (Some n) is = by_node (is_none n.ending) (is_some (follows n.kind)) is
-
-  -- ---- from one context to the next
-
-  -- the one whose children are looked at next
-  pub record IsTurn (s : Start C V) (slots : List (Option (Node C V))) (done : List Id) (timers : Timing) (at visits key : ℕ) : Type 0 where
-    pub keys : List ℕ
-    pub visited : List ℕ
-    pub front : List ℕ
-    pub back : List ℕ
-    pub parts : keys ≡ front ++ key ∷ back
-    pub at_is : at ≡ length s.done + length front
-    pub visits_is : visits ≡ length visited + 1
-    pub inside : is_in key keys ≡ true
-    pub out : is_in key front ≡ false
-    pub walk : IsWalk s slots done timers keys visited front key 0
-
-  pub turn_at : (s : Start C V) (slots : List (Option (Node C V))) (done : List Id) (timers : Timing) (at visits : ℕ) (x shown : Id) → IsWalking s slots done timers at visits
-      → at < length done → x ≡ slice_index_or done at x → shown ≡ x → IsTurn s slots done timers at visits shown.1
-  turn_at s slots done timers at visits x shown on lt is view = by_back on.back on.parts
-    where
-      long : (back : List ℕ) → on.keys ≡ on.front ++ back → length done ≡ at + length back
-      long back parts =
-          let all : length done ≡ length s.done + length (map (id_in s.slots) on.keys) = ap length on.walk.done_is ∙ length-append s.done (map (id_in s.slots) on.keys) in
-          let same : length (map (id_in s.slots) on.keys) ≡ length on.keys = map_length (id_in s.slots) on.keys in
-          let both : length on.keys ≡ length on.front + length back = ap length parts ∙ length-append on.front back in
-          let at_is : at ≡ length s.done + length on.front = on.at_is in
-          omega (arith, all, same, both, at_is)
-
-      by_back : (back : List ℕ) → on.keys ≡ on.front ++ back → IsTurn s slots done timers at visits shown.1
-      by_back [] parts = let l : length done ≡ at + 0 = long [] parts in absurd (omega (arith, lt, l))
-      by_back (p ∷ back) parts =
-          let before : List Id = s.done ++ map (id_in s.slots) on.front in
-          let long_before : length before ≡ at = length-append s.done (map (id_in s.slots) on.front) ∙ ap (λ n. length s.done + n) (map_length (id_in s.slots) on.front) ∙ sym on.at_is in
-          let done_is : done ≡ before ++ id_in s.slots p ∷ map (id_in s.slots) back =
-          on.walk.done_is ∙ ap (λ ks. s.done ++ map (id_in s.slots) ks) parts ∙ ap (λ l. s.done ++ l) (map_both (id_in s.slots) on.front (p ∷ back)) ∙ sym (append_assoc s.done (map (id_in s.slots) on.front) (id_in s.slots p ∷ map (id_in s.slots) back)) in
-          let found : slice_index_or done at x ≡ id_in s.slots p = ap (λ l. slice_index_or l at x) done_is ∙ ap (λ n. slice_index_or (before ++ id_in s.slots p ∷ map (id_in s.slots) back) n x) (sym long_before)
-          ∙ get_or-append_seam before (id_in s.slots p) (map (id_in s.slots) back) x in
-          let key : shown.1 ≡ p = ap (λ (z : Id). z.1) (view ∙ is ∙ found) in
-          rw key (record {
-            keys = on.keys;
-            visited = on.visited;
-            front = on.front;
-            back = back;
-            parts = parts;
-            at_is = on.at_is;
-            visits_is = on.visits_is;
-            inside = rw parts (in_right p on.front (p ∷ back) (rw (eq-eqb p p refl) refl));
-            out = apart_front on.front p back (subst (λ ks. AreApart ks) parts on.walk.apart);
-            walk = turn s slots done timers on.keys on.visited on.front p on.walk;
-          })
-
-  -- the slot of one that the walk ended has its node
-  pub turn_there : (s : Start C V) (slots : List (Option (Node C V))) (done : List Id) (timers : Timing) (at visits key : ℕ) → IsTurn s slots done timers at visits key → is_some (slot_of slots key) ≡ true
-  turn_there s slots done timers at visits key t =
-      let same = same_there s.slots slots (λ j. is_in j t.keys) s.ending t.walk.slots_are key in
-      same ∙ ⊎_elim
-      (λ (e : key ≡ s.target). rw e (live_there (slot_of s.slots s.target) t.walk.target_live))
-      (λ (b : IsReachedBy s t.keys key). parent_there (slot_of s.slots key) b.parent b.derives)
-      (t.walk.reached key t.inside)
-    where
-      parent_there : (o : Option (Node C V)) (q : ℕ) → option_and_then (λ (n : Node C V). option_map (λ p. p.1) (parent_of n.kind)) o ≡ Some q → is_some o ≡ true
-      parent_there None q is = cc
-      parent_there (Some n) q is = refl
-
-  -- all of its children were looked at
-  pub walk_on : (s : Start C V) (slots new : List (Option (Node C V))) (done done2 : List Id) (timers timers2 : Timing) (at visits key more : ℕ) → (t : IsTurn s slots done timers at visits key) → IsLinked new
-      → IsWalkingOn s new done2 timers2 t.keys t.visited t.front key None more → IsWalking s new done2 timers2 (at + 1) (visits + more)
-  walk_on s slots new done done2 timers timers2 at visits key more t linked on = record {
-    keys = t.keys ++ on.more;
-    visited = on.seen;
-    front = t.front ++ key ∷ [];
-    back = t.back ++ on.more;
-    parts = ap (λ l. l ++ on.more) t.parts ∙ append_assoc t.front (key ∷ t.back) on.more ∙ sym (append_assoc t.front (key ∷ []) (t.back ++ on.more));
-    at_is = let l : length (t.front ++ key ∷ []) ≡ length t.front + 1 = length-append t.front (key ∷ []) in let a : at ≡ length s.done + length t.front = t.at_is in omega (arith, l, a);
-    visits_is = let v : visits ≡ length t.visited + 1 = t.visits_is in let m : length on.seen ≡ length t.visited + more = on.visits_is in omega (arith, v, m);
-    walk = leave s new done2 timers2 (t.keys ++ on.more) on.seen t.front key on.place on.walk linked on.next_is;
-  }
-
-  -- each context that was looked at has a slot of its own
-  pub few_seen : (s : Start C V) (slots : List (Option (Node C V))) (done : List Id) (timers : Timing) (keys seen front : List ℕ) (p place room : ℕ) → IsReady slots done room
-      → IsWalk s slots done timers keys seen front p place → length seen ≤ room
-  few_seen s slots done timers keys seen front p place room r w = few_below seen room w.visited_apart (λ k is.
-      let v = w.visited_are k is in
-      r.within k (same_there s.slots slots (λ j. is_in j keys) s.ending w.slots_are k ∙ parent_there (slot_of s.slots k) v.parent v.derives))
-    where
-      parent_there : (o : Option (Node C V)) (q : ℕ) → option_and_then (λ (n : Node C V). option_map (λ p. p.1) (parent_of n.kind)) o ≡ Some q → is_some o ≡ true
-      parent_there None q is = cc
-      parent_there (Some n) q is = refl
-
-  -- none is left whose children are to be looked at
-  pub walk_ends : (s : Start C V) (slots : List (Option (Node C V))) (done : List Id) (timers : Timing) (at visits : ℕ) → IsWalking s slots done timers at visits → length done ≤ at → IsWalked s slots done timers visits
-  walk_ends s slots done timers at visits on le = by_back on.back on.parts
-    where
-      by_back : (back : List ℕ) → on.keys ≡ on.front ++ back → IsWalked s slots done timers visits
-      by_back [] parts = record {
-        keys = on.keys;
-        visited = on.visited;
-        visits_is = on.visits_is;
-        walk = subst (λ ks. IsWalk s slots done timers on.keys on.visited ks 0 0) (sym (parts ∙ append-nil on.front)) on.walk;
-      }
-      by_back (p ∷ back) parts =
-          let all : length done ≡ length s.done + length (map (id_in s.slots) on.keys) = ap length on.walk.done_is ∙ length-append s.done (map (id_in s.slots) on.keys) in
-          let same : length (map (id_in s.slots) on.keys) ≡ length on.keys = map_length (id_in s.slots) on.keys in
-          let both : length on.keys ≡ length on.front + length (p ∷ back) = ap length parts ∙ length-append on.front (p ∷ back) in
-          let more : length (p ∷ back) ≡ suc (length back) = refl in
-          let at_is : at ≡ length s.done + length on.front = on.at_is in
-          absurd (omega (arith, all, same, both, more, at_is, le))

@@ -1,5 +1,5 @@
 -- How the nodes stand while a walk ends contexts, by the keys of their slots.
-use Rattle.std.specs.Prelude.{◌≡◌, ◌<◌, ◌+◌, ◌^◌, ◌⊎◌, ℕ, Bool, true, false, not, ◌==◌, ◌&&◌, if◌then◌else◌, is_some, is_none, filter, map, length, List, [], ◌∷◌, ◌++◌, Option, Some, option_map}
+use Rattle.std.specs.Prelude.{◌≡◌, ◌<◌, ◌+◌, ◌^◌, ◌⊎◌, ℕ, Bool, true, false, not, ◌==◌, ◌&&◌, if◌then◌else◌, is_some, is_none, filter, map, length, List, [], ◌∷◌, ◌++◌, Option, Some, None, option_map}
 use Rattle.std.specs.List.{list_any}
 use Rattle.std.specs.Option.{option_map_or}
 use Rattle.timer_heap.specs.Timers.{Timing}
@@ -17,6 +17,11 @@ is_in k ks = list_any (λ j. k == j) ks
 abbrev pub AreApart : List ℕ → Type 0
 AreApart [] = Unit {0}
 AreApart (k ∷ ks) = (is_in k ks ≡ false) × AreApart ks
+
+-- the first of these, if there is one
+abbrev pub first_key : List ℕ → Option ℕ
+first_key [] = None
+first_key (k ∷ ks) = Some k
 
 -- the slots that these ids name
 abbrev pub keys_of : List Id → List ℕ
@@ -104,14 +109,14 @@ module _ {C V : Type 0} where
     pub visited_apart : AreApart visited
     pub visited_are : (k : ℕ) → is_in k visited ≡ true → IsVisited s keys front p place k
 
-  -- between two contexts of the list of those that wait
-  pub record IsWalking (s : Start C V) (slots : List (Option (Node C V))) (done : List Id) (timers : Timing) (at visits : ℕ) : Type 0 where
+  -- between two contexts of the list of those that wait: the children of this one are looked at next
+  pub record IsWalking (s : Start C V) (slots : List (Option (Node C V))) (done : List Id) (timers : Timing) (at : Option ℕ) (visits : ℕ) : Type 0 where
     pub keys : List ℕ
     pub visited : List ℕ
     pub front : List ℕ
     pub back : List ℕ
     pub parts : keys ≡ front ++ back
-    pub at_is : at ≡ length s.done + length front
+    pub at_is : at ≡ first_key back
     pub visits_is : visits ≡ length visited + 1
     pub walk : IsWalk s slots done timers keys visited front 0 0
 

@@ -1,33 +1,24 @@
-//! What a new context needs beside its node: room to be handed out, and a timer.
-ghost use Rattle.std.specs.Prelude.{◌≡◌, ◌≤◌, ◌<◌, ◌++◌, ◌∷◌, [], is_none, None, OnOk, OnErr, if◌then◌else◌};
-ghost use Rattle.std.specs.VecDeque.{deque_len, deque_capacity};
+//! What a new context needs beside its node: to wait to be handed out, if it is ended from the start, or a timer.
+ghost use Rattle.std.specs.Prelude.{◌≡◌, ◌<◌, ◌++◌, ◌∷◌, [], false, is_none, None, OnOk, OnErr, if◌then◌else◌};
+ghost use Rattle.context_tree.specs.Walks.{is_in, keys_of};
 ghost use Rattle.context_tree.specs.Timed.{with_timer, if_sooner};
 ghost use Rattle.timer_heap.specs.Timers.{timing};
 ghost use Rattle.context_tree.specs.Context.{own_deadline};
 
 use crate::id::CtxId;
 use crate::node::{Ending, Kind};
-use std::alloc::AllocError;
-use std::collections::VecDeque;
+use crate::queue::Queue;
 use timer_heap::{SetError, Timers};
 
-/// Makes room for as many to wait to be handed out.
-pub(crate) fn reserve_for(done: &mut VecDeque<CtxId>, most: usize) -> Result<(), AllocError>
-    ensures room { OnOk result (most ≤ deque_capacity done.new) }
-    ensures items { done.new.items ≡ done.old.items }
-    ensures grown { deque_capacity done.old ≤ deque_capacity done.new }
-{
-    done.reserve(most.saturating_sub(done.len()))
-}
-
 /// Adds a new context that is ended from the start to those that wait to be handed out.
-pub(crate) fn add_new<C: Copy>(done: &mut VecDeque<CtxId>, id: CtxId, ending: Option<Ending<C>>)
-    requires { deque_len done.old < deque_capacity done.old }
+pub(crate) fn add_new<C: Copy>(done: &mut Queue, id: CtxId, ending: Option<Ending<C>>)
+    requires room { id.1 < done.old.room }
+    requires apart { is_in id.1 (keys_of done.old.items) ≡ false }
     ensures done { done.new.items ≡ (if is_none ending then done.old.items else done.old.items ++ id ∷ []) }
-    ensures capacity { deque_capacity done.new ≡ deque_capacity done.old }
+    ensures room { done.new.room ≡ done.old.room }
 {
     if ending.is_some() {
-        done.push_back_reserved(id);
+        done.push(id);
     }
 }
 

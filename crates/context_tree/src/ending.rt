@@ -1,6 +1,5 @@
 //! The walk by the links that ends a context and those that follow it.
 ghost use Rattle.std.specs.Prelude.{◌≡◌, ◌<◌, ◌+◌, ◌++◌, ◌∷◌, [], true, false, List, ℕ, is_some, Some, length};
-ghost use Rattle.std.specs.VecDeque.{deque_len, deque_capacity};
 ghost use Rattle.timer_heap.specs.Timers.{timing, without};
 ghost use Rattle.context_tree.specs.Links.{slot_of, number_in, parent_in, links_in, child_at};
 ghost use Rattle.context_tree.specs.declared.node.Node.{Node};
@@ -11,8 +10,8 @@ ghost use Rattle.context_tree.specs.Walks.{id_in, is_in, is_live_at, is_ended_wi
 use crate::error::CtxErr;
 use crate::id::CtxId;
 use crate::node::{Due, Ending, Node};
+use crate::queue::Queue;
 use slab::Slab;
-use std::collections::VecDeque;
 use timer_heap::Timers;
 
 /// Ends a context that is not ended, and those that follow it, and returns how many contexts it looked at: this one, and
@@ -20,24 +19,24 @@ use timer_heap::Timers;
 /// list of those whose children are still to be looked at.
 pub(crate) fn end<C: Copy, V>(
     nodes: &mut Slab<Node<C, V>>,
-    done: &mut VecDeque<CtxId>,
+    done: &mut Queue,
     timers: &mut Timers,
     target: CtxId,
     ending: Ending<C>,
 ) -> u64
-    requires ready { IsReady nodes.old.slots done.old.items (deque_capacity done.old) }
+    requires ready { IsReady nodes.old.slots done.old.items done.old.room }
     requires live { is_live_at nodes.old.slots target.1 ≡ true }
     requires number { number_in nodes.old.slots target.1 ≡ target.0 }
     ensures walked { IsWalked (record { slots = nodes.old.slots; done = done.old.items; timers = timing timers.old; target = target.1; ending = ending }) nodes.new.slots done.new.items (timing timers.new) result }
-    ensures ready { IsReady nodes.new.slots done.new.items (deque_capacity done.new) }
+    ensures ready { IsReady nodes.new.slots done.new.items done.new.room }
 {
-    let mut at = done.len();
-    let mut visits = 1;
     end_one(nodes, done, timers, target, ending);
-    while at < done.len() {
-        let key = done[at].slot;
-        visits += end_children(nodes, done, timers, key, ending);
-        at += 1;
+    let mut visits = 1;
+    let mut next = Some(target.slot);
+    while let Some(key) = next {
+        let looked = end_children(nodes, done, timers, key, ending);
+        next = done.after(key);
+        visits += looked;
     }
     visits
 }
@@ -45,15 +44,15 @@ pub(crate) fn end<C: Copy, V>(
 /// Ends each context whose time has come, the earliest first, and those that follow it.
 pub(crate) fn end_due<C: Copy, V>(
     nodes: &mut Slab<Node<C, V>>,
-    done: &mut VecDeque<CtxId>,
+    done: &mut Queue,
     timers: &mut Timers,
     now: u64,
 )
-    requires ready { IsReady nodes.old.slots done.old.items (deque_capacity done.old) }
+    requires ready { IsReady nodes.old.slots done.old.items done.old.room }
     requires reached { IsReachedAt nodes.old.slots done.old.items (timing timers.old) }
     ensures stands { (made visits : ℕ) (past : List (TreeOp C V)) → StandsFor (record { slots = nodes.old.slots; done = done.old.items; timers = timing timers.old; made = made; visits = visits }) past
         → StandsFor (record { slots = nodes.new.slots; done = done.new.items; timers = timing timers.new; made = made; visits = visits }) (Advances now ∷ past) }
-    ensures ready { IsReady nodes.new.slots done.new.items (deque_capacity done.new) }
+    ensures ready { IsReady nodes.new.slots done.new.items done.new.room }
 {
     while let Some((_, key)) = timers.pop_due(now) {
         let (id, due) = due_at(nodes, key as usize, now);
@@ -82,19 +81,19 @@ fn due_at<C: Copy, V>(nodes: &Slab<Node<C, V>>, key: usize, now: u64) -> (CtxId,
 // Ends those children of a node that follow it and are not ended, and returns how many children it has.
 fn end_children<C: Copy, V>(
     nodes: &mut Slab<Node<C, V>>,
-    done: &mut VecDeque<CtxId>,
+    done: &mut Queue,
     timers: &mut Timers,
     key: usize,
     ending: Ending<C>,
 ) -> u64
-    requires ready { IsReady nodes.old.slots done.old.items (deque_capacity done.old) }
+    requires ready { IsReady nodes.old.slots done.old.items done.old.room }
     requires there { is_some (slot_of nodes.old.slots key) ≡ true }
     ensures walked { (s : Start C V) (keys visited front : List ℕ) → s.ending ≡ ending
         → is_in key keys ≡ true → is_in key front ≡ false
         → IsWalk s nodes.old.slots done.old.items (timing timers.old) keys visited front key 0
         → IsWalkingOn s nodes.new.slots done.new.items (timing timers.new) keys visited front key None result }
-    ensures ready { IsReady nodes.new.slots done.new.items (deque_capacity done.new) }
-    ensures room { deque_capacity done.new ≡ deque_capacity done.old }
+    ensures ready { IsReady nodes.new.slots done.new.items done.new.room }
+    ensures room { done.new.room ≡ done.old.room }
 {
     let mut visits = 0;
     let mut next = nodes[key].links.first;
@@ -117,20 +116,20 @@ fn end_children<C: Copy, V>(
 // Ends one context: it waits to be handed out, and is no longer timed.
 fn end_one<C: Copy, V>(
     nodes: &mut Slab<Node<C, V>>,
-    done: &mut VecDeque<CtxId>,
+    done: &mut Queue,
     timers: &mut Timers,
     id: CtxId,
     ending: Ending<C>,
 )
-    requires ready { IsReady nodes.old.slots done.old.items (deque_capacity done.old) }
+    requires ready { IsReady nodes.old.slots done.old.items done.old.room }
     requires live { is_live_at nodes.old.slots id.1 ≡ true }
     ensures ends { EndsAt nodes.old.slots nodes.new.slots id.1 ending }
     ensures done { done.new.items ≡ done.old.items ++ id ∷ [] }
     ensures timers { timing timers.new ≡ record (timing timers.old) { entries = without id.1 timers.old.entries } }
-    ensures ready { IsReady nodes.new.slots done.new.items (deque_capacity done.new) }
-    ensures room { deque_capacity done.new ≡ deque_capacity done.old }
+    ensures ready { IsReady nodes.new.slots done.new.items done.new.room }
+    ensures room { done.new.room ≡ done.old.room }
 {
     nodes[id.slot].ending = Some(ending);
-    done.push_back_reserved(id);
+    done.push(id);
     timers.stop(id.slot as u64);
 }

@@ -11,6 +11,7 @@ mod id;
 pub mod laws;
 mod links;
 mod node;
+mod queue;
 mod released;
 mod tree;
 mod walk;

@@ -8,11 +8,11 @@ ghost use Rattle.context_tree.specs.Tree.{StandsFor, StandsAsBefore, Answers, Is
 use crate::error::{Cause, CtxErr, CtxError, Unknown};
 use crate::id::CtxId;
 use crate::node::{Ending, Kind, Links, Node};
+use crate::queue::Queue;
 use crate::released::Released;
 use crate::{ended, ending, links, walk};
 use slab::Slab;
 use std::alloc::Global;
-use std::collections::VecDeque;
 use std::marker::Model;
 use timer_heap::Timers;
 
@@ -25,7 +25,7 @@ const MOST_CONTEXTS: u64 = 1 << 62;
 pub struct Tree<C, V> {
     nodes: Slab<Node<C, V>>,
     // those that are ended and wait to be handed out, in the order of their endings; it has room for all contexts
-    done: VecDeque<CtxId>,
+    done: Queue,
     // when those that are not ended end by themselves, before what they follow does, each under its slot
     timers: Timers,
     made: u64,
@@ -35,7 +35,6 @@ pub struct Tree<C, V> {
 
 impl<C, V> Model for Tree<C, V> {
     ghost use Rattle.std.specs.Prelude.{◌≡◌, ◌≤◌, ◌<◌, ◌^◌, ℕ, true, is_some};
-    ghost use Rattle.std.specs.VecDeque.{deque_capacity};
     ghost use Rattle.timer_heap.specs.Timers.{timing};
     ghost use Rattle.context_tree.specs.Links.{IsLinked, slot_of};
     ghost use Rattle.context_tree.specs.Tree.{TreeValue, IsReached};
@@ -48,7 +47,7 @@ impl<C, V> Model for Tree<C, V> {
       reached : IsReached (record { slots = t.nodes.slots; done = t.done.items; timers = timing t.timers; made = t.made; visits = t.visits });
       linked : IsLinked t.nodes.slots;
       few : t.made ≤ 2 ^ 62;
-      room : (k : ℕ) → is_some (slot_of t.nodes.slots k) ≡ true → k < deque_capacity t.done;
+      room : (k : ℕ) → is_some (slot_of t.nodes.slots k) ≡ true → k < t.done.room;
     } };
 }
 
@@ -59,7 +58,7 @@ impl<C: Copy, V: Drop> Tree<C, V> {
     {
         Tree {
             nodes: Slab::new(alloc),
-            done: VecDeque::new(alloc),
+            done: Queue::new(alloc),
             timers: Timers::new(alloc),
             made: 0,
             visits: 0,
@@ -131,9 +130,7 @@ impl<C: Copy, V: Drop> Tree<C, V> {
         if self.made >= MOST_CONTEXTS {
             return Err((kind, CtxError::Exhausted));
         }
-        if self.nodes.reserve(1).is_err()
-            || ended::reserve_for(&mut self.done, self.nodes.capacity()).is_err()
-        {
+        if self.nodes.reserve(1).is_err() || self.done.reserve(self.nodes.capacity()).is_err() {
             return Err((kind, CtxError::Memory));
         }
         let id = CtxId {
@@ -211,7 +208,7 @@ impl<C: Copy, V: Drop> Tree<C, V> {
         ensures keeps { IfNone result (StandsAsBefore self.old self.new) }
         ensures fewer { IfSome result (λ id. left_to_hand_out self.old ≡ left_to_hand_out self.new + 1) }
     {
-        self.done.pop_front()
+        self.done.pop()
     }
 
     /// Lets go of a context, unless one that is held derives from it. Its id is unknown from then on.
@@ -230,7 +227,7 @@ impl<C: Copy, V: Drop> Tree<C, V> {
         }
         links::remove(&mut self.nodes, id.slot);
         self.timers.stop(id.slot as u64);
-        self.done.retain(|other| *other != id);
+        self.done.remove(id);
         Released::Gone
     }
 

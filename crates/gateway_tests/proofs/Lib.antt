@@ -1,3 +1,4 @@
 pub mod OnLiterals
 pub mod RowLemmas
+pub mod RunLemmas
 pub mod StreamLemmas

@@ -1,8 +1,5 @@
 use Rattle.std.proofs.Common.{◌≡◌, length}
 use Rattle.connect_gateway.proofs.replay.Given as goal
 
-abbrev pub invariant-loop-hook : goal.invariant-loop-hook
-invariant-loop-hook g l = length l.hooks.items ≡ l._hook
-
 abbrev pub invariant-loop-opening : goal.invariant-loop-opening
 invariant-loop-opening g l = length l.stocks.items ≡ l._opening

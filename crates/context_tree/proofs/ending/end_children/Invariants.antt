@@ -1,6 +1,5 @@
 use Rattle.std.proofs.Common.{◌≡◌, ◌-◌, ◌^◌, ℕ, List, true, false, Some}
 use Rattle.std.specs.Option.{option_map_or}
-use Rattle.std.specs.VecDeque.{deque_capacity}
 use Rattle.timer_heap.specs.Timers.{timing}
 use Rattle.context_tree.specs.Links.{number_in}
 use Rattle.context_tree.specs.Walks.{is_in, IsReady, Start, IsWalk, IsWalkingOn}
@@ -10,8 +9,8 @@ use Rattle.context_tree.proofs.ending.end_children.Given as goal
 -- so many of the children were looked at
 abbrev pub invariant-loop-next : goal.invariant-loop-next
 invariant-loop-next g l = record {
-  ready : IsReady l.nodes.slots l.done.items (deque_capacity l.done);
-  room : deque_capacity l.done ≡ deque_capacity l.fn.done;
+  ready : IsReady l.nodes.slots l.done.items l.done.room;
+  room : l.done.room ≡ l.fn.done.room;
   child : (k : ℕ) → l.next ≡ Some k → IsChild l.nodes.slots l.visits k;
   walking : (s : Start _ _) (keys visited front : List ℕ) → s.ending ≡ l.ending
       → is_in l.key keys ≡ true → is_in l.key front ≡ false

@@ -3,14 +3,14 @@ use Rattle.context_tree.proofs.tree.Tree.next_done.Goals as goal
 
 pub invariant_of-self : goal.invariant_of-self
 invariant_of-self g c = record {
-  reached = popped_reached c.pop_front.result _ c.pop_front.new.self.items c.pop_front.ensures.items c.self.invariant.reached;
+  reached = popped_reached c.pop.result _ c.pop.new.self.items c.pop.ensures.items c.self.invariant.reached;
   linked = c.self.invariant.linked;
   few = c.self.invariant.few;
-  room = rw c.pop_front.ensures.capacity c.self.invariant.room;
+  room = rw c.pop.ensures.room c.self.invariant.room;
 }
 
 pub returns-clause-first : goal.returns-clause-first
-returns-clause-first g c = rw (← c.self.view_is) (popped_first c.pop_front.result _ c.pop_front.new.self.items c.pop_front.ensures.items)
+returns-clause-first g c = rw (← c.self.view_is) (popped_first c.pop.result _ c.pop.new.self.items c.pop.ensures.items)
 
 pub returns-clause-handed : goal.returns-clause-handed
-returns-clause-handed g c = rw (← c.self.view_is) (popped_stands c.pop_front.result _ c.pop_front.new.self.items c.pop_front.ensures.items)
+returns-clause-handed g c = rw (← c.self.view_is) (popped_stands c.pop.result _ c.pop.new.self.items c.pop.ensures.items)

@@ -1,5 +1,4 @@
-use Rattle.std.proofs.Common.{◌∙◌, ◌∷◌, ap, rules, subst, sym, refl, not}
-use Rattle.std.proofs.lemmas.Fn.{filter_same}
+use Rattle.std.proofs.Common.{◌∙◌, ◌∷◌, ap, subst, sym, refl, not}
 use Rattle.context_tree.specs.Context.{Releases}
 use Rattle.context_tree.specs.Tree.{StandsFor}
 use Rattle.context_tree.proofs.Family.{first_derives, key_there, none_derives, places_of}
@@ -39,12 +38,12 @@ invariant_of-self g c =
         release_stands _ _ past c.args.id node.0 c.self.invariant.reached.1 (sym c.node.ensures ∙ node.1)
             (none_derives c.self.inside.nodes.slots c.args.id c.self.invariant.linked (rw (← c.id.view_is) (none_popped _ (sym c.has_children.ensures ∙ c.if-has_children.false))))
             (rw (← c.id.view_is) c.remove.ensures.gone) (rw (← c.id.view_is) c.remove.ensures.others)
-            (filter_same _ _ _ (λ x b f' k. search rules) _ _ c.retain.ensures.filtered)
+            c.remove-2.ensures.items
             (rw (← c.id.view_is) c.stop.ensures.left) refl refl,
       );
       linked = c.remove.ensures.linked;
       few = c.self.invariant.few;
-      room = rw c.retain.ensures.capacity (room_without c.self.inside.nodes.slots c.remove.new.nodes.slots _ c.id.inside.slot c.self.invariant.room c.remove.ensures.others c.remove.ensures.gone);
+      room = rw c.remove-2.ensures.room (room_without c.self.inside.nodes.slots c.remove.new.nodes.slots _ c.id.inside.slot c.self.invariant.room c.remove.ensures.others c.remove.ensures.gone);
     }
 
 pub returns-clause-gone : goal.returns-clause-gone
@@ -53,5 +52,5 @@ returns-clause-gone g c = λ yes' past stood.
     release_stands _ _ past c.args.id node.0 (subst (λ t. StandsFor t past) (sym c.self.view_is) stood) (sym c.node.ensures ∙ node.1)
     (none_derives c.self.inside.nodes.slots c.args.id c.self.invariant.linked (rw (← c.id.view_is) (none_popped _ (sym c.has_children.ensures ∙ c.if-has_children.false))))
     (rw (← c.id.view_is) c.remove.ensures.gone) (rw (← c.id.view_is) c.remove.ensures.others)
-    (filter_same _ _ _ (λ x b f' k. search rules) _ _ c.retain.ensures.filtered)
+    c.remove-2.ensures.items
     (rw (← c.id.view_is) c.stop.ensures.left) refl refl

@@ -1,13 +1,13 @@
-//! A hook without a box, for the tests of what stands above the core.
+ghost use Rattle.std.specs.Prelude.{◌≡◌};
 ghost use Rattle.gateway_core.specs.Duty.{MeetsDuty};
 
 use after_funcs::Hook;
 use gateway_core::{Ending, HOOKS, ReplyHook, Stock, ending_reply};
 use http_pieces::Bytes;
 use std::alloc::{AllocError, Global};
-use std::test::Fail;
 
-/// A hook that tells the ending.
+/// The hook of a call, which answers the call's ending by `ending_reply`. It is no box, so a connection's hooks cost
+/// next to nothing.
 #[derive(Drop)]
 pub(crate) struct PlainHook {
     alloc: Global,
@@ -32,13 +32,13 @@ impl ReplyHook for PlainHook {
 }
 
 /// The hooks of a connection.
-pub(crate) fn stock(alloc: Global) -> Result<Stock<PlainHook>, Fail> {
+pub(crate) fn stock(alloc: Global) -> Result<Stock<PlainHook>, AllocError> {
     let mut hooks = Vec::new(alloc);
     for _hook in 0..HOOKS {
         hooks.push(PlainHook { alloc })?;
     }
     match Stock::of(hooks) {
         Ok(stock) => Ok(stock),
-        Err(_) => Err(Fail::from("not a stock")),
+        Err(_) => unreachable!(),
     }
 }

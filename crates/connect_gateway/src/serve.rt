@@ -1,0 +1,161 @@
+ghost use Rattle.std.specs.Prelude.{◌≡◌, ◌<◌, ◌^◌};
+
+use crate::clock::SinceStart;
+use crate::connection::Connection;
+use crate::crew::{join_all, start_crew};
+use crate::fault::Fault;
+use crate::input::read_plan_input;
+use crate::plain_hook::PlainHook;
+use crate::task::Service;
+use backend_pool::{Blanks, Book, Shared, Shares, WorkerShares};
+use call_plan::Plans;
+use std::alloc::Global;
+use std::fs::{File, Files};
+use std::marker::Brand;
+use std::net::{Net, TcpListener, TcpStream};
+use std::sync::ledger::{Blank, Ledger, Share};
+use std::sync::{Arc, Wait};
+use std::thread::Threads;
+use std::time::Clock;
+
+/// How many streams are accepted where the words name no number: more than a program lives to see.
+const MOST_STREAMS: u64 = u64::MAX - 1;
+
+/// Serves the plans of a file to whoever connects, until so many streams were accepted, if that was asked for, and all of
+/// them have ended. `Plans` for a plan file that is refused; `Io` where it can't be read, at an address that can't be
+/// listened at, and after a failed accept; `Memory` where the gateway or its threads can't be made.
+pub(crate) fn serve<
+    R: Net<Listener = TcpListener, Stream = TcpStream>
+        + AllocGlobal
+        + Files
+        + Clock
+        + Threads
+        + Wait
+        + Copy
+        + Send
+        + Sync
+        + 'static,
+>(rt: R, service: &Service) -> Result<(), Fault> {
+    let alloc = rt.alloc();
+    let plans = read_plan_file(&rt, alloc, service.plans.as_str())?;
+    let listener = TcpListener::bind(&rt, service.listen.as_str())?;
+    let blanks = Blanks {
+        bytes: Blank::new(u64::MAX),
+        jobs: Blank::new(u64::MAX),
+        results: Blank::new(u64::MAX),
+    };
+    let most = service
+        .connections
+        .unwrap_or(MOST_STREAMS)
+        .min(MOST_STREAMS);
+    serve_with::<R, Brand, Brand, Brand>(rt, alloc, plans, blanks, &listener, service.workers, most)
+}
+
+fn read_plan_file<R: Files>(rt: &R, alloc: Global, path: &str) -> Result<Plans, Fault> {
+    let mut file = File::open(rt, path)?;
+    read_plan_input(alloc, &mut file)
+}
+
+/// Serves so many streams by so many workers, and ends all threads that it started.
+pub(crate) fn serve_with<
+    R: Net<Listener = TcpListener, Stream = TcpStream>
+        + Clock
+        + Threads
+        + Wait
+        + Copy
+        + Send
+        + Sync
+        + 'static,
+    L: Ledger + Send + Sync + 'static,
+    J: Ledger + Send + Sync + 'static,
+    K: Ledger + Send + Sync + 'static,
+>(
+    rt: R,
+    alloc: Global,
+    plans: Plans,
+    blanks: Blanks,
+    listener: &TcpListener,
+    workers: u32,
+    most: u64,
+) -> Result<(), Fault>
+    requires names { (blanks.bytes.name ≡ L.name) × (blanks.jobs.name ≡ J.name) × (blanks.results.name ≡ K.name) }
+    requires parts { (blanks.bytes.parts ≡ L.parts) × (blanks.jobs.parts ≡ J.parts)
+        × (blanks.results.parts ≡ K.parts) }
+    requires enough { (most < blanks.bytes.parts) × (workers < blanks.jobs.parts) × (workers < blanks.results.parts) }
+{
+    let clock = SinceStart::new(&rt)?;
+    let (book, shares) = Book::<PlainHook, L, J, K>::new(alloc, plans, blanks)?;
+    let Shares {
+        bytes,
+        jobs,
+        results,
+    } = shares;
+    let shared = Arc::new(alloc, Shared::new(book))?;
+    let mut crew = Vec::new(alloc);
+    let mine = WorkerShares { jobs, results };
+    let served = match start_crew(rt, alloc, &shared, clock, workers, mine, &mut crew) {
+        Ok(()) => accept_streams(rt, alloc, &shared, bytes, listener, most),
+        Err(_) => Err(Fault::Memory),
+    };
+    shared.shut(&rt);
+    join_all(&rt, crew);
+    served
+}
+
+/// Accepts so many streams, or up to an accept that fails, and waits until all have ended.
+fn accept_streams<
+    R: Net<Listener = TcpListener, Stream = TcpStream>
+        + Clock
+        + Threads
+        + Wait
+        + Copy
+        + Send
+        + Sync
+        + 'static,
+    L: Ledger + Send + Sync + 'static,
+    J: Ledger + Send + Sync + 'static,
+    K: Ledger + Send + Sync + 'static,
+>(
+    rt: R,
+    alloc: Global,
+    shared: &Arc<Shared<PlainHook, L, J, K>>,
+    bytes: Share<L>,
+    listener: &TcpListener,
+    most: u64,
+) -> Result<(), Fault>
+    requires { most < bytes.parts }
+{
+    let mut bytes = bytes;
+    let mut accepted = Ok(());
+    let mut connections = Vec::new(alloc);
+    for _stream in 0..most {
+        let Ok((stream, _peer)) = listener.accept() else {
+            accepted = Err(Fault::Io);
+            break;
+        };
+        clear(&rt, &mut connections);
+        let mine = bytes.split_off(1, 0);
+        if connections.reserve(1).is_err() {
+            continue;
+        }
+        if let Some(connection) = Connection::start(rt, alloc, shared, stream, mine) {
+            connections.push_reserved(connection);
+        }
+    }
+    for connection in connections {
+        connection.join(&rt);
+    }
+    accepted
+}
+
+/// Joins the threads whose connections have ended, so that no more are kept than are open, and some that just end.
+fn clear<R: Threads>(rt: &R, connections: &mut Vec<Connection>) {
+    let mut k = 0;
+    while k < connections.len() {
+        if connections[k].is_over() {
+            connections.swap_remove(k).join(rt);
+        } else {
+            k += 1;
+        }
+    }
+}
