@@ -8,9 +8,10 @@ use Rattle.gateway_core.specs.declared.fault.Took.{Took}
 use Rattle.gateway_core.specs.Events.{Before, BranchResult, GatewayEvent, Piece}
 use Rattle.gateway_core.specs.Gateway.{GatewayValue, is_broken_conn}
 use Rattle.gateway_core.specs.Job.{HandedJob, JobValue}
+use Rattle.gateway_core.specs.Occurrence.{Occurrence}
 use Rattle.gateway_core.specs.Reply.{ReplyValue}
 use Rattle.gateway_core.specs.Served.{Served}
-use Rattle.gateway_core.specs.Serving.{Breaks, IsDeaf}
+use Rattle.gateway_core.specs.Serving.{Breaks, BreaksBy, IsDeaf}
 use Rattle.gateway_core.specs.Store.{call_at}
 use Rattle.backend_pool.specs.declared.shares.Totals.{Totals}
 use Rattle.backend_pool.specs.declared.next_reply.NextReply.{NextReply}
@@ -82,10 +83,11 @@ pub record TellsStep (conn : ℕ) (result : Result ⊤ StepFault) (v w : Gateway
   pub memory : result ≡ Err Memory → is_broken_conn conn w ≡ true
   pub unbroken : OnOk result (is_broken_conn conn w ≡ false)
 
--- a connection breaks only by a result that counts, and nothing changes by one of a branch that is not out
-pub record TellsTook (took : Took) (v w : GatewayValue) : Type 0 where
+-- a connection breaks only by a result that counts and concerns it, and nothing changes by one of a branch that is not out
+pub record TellsTook (o : Occurrence) (took : Took) (v w : GatewayValue) : Type 0 where
   pub counted : took.broke ≡ true → took.seen ≡ Counted
   pub broke : Breaks v w took.broke
+  pub concerned : BreaksBy o v w
   pub unknown : took.seen ≡ Unknown → w ≡ v
 
 abbrev pub job_list : Option HandedJob → List JobValue

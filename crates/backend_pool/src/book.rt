@@ -1,4 +1,4 @@
-ghost use Rattle.std.specs.Prelude.{◌≡◌, ◌==◌, ◌+◌, ◌<◌, ◌≤◌, ◌^◌, ◌∷◌, ◌++◌, [], IfErr, IfOk, IfSome, List, MatchResult, None, OnErr, OnOk, Some, false, true, is_some, length, option_map, option_to_list, ℕ};
+ghost use Rattle.std.specs.Prelude.{◌≡◌, ◌==◌, ◌+◌, ◌<◌, ◌≤◌, ◌^◌, ◌∷◌, ◌++◌, [], IfErr, IfOk, IfSome, IsTrue, List, MatchResult, None, OnErr, OnOk, Some, false, true, is_some, length, option_map, option_to_list, ℕ, ◌↔◌};
 ghost use Rattle.connect_codec.specs.declared.answer.Outcome.{Outcome as Outcomes};
 ghost use Rattle.gateway_core.specs.declared.entry.ReplyEntry.{ReplyEntry};
 ghost use Rattle.gateway_core.specs.Conn.{ConnValue};
@@ -7,7 +7,8 @@ ghost use Rattle.gateway_core.specs.Gateway.{is_ended, next_reply, untaken_of};
 ghost use Rattle.gateway_core.specs.Job.{JobValue};
 ghost use Rattle.gateway_core.specs.Past.{judged, marked};
 ghost use Rattle.gateway_core.specs.Served.{Served, with_reply};
-ghost use Rattle.gateway_core.specs.Serving.{Breaks, TakesOnly};
+ghost use Rattle.gateway_core.specs.Occurrence as concerning;
+ghost use Rattle.gateway_core.specs.Serving.{Breaks, BreaksBy, TakesOnly};
 ghost use Rattle.gateway_core.specs.Starts.{Placed, occurrences};
 ghost use Rattle.gateway_core.specs.Store.{conn_of};
 ghost use Rattle.backend_pool.specs.declared.next_reply.NextReply.{NextReply};
@@ -148,6 +149,7 @@ impl<H: ReplyHook + Drop, L: Ledger, J: Ledger, K: Ledger> Book<H, L, J, K> {
     pub fn moment(&mut self, moment: u64) -> bool
         ensures stands { TakesEvent (Moment moment) self.old self.new }
         ensures broke { Breaks self.old.core self.new.core result }
+        ensures concerned { BreaksBy (concerning.Moment moment) self.old.core self.new.core }
         ensures counts { self.new ≡ record self.old { core = self.new.core } }
     {
         self.core.moment(moment)
@@ -157,6 +159,7 @@ impl<H: ReplyHook + Drop, L: Ledger, J: Ledger, K: Ledger> Book<H, L, J, K> {
     pub fn drain(&mut self) -> bool
         ensures stands { TakesEvent Drain self.old self.new }
         ensures broke { Breaks self.old.core self.new.core result }
+        ensures concerned { BreaksBy concerning.Drain self.old.core self.new.core }
         ensures counts { self.new ≡ record self.old { core = self.new.core } }
     {
         self.core.drain()
@@ -187,7 +190,8 @@ impl<H: ReplyHook + Drop, L: Ledger, J: Ledger, K: Ledger> Book<H, L, J, K> {
             → Occurs self.old.core.plans opened es occurred
             → (k : ConnValue) → conn_of call.now.conn self.old.core.machine.conns ≡ Some k → k.broken ≡ false
             → IfOk result (λ took. took.seen ≡ judged call.now branch (marked (occurrences occurred))) }
-        ensures tells { IfOk result (λ took. TellsTook took self.old.core self.new.core) }
+        ensures tells { IfOk result (λ took.
+            TellsTook (concerning.Result call.now branch outcome) took self.old.core self.new.core) }
         ensures counts { OnOk result
             (self.new ≡ record self.old { core = self.new.core; results = self.old.results + 1 }) }
         ensures full { MatchResult result (λ _. self.old.results + 1 ≤ most_total)
@@ -220,7 +224,8 @@ impl<H: ReplyHook + Drop, L: Ledger, J: Ledger, K: Ledger> Book<H, L, J, K> {
             → Occurs self.old.core.plans opened es occurred
             → (k : ConnValue) → conn_of call.now.conn self.old.core.machine.conns ≡ Some k → k.broken ≡ false
             → IfOk result (λ took. took.seen ≡ judged call.now branch (marked (occurrences occurred))) }
-        ensures tells { IfOk result (λ took. TellsTook took self.old.core self.new.core) }
+        ensures tells { IfOk result (λ took. (outcome : Outcomes)
+            → TellsTook (concerning.Result call.now branch outcome) took self.old.core self.new.core) }
         ensures counts { OnOk result
             (self.new ≡ record self.old { core = self.new.core; results = self.old.results + 1 }) }
         ensures full { MatchResult result (λ _. self.old.results + 1 ≤ most_total)
@@ -278,11 +283,18 @@ impl<H: ReplyHook + Drop, L: Ledger, J: Ledger, K: Ledger> Book<H, L, J, K> {
         ensures none { reply_given result ≡ None → untaken_of conn self.old.core ≡ [] }
         ensures pending { result ≡ NextReply.Pending → is_ended conn self.new.core ≡ false }
         ensures over { result ≡ NextReply.Over → is_ended conn self.new.core ≡ true }
-        ensures only { TakesOnly self.old.core self.new.core }
+        ensures only { TakesOnly conn self.old.core self.new.core }
         ensures counts { self.new ≡ record self.old { core = self.new.core } }
     {
         let reply = self.core.take_reply(conn);
         NextReply::of(reply, self.core.ended(conn))
+    }
+
+    /// Whether some job that was taken has no result yet.
+    pub fn is_asking(&self) -> bool
+        ensures { IsTrue result ↔ (self.now.results < self.now.jobs) }
+    {
+        self.results.total() < self.jobs.total()
     }
 
     /// The totals. Shares have no more than those, and where they have all parts of a ledger they have all of its

@@ -34,6 +34,13 @@ impl<L: Ledger> Counter<L> {
         Counter { total: 0, ledger }
     }
 
+    /// The total.
+    pub fn total(&self) -> u64
+        ensures { result ≡ self.now }
+    {
+        self.total
+    }
+
     /// Whether so much more can be added.
     pub fn has_room(&self, amount: u64) -> bool
         ensures { IsTrue result ↔ (self.now + amount ≤ most_total) }

@@ -49,7 +49,7 @@ impl Plan {
         ensures refused { result_err result ≡ plan_fault
             (record { path = path; limit = limit; timeout = timeout_ms; branches = branches.items }) }
     {
-        judge(path.as_str(), limit, timeout_ms, branches.as_slice())?;
+        check_rules(path.as_str(), limit, timeout_ms, branches.as_slice())?;
         Ok(Plan {
             path,
             limit,
@@ -118,9 +118,9 @@ fn add_member(joined: &mut Bytes, name: &str, answer: &[u8]) -> Result<(), Alloc
     joined.extend_from_slice(answer)
 }
 
-// The first fault of a plan, where it has one.
+// The first rule that a plan breaks, where it breaks one.
 #[tactic(auto, unfolding(crate::specs::Plan::plan_fault))]
-fn judge(
+fn check_rules(
     path: &str,
     limit: u32,
     timeout_ms: Option<u64>,

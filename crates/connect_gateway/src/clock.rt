@@ -3,8 +3,11 @@ use std::sync::Wait;
 use std::time::{self, Duration, Instant};
 use std::{io, thread};
 
-/// How long the clock's thread sleeps between two moments, in milliseconds.
+/// How long the clock's thread sleeps between two moments while backends are asked, in milliseconds.
 const PAUSE: u64 = 1;
+
+/// And while none is. A call that comes then may have its deadline so much too early.
+const IDLE_PAUSE: u64 = 2;
 
 /// The milliseconds since the program began to serve.
 #[derive(Drop)]
@@ -32,7 +35,8 @@ impl Clock for SinceStart {
         self.latest
     }
 
-    fn pause<R: time::Clock + Wait>(&mut self, rt: &R) {
-        thread::sleep(rt, Duration::from_millis(PAUSE));
+    fn pause<R: time::Clock + Wait>(&mut self, rt: &R, asking: bool) {
+        let pause = if asking { PAUSE } else { IDLE_PAUSE };
+        thread::sleep(rt, Duration::from_millis(pause));
     }
 }

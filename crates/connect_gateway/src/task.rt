@@ -1,4 +1,4 @@
-ghost use Rattle.std.specs.Prelude.{IfErr, IfOk, IfSome, ◌≤◌};
+ghost use Rattle.std.specs.Prelude.{IfErr, IfOk};
 ghost use Rattle.connect_gateway.specs.Fault.{IsOfWords};
 ghost use Rattle.connect_gateway.specs.Task.{IsInRange};
 

@@ -72,25 +72,30 @@ pub fn clock_side<
 >(rt: &R, clock: &mut C, shared: &Shared<H, L, J, K>) {
     for _ in rt.forever() {
         let moment = clock.now(rt);
-        if !hand_in(rt, moment, shared) {
+        let Some(asking) = hand_in(rt, moment, shared) else {
             return;
-        }
-        clock.pause(rt);
+        };
+        clock.pause(rt, asking);
     }
     unreachable!()
 }
 
-/// Hands the moment in. False where it was not, since all is shut.
+/// Hands the moment in, and tells whether backends are asked. None where it was not handed in, since all is shut.
 fn hand_in<R: Wait, H: ReplyHook + Drop, L: Ledger, J: Ledger, K: Ledger>(
     rt: &R,
     moment: u64,
     shared: &Shared<H, L, J, K>,
-) -> bool {
+) -> Option<bool> {
     let mut state = shared.state.lock(rt);
     if state.shut {
-        return false;
+        return None;
     }
     state.book.moment(moment);
-    shared.wake();
-    true
+    let asking = state.book.is_asking();
+    // A moment starts no job, so no worker is woken. With no backend asked, a call that it ended has all its jobs yet to
+    // be taken: whoever takes them wakes the write sides with their results, which come at once.
+    if asking {
+        shared.replies.notify_all();
+    }
+    Some(asking)
 }

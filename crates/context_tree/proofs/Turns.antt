@@ -3,12 +3,11 @@ use Rattle.std.proofs.Common.{◌≡◌, refl, sym, ap, subst, ◌∙◌, arith,
 use Rattle.std.specs.Prelude.{◌==◌, is_some, if◌then◌else◌}
 use Rattle.std.specs.Option.{option_map_or}
 use Rattle.std.proofs.lemmas.Bool.{eq-eqb}
-use Rattle.std.proofs.lemmas.List.{append-nil}
 use Rattle.timer_heap.specs.Timers.{Timing}
 use Rattle.context_tree.specs.declared.node.Node.{Node}
 use Rattle.context_tree.specs.Context.{Id}
 use Rattle.context_tree.specs.Links.{slot_of, IsLinked}
-use Rattle.context_tree.specs.Walks.{is_in, first_key, AreApart, keys_of, id_in, IsReady, Start, IsReachedBy, IsWalk, IsWalking, IsWalkingOn, IsWalked}
+use Rattle.context_tree.specs.Walks.{is_in, first_key, AreApart, keys_of, id_in, IsReady, Start, IsReachedBy, IsWalk, IsWalking, IsWalkingOn}
 use Rattle.context_tree.proofs.Chaining.{keys_both}
 use Rattle.context_tree.proofs.Keys.{apart_front, few_below, in_left, in_right, neither}
 use Rattle.context_tree.proofs.Lineage.{some_same}
@@ -148,16 +147,3 @@ module _ {C V : Type 0} where
   few_seen s slots done timers keys seen front p place room r w = few_below seen room w.visited_apart (λ k is.
       let v = w.visited_are k is in
       r.within k (same_there s.slots slots (λ j. is_in j keys) s.ending w.slots_are k ∙ placed_there s.slots k v.parent v.derives))
-
-  -- none is left whose children are to be looked at
-  pub walk_ends : (s : Start C V) (slots : List (Option (Node C V))) (done : List Id) (timers : Timing) (next : Option ℕ) (visits : ℕ) → IsWalking s slots done timers next visits → next ≡ None → IsWalked s slots done timers visits
-  walk_ends s slots done timers next visits on none = by_back on.back on.parts (sym on.at_is ∙ none)
-    where
-      by_back : (back : List ℕ) → on.keys ≡ on.front ++ back → first_key back ≡ None → IsWalked s slots done timers visits
-      by_back [] parts first = record {
-        keys = on.keys;
-        visited = on.visited;
-        visits_is = on.visits_is;
-        walk = subst (λ ks. IsWalk s slots done timers on.keys on.visited ks 0 0) (sym (parts ∙ append-nil on.front)) on.walk;
-      }
-      by_back (p ∷ back) parts first = cc

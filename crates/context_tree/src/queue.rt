@@ -30,7 +30,9 @@ impl Place {
 /// taken out, without a look at the others.
 #[derive(Drop)]
 pub(crate) struct Queue {
+    // one for each slot that there is room for
     places: Vec<Place>,
+    // the slots of the one that came first and of the one that came last
     first: Option<usize>,
     last: Option<usize>,
 }
@@ -95,7 +97,9 @@ impl Queue {
         ensures room { self.new.room ≡ self.old.room }
     {
         let slot = self.first?;
-        let number = self.places[slot].number?;
+        let Some(number) = self.places[slot].number else {
+            unreachable!()
+        };
         self.take(slot);
         Some(CtxId { number, slot })
     }
@@ -113,7 +117,7 @@ impl Queue {
         }
     }
 
-    /// The slot of the one behind the one in this slot.
+    /// The slot of the one behind the one in this slot. So those that wait can be gone through, also while more come.
     pub(crate) fn after(&self, slot: usize) -> Option<usize>
         requires { is_in slot (keys_of self.now.items) ≡ true }
         ensures next { (front back : List Id) (x : Id) → self.now.items ≡ front ++ x ∷ back → x.1 ≡ slot → result ≡ first_key (keys_of back) }
@@ -136,7 +140,7 @@ impl Queue {
     }
 }
 
-// Links two places, as far as there are two.
+// Names the places of two slots to each other, as far as there are two.
 fn join(places: &mut [Place], before: Option<usize>, after: Option<usize>)
     requires before { is_below before (length places.old) ≡ true }
     requires after { is_below after (length places.old) ≡ true }
@@ -151,7 +155,7 @@ fn join(places: &mut [Place], before: Option<usize>, after: Option<usize>)
     }
 }
 
-// An end of the queue: it stays where there is one beside the place that changes.
+// An end of the queue once a place has changed: it is the new one, unless one waits between the place and that end.
 fn end_past(beside: Option<usize>, end: Option<usize>, new: Option<usize>) -> Option<usize>
     ensures { result ≡ (if is_none beside then new else end) }
 {

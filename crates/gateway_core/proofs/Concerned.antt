@@ -98,11 +98,11 @@ pub result_concern : (id : CallId) (branch : ℕ) (outcome : Outcome) (v w : Mac
     → AreConcerned (λ c. is_stopped_in c w.conns) fates (Result id branch outcome) os
 result_concern id branch outcome v w took closed fates taken handed os are h (inl n) = λ c on stops.
     absurd (let clash : true ≡ false = sym stops ∙ ap (λ (x : MachineValue). is_stopped_in c x.conns) n.2 ∙ not_stopped c v.conns fates are on in cc)
-result_concern id branch outcome v w took closed fates taken handed os are h (inr (i, f, out, seen, inl went)) = λ c on stops.
+result_concern id branch outcome v w took closed fates taken handed os are h (inr (i, f, out, seen, its, inl went)) = λ c on stops.
     absurd (let same : is_stopped_in c w.conns ≡ is_stopped_in c v.conns = ap (λ (x : MachineValue). is_stopped_in c x.conns) went.1
     ∙ fills_stop (kept_at i v.calls).id (result_at i branch outcome v).reply (conn_of c v.conns) _ (fills_in (kept_at i v.calls).id (result_at i branch outcome v).reply v.conns c) in
     let clash : true ≡ false = sym stops ∙ same ∙ not_stopped c v.conns fates are on in cc)
-result_concern id branch outcome v w took closed fates taken handed os are h (inr (i, f, out, seen, inr broke)) = λ c on stops.
+result_concern id branch outcome v w took closed fates taken handed os are h (inr (i, f, out, seen, its, inr broke)) = λ c on stops.
     let its : (kept_at i v.calls).id ≡ id = same_call (kept_at i v.calls).id id f.1 in
     let conns_are : w.conns ≡ map (broken_if (kept_at i v.calls).id.conn) v.conns = ap (λ (x : MachineValue). x.conns) broke.3 in
     let c_is : c ≡ (kept_at i v.calls).id.conn = which_broke (kept_at i v.calls).id.conn c v.conns w.conns stops (not_stopped c v.conns fates are on)

@@ -101,7 +101,7 @@ goes_filled id reply v w conns_are calls_are = record {
 
 pub goes_result : (id : CallId) (branch : ℕ) (outcome : Outcome) (v w : MachineValue) (took : Took) → ResultTaken id branch outcome v w took → Goes v w
 goes_result id branch outcome v w took (inl n) = subst (Goes v) (sym n.2) (goes_same v)
-goes_result id branch outcome v w took (inr (i, f, out, seen, steps)) = goes_then v (stepped_at i (result_at i branch outcome v) v) w
+goes_result id branch outcome v w took (inr (i, f, out, seen, its, steps)) = goes_then v (stepped_at i (result_at i branch outcome v) v) w
     (goes_set i (stepped_kept (result_at i branch outcome v) (kept_at i v.calls)) v (stepped_at i (result_at i branch outcome v) v) f.0 refl refl refl) (by_step steps)
   where
     by_step : StepsAt i (result_at i branch outcome v) v w took.broke → Goes (stepped_at i (result_at i branch outcome v) v) w

@@ -1,7 +1,7 @@
 -- A kept call: as many tasks are active as branches are out, and those that wait are the ones that have not started.
-use Rattle.std.proofs.Common.{◌≡◌, ℕ, suc, ◌+◌, ◌≤◌, ◌<◌, ◌-◌, Bool, true, false, List, [], ◌∷◌, ◌++◌, map, length, drop, Option, None, Some, Result, Ok, Err, refl, sym, ap, ◌∙◌, subst, arith, ⊎_elim, inl, inr}
-use Rattle.std.specs.Prelude.{◌⊎◌, if◌then◌else◌, ◌==◌, slice_set, slice_index_or, slice_get, option_to_list}
-use Rattle.std.specs.List.{count_by}
+use Rattle.std.proofs.Common.{◌≡◌, ℕ, zero, suc, ◌+◌, ◌≤◌, ◌<◌, ◌-◌, Bool, true, false, List, [], ◌∷◌, ◌++◌, map, length, drop, Option, None, Some, Result, Ok, Err, refl, sym, ap, ◌∙◌, subst, arith, ⊎_elim, inl, inr}
+use Rattle.std.specs.Prelude.{◌⊎◌, All, if◌then◌else◌, ◌==◌, slice_set, slice_index_or, slice_get, option_to_list}
+use Rattle.std.specs.List.{count_by, range_with_len}
 use Rattle.std.proofs.lemmas.Bool.{cases_lt, ne_eqb, eqb-true}
 use Rattle.std.proofs.lemmas.List.{get_or-set_other, length-set, length-append}
 use Rattle.std.proofs.lemmas.List.Sums.{sum_by-set}
@@ -14,8 +14,9 @@ use Rattle.gateway_core.specs.declared.event.CallEvent.{CallEvent}
 use Rattle.gateway_core.specs.declared.event.CallEvent.TheVariants.{Answer as Answered}
 use Rattle.gateway_core.specs.declared.id.CallId.{CallId}
 use Rattle.gateway_core.specs.CallRecord.{CallRecord}
-use Rattle.gateway_core.specs.Job.{TaskValue, task_of, job_at}
+use Rattle.gateway_core.specs.Job.{JobValue, TaskValue, task_of, job_at}
 use Rattle.gateway_core.specs.LiveStands.{tasks_from}
+use Rattle.gateway_core.specs.Past.{Asked}
 use Rattle.call_plan.specs.Plan.{IsLawful}
 use Rattle.gateway_core.specs.Queue.{record_of}
 use Rattle.gateway_core.specs.Step.{result_on, next_out, rest_of, first_of}
@@ -196,6 +197,15 @@ answer_going_kept id out after i e g h was l later next k was_is it next_as fini
     subst (λ x. IsKept id x h (Some later)) (sym out_is)
     (subst (λ x. IsKept id (next_out g.queue (slice_set out i false)) h (Some x)) (sym later_is) (going_kept id out i e g h l live it finishes))
 
+-- the job of the first of a call's tasks is of that call
+first_its : (moment : ℕ) (id : CallId) (k : ℕ) (a : Asked) (queue : List TaskValue) → queue ≡ tasks_from k id a → All (λ (j : JobValue). j.call ≡ id) (first_of moment queue)
+first_its moment id k a queue e = subst (λ q. All (λ (j : JobValue). j.call ≡ id) (first_of moment q)) (sym e) (of_range (range_with_len k (length a.plan.branches - k)))
+  where
+    of_range : (ns : List ℕ) → All (λ (j : JobValue). j.call ≡ id) (first_of moment (map (task_of id a) ns))
+    of_range [] j d lt = absurd (omega (arith, lt))
+    of_range (n ∷ ns) zero d lt = refl
+    of_range (n ∷ ns) (suc j) d lt = absurd (omega (arith, lt))
+
 pub last_step : (moment : ℕ) (old : KeptValue) (id : CallId) (out : List Bool) (i : ℕ) (body : List ℕ) (g h : GroupState TaskValue (Unit {0})) (was new : Option LiveValue) (l : LiveValue)
     (reply : Option ReplyEntry) (decided : CallRecord) (next : Option TaskValue) (outcome : Outcome)
     → kept_value id out g.queue was reply ≡ old → IsKept id out g was → was ≡ Some l → slice_index_or out i false ≡ true → outcome ≡ Answer body → IsLawful l.asked.plan
@@ -206,7 +216,7 @@ last_step moment old id out i body g h was new l reply decided next outcome old_
     let none : g.queue ≡ [] = last_waits_none id out g.queue l live.live_is lawful (eqb-true (length l.events + 1) (length l.asked.plan.branches) last) in
     let next_none : next ≡ None = next_is id out i g was next (Ok tt) k it next_as ∙ ap (λ q. slice_get q 0) none in
     subst (λ x. IsStep moment x (kept_value id (slice_set out i false) h.queue new reply) (Some decided) next (result_on moment i outcome (slice_set x.call.out i false) x.call.live)) old_is
-    (rw (was_is, outcome_is, none, last, decided_is, next_none, new_is) (record { new_is = refl; reply_is = refl; jobs_are = refl; alone = inr refl }))
+    (rw (was_is, outcome_is, none, last, decided_is, next_none, new_is) (record { new_is = refl; reply_is = refl; jobs_are = refl; alone = inr refl; its = λ j d lt. absurd (omega (arith, lt)) }))
 
 pub going_step : (moment : ℕ) (old : KeptValue) (id : CallId) (out after : List Bool) (i : ℕ) (body : List ℕ) (g h : GroupState TaskValue (Unit {0})) (was : Option LiveValue) (l later : LiveValue)
     (reply : Option ReplyEntry) (next : Option TaskValue) (outcome : Outcome)
@@ -215,6 +225,7 @@ pub going_step : (moment : ℕ) (old : KeptValue) (id : CallId) (out after : Lis
     → after ≡ next_out (option_to_list next) (slice_set out i false) → later ≡ live_value l.asked (l.events ++ Answered i body ∷ [])
     → IsStep moment old (kept_value id after h.queue (Some later) reply) None next (result_on moment i outcome (slice_set old.call.out i false) old.call.live)
 going_step moment old id out after i body g h was l later reply next outcome old_is k was_is it outcome_is last next_as finishes after_is later_is =
+    let live : IsKept id out g (Some l) = subst (λ x. IsKept id out g x) was_is k in
     let n : next ≡ slice_get g.queue 0 = next_is id out i g was next (Ok tt) k it next_as in
     let f : Finishes g h (Ok tt) = finishes (some_active id out i g was k it) in
     let out_is : after ≡ next_out g.queue (slice_set out i false) =
@@ -225,4 +236,5 @@ going_step moment old id out after i body g h was l later reply next outcome old
       reply_is = refl;
       jobs_are = ap (λ m. map (job_at moment) (option_to_list m)) n ∙ jobs_next moment g.queue;
       alone = inl refl;
+      its = first_its moment id (started_of l) l.asked g.queue live.live_is.waiting_are;
     }))

@@ -57,9 +57,11 @@ pub mod ServedPieces
 pub mod ServedJoins
 pub mod ServedTakes
 pub mod ServedWhole
+pub mod Growing
 pub mod Keeping
 pub mod ServedFirst
 pub mod EventStarts
 pub mod Standings
+pub mod Breaking
 pub mod SeenResults
 pub mod OpenCount

@@ -183,7 +183,7 @@ live_after moment branch outcome out (Some l) e = refl
 
 pub result_order : (id : CallId) (branch : ℕ) (outcome : Outcome) (v w : MachineValue) (took : Took) → ResultTaken id branch outcome v w took → IsOrderly v → IsOrderly w
 result_order id branch outcome v w took (inl n) h = subst IsOrderly (sym n.2) h
-result_order id branch outcome v w took (inr (i, f, out, seen, steps)) h = by_step steps
+result_order id branch outcome v w took (inr (i, f, out, seen, its, steps)) h = by_step steps
   where
     s : Step
     s = result_at i branch outcome v

@@ -78,7 +78,7 @@ entries_grow conn m past =
     (λ _. omega arith) (λ _. omega arith)
 
 -- one more occurrence only adds to the entries that are queued
-queued_entries_grow : (conn : ℕ) (m : Mark) (past : Past) → IsPrefixOf (queued_entries conn past) (queued_entries conn (m ∷ past))
+pub queued_entries_grow : (conn : ℕ) (m : Mark) (past : Past) → IsPrefixOf (queued_entries conn past) (queued_entries conn (m ∷ past))
 queued_entries_grow conn m past =
     front_grows (λ k. entry (call_id conn k) past) (λ k. entry (call_id conn k) (m ∷ past))
     (λ k x e. entry_stays (call_id conn k) m past x e) 0 (entries conn past) (entries conn (m ∷ past)) (entries_grow conn m past)

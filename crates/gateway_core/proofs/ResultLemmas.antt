@@ -1,6 +1,6 @@
 -- A result, as the code takes it.
-use Rattle.std.proofs.Common.{◌≡◌, ℕ, ◌+◌, ◌≤◌, ◌<◌, Bool, true, false, List, [], ◌∷◌, ◌++◌, map, length, Option, None, Some, refl, sym, ap, ◌∙◌, arith, inl, inr, append-nil}
-use Rattle.std.specs.Prelude.{◌⊎◌, is_some, option_map, option_to_list, slice_set}
+use Rattle.std.proofs.Common.{◌≡◌, ℕ, ◌+◌, ◌≤◌, ◌<◌, Bool, true, false, List, [], ◌∷◌, ◌++◌, map, length, Option, None, Some, refl, sym, ap, ◌∙◌, arith, inl, inr, append-nil, subst}
+use Rattle.std.specs.Prelude.{◌⊎◌, All, is_some, option_map, option_to_list, slice_set}
 use Rattle.std.proofs.lemmas.List.{length-map}
 use Rattle.std.proofs.lemmas.List.Sums.{sum_by-set}
 use Rattle.connect_codec.specs.declared.answer.Outcome.{Outcome}
@@ -8,7 +8,7 @@ use Rattle.connect_codec.specs.declared.answer.Outcome.TheVariants.{Answer, Fail
 use Rattle.gateway_core.specs.declared.entry.ReplyEntry.TheVariants.{Call as Calling}
 use Rattle.gateway_core.specs.declared.id.CallId.{CallId}
 use Rattle.gateway_core.specs.CallRecord.{CallRecord}
-use Rattle.gateway_core.specs.Job.{TaskValue, job_at}
+use Rattle.gateway_core.specs.Job.{JobValue, TaskValue, job_at}
 use Rattle.gateway_core.specs.Kept.{KeptValue, IsStep}
 use Rattle.gateway_core.specs.Reply.{reply_with}
 use Rattle.gateway_core.specs.Step.{Live, Step, has_out, result_on, is_last_answer}
@@ -74,6 +74,13 @@ some_entry (Some r) e = refl
 no_jobs : (moment : ℕ) (decided : Option CallRecord) (next : Option TaskValue) → is_some decided ≡ true → (decided ≡ None) ⊎ (next ≡ None) → map (job_at moment) (option_to_list next) ≡ []
 no_jobs moment decided next some (inl none) = absurd (let clash : true ≡ false = sym some ∙ ap is_some none in cc)
 no_jobs moment decided next some (inr none) = ap (λ n. map (job_at moment) (option_to_list n)) none
+
+-- the jobs that start are of the call
+pub its_at : (v : MachineValue) (i branch : ℕ) (outcome : Outcome) (x new : KeptValue) (decided : Option CallRecord) (next : Option TaskValue)
+    → x ≡ kept_at i v.calls → IsStep v.moment x new decided next (result_on v.moment branch outcome (slice_set x.call.out branch false) x.call.live)
+    → All (λ (j : JobValue). j.call ≡ (kept_at i v.calls).id) (result_at i branch outcome v).jobs
+its_at v i branch outcome x new decided next x_is h =
+    subst (λ (k : KeptValue). All (λ (j : JobValue). j.call ≡ k.id) (result_on v.moment branch outcome (slice_set k.call.out branch false) k.call.live).jobs) x_is h.its
 
 pub steps_at : (id : CallId) (v u w : MachineValue) (i branch : ℕ) (outcome : Outcome) (x new : KeptValue) (decided : Option CallRecord) (next : Option TaskValue) (broke : Bool)
     → x ≡ kept_at i v.calls → id ≡ (kept_at i v.calls).id

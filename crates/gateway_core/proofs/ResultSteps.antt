@@ -305,12 +305,12 @@ result_breaks v w closed fates id branch outcome took h (inl n) = by_same n.2
     by_same e = subst (λ x. AfterBreaks (λ c. is_stopped_in c x.conns) fates (Result id branch outcome) (machine closed v) (machine closed x)) (sym e)
         (given_up (Result id branch outcome) (λ c. is_stopped_in c v.conns) fates (machine closed v) (machine closed v) (machine closed v) refl (none_broken v fates closed h)
         (stays_given v fates closed (λ c. is_stopped_in c v.conns) h (λ c. refl)) (none_taken (machine closed v) id branch outcome n.0)).0
-result_breaks v w closed fates id branch outcome took h (inr (i, f, out, seen, inl taken)) =
+result_breaks v w closed fates id branch outcome took h (inr (i, f, out, seen, its, inl taken)) =
     (given_up (Result id branch outcome) (λ c. is_stopped_in c w.conns) fates (machine closed v) (machine closed v) (machine closed w) refl (none_broken v fates closed h)
     (stays_given v fates closed (λ c. is_stopped_in c w.conns) h (λ c. ap (λ (x : MachineValue). is_stopped_in c x.conns) taken.1
     ∙ fills_stop (kept_at i v.calls).id (result_at i branch outcome v).reply (conn_of c v.conns) _ (fills_in (kept_at i v.calls).id (result_at i branch outcome v).reply v.conns c)))
     (taken_after v w closed fates id branch outcome i h f out taken.1)).0
-result_breaks v w closed fates id branch outcome took h (inr (i, f, out, seen, inr broke)) =
+result_breaks v w closed fates id branch outcome took h (inr (i, f, out, seen, its, inr broke)) =
     (given_up (Result id branch outcome) (λ c. is_stopped_in c w.conns) fates (machine closed v) (given (λ c. is_stopped_in c w.conns) (machine closed v)) (machine closed w) refl
     (none_broken v fates closed h)
     (record { moment_is = refl; drained_is = refl; jobs_are = refl; conns_are = λ c. refl; calls_are = λ x. refl })

@@ -46,7 +46,7 @@ module _ (id : CallId) (branch : ℕ) (v u : MachineValue) (took : Took) where
   pub result_seen : (outcome : Outcome) → ResultTaken id branch outcome v u took → took.seen ≡ seen_by (call_at id v.calls) branch
   result_seen outcome (inl (out, is, same)) =
       ap (λ (t : Took). t.seen) is ∙ sym (ap (λ b. if b then (if is_some (call_at id v.calls).live then Counted else Late) else Unknown) out)
-  result_seen outcome (inr (i, f, out, seen, steps)) = seen ∙ ap (λ (c : CallState). seen_by c branch) (sym (call_found id v.calls i f))
+  result_seen outcome (inr (i, f, out, seen, its, steps)) = seen ∙ ap (λ (c : CallState). seen_by c branch) (sym (call_found id v.calls i f))
 
   pub starved_seen : Starved id branch v u took → took.seen ≡ seen_by (call_at id v.calls) branch
   starved_seen (inl (out, is, same)) =
@@ -58,7 +58,7 @@ module _ (id : CallId) (branch : ℕ) (v u : MachineValue) (took : Took) where
 
   pub result_broke : (outcome : Outcome) → ResultTaken id branch outcome v u took → took.broke ≡ true → took.seen ≡ Counted
   result_broke outcome (inl (out, is, same)) broke = absurd (let clash : true ≡ false = sym broke ∙ ap (λ (t : Took). t.broke) is in cc)
-  result_broke outcome (inr (i, f, out, seen, steps)) broke = seen ∙ by_step steps
+  result_broke outcome (inr (i, f, out, seen, its, steps)) broke = seen ∙ by_step steps
     where
       by_live : (l : Option Live) → (kept_at i v.calls).call.live ≡ l → is_some (result_on v.moment branch outcome (slice_set (kept_at i v.calls).call.out branch false) l).reply ≡ true
           → is_some (kept_at i v.calls).call.live ≡ true
@@ -80,7 +80,7 @@ abbrev pub BreaksIn : MachineValue → MachineValue → Bool → Type 0
 BreaksIn v w true = (c : ℕ) × (is_stopped_in c w.conns ≡ true) × (is_stopped_in c v.conns ≡ false)
 BreaksIn v w false = (c : ℕ) → is_stopped_in c w.conns ≡ true → is_stopped_in c v.conns ≡ true
 
-forgotten_conns : (id : CallId) (u w : MachineValue) → Forgets id u w → w.conns ≡ u.conns
+pub forgotten_conns : (id : CallId) (u w : MachineValue) → Forgets id u w → w.conns ≡ u.conns
 forgotten_conns id u w (inl e) = ap (λ (m : MachineValue). m.conns) e
 forgotten_conns id u w (inr e) = ap (λ (m : MachineValue). m.conns) e.1
 
@@ -117,7 +117,7 @@ module _ (id : CallId) (branch : ℕ) (v u w : MachineValue) (took : Took) (orde
 
   pub result_breaks_are : (outcome : Outcome) → ResultTaken id branch outcome v u took → BreaksIn v w took.broke
   result_breaks_are outcome (inl (out, is, same)) = breaks_same v u w took.broke (forgotten_conns id u w forgets) (none_breaks v u took.broke (ap (λ (t : Took). t.broke) is) same)
-  result_breaks_are outcome (inr (i, f, out, seen, steps)) = breaks_same v u w took.broke (forgotten_conns id u w forgets) (by_step steps)
+  result_breaks_are outcome (inr (i, f, out, seen, its, steps)) = breaks_same v u w took.broke (forgotten_conns id u w forgets) (by_step steps)
     where
       by_live : (l : Option Live) → (kept_at i v.calls).call.live ≡ l → is_some (result_on v.moment branch outcome (slice_set (kept_at i v.calls).call.out branch false) l).reply ≡ true
           → is_some (kept_at i v.calls).call.live ≡ true

@@ -173,7 +173,7 @@ forgotten_numbers id v w (inr spent) = ap (λ (m : MachineValue). numbers m.conn
 
 result_numbers : (id : CallId) (branch : ℕ) (outcome : Outcome) (v w : MachineValue) (took : Took) → ResultTaken id branch outcome v w took → numbers w.conns ≡ numbers v.conns
 result_numbers id branch outcome v w took (inl n) = ap (λ (m : MachineValue). numbers m.conns) n.2
-result_numbers id branch outcome v w took (inr (i, f, out, seen, steps)) = by_step steps
+result_numbers id branch outcome v w took (inr (i, f, out, seen, its, steps)) = by_step steps
   where
     by_step : StepsAt i (result_at i branch outcome v) v w took.broke → numbers w.conns ≡ numbers v.conns
     by_step (inl taken) = ap (λ (m : MachineValue). numbers m.conns) taken.1 ∙ numbers_filled (kept_at i v.calls).id (result_at i branch outcome v).reply v.conns

@@ -19,7 +19,7 @@ use Rattle.gateway_core.specs.Store.{conn_of, conn_state, machine}
 use Rattle.gateway_core.proofs.Readings.{broke_with, jobs_of, queued_is}
 use Rattle.gateway_core.proofs.Taking.{at_event}
 
-front_behind : (taken : List ReplyEntry) (slots : List (Option ReplyEntry)) → front (map Some taken ++ slots) ≡ taken ++ front slots
+pub front_behind : (taken : List ReplyEntry) (slots : List (Option ReplyEntry)) → front (map Some taken ++ slots) ≡ taken ++ front slots
 front_behind [] slots = refl
 front_behind (e ∷ taken) slots = ap (λ es. e ∷ es) (front_behind taken slots)
 
@@ -47,14 +47,14 @@ queue_stands c k v opened es taken handed occurred h o k_is = by_break k.broken 
 
 -- ---- jobs
 
-jobs_grow : (since older : List Occurrence) → IsPrefixOf (jobs (marked older)) (jobs (marked (since ++ older)))
+pub jobs_grow : (since older : List Occurrence) → IsPrefixOf (jobs (marked older)) (jobs (marked (since ++ older)))
 jobs_grow [] older = ([], sym (append-nil (jobs (marked older))))
 jobs_grow (o ∷ since) older =
     let rest = jobs_grow since older in
     let new : List JobValue = jobs_by o (mark_of (marked (since ++ older)) o) (marked (since ++ older)) in
     (rest.0 ++ new, ap (λ js. js ++ new) rest.1 ∙ append_assoc (jobs (marked older)) rest.0 new)
 
-filter_prefix : (c : ℕ) (xs ys : List JobValue) → IsPrefixOf xs ys → IsPrefixOf (filter (is_of c) xs) (filter (is_of c) ys)
+pub filter_prefix : (c : ℕ) (xs ys : List JobValue) → IsPrefixOf xs ys → IsPrefixOf (filter (is_of c) xs) (filter (is_of c) ys)
 filter_prefix c xs ys (rest, is) = (filter (is_of c) rest, ap (filter (is_of c)) is ∙ filter-append (is_of c) xs rest)
 
 lived_first : (c : ℕ) (f : Fate) (os : List Occurrence) → HasFate c f os → IsPrefixOf (jobs (marked (lived f os))) (jobs (marked os))

@@ -1,6 +1,6 @@
 -- A branch of which nothing is known but that it ended, and a call that is forgotten, as the machine's value has them.
 use Rattle.std.proofs.Common.{◌≡◌, ℕ, zero, suc, ◌+◌, ◌<◌, Bool, true, false, List, [], ◌∷◌, ◌++◌, map, length, Option, None, Some, refl, sym, ap, ◌∙◌, subst, arith, ⊎_elim, inl, inr, append-nil}
-use Rattle.std.specs.Prelude.{if◌then◌else◌, ◌&&◌, ◌||◌, not, is_some, is_none, slice_set, slice_index_or}
+use Rattle.std.specs.Prelude.{All, if◌then◌else◌, ◌&&◌, ◌||◌, not, is_some, is_none, slice_set, slice_index_or}
 use Rattle.std.specs.Option.{option_or}
 use Rattle.std.specs.List.{list_any}
 use Rattle.std.proofs.lemmas.Bool.{cases_Bool, eq-eqb}
@@ -163,11 +163,15 @@ module _ (id : CallId) (branch i : ℕ) (v w : MachineValue) (closed : ℕ → C
   its : k.id ≡ id
   its = same_call k.id id f.1
 
+  of_none : (js : List JobValue) → js ≡ [] → All (λ (j : JobValue). j.call ≡ k.id) js
+  of_none [] none = λ j d lt. absurd (omega (arith, lt))
+  of_none (j ∷ js) none = absurd (cc)
+
   -- it is late: its branch comes back, and that is all
   late : (outcome : Outcome) → k.call.live ≡ None → w ≡ back_at i branch v
       → AfterBreaks (λ c. is_stopped_in c w.conns) fates (Result id branch outcome) (machine closed v) (machine closed w)
   late outcome none w_is = result_breaks v w closed fates id branch outcome (record { seen = seen_by k.call branch; broke = false }) h
-      (inr (i, f, out, refl, inl (refl, w_is ∙ ap (λ js. record (back_at i branch v) { jobs = js }) (sym (append-nil v.jobs)) ∙ ap (λ s. settled_by k.id s (stepped_at i s v)) (sym step_is))))
+      (inr (i, f, out, refl, of_none (result_at i branch outcome v).jobs (ap (λ (s : Step). s.jobs) step_is), inl (refl, w_is ∙ ap (λ js. record (back_at i branch v) { jobs = js }) (sym (append-nil v.jobs)) ∙ ap (λ s. settled_by k.id s (stepped_at i s v)) (sym step_is))))
     where
       step_is : result_at i branch outcome v ≡ kept (call_state (slice_set k.call.out branch false) None)
       step_is = ap (λ l. result_on v.moment branch outcome (slice_set k.call.out branch false) l) none
@@ -177,7 +181,7 @@ module _ (id : CallId) (branch i : ℕ) (v w : MachineValue) (closed : ℕ → C
       → AfterBreaks (λ c. is_stopped_in c w.conns) fates (Result id branch outcome) (machine closed v) (machine closed w)
   counted outcome l live w_is = other_outcome (λ c. is_stopped_in c w.conns) fates id branch failure outcome (machine closed v) (machine closed w) stopped
       (result_breaks v w closed fates id branch failure (record { seen = seen_by k.call branch; broke = true }) h
-      (inr (i, f, out, refl, inr (refl, ap (λ (s : Step). is_some s.reply) step_is, ap (λ (s : Step). s.jobs) step_is, w_is ∙ same))))
+      (inr (i, f, out, refl, of_none (result_at i branch failure v).jobs (ap (λ (s : Step). s.jobs) step_is), inr (refl, ap (λ (s : Step). is_some s.reply) step_is, ap (λ (s : Step). s.jobs) step_is, w_is ∙ same))))
     where
       failure : Outcome
       failure = Fail (plain_error Internal [])

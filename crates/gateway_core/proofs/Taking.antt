@@ -71,7 +71,7 @@ reply_taken c e rest s t fates taken handed os h there t_is conns = record {
 
 -- ---- places
 
-split : (xs ys : List Occurrence) (placed : List Placed) → occurrences placed ≡ xs ++ ys
+pub split : (xs ys : List Occurrence) (placed : List Placed) → occurrences placed ≡ xs ++ ys
     → (a : List Placed) × (b : List Placed) × (placed ≡ a ++ b) × (occurrences a ≡ xs) × (occurrences b ≡ ys)
 split [] ys placed e = ([], placed, refl, refl, e)
 split (x ∷ xs) ys [] e = absurd (cc)
@@ -87,7 +87,7 @@ split (x ∷ xs) ys (p ∷ placed) e =
     head_of d [] = d
     head_of d (o ∷ os) = o
 
-one_of : (at : Option Occurrence) (b : List Placed) → occurrences b ≡ option_to_list at → (p : Option Placed) × (b ≡ option_to_list p) × (option_map (λ o. o.1) p ≡ at)
+pub one_of : (at : Option Occurrence) (b : List Placed) → occurrences b ≡ option_to_list at → (p : Option Placed) × (b ≡ option_to_list p) × (option_map (λ o. o.1) p ≡ at)
 one_of None [] e = (None, refl, refl)
 one_of None (p ∷ b) e = absurd (cc)
 one_of (Some o) [] e = absurd (cc)

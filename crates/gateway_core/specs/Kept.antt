@@ -1,5 +1,5 @@
 -- A call that is kept, as the code keeps it.
-use Rattle.std.specs.Prelude.{◌≡◌, ◌⊎◌, ℕ, ◌+◌, ◌-◌, ◌≤◌, min, Bool, false, List, [], map, length, slice_index_or, Option, None, Some, option_map, option_to_list}
+use Rattle.std.specs.Prelude.{◌≡◌, ◌⊎◌, ℕ, ◌+◌, ◌-◌, ◌≤◌, min, Bool, false, All, List, [], map, length, slice_index_or, Option, None, Some, option_map, option_to_list}
 use Rattle.std.specs.List.{count_by, range_with_len}
 use Rattle.err_group.specs.GroupState.{GroupState}
 use Rattle.gateway_core.specs.declared.entry.ReplyEntry.{ReplyEntry}
@@ -8,7 +8,7 @@ use Rattle.gateway_core.specs.declared.event.CallEvent.{CallEvent}
 use Rattle.gateway_core.specs.declared.id.CallId.{CallId}
 use Rattle.gateway_core.specs.CallRecord.{CallRecord}
 use Rattle.gateway_core.specs.Begins.{begun_live, first_ones, first_out}
-use Rattle.gateway_core.specs.Job.{TaskValue, task_of, job_at}
+use Rattle.gateway_core.specs.Job.{JobValue, TaskValue, task_of, job_at}
 use Rattle.gateway_core.specs.LiveStands.{tasks_from}
 use Rattle.gateway_core.specs.Past.{Asked}
 use Rattle.gateway_core.specs.Step.{CallState, Live, Step, call_state}
@@ -59,6 +59,7 @@ pub record IsStep (moment : ℕ) (old new : KeptValue) (decided : Option CallRec
   pub reply_is : option_map Calling decided ≡ step.reply
   pub jobs_are : map (job_at moment) (option_to_list next) ≡ step.jobs
   pub alone : (decided ≡ None) ⊎ (next ≡ None)
+  pub its : All (λ (j : JobValue). j.call ≡ old.id) step.jobs
 
 -- the call as it begins, and the branches that start at once
 pub record IsBegun (id : CallId) (a : Asked) (call : KeptValue) (first : List TaskValue) : Type 0 where

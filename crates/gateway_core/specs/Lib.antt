@@ -32,3 +32,4 @@ pub mod Gateway
 pub mod Serving
 pub mod Served
 pub mod EventAdds
+pub mod Breaking

@@ -1,5 +1,5 @@
 -- A result of a branch, as the machine takes it.
-use Rattle.std.specs.Prelude.{◌≡◌, ◌⊎◌, ℕ, Bool, true, false, ◌&&◌, not, if◌then◌else◌, [], ◌++◌, filter, Option, Some, None, is_some, is_none, option_map, slice_set}
+use Rattle.std.specs.Prelude.{◌≡◌, ◌⊎◌, ℕ, Bool, true, false, ◌&&◌, not, if◌then◌else◌, All, [], ◌++◌, filter, Option, Some, None, is_some, is_none, option_map, slice_set}
 use Rattle.std.specs.List.{list_any}
 use Rattle.connect_codec.specs.declared.answer.Outcome.{Outcome}
 use Rattle.gateway_core.specs.declared.entry.ReplyEntry.TheVariants.{Call as Calling}
@@ -8,6 +8,7 @@ use Rattle.gateway_core.specs.declared.fault.Seen.TheVariants.{Unknown}
 use Rattle.gateway_core.specs.declared.id.CallId.{CallId}
 use Rattle.gateway_core.specs.Breaks.{seen_by}
 use Rattle.gateway_core.specs.CallRecord.{CallRecord}
+use Rattle.gateway_core.specs.Job.{JobValue}
 use Rattle.gateway_core.specs.Kept.{KeptValue}
 use Rattle.gateway_core.specs.Reply.{reply_with}
 use Rattle.gateway_core.specs.Past.{is_call}
@@ -46,7 +47,7 @@ abbrev pub ResultTaken : CallId → ℕ → Outcome → MachineValue → Machine
 ResultTaken id branch outcome v w took =
     ((has_out (call_at id v.calls) branch ≡ false) × (took ≡ record { seen = Unknown; broke = false }) × (w ≡ v))
     ⊎ ((i : ℕ) × IsFound id v.calls (Some i) × (has_out (kept_at i v.calls).call branch ≡ true) × (took.seen ≡ seen_by (kept_at i v.calls).call branch)
-    × StepsAt i (result_at i branch outcome v) v w took.broke)
+    × All (λ (j : JobValue). j.call ≡ (kept_at i v.calls).id) (result_at i branch outcome v).jobs × StepsAt i (result_at i branch outcome v) v w took.broke)
 
 -- no branch of the call is out, and it can't be decided any more
 abbrev pub is_spent : CallState → Bool

@@ -1,5 +1,6 @@
 -- What the calls of the open connections and their streams make of them.
-use Rattle.std.specs.Prelude.{◌≡◌, ⊤, ℕ, ◌+◌, ◌<◌, ◌≤◌, Bool, true, false, not, if◌then◌else◌, ◌==◌, All, List, [], ◌∷◌, ◌++◌, take, map, filter, length, Option, None, Some, is_some, Result, Ok, Err, slice_set}
+use Rattle.std.specs.Option.{option_map_or}
+use Rattle.std.specs.Prelude.{◌≡◌, ⊤, ℕ, ◌+◌, ◌<◌, ◌≤◌, Bool, true, false, ◌&&◌, not, nat_lt, if◌then◌else◌, ◌==◌, All, List, [], ◌∷◌, ◌++◌, take, map, filter, length, Option, None, Some, is_some, Result, Ok, Err, slice_set}
 use Rattle.http_pieces.specs.Reader.{Reading, HasRead, Stopped, Waiting, after_request, is_over}
 use Rattle.http_pieces.specs.Request.{HttpRequest}
 use Rattle.call_plan.specs.Plan.{PlanRecord}
@@ -10,13 +11,22 @@ use Rattle.gateway_core.specs.declared.machine.cause.Cause.TheVariants.{HungUp}
 use Rattle.gateway_core.specs.Conn.{ConnValue}
 use Rattle.gateway_core.specs.Ends.{CallsEnd, is_stopped_in}
 use Rattle.gateway_core.specs.Arrival.{arrival_of}
+use Rattle.gateway_core.specs.Breaks.{is_of}
+use Rattle.gateway_core.specs.declared.entry.ReplyEntry.{ReplyEntry}
 use Rattle.gateway_core.specs.Enters.{Enters}
-use Rattle.gateway_core.specs.Occurrence.{Request, Refused}
-use Rattle.gateway_core.specs.Gateway.{Feeds, GatewayValue, StreamValue, goes_on, is_broken_conn, is_waiting, new_stream, stream_at, stream_of}
+use Rattle.gateway_core.specs.Events.{Before, Occurs}
+use Rattle.gateway_core.specs.Fate.{concerns}
+use Rattle.gateway_core.specs.Occurrence.{Occurrence, Request, Refused}
+use Rattle.gateway_core.specs.Gateway.{Feeds, GatewayValue, StreamValue, goes_on, is_broken_conn, is_waiting, new_stream, stream_at, stream_of, untaken_of}
+use Rattle.gateway_core.specs.Job.{JobValue}
 use Rattle.gateway_core.specs.Kept.{KeptValue}
 use Rattle.gateway_core.specs.Opens.{closed_at, opened_as, ReplyTaken}
 use Rattle.gateway_core.specs.Orderly.{IsOrderly}
+use Rattle.gateway_core.specs.Past.{marked}
+use Rattle.gateway_core.specs.Queue.{IsPrefixOf}
 use Rattle.gateway_core.specs.Reply.{ReplyValue}
+use Rattle.gateway_core.specs.Served.{Served}
+use Rattle.gateway_core.specs.Starts.{Placed, occurrences}
 use Rattle.gateway_core.specs.Store.{MachineValue, broken_at, conn_at, conn_of, numbers}
 
 abbrev pub gateway_value : List PlanRecord → MachineValue → List StreamValue → ℕ → GatewayValue
@@ -169,18 +179,39 @@ pub data TakesReply (number : ℕ) (v w : GatewayValue) (reply : Option ReplyVal
 
 -- ---- what every call keeps
 
--- the plans are the same, and a connection that is open and broken stays so, but for those of these numbers
-pub record KeepsBut (closed : ℕ → Bool) (v w : GatewayValue) : Type 0 where
+-- nothing comes of the connection any more: it was opened, and is closed or broken
+abbrev pub is_silent : ℕ → GatewayValue → Bool
+is_silent c v = nat_lt c v.opened && option_map_or (λ k. k.broken) (conn_of c v.machine.conns) true
+
+-- the plans stay, and what can be taken stays, though more may stand behind it; nothing comes of a silent connection. But for the
+-- connections of the first numbers, which close; those of the second alone may break
+pub record KeepsBut (closed breaks : ℕ → Bool) (v w : GatewayValue) : Type 0 where
   pub plans_are : w.plans ≡ v.plans
+  pub stays_silent : (c : ℕ) → is_silent c v ≡ true → is_silent c w ≡ true
   pub stays_broken : (c : ℕ) → closed c ≡ false → is_broken_conn c v ≡ true → is_broken_conn c w ≡ true
+  pub broken_are : (c : ℕ) → is_broken_conn c w ≡ true → is_broken_conn c v ≡ false → breaks c ≡ true
+  pub replies_stay : (c : ℕ) → closed c ≡ false → IsPrefixOf (untaken_of c v) (untaken_of c w)
+  pub no_replies : (c : ℕ) → closed c ≡ false → is_silent c v ≡ true → untaken_of c w ≡ untaken_of c v
+  pub jobs : List JobValue
+  pub jobs_are : w.machine.jobs ≡ v.machine.jobs ++ jobs
+  pub no_jobs : (c : ℕ) → is_silent c v ≡ true → filter (is_of c) jobs ≡ []
 
-abbrev pub Keeps : GatewayValue → GatewayValue → Type 0
-Keeps v w = KeepsBut (λ c. false) v w
+-- the same, where none closes
+abbrev pub Keeps : (ℕ → Bool) → GatewayValue → GatewayValue → Type 0
+Keeps breaks v w = KeepsBut (λ c. false) breaks v w
 
--- nothing changes but what can be taken
-pub record TakesOnly (v w : GatewayValue) : Type 0 where
+-- a connection that breaks in the step is one that this occurrence concerns
+abbrev pub BreaksBy : Occurrence → GatewayValue → GatewayValue → Type 0
+BreaksBy o v w =
+    (opened : List ℕ) (es : Before) (taken : ℕ → List ReplyEntry) (handed : List JobValue) (occurred : List Placed)
+    → Served v opened es taken handed → Occurs v.plans opened es occurred
+    → (c : ℕ) → is_broken_conn c w ≡ true → is_broken_conn c v ≡ false → concerns c o (marked (occurrences occurred)) ≡ true
+
+-- nothing changes but what can be taken of the connection of that number
+pub record TakesOnly (n : ℕ) (v w : GatewayValue) : Type 0 where
   pub plans_are : w.plans ≡ v.plans
   pub opened_is : w.opened ≡ v.opened
   pub jobs_are : w.machine.jobs ≡ v.machine.jobs
   pub open_are : (c : ℕ) → is_some (conn_of c w.machine.conns) ≡ is_some (conn_of c v.machine.conns)
   pub broken_are : (c : ℕ) → is_broken_conn c w ≡ is_broken_conn c v
+  pub others_are : (c : ℕ) → (c == n) ≡ false → untaken_of c w ≡ untaken_of c v

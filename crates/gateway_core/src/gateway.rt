@@ -3,7 +3,8 @@ ghost use Rattle.connect_codec.specs.declared.answer.Outcome.{Outcome as Outcome
 ghost use Rattle.gateway_core.specs.declared.entry.ReplyEntry.{ReplyEntry};
 ghost use Rattle.gateway_core.specs.Gateway.{is_broken_conn, is_ended, next_reply, outs_of, untaken_of};
 ghost use Rattle.gateway_core.specs.declared.fault.Seen.{Seen};
-ghost use Rattle.gateway_core.specs.Serving.{Breaks, IsDeaf, Keeps, KeepsBut, TakesOnly};
+ghost use Rattle.gateway_core.specs.Occurrence as concerning;
+ghost use Rattle.gateway_core.specs.Serving.{Breaks, BreaksBy, IsDeaf, Keeps, KeepsBut, TakesOnly};
 ghost use Rattle.gateway_core.specs.Conn.{ConnValue};
 ghost use Rattle.gateway_core.specs.Past.{judged, marked};
 ghost use Rattle.gateway_core.specs.Starts.{Placed, occurrences};
@@ -63,7 +64,7 @@ impl<H: ReplyHook + Drop> Core<H> {
         ensures exhausted { IfErr result (λ e. e.1 ≡ OpenError.Exhausted → 2 ^ 56 ≤ self.old.opened) }
         ensures back { IfErr result (λ e. e.0 ≡ stock) }
         ensures unchanged { OnErr result (self.new ≡ self.old) }
-        ensures keeps { Keeps self.old self.new }
+        ensures keeps { Keeps (λ c. false) self.old self.new }
     {
         self.streams.serving_law();
         opening_law();
@@ -83,7 +84,7 @@ impl<H: ReplyHook + Drop> Core<H> {
         ensures memory { result ≡ Err StepFault.Memory → is_broken_conn conn self.new ≡ true }
         ensures unbroken { OnOk result (is_broken_conn conn self.new ≡ false) }
         ensures heard { OnOk result (IsDeaf conn self.new → ⊥) }
-        ensures keeps { Keeps self.old self.new }
+        ensures keeps { Keeps (λ c. c == conn) self.old self.new }
     {
         self.streams.serving_law();
         let fed = self.streams.feed(conn.number(), bytes);
@@ -99,7 +100,7 @@ impl<H: ReplyHook + Drop> Core<H> {
         ensures unchanged { result ≡ Err StepFault.Gone → self.new ≡ self.old }
         ensures memory { result ≡ Err StepFault.Memory → is_broken_conn conn self.new ≡ true }
         ensures unbroken { OnOk result (is_broken_conn conn self.new ≡ false) }
-        ensures keeps { Keeps self.old self.new }
+        ensures keeps { Keeps (λ c. c == conn) self.old self.new }
     {
         self.streams.serving_law();
         self.streams.hang_up(conn.number())
@@ -110,7 +111,8 @@ impl<H: ReplyHook + Drop> Core<H> {
         ensures stands { (opened : List ℕ) (es : List GatewayEvent) (taken : ℕ → List ReplyEntry) (handed : List JobValue)
             → Served self.old opened es taken handed → Served self.new opened (Moment moment ∷ es) taken handed }
         ensures broke { Breaks self.old self.new result }
-        ensures keeps { Keeps self.old self.new }
+        ensures concerned { BreaksBy (concerning.Moment moment) self.old self.new }
+        ensures keeps { Keeps (λ c. true) self.old self.new }
     {
         self.streams.serving_law();
         self.streams.moment(moment)
@@ -121,7 +123,8 @@ impl<H: ReplyHook + Drop> Core<H> {
         ensures stands { (opened : List ℕ) (es : List GatewayEvent) (taken : ℕ → List ReplyEntry) (handed : List JobValue)
             → Served self.old opened es taken handed → Served self.new opened (Drain ∷ es) taken handed }
         ensures broke { Breaks self.old self.new result }
-        ensures keeps { Keeps self.old self.new }
+        ensures concerned { BreaksBy concerning.Drain self.old self.new }
+        ensures keeps { Keeps (λ c. true) self.old self.new }
     {
         self.streams.serving_law();
         self.streams.drain()
@@ -132,7 +135,7 @@ impl<H: ReplyHook + Drop> Core<H> {
         ensures stands { (opened : List ℕ) (es : List GatewayEvent) (taken : ℕ → List ReplyEntry) (handed : List JobValue)
             → Served self.old opened es taken handed → Served self.new opened (Closing conn ∷ es) taken handed }
         ensures closed { result ≡ is_some (conn_of conn self.old.machine.conns) }
-        ensures keeps { KeepsBut (λ c. c == conn) self.old self.new }
+        ensures keeps { KeepsBut (λ c. c == conn) (λ c. false) self.old self.new }
     {
         self.streams.serving_law();
         self.streams.close(conn.number())
@@ -150,7 +153,8 @@ impl<H: ReplyHook + Drop> Core<H> {
         ensures counted { result.broke ≡ true → result.seen ≡ Seen.Counted }
         ensures broke { Breaks self.old self.new result.broke }
         ensures unknown { result.seen ≡ Seen.Unknown → self.new ≡ self.old }
-        ensures keeps { Keeps self.old self.new }
+        ensures concerned { BreaksBy (concerning.Result call.now branch outcome) self.old self.new }
+        ensures keeps { Keeps (λ c. c == call.now.conn) self.old self.new }
     {
         self.streams.serving_law();
         self.streams.result(call, branch, outcome)
@@ -168,7 +172,8 @@ impl<H: ReplyHook + Drop> Core<H> {
         ensures counted { result.broke ≡ true → result.seen ≡ Seen.Counted }
         ensures broke { Breaks self.old self.new result.broke }
         ensures unknown { result.seen ≡ Seen.Unknown → self.new ≡ self.old }
-        ensures keeps { Keeps self.old self.new }
+        ensures concerned { (outcome : Outcomes) → BreaksBy (concerning.Result call.now branch outcome) self.old self.new }
+        ensures keeps { Keeps (λ c. c == call.now.conn) self.old self.new }
     {
         self.streams.serving_law();
         self.streams.starve(call, branch)
@@ -195,7 +200,7 @@ impl<H: ReplyHook + Drop> Core<H> {
         ensures first { untaken_of conn self.old ≡ option_to_list (option_map (λ r. r.entry) result) ++ untaken_of conn self.new }
         ensures its { IfSome result (λ r. r.id ≡ next_reply conn self.old) }
         ensures none { result ≡ None → untaken_of conn self.old ≡ [] }
-        ensures only { TakesOnly self.old self.new }
+        ensures only { TakesOnly conn self.old self.new }
     {
         self.streams.serving_law();
         self.streams.take_reply(conn.number())

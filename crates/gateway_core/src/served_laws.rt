@@ -1,22 +1,23 @@
 //! What the gateway stands for after each event, by what a call makes of its value. The functions do nothing.
-ghost use Rattle.std.specs.Prelude.{◌≡◌, ℕ, List, ◌++◌, ◌∷◌, [], ◌<◌, length, Bool, Option, option_map, option_to_list, take, Result, Ok, Err, Some, true, ⊤};
+ghost use Rattle.std.specs.Prelude.{◌≡◌, ℕ, List, ◌++◌, ◌∷◌, [], ◌<◌, length, Bool, false, Option, option_map, option_to_list, take, Result, Ok, Err, Some, true, ⊤};
 ghost use Rattle.connect_codec.specs.declared.answer.Outcome.{Outcome};
 ghost use Rattle.http_pieces.specs.Request.{HttpRequest};
 ghost use Rattle.http_pieces.specs.Requests.{Ending, Requests};
-ghost use Rattle.gateway_core.specs.Occurrence.{Entering};
+ghost use Rattle.gateway_core.specs.Occurrence.{Entering, Occurrence};
 ghost use Rattle.gateway_core.specs.declared.entry.ReplyEntry.{ReplyEntry};
 ghost use Rattle.gateway_core.specs.declared.fault.StepFault.{StepFault};
 ghost use Rattle.gateway_core.specs.declared.fault.Took.{Took};
 ghost use Rattle.gateway_core.specs.declared.id.CallId.{CallId};
 ghost use Rattle.gateway_core.specs.declared.machine.cause.Cause.TheVariants.{Reached, Drained};
-ghost use Rattle.gateway_core.specs.Events.{BranchResult, Closing, Drain, Gains, GatewayEvent, HangUp, Moment, Occurs, Opening, Piece, stream, succeeds};
-ghost use Rattle.gateway_core.specs.Gateway.{GatewayValue};
+ghost use Rattle.gateway_core.specs.Events.{BranchResult, Closing, Drain, Gains, GatewayEvent, HangUp, Moment, Occurs, Opening, Piece, onto, stream, succeeds};
+ghost use Rattle.gateway_core.specs.Gateway.{GatewayValue, untaken_of};
 ghost use Rattle.gateway_core.specs.Job.{HandedJob, JobValue};
 ghost use Rattle.gateway_core.specs.Opens.{JobTaken};
 ghost use Rattle.gateway_core.specs.Reply.{ReplyValue};
 ghost use Rattle.gateway_core.specs.Results.{Forgets, ResultTaken, Starved};
 ghost use Rattle.gateway_core.specs.Conn.{ConnValue};
-ghost use Rattle.gateway_core.specs.Queue.{front};
+ghost use Rattle.gateway_core.specs.Breaking.{BrokeNow};
+ghost use Rattle.gateway_core.specs.Queue.{IsPrefixOf, front};
 ghost use Rattle.gateway_core.specs.Served.{JobsAre, QueueIs, Served, ServedFed, ServedUpTo, with_reply};
 ghost use Rattle.gateway_core.specs.Starts.{Placed};
 ghost use Rattle.gateway_core.specs.Serving.{Closes, Ends, FedTo, HangsUp, IsServing, Opens, TakesReply};
@@ -128,4 +129,16 @@ pub fn standing_law()
     ensures jobs { (v : GatewayValue) (opened : List ℕ) (es : List GatewayEvent) (taken : ℕ → List ReplyEntry)
         (handed : List JobValue) (occurred : List Placed) → Served v opened es taken handed → Occurs v.plans opened es occurred
         → JobsAre v (handed ++ v.machine.jobs) occurred }
+{}
+
+/// A connection that breaks at an event, whose jobs that started at it are these: what is queued for it, and what has started, is by
+/// what had occurred before an occurrence of the event, and no more.
+pub fn breaking_law()
+    ensures { (c place : ℕ) (v w : GatewayValue) (opened later : List ℕ) (e : GatewayEvent) (es : List GatewayEvent)
+        (taken : ℕ → List ReplyEntry) (handed added : List JobValue) (os : List Occurrence) (before after : List Placed)
+        → Served v opened es taken handed → Served w later (e ∷ es) taken handed
+        → Occurs v.plans opened es before → Occurs w.plans later (e ∷ es) after → after ≡ onto place os before
+        → w.machine.jobs ≡ v.machine.jobs ++ added → IsPrefixOf (untaken_of c v) (untaken_of c w) → (k l : ConnValue)
+        → conn_of c v.machine.conns ≡ Some k → k.broken ≡ false → conn_of c w.machine.conns ≡ Some l → l.broken ≡ true
+        → BrokeNow c place (taken c ++ untaken_of c w) added before after }
 {}

@@ -1,14 +1,16 @@
 -- What is known of the core's definitions and of what it stands for: the laws of the crate below that the proofs of a run use.
-use Rattle.std.specs.Prelude.{◌≡◌, ℕ, List, ◌∷◌, ◌++◌, map, Some}
+use Rattle.std.specs.Prelude.{◌≡◌, ℕ, true, false, List, ◌∷◌, ◌++◌, map, Some}
 use Rattle.call_plan.specs.Plan.{PlanRecord}
 use Rattle.gateway_core.specs.declared.entry.ReplyEntry.{ReplyEntry}
+use Rattle.gateway_core.specs.Breaking.{BrokeNow}
 use Rattle.gateway_core.specs.Conn.{ConnValue}
 use Rattle.gateway_core.specs.EventAdds.{EventAdds}
-use Rattle.gateway_core.specs.Events.{Before, GatewayEvent, Occurs}
-use Rattle.gateway_core.specs.Gateway.{GatewayValue}
+use Rattle.gateway_core.specs.Events.{Before, GatewayEvent, Occurs, onto}
+use Rattle.gateway_core.specs.Gateway.{GatewayValue, untaken_of}
 use Rattle.gateway_core.specs.Job.{JobValue}
+use Rattle.gateway_core.specs.Occurrence.{Occurrence}
 use Rattle.gateway_core.specs.Past.{marked}
-use Rattle.gateway_core.specs.Queue.{front}
+use Rattle.gateway_core.specs.Queue.{IsPrefixOf, front}
 use Rattle.gateway_core.specs.Served.{JobsAre, QueueIs, Served}
 use Rattle.gateway_core.specs.Starts.{Placed, job_started, jobs, occurrences, starts}
 use Rattle.gateway_core.specs.Store.{conn_of}
@@ -25,3 +27,12 @@ pub record StandingLaws : Type 0 where
       → Served v opened es taken handed → Occurs v.plans opened es occurred → conn_of c v.machine.conns ≡ Some k → QueueIs c (taken c ++ front k.slots) k.broken occurred
   pub jobs : (v : GatewayValue) (opened : List ℕ) (es : Before) (taken : ℕ → List ReplyEntry) (handed : List JobValue) (occurred : List Placed)
       → Served v opened es taken handed → Occurs v.plans opened es occurred → JobsAre v (handed ++ v.machine.jobs) occurred
+
+-- a connection that breaks at an event
+abbrev pub BreakingLaw : Type 0
+BreakingLaw = (c place : ℕ) (v w : GatewayValue) (opened later : List ℕ) (e : GatewayEvent) (es : Before) (taken : ℕ → List ReplyEntry) (handed added : List JobValue)
+    (os : List Occurrence) (before after : List Placed) → Served v opened es taken handed → Served w later (e ∷ es) taken handed
+    → Occurs v.plans opened es before → Occurs w.plans later (e ∷ es) after → after ≡ onto place os before
+    → w.machine.jobs ≡ v.machine.jobs ++ added → IsPrefixOf (untaken_of c v) (untaken_of c w) → (k l : ConnValue)
+    → conn_of c v.machine.conns ≡ Some k → k.broken ≡ false → conn_of c w.machine.conns ≡ Some l → l.broken ≡ true
+    → BrokeNow c place (taken c ++ untaken_of c w) added before after

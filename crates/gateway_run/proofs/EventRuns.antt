@@ -4,7 +4,7 @@ use Rattle.std.specs.Prelude.{if◌then◌else◌, ◌||◌, ◌==◌}
 use Rattle.std.proofs.lemmas.Bool.{cases_Bool, eq-eqb, eqb-true, ne_eqb}
 use Rattle.std.proofs.lemmas.List.{length-append}
 use Rattle.gateway_core.specs.declared.entry.ReplyEntry.{ReplyEntry}
-use Rattle.gateway_core.specs.Events.{Before, Closing, GatewayEvent, IsOpened, IsRising, Opening, OpensAt, connections, is_closing_of, is_open, most_open, open_connections, succeeds}
+use Rattle.gateway_core.specs.Events.{Before, Closing, IsShifted, GatewayEvent, IsOpened, IsRising, Opening, OpensAt, connections, is_closing_of, is_open, most_open, open_connections, succeeds}
 use Rattle.gateway_core.specs.Events as events
 use Rattle.gateway_core.specs.Gateway.{GatewayValue}
 use Rattle.gateway_core.specs.Past.{count_below}
@@ -16,11 +16,11 @@ use Rattle.gateway_core.proofs.CutLemmas.{IsSame, same_before}
 use Rattle.gateway_core.proofs.OpenCount.{count_same}
 use Rattle.gateway_core.proofs.ServedOpens.{grown, occurs_before, succeeds_more}
 use Rattle.gateway_run.specs.Log.{HasRun, LogValue, StartsAll}
-use Rattle.gateway_run.specs.Stepping.{CollectsFor, log_after, opened_by}
+use Rattle.gateway_run.specs.Stepping.{BreaksAt, CollectsFor, log_after, opened_by}
 use Rattle.gateway_run.specs.declared.stepping.Stepped.{Stepped}
 use Rattle.gateway_run.specs.declared.stepping.Stepped.TheVariants.{Done, Opened, NotOpened, Saw, Fault, Broke}
 use Rattle.gateway_run.proofs.Flags.{more_default}
-use Rattle.gateway_run.proofs.CoreLaws.{EventLaws, StandingLaws}
+use Rattle.gateway_run.proofs.CoreLaws.{BreakingLaw, EventLaws, StandingLaws}
 use Rattle.gateway_run.proofs.Gathering.{collected_run}
 use Rattle.gateway_run.proofs.RunSteps.{Steps, run_on}
 
@@ -41,6 +41,8 @@ same_gathered f g v log es same h = record {
   flagged = λ c on. h.flagged c (same c ∙ on);
   collected = λ c on. h.collected c (same c ∙ on);
   shut = h.shut;
+  none_left = λ c on. h.none_left c (same c ∙ on);
+  broke_are = h.broke_are;
   unbroken = h.unbroken;
   all_unbroken = h.all_unbroken;
 }
@@ -86,28 +88,39 @@ opens_later opened e es place o = record {
   few = o.few;
 }
 
+-- the same the other way round
+shrunk : (opened : List ℕ) (n : ℕ) → ((place : ℕ) → succeeds opened place ≡ true → place < n) → IsShifted n (opened ++ n ∷ []) opened
+shrunk opened n below = record {
+  before = λ t lt. sym ((grown opened n below).before t lt);
+  after = λ t lt. none (suc t) (omega (arith, lt)) ∙ sym (succeeds_more opened n t ∙ ap (λ b. b || (n == t)) (none t (omega (arith, lt))) ∙ ne_eqb n t (λ same. absurd (omega (arith, lt, same))));
+}
+  where
+    none : (t : ℕ) → n ≤ t → succeeds opened t ≡ false
+    none t le = ⊎_elim (λ (its : succeeds opened t ≡ true). absurd (let lt = below t its in omega (arith, lt, le))) (λ (no : succeeds opened t ≡ false). no) (cases_Bool (succeeds opened t))
+
 module _ (e : GatewayEvent) (es : Before) (v w : GatewayValue) (opened : List ℕ) where
   -- none succeeded at this event
   steps_on : ((taken : ℕ → List ReplyEntry) (handed : List JobValue) → Served v opened es taken handed → Served w opened (e ∷ es) taken handed)
-      → KeepsBut (λ c. is_closing_of c e) v w → Steps e es v w opened opened
-  steps_on served keeps = record {
+      → BreaksAt e v w → KeepsBut (λ c. is_closing_of c e) (λ c. true) v w → Steps e es v w opened opened
+  steps_on served concerned keeps = record {
     served = served;
-    plans_are = keeps.plans_are;
-    stays_broken = keeps.stays_broken;
+    keeps = keeps;
+    concerned = concerned;
     opened_are = λ o h. record { rising = o.rising; openings = λ place its. opens_later opened e es place (o.openings place its) };
     same_count = λ h. refl;
     same_open = λ h c. refl;
     before = λ occurred h o. o;
+    after = λ earlier occurred le h o. o;
   }
 
   -- one did
   steps_open : e ≡ Opening → open_connections opened es < most_open
       → ((taken : ℕ → List ReplyEntry) (handed : List JobValue) → Served v opened es taken handed → Served w (opened ++ length es ∷ []) (e ∷ es) taken handed)
-      → KeepsBut (λ c. is_closing_of c e) v w → Steps e es v w opened (opened ++ length es ∷ [])
-  steps_open e_is few served keeps = record {
+      → BreaksAt e v w → KeepsBut (λ c. is_closing_of c e) (λ c. true) v w → Steps e es v w opened (opened ++ length es ∷ [])
+  steps_open e_is few served concerned keeps = record {
     served = served;
-    plans_are = keeps.plans_are;
-    stays_broken = keeps.stays_broken;
+    keeps = keeps;
+    concerned = concerned;
     opened_are = λ o h. record {
       rising = rising_more opened (length es) o.rising h.below;
       openings = λ place its. by_place o h place (succeeds opened place) refl its;
@@ -115,6 +128,7 @@ module _ (e : GatewayEvent) (es : Before) (v w : GatewayValue) (opened : List �
     same_count = λ h. (same h).connections_are;
     same_open = λ h c. (same h).open_is c;
     before = λ occurred h o. occurs_before v.plans opened (opened ++ length es ∷ []) (length es) es occurred (omega arith) (grown opened (length es) h.below) o;
+    after = λ earlier occurred le h o. occurs_before v.plans (opened ++ length es ∷ []) opened (length es) earlier occurred le (shrunk opened (length es) h.below) o;
   }
     where
       same : HasConns v opened es → IsSame opened (opened ++ length es ∷ []) es es
@@ -150,16 +164,16 @@ module _ (e : GatewayEvent) (es : Before) (v w : GatewayValue) (opened : List �
 
 -- ---- the event
 
-module _ {H : Type 0} (event : EventLaws) (standing : StandingLaws) (e : GatewayEvent) (es : Before) (v u w x : GatewayValue) (log gathered next end : LogValue) (stepped : Stepped H) where
+module _ {H : Type 0} (event : EventLaws) (standing : StandingLaws) (breaking : BreakingLaw) (e : GatewayEvent) (es : Before) (v u w x : GatewayValue) (log gathered next end : LogValue) (stepped : Stepped H) where
   pub event_run : HasRun (λ c. false) v log es → CollectsFor e v u log gathered
       → ((opened : List ℕ) (es : Before) (taken : ℕ → List ReplyEntry) (handed : List JobValue) → Served u opened es taken handed
       → Served w (opened_by stepped (length es) opened) (e ∷ es) taken handed)
       → ((conn : ℕ) → stepped ≡ Opened conn → e ≡ Opening)
       → ((conn : ℕ) (opened : List ℕ) (es : Before) (taken : ℕ → List ReplyEntry) (handed : List JobValue) → stepped ≡ Opened conn → Served u opened es taken handed
       → open_connections opened es < most_open)
-      → KeepsBut (λ c. is_closing_of c e) u w → next ≡ log_after stepped (length es) gathered → StartsAll (length es) w x next end
+      → BreaksAt e u w → KeepsBut (λ c. is_closing_of c e) (λ c. true) u w → next ≡ log_after stepped (length es) gathered → StartsAll (length es) w x next end
       → HasRun (λ c. false) x end (e ∷ es)
-  event_run h collects served opens few keeps next_is starts = by_step stepped refl
+  event_run h collects served opens few concerned keeps next_is starts = by_step stepped refl
     where
       mid : HasRun (λ c. is_closing_of c e) u gathered es
       mid = collected_for standing e v u log gathered es h collects
@@ -177,9 +191,9 @@ module _ {H : Type 0} (event : EventLaws) (standing : StandingLaws) (e : Gateway
 
       none_new : (r : Stepped H) → stepped ≡ r → ((opened : List ℕ) → opened_by r (length es) opened ≡ opened) → log_after r (length es) gathered ≡ gathered
           → (e ≡ Opening → succeeds gathered.opened (length es) ≡ false) → HasRun (λ c. false) x end (e ∷ es)
-      none_new r r_is same kept fails = run_on event standing e es u w gathered gathered mid
+      none_new r r_is same kept fails = run_on event standing breaking e es u w gathered gathered mid
           (steps_on e es u w gathered.opened (λ taken handed s. subst (λ o. Served w o (e ∷ es) taken handed) (ap (λ y. opened_by y (length es) gathered.opened) r_is ∙ same gathered.opened)
-          (served gathered.opened es taken handed s)) keeps)
+          (served gathered.opened es taken handed s)) concerned keeps)
           (λ c. refl) (λ c. refl) refl x end (starts_on gathered (next_is ∙ ap (λ y. log_after y (length es) gathered) r_is ∙ kept))
           (mid.opened_size ∙ size) (mid.queued_size ∙ size) (mid.broke_size ∙ size)
         where
@@ -206,9 +220,9 @@ module _ {H : Type 0} (event : EventLaws) (standing : StandingLaws) (e : Gateway
           by_it false y = y
 
       by_step : (r : Stepped H) → stepped ≡ r → HasRun (λ c. false) x end (e ∷ es)
-      by_step (Opened conn) r_is = run_on event standing e es u w gathered (log_after {H = H} (Opened conn) (length es) gathered) mid
+      by_step (Opened conn) r_is = run_on event standing breaking e es u w gathered (log_after {H = H} (Opened conn) (length es) gathered) mid
           (steps_open e es u w gathered.opened e_is (few conn gathered.opened es mid.taken (map job_started mid.started) r_is mid.served)
-          (λ taken handed s. subst (λ o. Served w o (e ∷ es) taken handed) (ap (λ y. opened_by y (length es) gathered.opened) r_is) (served gathered.opened es taken handed s)) keeps)
+          (λ taken handed s. subst (λ o. Served w o (e ∷ es) taken handed) (ap (λ y. opened_by y (length es) gathered.opened) r_is) (served gathered.opened es taken handed s)) concerned keeps)
           (λ c. more_default gathered.queued c []) (λ c. more_default gathered.broke c false) refl x end (starts_on (log_after {H = H} (Opened conn) (length es) gathered) (next_is ∙ ap (λ y. log_after y (length es) gathered) r_is))
           (length-append gathered.opened (length es ∷ []) ∙ (let a = mid.opened_size in omega (arith, a, size)))
           (length-append gathered.queued ([] ∷ []) ∙ (let a = mid.queued_size in omega (arith, a, size)))

@@ -1,5 +1,5 @@
 -- What a run comes to once all its events were taken and all that is queued was gathered.
-use Rattle.std.proofs.Common.{◌≡◌, ℕ, zero, suc, ◌+◌, ◌<◌, ◌≤◌, Bool, true, false, List, [], ◌∷◌, length, map, Option, None, Some, Result, Ok, Err, refl, sym, ap, ◌∙◌, subst, arith, ⊎_elim}
+use Rattle.std.proofs.Common.{◌≡◌, ℕ, zero, suc, ◌+◌, ◌<◌, ◌≤◌, Bool, true, false, List, [], ◌∷◌, ◌++◌, append-nil, length, map, Option, None, Some, Result, Ok, Err, refl, sym, ap, ◌∙◌, subst, arith, ⊎_elim}
 use Rattle.std.specs.Prelude.{OnOk, ◌||◌, ◌==◌, filter, is_some, nat_lt, slice_index_or}
 use Rattle.std.specs.List.{range_with_len}
 use Rattle.std.specs.Option.{option_map_or}
@@ -9,15 +9,17 @@ use Rattle.gateway_core.specs.Conn.{ConnValue}
 use Rattle.gateway_core.specs.Events.{Before, Closing, GatewayEvent, IsRising, Occurs, Opening}
 use Rattle.gateway_core.specs.Events as events
 use Rattle.gateway_core.specs.Gateway.{GatewayValue, is_broken_conn}
+use Rattle.gateway_core.specs.Past.{marked}
+use Rattle.gateway_core.specs.Queue.{queued, queued_entries}
 use Rattle.gateway_core.specs.Served.{QueueIs, Served}
-use Rattle.gateway_core.specs.Starts.{Placed, job_started, starts}
+use Rattle.gateway_core.specs.Starts.{Placed, job_started, occurrences, starts}
 use Rattle.gateway_core.specs.Store.{conn_of}
 use Rattle.gateway_run.specs.Log.{Collects, absent, gathers, HasRun, LogValue, flag_at, is_flagged, is_open_conn, is_started_on, log_value, queue_at}
-use Rattle.gateway_run.specs.Run.{IsRun, QueuedAs, StartedAs, bytes_of, is_listed, is_start_of, run_start, starts_of}
+use Rattle.gateway_run.specs.Run.{BrokeAs, IsRun, bytes_of, is_listed, is_start_of, run_start, starts_of}
 use Rattle.gateway_run.specs.Stepping.{CollectsFor}
 use Rattle.gateway_run.proofs.CoreLaws.{StandingLaws}
 use Rattle.gateway_run.proofs.Flags.{beyond, run_starts_on, same_jobs}
-use Rattle.gateway_run.proofs.Stopped.{StopLaws, open_known, started_as, stops}
+use Rattle.gateway_run.proofs.OpenConns.{open_known}
 use Rattle.gateway_run.proofs.WholeLemmas.{filter_rising, listed_at, listed_below}
 
 pub on_then : {X E : Type 0} {A B : Type 0} (r : Result X E) → OnOk r A → (A → B) → OnOk r B
@@ -78,6 +80,8 @@ run_first standing v log served log_is = subst (λ l. HasRun (λ c. false) v l [
   flagged = λ c on there. absurd (cc);
   collected = λ c on there. absurd (cc);
   shut = λ c lt off. absurd (let n = served.conns.count_is in omega (arith, n, lt));
+  none_left = λ c on. absurd (cc);
+  broke_are = λ c on. absurd (none_broken c on);
   unbroken = λ c off occurred none. ap (λ xs. filter (is_started_on c) (starts xs)) (sym none);
   all_unbroken = λ off occurred none. ap starts (sym none);
 })
@@ -88,9 +92,17 @@ run_first standing v log served log_is = subst (λ l. HasRun (λ c. false) v l [
     unset : (c : ℕ) → slice_index_or {A = Bool} [] c false ≡ false
     unset c = beyond [] c false (omega arith)
 
+    none_broken : (c : ℕ) → is_flagged c v (log_value [] [] [] []) ≡ true → ⊥
+    none_broken c on = by_conn (conn_of c v.machine.conns) refl
+      where
+        by_conn : (k : Option ConnValue) → conn_of c v.machine.conns ≡ k → ⊥
+        by_conn None k_is =
+            let clash : true ≡ false = sym on ∙ ap (λ b. b || is_broken_conn c v) (unset c) ∙ ap (λ x. option_map_or (λ (y : ConnValue). y.broken) x false) k_is in cc
+        by_conn (Some k) k_is = let clash : false ≡ true = served.conns.open_are c ∙ ap (λ x. is_some x) k_is in cc
+
 -- ---- a run whose events were all taken
 
-module _ (laws : StopLaws) (count : ℕ) (v : GatewayValue) (log : LogValue) (es : Before) (broken : List ℕ) (h : HasRun (λ c. nat_lt c count) v log es) (count_is : length log.opened ≡ count)
+module _ (count : ℕ) (v : GatewayValue) (log : LogValue) (es : Before) (broken : List ℕ) (h : HasRun (λ c. nat_lt c count) v log es) (count_is : length log.opened ≡ count)
     (broken_is : broken ≡ filter (λ c. slice_index_or log.broke c false) (range_with_len 0 (length log.broke))) where
   sizes : length log.broke ≡ count
   sizes = h.broke_size ∙ sym h.opened_size ∙ count_is
@@ -113,16 +125,16 @@ module _ (laws : StopLaws) (count : ℕ) (v : GatewayValue) (log : LogValue) (es
       let n = h.served.conns.count_is in
       let m = h.opened_size in omega (arith, lt, n, m, count_is))
 
-  run_queued : (occurred : List Placed) → Occurs v.plans log.opened es occurred → (c : ℕ) → c < length log.opened → QueuedAs c (queue_at c log) (is_listed c broken) occurred
-  run_queued occurred o c lt = subst (λ b. QueuedAs c (queue_at c log) b occurred) (sym (flag_is c)) (by_open (is_open_conn c v) refl)
+  run_queued : (occurred : List Placed) → Occurs v.plans log.opened es occurred → (c : ℕ) → c < length log.opened → is_listed c broken ≡ false
+      → queue_at c log ≡ queued c (marked (occurrences occurred))
+  run_queued occurred o c lt off = h.queued_are c ∙ ap bytes_of (by_open (is_open_conn c v) refl)
     where
-      told : (b : Bool) → QueueIs c (h.taken c) b occurred → QueuedAs c (queue_at c log) b occurred
-      told false q = h.queued_are c ∙ ap bytes_of q
-      told true q = (h.taken c, q, h.queued_are c)
+      flag : flag_at c log ≡ false
+      flag = sym (flag_is c) ∙ off
 
-      by_open : (b : Bool) → is_open_conn c v ≡ b → QueuedAs c (queue_at c log) (flag_at c log) occurred
-      by_open true e = told (flag_at c log) (h.collected c (open_below c e) e occurred o)
-      by_open false e = told (flag_at c log) (h.shut c (let m = h.opened_size in omega (arith, lt, m)) e occurred o)
+      by_open : (b : Bool) → is_open_conn c v ≡ b → h.taken c ≡ queued_entries c (marked (occurrences occurred))
+      by_open true e = subst (λ b. QueueIs c (h.taken c) b occurred) flag (h.collected c (open_below c e) e occurred o)
+      by_open false e = subst (λ b. QueueIs c (h.taken c) b occurred) flag (h.shut c (let m = h.opened_size in omega (arith, lt, m)) e occurred o)
 
   unflagged : (c : ℕ) → is_listed c broken ≡ false → is_flagged c v log ≡ false
   unflagged c off = by_open (is_open_conn c v) refl
@@ -155,19 +167,23 @@ module _ (laws : StopLaws) (count : ℕ) (v : GatewayValue) (log : LogValue) (es
   run_sizes : length log.queued ≡ length log.opened
   run_sizes = h.queued_size ∙ sym h.opened_size
 
-  run_stopped : (occurred : List Placed) → Occurs v.plans log.opened es occurred → (c : ℕ) → is_listed c broken ≡ true → StartedAs c log.starts occurred
-  run_stopped occurred o c on = subst (λ xs. StartedAs c xs occurred) (sym h.starts_are)
-      (started_as laws c occurred h.started (stops laws v log.opened es h.taken (map job_started h.started) occurred c h.served o h.no_jobs
-      (let lt = run_below c on in let m = h.opened_size in omega (arith, lt, m))
-      (λ there. sym (h.flagged c (open_below c there) there) ∙ sym (flag_is c) ∙ on)))
+  run_broke : (occurred : List Placed) → Occurs v.plans log.opened es occurred → (c : ℕ) → is_listed c broken ≡ true
+      → BrokeAs c v.plans log.opened (queue_at c log) log.starts es occurred
+  run_broke occurred o c on =
+      let so = h.broke_are c (ap (λ b. b || is_broken_conn c v) (sym (flag_is c) ∙ on)) occurred o in
+      let lt : c < count = let below = run_below c on in omega (arith, below, count_is) in (
+        so.0,
+        h.queued_are c ∙ ap bytes_of (sym (append-nil (h.taken c)) ∙ ap (λ xs. h.taken c ++ xs) (sym (h.none_left c (lt-ltb c count lt))) ∙ so.1),
+        ap (filter (is_start_of c)) h.starts_are ∙ run_starts_on c h.started ∙ ap (map run_start) so.2 ∙ sym (run_starts_on c (starts (so.0.newer ++ so.0.past))),
+      )
 
   -- all of it
   pub run_is : (plans : List PlanRecord) → v.plans ≡ plans → IsRun plans es log.opened log.queued log.starts broken
   run_is plans plans_are = record {
     opened_are = h.opened_are;
-    queued_are = λ occurred o c lt. run_queued occurred (its occurred o) c lt;
+    queued_are = λ occurred o c lt off. run_queued occurred (its occurred o) c lt off;
     starts_are = λ occurred o c off. run_starts occurred (its occurred o) c off;
-    stopped = λ occurred o c on. run_stopped occurred (its occurred o) c on;
+    broke = λ occurred o c on. subst (λ ps. BrokeAs c ps log.opened (queue_at c log) log.starts es occurred) plans_are (run_broke occurred (its occurred o) c on);
     unbroken = λ occurred o none. run_all_starts occurred (its occurred o) none;
     one_each = run_sizes;
     known = run_below;

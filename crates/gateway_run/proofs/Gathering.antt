@@ -17,25 +17,26 @@ use Rattle.gateway_core.specs.Served.{QueueIs, Served, with_reply}
 use Rattle.gateway_core.specs.Serving.{TakesOnly}
 use Rattle.gateway_core.specs.Starts.{Placed, job_started}
 use Rattle.gateway_core.specs.Store.{conn_of}
-use Rattle.gateway_run.specs.Log.{Collects, absent, gathers, HasRun, LogValue, Took, flag_at, is_flagged, is_open_conn, log_with, queue_at}
+use Rattle.gateway_run.specs.Log.{BrokeSo, Collects, absent, gathers, HasRun, LogValue, Took, flag_at, is_flagged, is_open_conn, log_with, queue_at}
 use Rattle.gateway_run.specs.Run.{bytes_of}
 use Rattle.gateway_run.proofs.CoreLaws.{StandingLaws}
 use Rattle.gateway_run.proofs.Flags.{or_false_right, set_here, set_other}
-use Rattle.gateway_run.proofs.Stopped.{open_known}
+use Rattle.gateway_run.proofs.OpenConns.{open_known}
 
-only_then : (u v w : GatewayValue) → TakesOnly u v → TakesOnly v w → TakesOnly u w
-only_then u v w a b = record {
+only_then : (n : ℕ) (u v w : GatewayValue) → TakesOnly n u v → TakesOnly n v w → TakesOnly n u w
+only_then n u v w a b = record {
   plans_are = b.plans_are ∙ a.plans_are;
   opened_is = b.opened_is ∙ a.opened_is;
   jobs_are = b.jobs_are ∙ a.jobs_are;
   open_are = λ c. b.open_are c ∙ a.open_are c;
   broken_are = λ c. b.broken_are c ∙ a.broken_are c;
+  others_are = λ c ne. b.others_are c ne ∙ a.others_are c ne;
 }
 
 -- one reply more, or none
 pub took_none : (n : ℕ) (v : GatewayValue) → Took n [] v v
 took_none n v = record {
-  only = record { plans_are = refl; opened_is = refl; jobs_are = refl; open_are = λ c. refl; broken_are = λ c. refl };
+  only = record { plans_are = refl; opened_is = refl; jobs_are = refl; open_are = λ c. refl; broken_are = λ c. refl; others_are = λ c ne. refl };
   untaken_are = refl;
   served = λ opened es taken handed h. (taken, h, λ c. same c (c == n) (taken c));
 }
@@ -46,10 +47,10 @@ took_none n v = record {
 
 pub took_more : (n : ℕ) (entries : List ReplyEntry) (reply : Option ReplyValue) (u v w : GatewayValue) → Took n entries u v
     → ((opened : List ℕ) (es : Before) (taken : ℕ → List ReplyEntry) (handed : List JobValue) → Served v opened es taken handed → Served w opened es (with_reply n reply taken) handed)
-    → untaken_of n v ≡ option_to_list (option_map (λ (r : ReplyValue). r.entry) reply) ++ untaken_of n w → TakesOnly v w
+    → untaken_of n v ≡ option_to_list (option_map (λ (r : ReplyValue). r.entry) reply) ++ untaken_of n w → TakesOnly n v w
     → Took n (entries ++ option_to_list (option_map (λ (r : ReplyValue). r.entry) reply)) u w
 took_more n entries reply u v w t stands first only = record {
-  only = only_then u v w t.only only;
+  only = only_then n u v w t.only only;
   untaken_are = t.untaken_are ∙ ap (λ xs. entries ++ xs) first ∙ sym (append_assoc entries (option_to_list (option_map (λ (r : ReplyValue). r.entry) reply)) (untaken_of n w));
   served = λ opened es taken handed h.
       let was = t.served opened es taken handed h in
@@ -96,10 +97,29 @@ module _ (standing : StandingLaws) (gathered : ℕ → Bool) (n : ℕ) (v w : Ga
     flagged = λ c on there. h.flagged c (was c on there) there;
     collected = λ c on there. h.collected c (was c on there) there;
     shut = h.shut;
+    none_left = λ c on. none_of c (c == n) refl on;
+    broke_are = h.broke_are;
     unbroken = h.unbroken;
     all_unbroken = h.all_unbroken;
   }))
     where
+      -- one that was not opened has no replies
+      none_of : (c : ℕ) (b : Bool) → (c == n) ≡ b → (gathered c || c == n) ≡ true → untaken_of c v ≡ []
+      none_of c false other on = h.none_left c (or_false_so (gathered c) (ap (λ b. gathered c || b) (sym other) ∙ on))
+        where
+          or_false_so : (a : Bool) → (a || false) ≡ true → a ≡ true
+          or_false_so true e = refl
+          or_false_so false e = absurd (cc)
+      none_of c true its on = by_conn (conn_of c v.machine.conns) refl
+        where
+          by_conn : (k : Option ConnValue) → conn_of c v.machine.conns ≡ k → untaken_of c v ≡ []
+          by_conn None k_is = ap (λ x. option_map_or (λ (y : ConnValue). front y.slots) x []) k_is
+          by_conn (Some k) k_is = absurd (
+              let lt = open_known log.opened c es (h.served.conns.open_are c ∙ ap (λ x. is_some x) k_is) in
+              let same : c ≡ n = eqb-true c n its in
+              let count = h.served.conns.count_is in
+              let size = h.queued_size in omega (arith, lt, same, count, size, beyond))
+
       first : (a b : Bool) → (a || b) ≡ false → a ≡ false
       first true b e = absurd (cc)
       first false b e = refl
@@ -246,6 +266,37 @@ module _ (standing : StandingLaws) (gathered : ℕ → Bool) (n : ℕ) (v w : Ga
         both : (a b : Bool) → a ≡ false → b ≡ false → (a || b) ≡ false
         both a b e f = rw (e, f) refl
 
+    none_then : (c : ℕ) → (gathered c || c == n) ≡ true → (c ≡ n) ⊎ (c ≡ n → ⊥) → untaken_of c w ≡ []
+    none_then c on (inl same) = ap (λ m. untaken_of m w) same ∙ none_left
+    none_then c on (inr other) = t.only.others_are c (ne_eqb c n other) ∙ h.none_left c (still c other on)
+
+    -- what was taken and what can be are the same together
+    all_same : (c : ℕ) → (c ≡ n) ⊎ (c ≡ n → ⊥) → s.0 c ++ untaken_of c w ≡ h.taken c ++ untaken_of c v
+    all_same c (inl same) = subst (λ m. s.0 m ++ untaken_of m w ≡ h.taken m ++ untaken_of m v) (sym same)
+        (ap (λ xs. s.0 n ++ xs) none_left ∙ append-nil (s.0 n) ∙ taken_here)
+    all_same c (inr other) = ap (λ xs. xs ++ untaken_of c w) (taken_other c other) ∙ ap (λ xs. h.taken c ++ xs) (t.only.others_are c (ne_eqb c n other))
+
+    flagged_before : (c : ℕ) → is_flagged c w next ≡ true → (b : Bool) → is_flagged c v log ≡ b → is_flagged c v log ≡ true
+    flagged_before c on true e = e
+    flagged_before c on false e = absurd (by_parts (which c))
+      where
+        off : flag_at c log ≡ false
+        off = first (flag_at c log) (is_broken_conn c v) e
+
+        whole_now : is_broken_conn c v ≡ false
+        whole_now = or_false_right (flag_at c log) (is_broken_conn c v) e
+
+        by_parts : (c ≡ n) ⊎ (c ≡ n → ⊥) → ⊥
+        by_parts (inl same) =
+            let here : flag_at c next ≡ false = subst (λ m. flag_at m next ≡ false) (sym same) (flag_here ∙ ap (λ m. flag_at m log || is_broken_conn m v) (sym same) ∙ e) in
+            let clash : true ≡ false = sym on ∙ ap (λ b. b || is_broken_conn c w) here ∙ t.only.broken_are c ∙ whole_now in cc
+        by_parts (inr other) =
+            let clash : true ≡ false = sym on ∙ ap (λ b. b || is_broken_conn c w) (flag_other c other ∙ off) ∙ t.only.broken_are c ∙ whole_now in cc
+
+    broke_still : (c : ℕ) → is_flagged c w next ≡ true → (occurred : List Placed) → Occurs w.plans log.opened es occurred → BrokeSo c w.plans log.opened (s.0 c ++ untaken_of c w) h.started es occurred
+    broke_still c on occurred o = subst (λ ps. BrokeSo c ps log.opened (s.0 c ++ untaken_of c w) h.started es occurred) (sym t.only.plans_are)
+        (subst (λ xs. BrokeSo c v.plans log.opened xs h.started es occurred) (sym (all_same c (which c))) (h.broke_are c (flagged_before c on (is_flagged c v log) refl) occurred (plain occurred o)))
+
     more_run : HasRun (λ c. gathered c || c == n) w next es
     more_run = record {
       taken = s.0;
@@ -262,6 +313,8 @@ module _ (standing : StandingLaws) (gathered : ℕ → Bool) (n : ℕ) (v w : Ga
       flagged = λ c on there. flag c on there (which c);
       collected = λ c on there occurred o. gather c on there occurred o (which c);
       shut = λ c less off occurred o. closed c less off occurred o (which c);
+      none_left = λ c on. none_then c on (which c);
+      broke_are = broke_still;
       unbroken = λ c off occurred o. h.unbroken c (unflagged_before c off (which c)) occurred (plain occurred o);
       all_unbroken = λ off occurred o. h.all_unbroken (λ c. unflagged_before c (off c) (which c)) occurred (plain occurred o);
     }

@@ -15,5 +15,5 @@ pub mod CallAnswers
 pub mod FromStreams
 pub mod Occurring
 pub mod Shifts
-pub mod Stopped
+pub mod OpenConns
 pub mod CoreLaws

@@ -1,13 +1,15 @@
 -- A piece that is fed in parts.
-use Rattle.std.proofs.Common.{◌≡◌, ℕ, ◌-◌, true, List, [], ◌∷◌, ◌++◌, take, drop, length, refl, sym, ap, ◌∙◌, subst, arith, append-nil, append_assoc}
-use Rattle.std.specs.Prelude.{◌==◌, ◌↔◌, Result, Ok, Err, IsErr, IsErrAnd}
+use Rattle.std.proofs.Common.{◌≡◌, ℕ, ◌-◌, Bool, true, false, List, [], ◌∷◌, ◌++◌, take, drop, length, refl, sym, ap, ◌∙◌, subst, arith, append-nil, append_assoc}
+use Rattle.std.specs.Prelude.{◌==◌, ◌↔◌, filter, Result, Ok, Err, IsErr, IsErrAnd}
 use Rattle.gateway_core.specs.declared.fault.StepFault.{StepFault}
 use Rattle.gateway_core.specs.declared.fault.StepFault.TheVariants.{Gone, Memory}
 use Rattle.std.proofs.lemmas.Bool.{eqb-true}
+use Rattle.std.proofs.lemmas.List.Elements.{filter-append}
 use Rattle.std.proofs.lemmas.List.{length-drop, take-append-drop, take_all}
 use Rattle.gateway_core.specs.declared.entry.ReplyEntry.{ReplyEntry}
 use Rattle.gateway_core.specs.Events.{Before, Piece}
-use Rattle.gateway_core.specs.Gateway.{GatewayValue}
+use Rattle.gateway_core.specs.Breaks.{is_of}
+use Rattle.gateway_core.specs.Gateway.{GatewayValue, is_broken_conn, untaken_of}
 use Rattle.gateway_core.specs.Job.{JobValue}
 use Rattle.gateway_core.specs.Served.{Served, ServedUpTo}
 use Rattle.gateway_core.specs.Serving.{IsDeaf, Keeps}
@@ -22,23 +24,54 @@ pub record Delivery (conn : ℕ) (piece rest : List ℕ) (v w : GatewayValue) : 
   pub done : List ℕ
   pub whole : done ++ rest ≡ piece
   pub served : (opened : List ℕ) (es : Before) (taken : ℕ → List ReplyEntry) (handed : List JobValue) → Served v opened es taken handed → ServedUpTo conn done w opened es taken handed
-  pub keeps : Keeps v w
+  pub keeps : Keeps (λ c. c == conn) v w
   pub hears : Hearing conn v w
 
 abbrev pub Begins : Type 0
 Begins = (n : ℕ) (v : GatewayValue) (opened : List ℕ) (es : Before) (taken : ℕ → List ReplyEntry) (handed : List JobValue) → Served v opened es taken handed → ServedUpTo n [] v opened es taken handed
+
+-- nothing changed
+keeps_still : (breaks : ℕ → Bool) (v : GatewayValue) → Keeps breaks v v
+keeps_still breaks v = record {
+  plans_are = refl;
+  stays_silent = λ c silent. silent;
+  stays_broken = λ c other broken. broken;
+  broken_are = λ c now before. absurd (let clash : true ≡ false = sym now ∙ before in cc);
+  replies_stay = λ c other. ([], sym (append-nil (untaken_of c v)));
+  no_replies = λ c other silent. refl;
+  jobs = [];
+  jobs_are = sym (append-nil v.machine.jobs);
+  no_jobs = λ c silent. refl;
+}
 
 pub begun : Begins → (conn : ℕ) (piece : List ℕ) (v : GatewayValue) → Delivery conn piece piece v v
 begun begins conn piece v = record {
   done = [];
   whole = refl;
   served = λ opened es taken handed h. begins conn v opened es taken handed h;
-  keeps = record { plans_are = refl; stays_broken = λ c other broken. broken };
+  keeps = keeps_still (λ c. c == conn) v;
   hears = first refl;
 }
 
-pub keeps_then : (u v w : GatewayValue) → Keeps u v → Keeps v w → Keeps u w
-keeps_then u v w a b = record { plans_are = b.plans_are ∙ a.plans_are; stays_broken = λ c other broken. b.stays_broken c other (a.stays_broken c other broken) }
+pub keeps_then : (breaks : ℕ → Bool) (u v w : GatewayValue) → Keeps breaks u v → Keeps breaks v w → Keeps breaks u w
+keeps_then breaks u v w a b = record {
+  plans_are = b.plans_are ∙ a.plans_are;
+  stays_silent = λ c silent. b.stays_silent c (a.stays_silent c silent);
+  stays_broken = λ c other broken. b.stays_broken c other (a.stays_broken c other broken);
+  broken_are = λ c now before. by_middle c (is_broken_conn c v) refl now before;
+  replies_stay = λ c other.
+      let first = a.replies_stay c other in
+      let second = b.replies_stay c other in
+      (first.0 ++ second.0, second.1 ∙ ap (λ xs. xs ++ second.0) first.1 ∙ append_assoc (untaken_of c u) first.0 second.0);
+  no_replies = λ c other silent. b.no_replies c other (a.stays_silent c silent) ∙ a.no_replies c other silent;
+  jobs = a.jobs ++ b.jobs;
+  jobs_are = b.jobs_are ∙ ap (λ js. js ++ b.jobs) a.jobs_are ∙ append_assoc u.machine.jobs a.jobs b.jobs;
+  no_jobs = λ c silent. filter-append (is_of c) a.jobs b.jobs ∙ ap (λ js. js ++ filter (is_of c) b.jobs) (a.no_jobs c silent) ∙ b.no_jobs c (a.stays_silent c silent);
+}
+  where
+    by_middle : (c : ℕ) (m : Bool) → is_broken_conn c v ≡ m → is_broken_conn c w ≡ true → is_broken_conn c u ≡ false → breaks c ≡ true
+    by_middle c true m_is now before = a.broken_are c m_is before
+    by_middle c false m_is now before = b.broken_are c now m_is
 
 pub at_first : (conn : ℕ) (u v : GatewayValue) → Hearing conn u v → (IsDeaf conn v → ⊥) → IsDeaf conn u → ⊥
 at_first conn u v (first same) was deaf = was (subst (IsDeaf conn) (sym same) deaf)
@@ -87,12 +120,12 @@ from_err (Err e) f bad same = ap Err same
 
 pub fed_on : (conn n : ℕ) (piece rest : List ℕ) (u v w : GatewayValue) → Delivery conn piece rest u v
     → ((fed : List ℕ) (opened : List ℕ) (es : Before) (taken : ℕ → List ReplyEntry) (handed : List JobValue) → ServedUpTo conn fed v opened es taken handed → ServedUpTo conn (fed ++ take n rest) w opened es taken handed)
-    → Keeps v w → (IsDeaf conn v → ⊥) → (IsDeaf conn w → ⊥) → Delivery conn piece (drop n rest) u w
+    → Keeps (λ c. c == conn) v w → (IsDeaf conn v → ⊥) → (IsDeaf conn w → ⊥) → Delivery conn piece (drop n rest) u w
 fed_on conn n piece rest u v w d stands keeps was now = record {
   done = d.done ++ take n rest;
   whole = append_assoc d.done (take n rest) (drop n rest) ∙ ap (λ xs. d.done ++ xs) (take-append-drop n rest) ∙ d.whole;
   served = λ opened es taken handed h. stands d.done opened es taken handed (d.served opened es taken handed h);
-  keeps = keeps_then u v w d.keeps keeps;
+  keeps = keeps_then (λ c. c == conn) u v w d.keeps keeps;
   hears = later now (at_first conn u v d.hears was);
 }
 

@@ -1,25 +1,29 @@
 -- How a run goes on with one event more.
-use Rattle.std.proofs.Common.{◌≡◌, ℕ, ◌<◌, Bool, true, false, List, [], ◌∷◌, ◌++◌, length, map, Option, None, Some, refl, sym, ap, ◌∙◌, subst, arith, append-nil, append_assoc}
+use Rattle.std.proofs.Common.{◌≡◌, ℕ, ◌+◌, ◌<◌, ◌≤◌, Bool, true, false, List, [], ◌∷◌, ◌++◌, length, map, Option, None, Some, refl, sym, ap, ◌∙◌, subst, arith, append-nil, append_assoc}
 use Rattle.std.specs.Prelude.{if◌then◌else◌, ◌&&◌, ◌||◌, not, filter, is_some, nat_lt, option_to_list}
 use Rattle.std.specs.Option.{option_map_or}
 use Rattle.std.proofs.lemmas.Bool.{lt-ltb, ltb-true, ltb-false}
-use Rattle.std.proofs.lemmas.List.{append_cancel_left, map-append}
+use Rattle.std.proofs.lemmas.List.{append_cancel_left, length-append, map-append}
 use Rattle.std.proofs.lemmas.List.Elements.{filter-append}
 use Rattle.gateway_core.specs.declared.entry.ReplyEntry.{ReplyEntry}
+use Rattle.gateway_core.specs.Breaking.{BrokeNow, can_break}
 use Rattle.gateway_core.specs.Breaks.{is_of}
 use Rattle.gateway_core.specs.Conn.{ConnValue}
 use Rattle.gateway_core.specs.EventAdds.{EventAdds, IsShut}
-use Rattle.gateway_core.specs.Events.{Before, GatewayEvent, IsOpened, Occurs, connections, is_closing_of, is_open}
-use Rattle.gateway_core.specs.Gateway.{GatewayValue, is_broken_conn}
+use Rattle.gateway_core.specs.Events.{Before, GatewayEvent, Opening, Piece, HangUp, Moment, BranchResult, Drain, Closing, IsOpened, Occurs, connections, is_closing_of, is_open}
+use Rattle.gateway_core.specs.Gateway.{GatewayValue, is_broken_conn, untaken_of}
 use Rattle.gateway_core.specs.Job.{JobValue}
-use Rattle.gateway_core.specs.Past.{marked}
-use Rattle.gateway_core.specs.Queue.{IsPrefixOf, queued_entries}
+use Rattle.gateway_core.specs.Past.{Past, marked}
+use Rattle.gateway_core.specs.Queue.{IsPrefixOf, front, queued_entries}
 use Rattle.gateway_core.specs.Served.{HasConns, JobsAre, QueueIs, Served}
+use Rattle.gateway_core.specs.Serving.{KeepsBut, is_silent}
 use Rattle.gateway_core.specs.Starts.{Placed, job_started, jobs, occurrences, start, starts}
 use Rattle.gateway_core.specs.Store.{conn_of}
-use Rattle.gateway_run.specs.Log.{HasRun, LogValue, StartsAll, flag_at, is_flagged, is_open_conn, is_started_on, queue_at}
+use Rattle.gateway_run.specs.Log.{BrokeSo, HasRun, LogValue, StartsAll, flag_at, is_flagged, is_open_conn, is_started_on, queue_at}
 use Rattle.gateway_run.specs.Run.{run_start, start_at}
-use Rattle.gateway_run.proofs.CoreLaws.{EventLaws, StandingLaws}
+use Rattle.gateway_run.specs.Stepping.{BreaksAt}
+use Rattle.gateway_run.proofs.CoreLaws.{BreakingLaw, EventLaws, StandingLaws}
+use Rattle.gateway_run.proofs.OpenConns.{open_known}
 use Rattle.gateway_run.proofs.Flags.{beyond, jobs_again, jobs_on, or_false_left, or_false_right, same_jobs, starts_at, starts_on}
 
 -- ---- what an event leaves as it was
@@ -50,14 +54,15 @@ no_more xs ys zs (rest, is) same = empty ys rest (append_cancel_left xs (ys ++ r
 -- what the step of an event comes to
 pub record Steps (e : GatewayEvent) (es : Before) (v w : GatewayValue) (opened later : List ℕ) : Type 0 where
   pub served : (taken : ℕ → List ReplyEntry) (handed : List JobValue) → Served v opened es taken handed → Served w later (e ∷ es) taken handed
-  pub plans_are : w.plans ≡ v.plans
-  pub stays_broken : (c : ℕ) → is_closing_of c e ≡ false → is_broken_conn c v ≡ true → is_broken_conn c w ≡ true
+  pub keeps : KeepsBut (λ c. is_closing_of c e) (λ c. true) v w
+  pub concerned : BreaksAt e v w
   pub opened_are : IsOpened opened es → HasConns v opened es → IsOpened later (e ∷ es)
   pub same_count : HasConns v opened es → connections later es ≡ connections opened es
   pub same_open : HasConns v opened es → (c : ℕ) → is_open later c es ≡ is_open opened c es
   pub before : (occurred : List Placed) → HasConns v opened es → Occurs v.plans later es occurred → Occurs v.plans opened es occurred
+  pub after : (earlier : Before) (occurred : List Placed) → length earlier ≤ length es → HasConns v opened es → Occurs v.plans opened earlier occurred → Occurs v.plans later earlier occurred
 
-module _ (event : EventLaws) (standing : StandingLaws) (e : GatewayEvent) (es : Before) (v w : GatewayValue) (log next : LogValue) (h : HasRun (λ c. is_closing_of c e) v log es) (s : Steps e es v w log.opened next.opened)
+module _ (event : EventLaws) (standing : StandingLaws) (breaking : BreakingLaw) (e : GatewayEvent) (es : Before) (v w : GatewayValue) (log next : LogValue) (h : HasRun (λ c. is_closing_of c e) v log es) (s : Steps e es v w log.opened next.opened)
     (queued_are : (c : ℕ) → queue_at c next ≡ queue_at c log) (flags_are : (c : ℕ) → flag_at c next ≡ flag_at c log) (starts_same : next.starts ≡ log.starts) where
   served : Served w next.opened (e ∷ es) h.taken (map job_started h.started)
   served = s.served h.taken (map job_started h.started) h.served
@@ -82,7 +87,7 @@ module _ (event : EventLaws) (standing : StandingLaws) (e : GatewayEvent) (es : 
 
   module _ (occurred : List Placed) (o : Occurs w.plans next.opened (e ∷ es) occurred) where
     abbrev now : Occurs v.plans next.opened (e ∷ es) occurred
-    now = subst (λ plans. Occurs plans next.opened (e ∷ es) occurred) s.plans_are o
+    now = subst (λ plans. Occurs plans next.opened (e ∷ es) occurred) s.keeps.plans_are o
 
     abbrev past : List Placed
     past = now.0
@@ -178,7 +183,219 @@ module _ (event : EventLaws) (standing : StandingLaws) (e : GatewayEvent) (es : 
 
           by_closing : (b : Bool) → is_closing_of c e ≡ b → is_flagged c v log ≡ false
           by_closing true y = absurd (let clash : true ≡ false = sym x ∙ sym (h.flagged c y there) ∙ flag in cc)
-          by_closing false y = absurd (let clash : true ≡ false = sym (s.stays_broken c y x) ∙ on in cc)
+          by_closing false y = absurd (let clash : true ≡ false = sym (s.keeps.stays_broken c y x) ∙ on in cc)
+
+  -- ---- connections that broke
+
+  -- one that broke before is silent
+  flag_silent : (c : ℕ) → is_flagged c v log ≡ true → is_silent c v ≡ true
+  flag_silent c on = by_conn (conn_of c v.machine.conns) refl
+    where
+      known : c < v.opened → (k : Option ConnValue) → conn_of c v.machine.conns ≡ k → option_map_or (λ (y : ConnValue). y.broken) k true ≡ true → is_silent c v ≡ true
+      known lt k k_is off = rw (lt-ltb c v.opened lt, k_is, off) refl
+
+      flag_true : is_broken_conn c v ≡ false → flag_at c log ≡ true
+      flag_true off = by_it (flag_at c log) (ap (λ b. flag_at c log || b) (sym off) ∙ on)
+        where
+          by_it : (b : Bool) → (b || false) ≡ true → b ≡ true
+          by_it true x = refl
+          by_it false x = absurd (cc)
+
+      by_conn : (k : Option ConnValue) → conn_of c v.machine.conns ≡ k → is_silent c v ≡ true
+      by_conn None k_is = known (within (nat_lt c (length log.broke)) refl) None k_is refl
+        where
+          flag : flag_at c log ≡ true
+          flag = flag_true (ap (λ x. option_map_or (λ (y : ConnValue). y.broken) x false) k_is)
+
+          within : (b : Bool) → nat_lt c (length log.broke) ≡ b → c < v.opened
+          within true x = let lt = ltb-true c (length log.broke) x in let n = h.broke_size in omega (arith, lt, n)
+          within false x = absurd (let clash : true ≡ false = sym flag ∙ beyond log.broke c false (ltb-false c (length log.broke) x) in cc)
+      by_conn (Some k) k_is = known opened (Some k) k_is (by_break k.broken refl)
+        where
+          there : is_open_conn c v ≡ true
+          there = ap (λ x. is_some x) k_is
+
+          opened : c < v.opened
+          opened = let lt = open_known log.opened c es (h.served.conns.open_are c ∙ there) in let n = h.served.conns.count_is in omega (arith, lt, n)
+
+          broken_is : is_broken_conn c v ≡ k.broken
+          broken_is = ap (λ x. option_map_or (λ (y : ConnValue). y.broken) x false) k_is
+
+          by_break : (b : Bool) → k.broken ≡ b → k.broken ≡ true
+          by_break true x = x
+          by_break false x = absurd (by_closing (is_closing_of c e) refl)
+            where
+              flag : flag_at c log ≡ true
+              flag = flag_true (broken_is ∙ x)
+
+              by_closing : (b : Bool) → is_closing_of c e ≡ b → ⊥
+              by_closing true y = let clash : true ≡ false = sym flag ∙ h.flagged c y there ∙ broken_is ∙ x in cc
+              by_closing false y = let clash : true ≡ false = sym flag ∙ h.unflagged c y there in cc
+
+  new_is : new ≡ s.keeps.jobs
+  new_is = s.keeps.jobs_are ∙ ap (λ js. js ++ s.keeps.jobs) h.no_jobs
+
+  -- one that is not open behind the event has no replies
+  closed_none : (c : ℕ) → c < v.opened → is_closing_of c e ≡ true → untaken_of c w ≡ []
+  closed_none c lt closes = by_conn (conn_of c w.machine.conns) refl
+    where
+      off : is_open_conn c w ≡ false
+      off = sym (open_now c)
+          ∙ ap (λ b. if b then is_open next.opened c es && not (is_closing_of c e) else nat_lt c (connections next.opened (e ∷ es)))
+          (lt-ltb c (connections next.opened es) (let n = count_before in omega (arith, n, lt)))
+          ∙ ap (λ b. is_open next.opened c es && not b) closes ∙ none (is_open next.opened c es)
+        where
+          none : (b : Bool) → (b && false) ≡ false
+          none true = refl
+          none false = refl
+
+      by_conn : (k : Option ConnValue) → conn_of c w.machine.conns ≡ k → untaken_of c w ≡ []
+      by_conn None k_is = ap (λ x. option_map_or (λ (y : ConnValue). front y.slots) x []) k_is
+      by_conn (Some k) k_is = absurd (let clash : true ≡ false = sym (ap (λ x. is_some x) k_is) ∙ off in cc)
+
+  silent_known : (c : ℕ) → is_silent c v ≡ true → c < v.opened
+  silent_known c silent = by_it (nat_lt c v.opened) refl silent
+    where
+      by_it : (b : Bool) → nat_lt c v.opened ≡ b → (b && option_map_or (λ (y : ConnValue). y.broken) (conn_of c v.machine.conns) true) ≡ true → c < v.opened
+      by_it true x y = ltb-true c v.opened x
+      by_it false x y = absurd (cc)
+
+  still_queued : (c : ℕ) → is_silent c v ≡ true → h.taken c ++ untaken_of c w ≡ h.taken c ++ untaken_of c v
+  still_queued c silent = ap (λ xs. h.taken c ++ xs) (by_closing (is_closing_of c e) refl)
+    where
+      by_closing : (b : Bool) → is_closing_of c e ≡ b → untaken_of c w ≡ untaken_of c v
+      by_closing false x = s.keeps.no_replies c x silent
+      by_closing true x = closed_none c (silent_known c silent) x ∙ sym (h.none_left c x)
+
+  started_now : (c : ℕ) → filter (is_started_on c) (h.started ++ map (start (length es)) new) ≡ filter (is_started_on c) h.started ++ map (start (length es)) (filter (is_of c) s.keeps.jobs)
+  started_now c = filter-append (is_started_on c) h.started (map (start (length es)) new)
+      ∙ ap (λ xs. filter (is_started_on c) h.started ++ xs) (starts_on c (length es) new ∙ ap (λ js. map (start (length es)) (filter (is_of c) js)) new_is)
+
+  still_broke : (c : ℕ) → is_flagged c v log ≡ true → (occurred : List Placed) → Occurs w.plans next.opened (e ∷ es) occurred
+      → BrokeSo c v.plans next.opened (h.taken c ++ untaken_of c w) (h.started ++ map (start (length es)) new) (e ∷ es) occurred
+  still_broke c on occurred o =
+      let was_so = h.broke_are c on (past occurred o) (was occurred o) in
+      let b = was_so.0 in
+      let silent : is_silent c v ≡ true = flag_silent c on in (
+        record {
+          later = e ∷ b.later;
+          event = b.event;
+          before = b.before;
+          events_are = ap (λ xs. e ∷ xs) b.events_are;
+          past = b.past;
+          past_is = s.after b.before b.past (shorter b.later b.event b.before b.events_are).0 h.served.conns b.past_is;
+          concerned = b.concerned;
+          newer = b.newer;
+          at = b.at;
+          more = b.more;
+          event_is = s.after (b.event ∷ b.before) (b.more ++ option_to_list b.at ++ b.newer ++ b.past) (shorter b.later b.event b.before b.events_are).1 h.served.conns b.event_is;
+          breaks = b.breaks;
+          since = (adds occurred o).newer ++ b.since;
+          occurred_is = (adds occurred o).after_is ∙ ap (λ xs. (adds occurred o).newer ++ xs) b.occurred_is
+              ∙ sym (append_assoc (adds occurred o).newer b.since (b.more ++ option_to_list b.at ++ b.newer ++ b.past));
+        },
+        still_queued c silent ∙ was_so.1,
+        started_now c ∙ ap (λ js. filter (is_started_on c) h.started ++ map (start (length es)) js) (s.keeps.no_jobs c silent)
+            ∙ append-nil (filter (is_started_on c) h.started) ∙ was_so.2,
+      )
+    where
+      shorter : (later : Before) (x : GatewayEvent) (before : Before) → es ≡ later ++ x ∷ before → (length before ≤ length es) × (length (x ∷ before) ≤ length es)
+      shorter later x before is =
+          let whole : length es ≡ length later + length (x ∷ before) = ap (λ (xs : Before). length xs) is ∙ length-append later (x ∷ before) in
+          (omega (arith, whole), omega (arith, whole))
+
+  -- one that breaks now was open, and does not close
+  was_open : (c : ℕ) (p : Past) → can_break c e p ≡ true → is_open_conn c w ≡ true → (is_open_conn c v ≡ true) × (is_closing_of c e ≡ false)
+  was_open c p breaks there = by_event e refl
+    where
+      by_known : connections next.opened (e ∷ es) ≡ connections next.opened es → (b : Bool) → nat_lt c (connections next.opened es) ≡ b → (is_open_conn c v ≡ true) × (is_closing_of c e ≡ false)
+      by_known same true y =
+          let on : (is_open next.opened c es && not (is_closing_of c e)) ≡ true =
+          sym (ap (λ b. if b then is_open next.opened c es && not (is_closing_of c e) else nat_lt c (connections next.opened (e ∷ es))) y) ∙ open_now c ∙ there in
+          let both = parts (is_open next.opened c es) (is_closing_of c e) on in
+          (sym (open_before c) ∙ both.0, both.1)
+      by_known same false y = absurd (
+          let on : true ≡ nat_lt c (connections next.opened (e ∷ es)) =
+          sym there ∙ sym (open_now c) ∙ ap (λ b. if b then is_open next.opened c es && not (is_closing_of c e) else nat_lt c (connections next.opened (e ∷ es))) y in
+          let clash : true ≡ false = on ∙ ap (nat_lt c) same ∙ y in cc)
+
+      plainly : connections next.opened (e ∷ es) ≡ connections next.opened es → (is_open_conn c v ≡ true) × (is_closing_of c e ≡ false)
+      plainly same = by_known same (nat_lt c (connections next.opened es)) refl
+
+      count : (f : GatewayEvent) → e ≡ f → connections next.opened (f ∷ es) ≡ connections next.opened es → (is_open_conn c v ≡ true) × (is_closing_of c e ≡ false)
+      count f f_is same = plainly (ap (λ x. connections next.opened (x ∷ es)) f_is ∙ same)
+
+      by_event : (f : GatewayEvent) → e ≡ f → (is_open_conn c v ≡ true) × (is_closing_of c e ≡ false)
+      by_event Opening f_is = absurd (let clash : true ≡ false = sym breaks ∙ ap (λ x. can_break c x p) f_is in cc)
+      by_event (Piece n bytes) f_is = count (Piece n bytes) f_is refl
+      by_event (HangUp n) f_is = count (HangUp n) f_is refl
+      by_event (Moment m) f_is = count (Moment m) f_is refl
+      by_event (BranchResult n k i r) f_is = count (BranchResult n k i r) f_is refl
+      by_event Drain f_is = count Drain f_is refl
+      by_event (Closing n) f_is = absurd (let clash : true ≡ false = sym breaks ∙ ap (λ x. can_break c x p) f_is in cc)
+
+  new_broke : (c : ℕ) → is_flagged c v log ≡ false → is_broken_conn c w ≡ true → (occurred : List Placed) → Occurs w.plans next.opened (e ∷ es) occurred
+      → BrokeSo c v.plans next.opened (h.taken c ++ untaken_of c w) (h.started ++ map (start (length es)) new) (e ∷ es) occurred
+  new_broke c off on occurred o = by_conns (conn_of c v.machine.conns) refl (conn_of c w.machine.conns) refl
+    where
+      whole : is_broken_conn c v ≡ false
+      whole = or_false_right (flag_at c log) (is_broken_conn c v) off
+
+      concerned : can_break c e (marked (occurrences (past occurred o))) ≡ true
+      concerned = s.concerned log.opened es h.taken (map job_started h.started) (past occurred o) h.served (was occurred o) c on whole
+
+      by_conns : (k : Option ConnValue) → conn_of c v.machine.conns ≡ k → (l : Option ConnValue) → conn_of c w.machine.conns ≡ l
+          → BrokeSo c v.plans next.opened (h.taken c ++ untaken_of c w) (h.started ++ map (start (length es)) new) (e ∷ es) occurred
+      by_conns k k_is None l_is = absurd (let clash : true ≡ false = sym on ∙ ap (λ x. option_map_or (λ (y : ConnValue). y.broken) x false) l_is in cc)
+      by_conns None k_is (Some l) l_is = absurd (
+          let there = (was_open c (marked (occurrences (past occurred o))) concerned (ap (λ x. is_some x) l_is)).0 in
+          let clash : true ≡ false = sym there ∙ ap (λ x. is_some x) k_is in cc)
+      by_conns (Some k) k_is (Some l) l_is =
+          let unclosed : is_closing_of c e ≡ false = (was_open c (marked (occurrences (past occurred o))) concerned (ap (λ x. is_some x) l_is)).1 in
+          let b : BrokeNow c (length es) (h.taken c ++ untaken_of c w) s.keeps.jobs (past occurred o) occurred =
+          breaking c (length es) v w log.opened next.opened e es h.taken (map job_started h.started) s.keeps.jobs (now occurred o).2.0 (past occurred o) occurred h.served served (was occurred o) o
+          (now occurred o).2.2 s.keeps.jobs_are (s.keeps.replies_stay c unclosed) k l k_is (sym (ap (λ x. option_map_or (λ (y : ConnValue). y.broken) x false) k_is) ∙ whole) l_is
+          (sym (ap (λ x. option_map_or (λ (y : ConnValue). y.broken) x false) l_is) ∙ on) in (
+            record {
+              later = [];
+              event = e;
+              before = es;
+              events_are = refl;
+              past = past occurred o;
+              past_is = was_next occurred o;
+              concerned = concerned;
+              newer = b.newer;
+              at = b.at;
+              more = b.more;
+              event_is = subst (λ xs. Occurs v.plans next.opened (e ∷ es) xs) b.after_is (now occurred o);
+              breaks = b.breaks;
+              since = [];
+              occurred_is = b.after_is;
+            },
+            b.queue_is,
+            started_now c ∙ ap (λ xs. xs ++ map (start (length es)) (filter (is_of c) s.keeps.jobs)) (h.unbroken c off (past occurred o) (was occurred o))
+                ∙ ap (λ js. filter (is_started_on c) (starts (past occurred o)) ++ map (start (length es)) js) b.added_are
+                ∙ ap (λ xs. filter (is_started_on c) (starts (past occurred o)) ++ xs) (sym (starts_on c (length es) b.started))
+                ∙ sym (filter-append (is_started_on c) (starts (past occurred o)) (map (start (length es)) b.started))
+                ∙ ap (filter (is_started_on c)) (sym b.starts_are),
+          )
+
+  all_broke : (c : ℕ) → (flag_at c next || is_broken_conn c w) ≡ true → (occurred : List Placed) → Occurs w.plans next.opened (e ∷ es) occurred
+      → BrokeSo c w.plans next.opened (h.taken c ++ untaken_of c w) (h.started ++ map (start (length es)) new) (e ∷ es) occurred
+  all_broke c on occurred o =
+      subst (λ ps. BrokeSo c ps next.opened (h.taken c ++ untaken_of c w) (h.started ++ map (start (length es)) new) (e ∷ es) occurred) (sym s.keeps.plans_are)
+      (by_flag (is_flagged c v log) refl)
+    where
+      now_broken : is_flagged c v log ≡ false → is_broken_conn c w ≡ true
+      now_broken off = by_it (flag_at c next) (flags_are c ∙ or_false_left (flag_at c log) (is_broken_conn c v) off) on
+        where
+          by_it : (b : Bool) → b ≡ false → (b || is_broken_conn c w) ≡ true → is_broken_conn c w ≡ true
+          by_it true x y = absurd (cc)
+          by_it false x y = y
+
+      by_flag : (b : Bool) → is_flagged c v log ≡ b → BrokeSo c v.plans next.opened (h.taken c ++ untaken_of c w) (h.started ++ map (start (length es)) new) (e ∷ es) occurred
+      by_flag true x = still_broke c x occurred o
+      by_flag false x = new_broke c x (now_broken x) occurred o
 
   -- ---- the whole
 
@@ -200,6 +417,8 @@ module _ (event : EventLaws) (standing : StandingLaws) (e : GatewayEvent) (es : 
     unflagged = λ c gathered there. flags_are c ∙ open_unflagged c there;
     flagged = λ c gathered there. absurd (cc);
     collected = λ c gathered there occurred o. absurd (cc);
+    none_left = λ c gathered. absurd (cc);
+    broke_are = λ c on occurred o. all_broke c on occurred o;
     shut = λ c lt off occurred o. subst (λ b. QueueIs c (h.taken c) b occurred) (sym (flags_are c)) (queue_shut c lt off occurred o);
     unbroken = λ c off occurred o. then_are occurred o c (h.unbroken c (was_unflagged c (flag_off c off) (broken_off c off)) (past occurred o) (was occurred o)) (broken_off c off);
     all_unbroken = λ off occurred o. all_starts off occurred o;

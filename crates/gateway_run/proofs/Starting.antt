@@ -1,6 +1,7 @@
 -- Jobs that are taken one by one.
 use Rattle.std.proofs.Common.{◌≡◌, ℕ, Bool, true, false, List, [], ◌∷◌, ◌++◌, refl, sym, ap, ◌∙◌, subst, append-nil, append_assoc}
-use Rattle.std.specs.Prelude.{⊤, OnOk, IfOk, MatchResult, Option, Result, Ok, Err, option_map, option_to_list}
+use Rattle.std.proofs.lemmas.Bool.{eq-eqb, ne_eqb}
+use Rattle.std.specs.Prelude.{◌==◌, ⊤, OnOk, IfOk, MatchResult, Option, Result, Ok, Err, option_map, option_to_list}
 use Rattle.gateway_core.specs.declared.fault.OpenError.{OpenError}
 use Rattle.gateway_core.specs.declared.fault.StepFault.{StepFault}
 use Rattle.gateway_run.specs.Stepping.{TellsBreaks, TellsConn, done_of, opened_by, opening_of, taken_of}
@@ -9,7 +10,7 @@ use Rattle.gateway_run.specs.declared.stepping.Stepped.TheVariants.{NotOpened, O
 use Rattle.gateway_core.specs.declared.entry.ReplyEntry.{ReplyEntry}
 use Rattle.gateway_core.specs.Events.{Before}
 use Rattle.gateway_core.specs.Gateway.{GatewayValue, is_broken_conn}
-use Rattle.gateway_core.specs.Serving.{Breaks}
+use Rattle.gateway_core.specs.Serving.{Breaks, Keeps, KeepsBut}
 use Rattle.gateway_core.specs.declared.fault.StepFault.TheVariants.{Gone, Memory}
 use Rattle.gateway_core.specs.Job.{HandedJob, JobValue}
 use Rattle.gateway_core.specs.Served.{Served}
@@ -91,3 +92,35 @@ conn_told H n (Err Memory) w h fine = h refl
 pub breaks_told : (H : Type 0) (broke : Bool) (v w : GatewayValue) → Breaks v w broke → TellsBreaks (taken_of {H = H} broke) v w
 breaks_told H true v w h = h
 breaks_told H false v w h = h
+
+-- ---- what is kept
+
+-- where none closes, and whatever breaks
+pub keeps_for : (closes breaks : ℕ → Bool) (v w : GatewayValue) → Keeps breaks v w → KeepsBut closes (λ c. true) v w
+keeps_for closes breaks v w k = record {
+  plans_are = k.plans_are;
+  stays_silent = k.stays_silent;
+  stays_broken = λ c other. k.stays_broken c refl;
+  broken_are = λ c now before. refl;
+  replies_stay = λ c other. k.replies_stay c refl;
+  no_replies = λ c other. k.no_replies c refl;
+  jobs = k.jobs;
+  jobs_are = k.jobs_are;
+  no_jobs = k.no_jobs;
+}
+
+pub keeps_closing : (n : ℕ) (v w : GatewayValue) → KeepsBut (λ c. c == n) (λ c. false) v w → KeepsBut (λ c. n == c) (λ c. true) v w
+keeps_closing n v w k = record {
+  plans_are = k.plans_are;
+  stays_silent = k.stays_silent;
+  stays_broken = λ c other. k.stays_broken c (turned c other);
+  broken_are = λ c now before. refl;
+  replies_stay = λ c other. k.replies_stay c (turned c other);
+  no_replies = λ c other. k.no_replies c (turned c other);
+  jobs = k.jobs;
+  jobs_are = k.jobs_are;
+  no_jobs = k.no_jobs;
+}
+  where
+    turned : (c : ℕ) → (n == c) ≡ false → (c == n) ≡ false
+    turned c other = ne_eqb c n (λ same. let clash : true ≡ false = sym (eq-eqb n c (sym same)) ∙ other in cc)

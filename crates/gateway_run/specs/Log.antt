@@ -1,17 +1,20 @@
 -- What a run takes down as it goes, and how it stands for the events so far.
 use Rattle.std.specs.Prelude.{◌≡◌, ℕ, ◌<◌, ◌≤◌, Bool, true, false, ◌||◌, if◌then◌else◌, ◌==◌, List, [], ◌++◌, length, map, filter, is_some, slice_index_or, slice_set}
 use Rattle.gateway_core.specs.declared.entry.ReplyEntry.{ReplyEntry}
+use Rattle.call_plan.specs.Plan.{PlanRecord}
 use Rattle.gateway_core.specs.Breaks.{is_of}
 use Rattle.gateway_core.specs.Events.{Before, IsOpened, Occurs}
 use Rattle.gateway_core.specs.Gateway.{GatewayValue, is_broken_conn, untaken_of}
 use Rattle.gateway_core.specs.Job.{JobValue}
+use Rattle.gateway_core.specs.Past.{marked}
+use Rattle.gateway_core.specs.Queue.{queued_entries}
 use Rattle.gateway_core.specs.Served.{QueueIs, Served}
 use Rattle.gateway_core.specs.Serving.{TakesOnly}
-use Rattle.gateway_core.specs.Starts.{Placed, job_started, starts}
+use Rattle.gateway_core.specs.Starts.{Placed, job_started, occurrences, starts}
 use Rattle.gateway_core.specs.Starts as core
 use Rattle.gateway_core.specs.Store.{conn_of}
 use Rattle.gateway_run.specs.declared.outcome.Start.{Start}
-use Rattle.gateway_run.specs.Run.{bytes_of, run_start, start_at}
+use Rattle.gateway_run.specs.Run.{Broken, bytes_of, run_start, start_at}
 
 pub record LogValue : Type 0 where
   -- the places of the openings that succeeded
@@ -34,7 +37,7 @@ flag_at c log = slice_index_or log.broke c false
 
 -- these replies of the connection were taken, and nothing else changed
 pub record Took (n : ℕ) (entries : List ReplyEntry) (v w : GatewayValue) : Type 0 where
-  pub only : TakesOnly v w
+  pub only : TakesOnly n v w
   pub untaken_are : untaken_of n v ≡ entries ++ untaken_of n w
   pub served : (opened : List ℕ) (es : Before) (taken : ℕ → List ReplyEntry) (handed : List JobValue) → Served v opened es taken handed
       → (later : ℕ → List ReplyEntry) × Served w opened es later handed × ((c : ℕ) → later c ≡ (if c == n then taken c ++ entries else taken c))
@@ -66,6 +69,13 @@ is_flagged c v log = flag_at c log || is_broken_conn c v
 abbrev pub is_started_on : ℕ → core.Start → Bool
 is_started_on c s = is_of c s.job
 
+-- what is queued for a connection that broke, and what has started, is by what had occurred before it did
+abbrev pub BrokeSo : ℕ → List PlanRecord → List ℕ → List ReplyEntry → List core.Start → Before → List Placed → Type 0
+BrokeSo c plans opened queue started es occurred =
+    (b : Broken c plans opened es occurred)
+    × (queue ≡ queued_entries c (marked (occurrences (b.newer ++ b.past))))
+    × (filter (is_started_on c) started ≡ filter (is_started_on c) (starts (b.newer ++ b.past)))
+
 -- how far a run is after these events, newest first, where what is queued was taken for those of the open connections of which this is so
 pub record HasRun (gathered : ℕ → Bool) (v : GatewayValue) (log : LogValue) (es : Before) : Type 0 where
   pub taken : ℕ → List ReplyEntry
@@ -84,6 +94,9 @@ pub record HasRun (gathered : ℕ → Bool) (v : GatewayValue) (log : LogValue) 
       → QueueIs c (taken c) (flag_at c log) occurred
   pub shut : (c : ℕ) → c < v.opened → is_open_conn c v ≡ false → (occurred : List Placed) → Occurs v.plans log.opened es occurred
       → QueueIs c (taken c) (flag_at c log) occurred
+  pub none_left : (c : ℕ) → gathered c ≡ true → untaken_of c v ≡ []
+  pub broke_are : (c : ℕ) → is_flagged c v log ≡ true → (occurred : List Placed) → Occurs v.plans log.opened es occurred
+      → BrokeSo c v.plans log.opened (taken c ++ untaken_of c v) started es occurred
   pub unbroken : (c : ℕ) → is_flagged c v log ≡ false → (occurred : List Placed) → Occurs v.plans log.opened es occurred
       → filter (is_started_on c) started ≡ filter (is_started_on c) (starts occurred)
   pub all_unbroken : ((c : ℕ) → is_flagged c v log ≡ false) → (occurred : List Placed) → Occurs v.plans log.opened es occurred → started ≡ starts occurred

@@ -1,14 +1,13 @@
 -- What a run comes to: the openings that succeeded, what is queued for each connection, and what starts.
-use Rattle.std.specs.Prelude.{◌≡◌, ℕ, ◌<◌, Bool, true, false, if◌then◌else◌, ◌==◌, List, [], ◌++◌, filter, length, map, reverse, slice_index_or, Option, option_map, option_to_list}
+use Rattle.std.specs.Prelude.{◌≡◌, ℕ, ◌<◌, Bool, true, false, if◌then◌else◌, ◌==◌, List, [], ◌∷◌, ◌++◌, filter, length, map, reverse, slice_index_or, Option, option_map, option_to_list}
 use Rattle.std.specs.List.{flat_map, list_any}
 use Rattle.call_plan.specs.Plan.{PlanRecord}
 use Rattle.gateway_core.specs.declared.entry.ReplyEntry.{ReplyEntry}
-use Rattle.gateway_core.specs.declared.id.CallId.{CallId}
-use Rattle.gateway_core.specs.Breaks.{BrokeAtEvent}
+use Rattle.gateway_core.specs.Breaking.{can_break}
 use Rattle.gateway_core.specs.Events.{Before, GatewayEvent, IsOpened, IsRising, Occurs, Opening, Piece, HangUp, Moment, BranchResult, Drain, Closing}
 use Rattle.gateway_core.specs.Fate.{breaks_at}
 use Rattle.gateway_core.specs.Job.{JobValue}
-use Rattle.gateway_core.specs.Past.{call_id, marked}
+use Rattle.gateway_core.specs.Past.{marked}
 use Rattle.gateway_core.specs.Queue.{answer_of, queued}
 use Rattle.gateway_core.specs.Starts.{Placed, occurrences, starts}
 use Rattle.gateway_core.specs.Starts as core
@@ -49,11 +48,6 @@ is_listed n ns = list_any (λ m. m == n) ns
 abbrev pub bytes_of : List ReplyEntry → List ℕ
 bytes_of entries = flat_map (λ reply. reply.bytes) (map answer_of entries)
 
--- what is queued for a connection; for one that broke, what was by what came before it did
-abbrev pub QueuedAs : ℕ → List ℕ → Bool → List Placed → Type 0
-QueuedAs c bytes false placed = bytes ≡ queued c (marked (occurrences placed))
-QueuedAs c bytes true placed = (entries : List ReplyEntry) × BrokeAtEvent c entries placed × (bytes ≡ bytes_of entries)
-
 -- ---- what starts
 
 -- the start of a job's branch at the event of that place
@@ -71,28 +65,48 @@ starts_of placed = map run_start (starts placed)
 abbrev pub is_start_of : ℕ → Start → Bool
 is_start_of c s = s.conn == c
 
--- which branch it is, whatever the event
-abbrev pub branch_started : Start → CallId × ℕ
-branch_started s = (call_id s.conn s.request, s.branch)
+-- ---- a connection that broke
 
--- of the connection those branches have started that did by what came before it broke
-abbrev pub StartedAs : ℕ → List Start → List Placed → Type 0
-StartedAs c begun placed =
-    (since : List Placed) × (at : Option Placed) × (older : List Placed)
-    × (placed ≡ since ++ option_to_list at ++ older) × (breaks_at c (option_map (λ o. o.1) at) (marked (occurrences older)) ≡ true)
-    × (map branch_started (filter (is_start_of c) begun) ≡ map branch_started (filter (is_start_of c) (starts_of older)))
+-- where it broke among these events, newest first: at an event that can break it, and there before an occurrence that concerned it, or
+-- where memory was refused and nothing occurred
+pub record Broken (c : ℕ) (plans : List PlanRecord) (opened : List ℕ) (es : Before) (occurred : List Placed) : Type 0 where
+  pub later : Before
+  pub event : GatewayEvent
+  pub before : Before
+  pub events_are : es ≡ later ++ event ∷ before
+  -- what had occurred before the event
+  pub past : List Placed
+  pub past_is : Occurs plans opened before past
+  pub concerned : can_break c event (marked (occurrences past)) ≡ true
+  -- what occurred at the event: before the connection broke, as it did, and behind that
+  pub newer : List Placed
+  pub at : Option Placed
+  pub more : List Placed
+  pub event_is : Occurs plans opened (event ∷ before) (more ++ option_to_list at ++ newer ++ past)
+  pub breaks : breaks_at c (option_map (λ o. o.1) at) (marked (occurrences (newer ++ past))) ≡ true
+  -- what occurred at the events since
+  pub since : List Placed
+  pub occurred_is : occurred ≡ since ++ (more ++ option_to_list at ++ newer ++ past)
+
+-- what is queued for it, and what has started, each at its event, is by what had occurred before it broke: no less and no more
+abbrev pub BrokeAs : ℕ → List PlanRecord → List ℕ → List ℕ → List Start → Before → List Placed → Type 0
+BrokeAs c plans opened bytes begun es occurred =
+    (b : Broken c plans opened es occurred)
+    × (bytes ≡ queued c (marked (occurrences (b.newer ++ b.past))))
+    × (filter (is_start_of c) begun ≡ filter (is_start_of c) (starts_of (b.newer ++ b.past)))
 
 -- ---- the outcome
 
 -- what a run of these events, newest first, comes to: each field is a clause of `run`
-pub record IsRun (plans : List PlanRecord) (es : Before) (opened : List ℕ) (queued : List (List ℕ)) (begun : List Start) (broken : List ℕ) : Type 0 where
+pub record IsRun (plans : List PlanRecord) (es : Before) (opened : List ℕ) (queued_bytes : List (List ℕ)) (begun : List Start) (broken : List ℕ) : Type 0 where
   pub opened_are : IsOpened opened es
-  pub queued_are : (occurred : List Placed) → Occurs plans opened es occurred → (c : ℕ) → c < length opened
-      → QueuedAs c (slice_index_or queued c []) (is_listed c broken) occurred
+  pub queued_are : (occurred : List Placed) → Occurs plans opened es occurred → (c : ℕ) → c < length opened → is_listed c broken ≡ false
+      → slice_index_or queued_bytes c [] ≡ queued c (marked (occurrences occurred))
   pub starts_are : (occurred : List Placed) → Occurs plans opened es occurred → (c : ℕ) → is_listed c broken ≡ false
       → filter (is_start_of c) begun ≡ filter (is_start_of c) (starts_of occurred)
-  pub stopped : (occurred : List Placed) → Occurs plans opened es occurred → (c : ℕ) → is_listed c broken ≡ true → StartedAs c begun occurred
+  pub broke : (occurred : List Placed) → Occurs plans opened es occurred → (c : ℕ) → is_listed c broken ≡ true
+      → BrokeAs c plans opened (slice_index_or queued_bytes c []) begun es occurred
   pub unbroken : (occurred : List Placed) → Occurs plans opened es occurred → broken ≡ [] → begun ≡ starts_of occurred
-  pub one_each : length queued ≡ length opened
+  pub one_each : length queued_bytes ≡ length opened
   pub known : (c : ℕ) → is_listed c broken ≡ true → c < length opened
   pub rising : IsRising broken

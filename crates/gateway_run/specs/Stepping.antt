@@ -1,6 +1,12 @@
 -- What a step answers, and what a run takes down of it.
 use Rattle.std.specs.Prelude.{◌≡◌, ⊤, ℕ, Bool, true, false, List, [], ◌∷◌, ◌++◌, Result, Ok, Err}
-use Rattle.gateway_core.specs.Events.{GatewayEvent, Opening, Piece, HangUp, Moment, BranchResult, Drain, Closing}
+use Rattle.gateway_core.specs.declared.entry.ReplyEntry.{ReplyEntry}
+use Rattle.gateway_core.specs.Breaking.{can_break}
+use Rattle.gateway_core.specs.Job.{JobValue}
+use Rattle.gateway_core.specs.Past.{marked}
+use Rattle.gateway_core.specs.Served.{Served}
+use Rattle.gateway_core.specs.Starts.{Placed, occurrences}
+use Rattle.gateway_core.specs.Events.{Before, GatewayEvent, Occurs, Opening, Piece, HangUp, Moment, BranchResult, Drain, Closing}
 use Rattle.gateway_core.specs.declared.fault.Seen.TheVariants.{Counted}
 use Rattle.gateway_core.specs.declared.fault.OpenError.{OpenError}
 use Rattle.gateway_core.specs.declared.fault.StepFault.{StepFault}
@@ -77,3 +83,10 @@ Tells (Moment m) stepped v w = TellsBreaks stepped v w
 Tells (BranchResult conn request branch outcome) stepped v w = TellsResult stepped v w
 Tells Drain stepped v w = TellsBreaks stepped v w
 Tells (Closing conn) stepped v w = stepped ≡ Done
+
+-- a connection that breaks in the step is one that the event can break
+abbrev pub BreaksAt : GatewayEvent → GatewayValue → GatewayValue → Type 0
+BreaksAt e v w =
+    (opened : List ℕ) (es : Before) (taken : ℕ → List ReplyEntry) (handed : List JobValue) (occurred : List Placed)
+    → Served v opened es taken handed → Occurs v.plans opened es occurred
+    → (c : ℕ) → is_broken_conn c w ≡ true → is_broken_conn c v ≡ false → can_break c e (marked (occurrences occurred)) ≡ true

@@ -1,4 +1,4 @@
-ghost use Rattle.std.specs.Prelude.{◌≡◌, ◌↔◌, ◌∷◌, Err, OnOk, ℕ, List, false, true};
+ghost use Rattle.std.specs.Prelude.{◌≡◌, ◌==◌, ◌↔◌, ◌∷◌, Err, OnOk, ℕ, List, false, true};
 ghost use Rattle.gateway_core.specs.declared.entry.ReplyEntry.{ReplyEntry};
 ghost use Rattle.gateway_core.specs.Events.{GatewayEvent, Piece};
 ghost use Rattle.gateway_core.specs.Gateway.{is_broken_conn};
@@ -23,7 +23,7 @@ pub fn deliver<H: ReplyHook + Drop>(
     ensures unchanged { result ≡ Err StepFault.Gone → core.new ≡ core.old }
     ensures memory { result ≡ Err StepFault.Memory → is_broken_conn conn core.new ≡ true }
     ensures unbroken { OnOk result (is_broken_conn conn core.new ≡ false) }
-    ensures keeps { Keeps core.old core.new }
+    ensures keeps { Keeps (λ c. c == conn) core.old core.new }
 {
     parts_law();
     let mut rest = piece;

@@ -1,11 +1,11 @@
-ghost use Rattle.std.specs.Prelude.{◌≡◌, ◌<◌, ◌∷◌, ℕ, List, Some, is_some, length};
+ghost use Rattle.std.specs.Prelude.{◌≡◌, ◌<◌, ◌∷◌, ℕ, List, Some, is_some, length, true};
 ghost use Rattle.gateway_core.specs.declared.entry.ReplyEntry.{ReplyEntry};
 ghost use Rattle.gateway_core.specs.Events.{GatewayEvent, is_closing_of, most_open, open_connections};
 ghost use Rattle.gateway_core.specs.Job.{JobValue};
 ghost use Rattle.gateway_core.specs.Served.{Served};
 ghost use Rattle.gateway_core.specs.Serving.{KeepsBut};
 ghost use Rattle.gateway_run.specs.Run.{gateway_event, is_opening};
-ghost use Rattle.gateway_run.specs.Stepping.{Tells, done_of, opened_by, opening_of, taken_of};
+ghost use Rattle.gateway_run.specs.Stepping.{BreaksAt, Tells, done_of, opened_by, opening_of, taken_of};
 
 use crate::delivery::deliver;
 use crate::event::Event;
@@ -43,7 +43,8 @@ pub fn step<H: ReplyHook + Drop>(
     ensures few { (conn : ℕ) (opened : List ℕ) (es : List GatewayEvent) (taken : ℕ → List ReplyEntry) (handed : List JobValue)
         → result ≡ Stepped.Opened conn → Served core.old opened es taken handed → open_connections opened es < most_open }
     ensures back { (hooks : List H) (error : _) → result ≡ Stepped.NotOpened hooks error → stock ≡ Some hooks }
-    ensures keeps { KeepsBut (λ c. is_closing_of c (gateway_event event)) core.old core.new }
+    ensures concerned { BreaksAt (gateway_event event) core.old core.new }
+    ensures keeps { KeepsBut (λ c. is_closing_of c (gateway_event event)) (λ c. true) core.old core.new }
 {
     match event {
         Event::Opening => match stock {

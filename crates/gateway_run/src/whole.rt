@@ -3,9 +3,11 @@ ghost use Rattle.std.specs.List.{count_by, range_with_len};
 ghost use Rattle.std.specs.Vec.Iter.{into_iter_items};
 ghost use Rattle.gateway_core.specs.Events.{Before, IsOpened, IsRising, Occurs};
 ghost use Rattle.gateway_core.specs.Served.{Served};
-ghost use Rattle.gateway_core.specs.Starts.{Placed};
+ghost use Rattle.gateway_core.specs.Past.{marked};
+ghost use Rattle.gateway_core.specs.Queue.{queued};
+ghost use Rattle.gateway_core.specs.Starts.{Placed, occurrences};
 ghost use Rattle.gateway_run.specs.Log.{HasRun, log_value};
-ghost use Rattle.gateway_run.specs.Run.{IsRun, QueuedAs, StartedAs, gateway_event, is_listed, is_opening, is_start_of};
+ghost use Rattle.gateway_run.specs.Run.{BrokeAs, IsRun, gateway_event, is_listed, is_opening, is_start_of};
 ghost use Rattle.gateway_run.specs.Run.{newest_first, openings_at, starts_of};
 ghost use Rattle.gateway_run.specs.Stepping.{CollectsFor, log_after};
 
@@ -15,8 +17,7 @@ use crate::outcome::{Run, RunError};
 use crate::stepping::{Stepped, step};
 use call_plan::Plans;
 use gateway_core::laws::event_law;
-use gateway_core::machine_laws::jobs_law;
-use gateway_core::served_laws::standing_law;
+use gateway_core::served_laws::{breaking_law, standing_law};
 use gateway_core::{Core, ReplyHook, Stock};
 use std::alloc::{AllocError, Global};
 use std::vec::IntoIter;
@@ -35,20 +36,22 @@ pub fn run<H: ReplyHook + Drop>(
     // The openings that succeeded, each where fewer connections were open than may be.
     ensures opened { IfOk result (λ run. IsOpened run.opened.items (newest_first events.items)) }
 
-    // What is queued for each connection by what occurs; for one that broke, by what had occurred before it did.
+    // Of each connection that did not break: what is queued for it is by all that occurs, and so are its starts.
     ensures queued { IfOk result (λ run. (occurred : List Placed)
         → Occurs plans run.opened.items (newest_first events.items) occurred → (c : ℕ) → c < length run.opened.items
-        → QueuedAs c (slice_index_or run.queued.items c []) (is_listed c run.broken.items) occurred) }
-
-    // The starts of each connection that did not break, and all of them, where none did. Of one that broke those
-    // branches have started which had by what occurred before it did.
+        → is_listed c run.broken.items ≡ false
+        → slice_index_or run.queued.items c [] ≡ queued c (marked (occurrences occurred))) }
     ensures starts { IfOk result (λ run. (occurred : List Placed)
         → Occurs plans run.opened.items (newest_first events.items) occurred → (c : ℕ)
         → is_listed c run.broken.items ≡ false
         → filter (is_start_of c) run.starts.items ≡ filter (is_start_of c) (starts_of occurred)) }
-    ensures stopped { IfOk result (λ run. (occurred : List Placed)
+
+    // Of each that broke: it broke at an event that can break it, and both are by what had occurred before it did.
+    ensures broke { IfOk result (λ run. (occurred : List Placed)
         → Occurs plans run.opened.items (newest_first events.items) occurred → (c : ℕ)
-        → is_listed c run.broken.items ≡ true → StartedAs c run.starts.items occurred) }
+        → is_listed c run.broken.items ≡ true
+        → BrokeAs c plans run.opened.items (slice_index_or run.queued.items c []) run.starts.items (newest_first events.items) occurred) }
+    // Where none broke, all that starts, in order.
     ensures unbroken { IfOk result (λ run. (occurred : List Placed)
         → Occurs plans run.opened.items (newest_first events.items) occurred
         → run.broken.items ≡ [] → run.starts.items ≡ starts_of occurred) }
@@ -75,7 +78,6 @@ fn whole_run<H: ReplyHook + Drop>(
         run.opened.items run.queued.items run.starts.items run.broken.items) }
 {
     event_law();
-    jobs_law();
     standing_law();
     let mut core = Core::new(alloc, plans)?;
     let mut log = Log::new(alloc);
@@ -139,6 +141,7 @@ fn take_event<H: ReplyHook + Drop>(
     ensures plans { OnOk result (core.new.plans ≡ core.old.plans) }
 {
     event_law();
+    breaking_law();
     standing_law();
     collect_for(core, log, &event)?;
     let stepped = step(core, event, stock);

@@ -30,41 +30,41 @@ JudgesTo form block (Err r) = (k : ℕ) → IsRefused (form.kind k) block r
 JudgesTo form block (Ok head) = IsHeadOf form block head.0 head.1
 
 -- the bytes are a block and the first ones of its body, of which so many are missing
-pub record IsOpenBody {R H V : Type 0} (form : Form R H V) (text : List ℕ) (head : H) (body missing : ℕ) : Type 0 where
+pub record IsOpenBody {R H V : Type 0} (form : Form R H V) (text : List ℕ) (head : H) (body_at missing : ℕ) : Type 0 where
   pub unpaired : skip_pairs text ≡ text
-  pub block : IsBlock text body
-  pub head_is : IsHeadOf form (take body text) head (length text - body + missing)
+  pub block : IsBlock text body_at
+  pub head_is : IsHeadOf form (take body_at text) head (length text - body_at + missing)
 
 -- what is true of a reader's bytes and phase: a head that has not ended, a body that has not, or a message that lies in
 -- the bytes
 abbrev pub IsPhaseSound : {R H V : Type 0} → Form R H V → List ℕ → Phase H R → Type 0
 IsPhaseSound form bytes (phase.Head matched) = IsScanned bytes matched
-IsPhaseSound form bytes (phase.Body head body missing) = IsOpenBody form bytes head body missing × (0 < missing)
-IsPhaseSound form bytes (phase.Complete head body) = form.IsIn bytes head × (body ≤ length bytes)
+IsPhaseSound form bytes (phase.Body head body_at missing) = IsOpenBody form bytes head body_at missing × (0 < missing)
+IsPhaseSound form bytes (phase.Complete head body_at) = form.IsIn bytes head × (body_at ≤ length bytes)
 IsPhaseSound form bytes (phase.Refused r) = Unit {0}
 IsPhaseSound form bytes phase.Ended = Unit {0}
 
 -- bytes are kept in this phase, and more are to come
 abbrev pub is_more : {R H : Type 0} → Phase H R → Bool
 is_more (phase.Head matched) = true
-is_more (phase.Body head body missing) = true
-is_more (phase.Complete head body) = false
+is_more (phase.Body head body_at missing) = true
+is_more (phase.Complete head body_at) = false
 is_more (phase.Refused r) = false
 is_more phase.Ended = false
 
 -- the bytes that were scanned, and that `httparse` has not been given
 abbrev pub unread : {R H : Type 0} → List ℕ → Phase H R → ℕ
 unread bytes (phase.Head matched) = length bytes
-unread bytes (phase.Body head body missing) = 0
-unread bytes (phase.Complete head body) = 0
+unread bytes (phase.Body head body_at missing) = 0
+unread bytes (phase.Complete head body_at) = 0
 unread bytes (phase.Refused r) = 0
 unread bytes phase.Ended = 0
 
 -- the phase once so many bytes of the body were added
 abbrev pub filled : {R H : Type 0} → Phase H R → ℕ → Phase H R
 filled (phase.Head matched) n = phase.Head matched
-filled (phase.Body head body missing) n = if nat_lt n missing then phase.Body head body (missing - n) else phase.Complete head body
-filled (phase.Complete head body) n = phase.Complete head body
+filled (phase.Body head body_at missing) n = if nat_lt n missing then phase.Body head body_at (missing - n) else phase.Complete head body_at
+filled (phase.Complete head body_at) n = phase.Complete head body_at
 filled (phase.Refused r) n = phase.Refused r
 filled phase.Ended n = phase.Ended
 
@@ -76,11 +76,11 @@ IsMore form before piece after n =
 -- from bytes that are no whole message, a piece leads to these, n bytes of it are taken, and this came of it
 abbrev pub GrowsTo : {R H V : Type 0} → Form R H V → List ℕ → List ℕ → List ℕ → ℕ → Phase H R → Type 0
 GrowsTo form before piece after n (phase.Head matched) = IsMore form before piece after n
-GrowsTo form before piece after n (phase.Body head body missing) = IsMore form before piece after n
+GrowsTo form before piece after n (phase.Body head body_at missing) = IsMore form before piece after n
 GrowsTo form before piece after n (phase.Refused r) =
     (n ≡ length piece) × ((k : ℕ) → IsCut (form.kind k) (before ++ take n piece) (Refused r))
-GrowsTo form before piece after n (phase.Complete head body) =
-    (k : ℕ) → IsCut (form.kind k) (before ++ take n piece) (Complete (form.message after head body k) [])
+GrowsTo form before piece after n (phase.Complete head body_at) =
+    (k : ℕ) → IsCut (form.kind k) (before ++ take n piece) (Complete (form.message after head body_at k) [])
 GrowsTo form before piece after n phase.Ended = ⊥
 
 pub record Grows {R H V : Type 0} (form : Form R H V) (before piece after : List ℕ) (n : ℕ) (phase : Phase H R) : Type 0 where
@@ -95,7 +95,7 @@ pub record Advances {R H V : Type 0} (form : Form R H V) (before piece after : L
 -- a reader of these bytes and this phase, to which a piece is pushed, has those afterwards, and took n bytes of it
 abbrev pub Pushes : {R H V : Type 0} → Form R H V → List ℕ → Phase H R → List ℕ → List ℕ → Phase H R → ℕ → Type 0
 Pushes form before (phase.Head matched) piece after new n = Advances form before piece after n new
-Pushes form before (phase.Body head body missing) piece after new n = Advances form before piece after n new
-Pushes form before (phase.Complete head body) piece after new n = (n ≡ 0) × (after ≡ before) × (new ≡ phase.Complete head body)
+Pushes form before (phase.Body head body_at missing) piece after new n = Advances form before piece after n new
+Pushes form before (phase.Complete head body_at) piece after new n = (n ≡ 0) × (after ≡ before) × (new ≡ phase.Complete head body_at)
 Pushes form before (phase.Refused r) piece after new n = (n ≡ length piece) × (after ≡ before) × (new ≡ phase.Refused r)
 Pushes form before phase.Ended piece after new n = (n ≡ length piece) × (after ≡ before) × (new ≡ phase.Ended)

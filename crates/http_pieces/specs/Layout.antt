@@ -37,7 +37,7 @@ ReadsHead block (Some head) = (h : RequestHead) × IsHeadAt block head h
 
 -- the request number k whose parts a head covers in these bytes
 abbrev pub request_of : List ℕ → Head → ℕ → ℕ → HttpRequest
-request_of bytes head body k = request_at bytes head.method head.target head.version head.headers.items body k
+request_of bytes head body_at k = request_at bytes head.method head.target head.version head.headers.items body_at k
 
 -- requests, whose readers keep the places of the head's parts
 abbrev pub request_form : Form Refusal Head HttpRequest
@@ -52,8 +52,8 @@ request_single k block a b x y =
 -- how far a reader is, by its bytes and its phase
 abbrev pub reading_of : List ℕ → Phase Head Refusal → ℕ → Reading
 reading_of bytes (phase.Head matched) taken = Partial bytes
-reading_of bytes (phase.Body head body missing) taken = Partial bytes
-reading_of bytes (phase.Complete head body) taken = Waiting (request_of bytes head body taken)
+reading_of bytes (phase.Body head body_at missing) taken = Partial bytes
+reading_of bytes (phase.Complete head body_at) taken = Waiting (request_of bytes head body_at taken)
 reading_of bytes (phase.Refused r) taken = Stopped r
 reading_of bytes phase.Ended taken = Done
 
@@ -64,8 +64,8 @@ value_of bytes phase taken looked = record { taken = taken; reading = reading_of
 -- more requests can come
 abbrev pub is_live : Phase Head Refusal → Bool
 is_live (phase.Head matched) = true
-is_live (phase.Body head body missing) = true
-is_live (phase.Complete head body) = true
+is_live (phase.Body head body_at missing) = true
+is_live (phase.Complete head body_at) = true
 is_live (phase.Refused r) = false
 is_live phase.Ended = false
 

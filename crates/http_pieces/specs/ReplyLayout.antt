@@ -30,11 +30,11 @@ ReadsReplyHead block headers (Some r) = (r.1 ≤ length headers) × ((h : Respon
 
 -- the reply of that head, whose body begins at that place
 abbrev pub reply_of : List ℕ → ReplyHead → ℕ → HttpReply
-reply_of bytes head body = record { status = head.status; content_type = head.content_type; body = drop body bytes }
+reply_of bytes head body_at = record { status = head.status; content_type = head.content_type; body = drop body_at bytes }
 
 -- replies, whose readers keep the status and the content type; there is one reply in a stream
 abbrev pub reply_form : Form ReplyFault ReplyHead HttpReply
-reply_form = record { kind = λ k. reply_kind; message = λ bytes head body k. reply_of bytes head body; IsIn = λ bytes head. Unit {0} }
+reply_form = record { kind = λ k. reply_kind; message = λ bytes head body_at k. reply_of bytes head body_at; IsIn = λ bytes head. Unit {0} }
 
 -- a block is one head at most, as `httparse` proves
 pub reply_single : IsSingle reply_kind
@@ -45,8 +45,8 @@ reply_single block a b x y =
 -- how far a reader is, by its bytes and its phase
 abbrev pub reply_reading_of : List ℕ → Phase ReplyHead ReplyFault → ReplyReading
 reply_reading_of bytes (phase.Head matched) = Partial bytes
-reply_reading_of bytes (phase.Body head body missing) = Partial bytes
-reply_reading_of bytes (phase.Complete head body) = Waiting (reply_of bytes head body)
+reply_reading_of bytes (phase.Body head body_at missing) = Partial bytes
+reply_reading_of bytes (phase.Complete head body_at) = Waiting (reply_of bytes head body_at)
 reply_reading_of bytes (phase.Refused f) = Stopped f
 reply_reading_of bytes phase.Ended = Done
 

@@ -204,10 +204,10 @@ fn filled<H: Drop, F: Drop>(phase: Phase<H, F>, taken: usize) -> Phase<H, F>
     ensures { result ≡ filled phase taken }
 {
     match phase {
-        Phase::Body(head, body, missing) if taken < missing => {
-            Phase::Body(head, body, missing - taken)
+        Phase::Body(head, body_at, missing) if taken < missing => {
+            Phase::Body(head, body_at, missing - taken)
         }
-        Phase::Body(head, body, _) => Phase::Complete(head, body),
+        Phase::Body(head, body_at, _) => Phase::Complete(head, body_at),
         other => other,
     }
 }

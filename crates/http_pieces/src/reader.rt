@@ -107,12 +107,12 @@ impl Reader {
         ensures none { IfNone result (self.new ≡ self.old) }
     {
         match mem::replace(&mut self.phase, Phase::Head(0)) {
-            Phase::Complete(head, body) => {
+            Phase::Complete(head, body_at) => {
                 let empty = Vec::new(*self.bytes.allocator());
                 let request = Request {
                     bytes: mem::replace(&mut self.bytes, empty),
                     head,
-                    body,
+                    body_at,
                     number: self.taken,
                 };
                 self.taken += 1;

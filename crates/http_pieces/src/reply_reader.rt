@@ -104,10 +104,10 @@ impl ReplyReader {
         ensures none { IfNone result (self.new ≡ self.old) }
     {
         match mem::replace(&mut self.phase, Phase::Ended) {
-            Phase::Complete(head, body) => {
+            Phase::Complete(head, body_at) => {
                 let empty = Vec::new(*self.bytes.allocator());
                 let mut bytes = mem::replace(&mut self.bytes, empty);
-                drop_front(&mut bytes, body);
+                drop_front(&mut bytes, body_at);
                 Some(HttpReply {
                     status: head.status,
                     content_type: head.content_type,

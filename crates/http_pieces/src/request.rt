@@ -14,7 +14,7 @@ pub struct Request {
     pub(crate) bytes: Vec<u8>,
     pub(crate) head: Head,
     /// The place of the body in `bytes`.
-    pub(crate) body: usize,
+    pub(crate) body_at: usize,
     /// The request's place among those of its connection.
     pub(crate) number: u64,
 }
@@ -26,9 +26,9 @@ impl Model for Request {
 
     ghost Value = { HttpRequest };
 
-    ghost view = { λ r. request_of r.bytes.items r.head r.body r.number };
+    ghost view = { λ r. request_of r.bytes.items r.head r.body_at r.number };
 
-    ghost invariant = { λ r. IsHeadWithin (length r.bytes.items) r.head × (r.body ≤ length r.bytes.items) };
+    ghost invariant = { λ r. IsHeadWithin (length r.bytes.items) r.head × (r.body_at ≤ length r.bytes.items) };
 }
 
 impl Request {
@@ -64,7 +64,7 @@ impl Request {
     pub fn body(&self) -> &[u8]
         ensures { result.now ≡ self.now.body }
     {
-        &self.bytes[self.body..]
+        &self.bytes[self.body_at..]
     }
 
     /// Whether no request is read after this one: it is of HTTP/1.0, a `Connection` field of it has

@@ -1,6 +1,7 @@
+use Rattle.std.specs.Prelude.{◌==◌}
 use Rattle.std.proofs.Common.{◌≡◌, ◌∙◌, Err, drop}
 use Rattle.gateway_core.specs.declared.fault.StepFault.TheVariants.{Gone}
-use Rattle.gateway_run.proofs.PieceParts.{all_rest, at_first, begun, deaf_at_first, fault_same, from_err, gone_so, heard_ok, empty_rest, fed_fault, fed_on, fed_whole}
+use Rattle.gateway_run.proofs.PieceParts.{all_rest, at_first, begun, deaf_at_first, fault_same, from_err, gone_so, heard_ok, empty_rest, fed_fault, fed_on, fed_whole, keeps_then}
 use Rattle.gateway_run.proofs.delivery.deliver.Goals as goal
 
 pub loop-taken-init : goal.loop-taken-init
@@ -40,3 +41,9 @@ returns-then-is_empty-clause-gone g c = (
   λ deaf. absurd (at_first c.args.conn c.args.core.now c.loop-taken.core c.loop-taken.invariant.hears
       (heard_ok c.args.conn c.loop-taken.core c.feed.result c.in_ok-taken.taken c.in_ok-taken.was c.feed.ensures.gone) deaf),
 )
+
+pub returns-in_err-taken-clause-keeps : goal.returns-in_err-taken-clause-keeps
+returns-in_err-taken-clause-keeps g c = keeps_then (λ n. n == c.args.conn) c.args.core.now c.loop-taken.core c.feed.new.self c.loop-taken.invariant.keeps c.feed.ensures.keeps
+
+pub returns-then-is_empty-clause-keeps : goal.returns-then-is_empty-clause-keeps
+returns-then-is_empty-clause-keeps g c = keeps_then (λ n. n == c.args.conn) c.args.core.now c.loop-taken.core c.feed.new.self c.loop-taken.invariant.keeps c.feed.ensures.keeps

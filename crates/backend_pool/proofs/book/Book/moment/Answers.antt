@@ -1,5 +1,8 @@
-use Rattle.std.proofs.Common.{arith}
+use Rattle.std.proofs.Common.{arith, subst}
 use Rattle.gateway_core.specs.Events.{Moment}
+use Rattle.gateway_core.specs.Occurrence as concerning
+use Rattle.gateway_core.specs.Serving.{BreaksBy}
+use Rattle.backend_pool.specs.Book.{BookValue}
 use Rattle.backend_pool.proofs.BookLemmas.{reached_by, takes_event}
 use Rattle.backend_pool.proofs.book.Book.moment.Goals as goal
 
@@ -13,3 +16,6 @@ returns-clause-stands g c =
     let book = c.self.inside in
     takes_event (Moment c.args.moment) c.args.self.now book.core c.moment.new.self book.bytes book.jobs book.results book.bytes book.results c.self.view_is c.moment.ensures.stands (omega arith)
     (omega arith)
+
+pub returns-clause-concerned : goal.returns-clause-concerned
+returns-clause-concerned g c = subst (λ (x : BookValue). BreaksBy (concerning.Moment c.args.moment) x.core c.moment.new.self) c.self.view_is c.moment.ensures.concerned

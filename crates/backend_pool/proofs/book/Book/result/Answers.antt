@@ -1,5 +1,7 @@
-use Rattle.std.proofs.Common.{arith}
+use Rattle.std.proofs.Common.{arith, subst}
 use Rattle.gateway_core.specs.Events.{BranchResult}
+use Rattle.gateway_core.specs.Occurrence.{Result}
+use Rattle.backend_pool.specs.Book.{BookValue, TellsTook}
 use Rattle.backend_pool.proofs.BookLemmas.{book_sees, reached_by, takes_event}
 use Rattle.backend_pool.proofs.book.Book.result.Goals as goal
 
@@ -19,3 +21,11 @@ pub returns-clause-seen : goal.returns-clause-seen
 returns-clause-seen g c =
     let book = c.self.inside in
     book_sees c.args.call.now c.args.branch c.args.self.now book.core book.bytes book.jobs book.results c.result.result.seen c.self.view_is c.result.ensures.seen
+
+pub returns-clause-tells : goal.returns-clause-tells
+returns-clause-tells g c = subst (λ (x : BookValue). TellsTook (Result c.args.call.now c.args.branch c.args.outcome) c.result.result x.core c.result.new.self) c.self.view_is (record {
+  counted = c.result.ensures.counted;
+  broke = c.result.ensures.broke;
+  concerned = c.result.ensures.concerned;
+  unknown = c.result.ensures.unknown;
+})

@@ -1,6 +1,8 @@
-use Rattle.std.proofs.Common.{arith, []}
+use Rattle.std.proofs.Common.{arith, subst, []}
 use Rattle.connect_codec.specs.declared.answer.Outcome.TheVariants.{Answer}
 use Rattle.gateway_core.specs.Events.{BranchResult}
+use Rattle.gateway_core.specs.Occurrence.{Result}
+use Rattle.backend_pool.specs.Book.{BookValue, TellsTook}
 use Rattle.backend_pool.proofs.BookLemmas.{book_sees, reached_by, takes_event}
 use Rattle.backend_pool.proofs.book.Book.starved.Goals as goal
 
@@ -20,3 +22,11 @@ pub returns-clause-seen : goal.returns-clause-seen
 returns-clause-seen g c =
     let book = c.self.inside in
     book_sees c.args.call.now c.args.branch c.args.self.now book.core book.bytes book.jobs book.results c.starved.result.seen c.self.view_is c.starved.ensures.seen
+
+pub returns-clause-tells : goal.returns-clause-tells
+returns-clause-tells g c = λ outcome. subst (λ (x : BookValue). TellsTook (Result c.args.call.now c.args.branch outcome) c.starved.result x.core c.starved.new.self) c.self.view_is (record {
+  counted = c.starved.ensures.counted;
+  broke = c.starved.ensures.broke;
+  concerned = c.starved.ensures.concerned outcome;
+  unknown = c.starved.ensures.unknown;
+})

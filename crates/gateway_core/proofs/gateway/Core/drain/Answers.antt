@@ -1,15 +1,19 @@
 use Rattle.std.proofs.Common.{true, refl, sym, subst}
+use Rattle.gateway_core.specs.Occurrence.{Drain}
+use Rattle.gateway_core.proofs.EndingSteps.{drain_ends}
 use Rattle.gateway_core.specs.Gateway.{GatewayValue}
 use Rattle.gateway_core.specs.Served.{Served}
-use Rattle.gateway_core.specs.Serving.{Keeps, Breaks}
+use Rattle.gateway_core.specs.Serving.{Keeps, Breaks, BreaksBy}
 use Rattle.gateway_core.specs.declared.machine.cause.Cause.TheVariants.{Drained}
 use Rattle.gateway_core.proofs.ServedLemmas.{drain_served}
-use Rattle.gateway_core.proofs.Keeping.{ended_keeps}
+use Rattle.gateway_core.proofs.Keeping.{ended_concerns, ended_keeps}
 use Rattle.gateway_core.proofs.gateway.Core.drain.Goals as goal
 
 pub returns : goal.returns
 returns g c = record {
   stands = λ opened es taken handed h. drain_served c.self.inside.streams c.drain.new.self opened es taken handed c.serving_law.ensures (subst (λ (x : GatewayValue). Served x opened es taken handed) (sym c.self.view_is) h) c.drain.ensures.ends;
+  concerned = subst (λ (x : GatewayValue). BreaksBy Drain x c.drain.new.self) c.self.view_is (ended_concerns Drain Drained (record c.self.inside.streams.machine { drained = true })
+      c.self.inside.streams c.drain.new.self c.serving_law.ensures (drain_ends c.self.inside.streams.machine) c.drain.ensures.ends);
   broke = subst (λ (x : GatewayValue). Breaks x c.drain.new.self c.drain.result) c.self.view_is c.drain.ensures.broke;
-  keeps = subst (λ (x : GatewayValue). Keeps x c.drain.new.self) c.self.view_is (ended_keeps Drained (record c.self.inside.streams.machine { drained = true }) c.self.inside.streams c.drain.new.self refl c.drain.ensures.ends);
+  keeps = subst (λ (x : GatewayValue). Keeps (λ n. true) x c.drain.new.self) c.self.view_is (ended_keeps Drained (record c.self.inside.streams.machine { drained = true }) c.self.inside.streams c.drain.new.self refl refl c.drain.ensures.ends);
 }

@@ -1,4 +1,4 @@
-use Rattle.std.specs.Prelude.{◌↔◌}
+use Rattle.std.specs.Prelude.{◌==◌, ◌↔◌}
 use Rattle.std.proofs.Common.{◌≡◌, Err, sym, subst}
 use Rattle.gateway_core.specs.Gateway.{GatewayValue}
 use Rattle.gateway_core.specs.Served.{ServedUpTo}
@@ -21,5 +21,5 @@ returns g c = record {
   heard = fed_heard c.args.conn c.self.inside.streams c.feed-fed.new.self c.serving_law.ensures c.serving_law-2.ensures c.args.bytes.now c.feed-fed.result (subst (λ n. FedTo n c.args.bytes.now c.self.inside.streams c.feed-fed.new.self c.feed-fed.result) c.number.ensures c.feed-fed.ensures);
   unchanged = subst (λ (x : GatewayValue). c.feed-fed.result ≡ Err Gone → c.feed-fed.new.self ≡ x) c.self.view_is (fed_gone c.args.conn c.args.bytes.now c.self.inside.streams c.feed-fed.new.self c.serving_law.ensures c.feed-fed.result (subst (λ n. FedTo n c.args.bytes.now c.self.inside.streams c.feed-fed.new.self c.feed-fed.result) c.number.ensures c.feed-fed.ensures));
   memory = fed_memory c.args.conn c.args.bytes.now c.self.inside.streams c.feed-fed.new.self c.serving_law.ensures c.feed-fed.result (subst (λ n. FedTo n c.args.bytes.now c.self.inside.streams c.feed-fed.new.self c.feed-fed.result) c.number.ensures c.feed-fed.ensures);
-  keeps = subst (λ (x : GatewayValue). Keeps x c.feed-fed.new.self) c.self.view_is (fed_keeps c.args.conn c.args.bytes.now c.self.inside.streams c.feed-fed.new.self c.serving_law.ensures c.feed-fed.result (subst (λ n. FedTo n c.args.bytes.now c.self.inside.streams c.feed-fed.new.self c.feed-fed.result) c.number.ensures c.feed-fed.ensures));
+  keeps = subst (λ (x : GatewayValue). Keeps (λ n. n == c.args.conn) x c.feed-fed.new.self) c.self.view_is (fed_keeps c.args.conn c.args.bytes.now c.self.inside.streams c.feed-fed.new.self c.serving_law.ensures c.feed-fed.result (subst (λ n. FedTo n c.args.bytes.now c.self.inside.streams c.feed-fed.new.self c.feed-fed.result) c.number.ensures c.feed-fed.ensures));
 }

@@ -1,4 +1,4 @@
-use Rattle.std.specs.Prelude.{◌↔◌}
+use Rattle.std.specs.Prelude.{◌==◌, ◌↔◌}
 use Rattle.std.proofs.Common.{◌≡◌, Err, sym, subst, []}
 use Rattle.gateway_core.specs.Gateway.{GatewayValue}
 use Rattle.gateway_core.specs.Served.{Served}
@@ -16,5 +16,5 @@ returns g c = record {
   unbroken = hung_fine c.args.conn c.self.inside.streams c.serving_law.ensures c.hang_up.new.self c.hang_up.result (subst (λ n. HangsUp n c.self.inside.streams c.hang_up.new.self c.hang_up.result) c.number.ensures c.hang_up.ensures);
   unchanged = subst (λ (x : GatewayValue). c.hang_up.result ≡ Err Gone → c.hang_up.new.self ≡ x) c.self.view_is (hung_gone c.args.conn [] c.self.inside.streams c.hang_up.new.self c.serving_law.ensures c.hang_up.result (subst (λ n. HangsUp n c.self.inside.streams c.hang_up.new.self c.hang_up.result) c.number.ensures c.hang_up.ensures));
   memory = hung_memory c.args.conn [] c.self.inside.streams c.hang_up.new.self c.serving_law.ensures c.hang_up.result (subst (λ n. HangsUp n c.self.inside.streams c.hang_up.new.self c.hang_up.result) c.number.ensures c.hang_up.ensures);
-  keeps = subst (λ (x : GatewayValue). Keeps x c.hang_up.new.self) c.self.view_is (hung_keeps c.args.conn [] c.self.inside.streams c.hang_up.new.self c.serving_law.ensures c.hang_up.result (subst (λ n. HangsUp n c.self.inside.streams c.hang_up.new.self c.hang_up.result) c.number.ensures c.hang_up.ensures));
+  keeps = subst (λ (x : GatewayValue). Keeps (λ n. n == c.args.conn) x c.hang_up.new.self) c.self.view_is (hung_keeps c.args.conn [] c.self.inside.streams c.hang_up.new.self c.serving_law.ensures c.hang_up.result (subst (λ n. HangsUp n c.self.inside.streams c.hang_up.new.self c.hang_up.result) c.number.ensures c.hang_up.ensures));
 }

@@ -1,4 +1,4 @@
-use Rattle.std.proofs.Common.{◌≡◌, sym, subst, length, ◌≤◌}
+use Rattle.std.proofs.Common.{◌≡◌, false, sym, subst, length, ◌≤◌}
 use Rattle.gateway_core.specs.Gateway.{GatewayValue}
 use Rattle.gateway_core.specs.Served.{Served, HasConns}
 use Rattle.gateway_core.specs.Serving.{Keeps}
@@ -20,5 +20,5 @@ returns g c = record {
   number = subst (λ (x : GatewayValue). IfOk c.open.result (λ conn. conn ≡ x.opened)) c.self.view_is (opened_number c.self.inside.streams c.open.new.self c.open.result c.open.ensures.opens);
   exhausted = subst (λ (x : GatewayValue). IfErr c.open.result (λ e. e.1 ≡ OpenError.Exhausted → 2 ^ 56 ≤ x.opened)) c.self.view_is c.open.ensures.exhausted;
   unchanged = subst (λ (x : GatewayValue). OnErr c.open.result (c.open.new.self ≡ x)) c.self.view_is c.open.ensures.err;
-  keeps = subst (λ (x : GatewayValue). Keeps x c.open.new.self) c.self.view_is (opening_keeps c.self.inside.streams c.open.new.self c.open.result c.open.ensures.opens c.open.ensures.err);
+  keeps = subst (λ (x : GatewayValue). Keeps (λ n. false) x c.open.new.self) c.self.view_is (opening_keeps c.self.inside.streams c.open.new.self c.open.result c.open.ensures.opens c.open.ensures.err);
 }

@@ -15,5 +15,5 @@ returns g c = record {
   first = ap (λ (x : GatewayValue). untaken_of c.args.conn x) (sym c.self.view_is) ∙ reply_first c.args.conn c.self.inside.streams c.take_reply.new.self c.serving_law.ensures c.take_reply.result (subst (λ n. TakesReply n c.self.inside.streams c.take_reply.new.self c.take_reply.result) c.number.ensures c.take_reply.ensures);
   its = subst (λ (x : GatewayValue). IfSome c.take_reply.result (λ r. r.id ≡ next_reply c.args.conn x)) c.self.view_is (reply_its c.args.conn c.self.inside.streams c.take_reply.new.self c.serving_law.ensures c.take_reply.result (subst (λ n. TakesReply n c.self.inside.streams c.take_reply.new.self c.take_reply.result) c.number.ensures c.take_reply.ensures));
   none = λ e. ap (λ (x : GatewayValue). untaken_of c.args.conn x) (sym c.self.view_is) ∙ reply_none c.args.conn c.self.inside.streams c.take_reply.new.self c.serving_law.ensures c.take_reply.result (subst (λ n. TakesReply n c.self.inside.streams c.take_reply.new.self c.take_reply.result) c.number.ensures c.take_reply.ensures) e;
-  only = subst (λ (x : GatewayValue). TakesOnly x c.take_reply.new.self) c.self.view_is (reply_only c.args.conn c.self.inside.streams c.take_reply.new.self c.serving_law.ensures c.take_reply.result (subst (λ n. TakesReply n c.self.inside.streams c.take_reply.new.self c.take_reply.result) c.number.ensures c.take_reply.ensures));
+  only = subst (λ (x : GatewayValue). TakesOnly c.args.conn x c.take_reply.new.self) c.self.view_is (reply_only c.args.conn c.self.inside.streams c.take_reply.new.self c.serving_law.ensures c.take_reply.result (subst (λ n. TakesReply n c.self.inside.streams c.take_reply.new.self c.take_reply.result) c.number.ensures c.take_reply.ensures));
 }

@@ -7,7 +7,7 @@ use Rattle.gateway_core.specs.Step.{has_out}
 use Rattle.gateway_core.specs.Store.{MachineValue, machine_value, kept_at}
 use Rattle.gateway_core.proofs.LimitLemmas.{same_call}
 use Rattle.gateway_core.proofs.StoreLemmas.{call_missing, item_is}
-use Rattle.gateway_core.proofs.ResultLemmas.{found_out, next_waits, waits_then, steps_at}
+use Rattle.gateway_core.proofs.ResultLemmas.{found_out, its_at, next_waits, waits_then, steps_at}
 use Rattle.gateway_core.proofs.machine.store.Machine.result.Goals as goal
 
 pub returns-in_default : goal.returns-in_default
@@ -75,6 +75,8 @@ returns g c =
       c.in-Some.ensures,
       out,
       seen,
+      its_at s i c.args.branch c.args.outcome c.index_mut.result.now c.take_result-taken.new.self c.take_result-taken.result.decided c.take_result-taken.result.next at
+          (c.take_result-taken.ensures s.moment),
       steps_at c.args.id.now s _ c.decide-broke.new.self i c.args.branch c.args.outcome c.index_mut.result.now c.take_result-taken.new.self c.take_result-taken.result.decided
           c.take_result-taken.result.next c.decide-broke.result at (sym (same_call (kept_at i s.calls).id c.args.id.now c.in-Some.ensures.1)) (c.take_result-taken.ensures s.moment)
           (ap (λ js. machine_value c.self.inside.moment c.self.inside.drained c.self.inside.conns.items (slice_set c.self.inside.calls.items i c.take_result-taken.new.self) js) c.start.ensures.jobs_are
