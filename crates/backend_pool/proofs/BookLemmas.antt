@@ -1,8 +1,10 @@
 -- Lemmas on what a book stands for.
-use Rattle.std.specs.Prelude.{◌≡◌, ℕ, ◌+◌, false, List, [], ◌∷◌, ◌++◌, length, Option, Some, Result, Ok, Err, MatchResult}
-use Rattle.std.proofs.Common.{arith, subst, sym, ap, length-append}
+use Rattle.std.specs.Prelude.{◌≡◌, ℕ, ◌+◌, ◌≤◌, filter, false, List, [], ◌∷◌, ◌++◌, length, Option, Some, Result, Ok, Err, MatchResult}
+use Rattle.std.proofs.Common.{arith, refl, subst, sym, ap, ◌∙◌, length-append}
 use Rattle.gateway_core.specs.declared.entry.ReplyEntry.{ReplyEntry}
 use Rattle.gateway_core.specs.declared.fault.Seen.{Seen}
+use Rattle.gateway_core.specs.declared.fault.Seen.TheVariants.{Counted, Late, Unknown}
+use Rattle.gateway_core.specs.declared.tally.Tally.{Tally}
 use Rattle.gateway_core.specs.declared.id.CallId.{CallId}
 use Rattle.gateway_core.specs.Conn.{ConnValue}
 use Rattle.gateway_core.specs.Events.{Before, GatewayEvent, Occurs, Opening}
@@ -13,7 +15,38 @@ use Rattle.gateway_core.specs.Reply.{ReplyValue}
 use Rattle.gateway_core.specs.Served.{Served, with_reply}
 use Rattle.gateway_core.specs.Starts.{Placed, occurrences}
 use Rattle.gateway_core.specs.Store.{conn_of}
-use Rattle.backend_pool.specs.Book.{BookStands, BookValue, IsReached, TakesEvent, book_value, bytes_in, results_in}
+use Rattle.gateway_core.specs.Tally.{is_counted, is_late, is_unknown, most_counted, tally_of}
+use Rattle.backend_pool.specs.Book.{BookStands, BookValue, IsReached, IsTallied, TakesEvent, book_value, bytes_in, results_in}
+
+-- ---- how results were seen
+
+-- the tally of the core has grown by so many results
+abbrev pub CoreTallies : ℕ → GatewayValue → GatewayValue → Type 0
+CoreTallies n v w = (seen : List Seen) × (length seen ≡ n) × ((before : List Seen) → v.tally ≡ tally_of before → w.tally ≡ tally_of (seen ++ before))
+
+-- it has not grown
+pub no_result : (v w : GatewayValue) → w.tally ≡ v.tally → CoreTallies 0 v w
+no_result v w same = ([], refl, λ before e. same ∙ e)
+
+tallied_then : (n results more : ℕ) (v w : GatewayValue) → CoreTallies n v w → more ≡ results + n → IsTallied v results → IsTallied w more
+tallied_then n results more v w t is h =
+    (t.0 ++ h.0, t.2 h.0 h.1, let now : length t.0 ≡ n = t.1 in let was : length h.0 ≡ results = h.2 in length-append t.0 h.0 ∙ omega (arith, now, was, is))
+
+-- each result was seen in one of three ways
+kinds : (seen : List Seen) → length (filter is_counted seen) + length (filter is_late seen) + length (filter is_unknown seen) ≡ length seen
+kinds [] = refl
+kinds (Counted ∷ seen) = let rest = kinds seen in omega (arith, rest)
+kinds (Late ∷ seen) = let rest = kinds seen in omega (arith, rest)
+kinds (Unknown ∷ seen) = let rest = kinds seen in omega (arith, rest)
+
+-- while fewer came than are counted, the tally has them all
+pub tally_sums : (v : GatewayValue) (results : ℕ) → results ≤ most_counted → IsTallied v results → v.tally.counted + v.tally.late + v.tally.unknown ≡ results
+tally_sums v results few h =
+    let all = kinds h.0 in let size : length h.0 ≡ results = h.2 in
+    ap (λ (t : Tally). t.counted + t.late + t.unknown) h.1 ∙ omega (arith, all, size, few)
+
+pub reached_tallied : (v : GatewayValue) (bytes jobs results : ℕ) → IsReached (book_value v bytes jobs results) → IsTallied v results
+reached_tallied v bytes jobs results h = h.4.tallied
 
 -- ---- one event
 
@@ -24,28 +57,29 @@ CoreTakes e v w =
     → Served w opened (e ∷ events) taken handed
 
 takes : (e : GatewayEvent) (v w : GatewayValue) (bytes jobs results more_bytes more_results : ℕ)
-    → CoreTakes e v w → more_bytes ≡ bytes + bytes_in e → more_results ≡ results + results_in e
+    → CoreTakes e v w → CoreTallies (results_in e) v w → more_bytes ≡ bytes + bytes_in e → more_results ≡ results + results_in e
     → TakesEvent e (book_value v bytes jobs results) (book_value w more_bytes jobs more_results)
-takes e v w bytes jobs results more_bytes more_results core bytes_is results_is opened events taken handed h = record {
+takes e v w bytes jobs results more_bytes more_results core tallies bytes_is results_is opened events taken handed h = record {
   served = core opened events taken handed h.served;
   bytes_are = omega (arith, h.bytes_are, bytes_is);
   jobs_are = h.jobs_are;
   results_are = omega (arith, h.results_are, results_is);
+  tallied = tallied_then (results_in e) results more_results v w tallies results_is h.tallied;
 }
 
 -- a book stands for one event more, if its core does and the totals have grown by what the event brings
 pub takes_event : (e : GatewayEvent) (b : BookValue) (v w : GatewayValue) (bytes jobs results more_bytes more_results : ℕ)
-    → book_value v bytes jobs results ≡ b → CoreTakes e v w → more_bytes ≡ bytes + bytes_in e → more_results ≡ results + results_in e
+    → book_value v bytes jobs results ≡ b → CoreTakes e v w → CoreTallies (results_in e) v w → more_bytes ≡ bytes + bytes_in e → more_results ≡ results + results_in e
     → TakesEvent e b (book_value w more_bytes jobs more_results)
-takes_event e b v w bytes jobs results more_bytes more_results is core bytes_is results_is =
+takes_event e b v w bytes jobs results more_bytes more_results is core tallies bytes_is results_is =
     subst (λ (x : BookValue). TakesEvent e x (book_value w more_bytes jobs more_results)) is
-    (takes e v w bytes jobs results more_bytes more_results core bytes_is results_is)
+    (takes e v w bytes jobs results more_bytes more_results core tallies bytes_is results_is)
 
 pub reached_by : (e : GatewayEvent) (v w : GatewayValue) (bytes jobs results more_bytes more_results : ℕ)
-    → CoreTakes e v w → more_bytes ≡ bytes + bytes_in e → more_results ≡ results + results_in e
+    → CoreTakes e v w → CoreTallies (results_in e) v w → more_bytes ≡ bytes + bytes_in e → more_results ≡ results + results_in e
     → IsReached (book_value v bytes jobs results) → IsReached (book_value w more_bytes jobs more_results)
-reached_by e v w bytes jobs results more_bytes more_results core bytes_is results_is h =
-    (h.0, e ∷ h.1, h.2, h.3, takes e v w bytes jobs results more_bytes more_results core bytes_is results_is h.0 h.1 h.2 h.3 h.4)
+reached_by e v w bytes jobs results more_bytes more_results core tallies bytes_is results_is h =
+    (h.0, e ∷ h.1, h.2, h.3, takes e v w bytes jobs results more_bytes more_results core tallies bytes_is results_is h.0 h.1 h.2 h.3 h.4)
 
 -- ---- openings
 
@@ -59,33 +93,35 @@ BookOpens result b c =
     (opened : List ℕ) (es : Before) (taken : ℕ → List ReplyEntry) (handed : List JobValue) → BookStands b opened es taken handed
     → MatchResult result (λ _. BookStands c (opened ++ length es ∷ []) (Opening ∷ es) taken handed) (λ _. BookStands c opened (Opening ∷ es) taken handed)
 
-opens : {E : Type 0} → (result : Result ℕ E) (v w : GatewayValue) (bytes jobs results : ℕ) → CoreOpens result v w
+opens : {E : Type 0} → (result : Result ℕ E) (v w : GatewayValue) (bytes jobs results : ℕ) → CoreOpens result v w → CoreTallies 0 v w
     → BookOpens result (book_value v bytes jobs results) (book_value w bytes jobs results)
-opens (Ok n) v w bytes jobs results core opened es taken handed h = record {
+opens (Ok n) v w bytes jobs results core tallies opened es taken handed h = record {
   served = core opened es taken handed h.served;
   bytes_are = omega (arith, h.bytes_are);
   jobs_are = h.jobs_are;
   results_are = omega (arith, h.results_are);
+  tallied = tallied_then 0 results results v w tallies (omega arith) h.tallied;
 }
-opens (Err e) v w bytes jobs results core opened es taken handed h = record {
+opens (Err e) v w bytes jobs results core tallies opened es taken handed h = record {
   served = core opened es taken handed h.served;
   bytes_are = omega (arith, h.bytes_are);
   jobs_are = h.jobs_are;
   results_are = omega (arith, h.results_are);
+  tallied = tallied_then 0 results results v w tallies (omega arith) h.tallied;
 }
 
 pub book_opens : {E : Type 0} → (result : Result ℕ E) (b : BookValue) (v w : GatewayValue) (bytes jobs results : ℕ)
-    → book_value v bytes jobs results ≡ b → CoreOpens result v w → BookOpens result b (book_value w bytes jobs results)
-book_opens result b v w bytes jobs results is core =
-    subst (λ (x : BookValue). BookOpens result x (book_value w bytes jobs results)) is (opens result v w bytes jobs results core)
+    → book_value v bytes jobs results ≡ b → CoreOpens result v w → CoreTallies 0 v w → BookOpens result b (book_value w bytes jobs results)
+book_opens result b v w bytes jobs results is core tallies =
+    subst (λ (x : BookValue). BookOpens result x (book_value w bytes jobs results)) is (opens result v w bytes jobs results core tallies)
 
 reached_opened : {E : Type 0} → (result : Result ℕ E) (b c : BookValue) → BookOpens result b c → IsReached b → IsReached c
 reached_opened (Ok n) b c more h = (h.0 ++ length h.1 ∷ [], Opening ∷ h.1, h.2, h.3, more h.0 h.1 h.2 h.3 h.4)
 reached_opened (Err e) b c more h = (h.0, Opening ∷ h.1, h.2, h.3, more h.0 h.1 h.2 h.3 h.4)
 
-pub reached_by_opening : {E : Type 0} → (result : Result ℕ E) (v w : GatewayValue) (bytes jobs results : ℕ) → CoreOpens result v w
+pub reached_by_opening : {E : Type 0} → (result : Result ℕ E) (v w : GatewayValue) (bytes jobs results : ℕ) → CoreOpens result v w → CoreTallies 0 v w
     → IsReached (book_value v bytes jobs results) → IsReached (book_value w bytes jobs results)
-reached_by_opening result v w bytes jobs results core h = reached_opened result _ _ (opens result v w bytes jobs results core) h
+reached_by_opening result v w bytes jobs results core tallies h = reached_opened result _ _ (opens result v w bytes jobs results core tallies) h
 
 -- what was known of the core is known of the book's
 pub served_in : (b : BookValue) (v : GatewayValue) (bytes jobs results : ℕ) (opened : List ℕ) (es : Before) (taken : ℕ → List ReplyEntry) (handed : List JobValue)
@@ -125,24 +161,25 @@ BookHands jobs b c =
     (opened : List ℕ) (es : Before) (taken : ℕ → List ReplyEntry) (handed : List JobValue) → BookStands b opened es taken handed
     → BookStands c opened es taken (handed ++ jobs)
 
-hands : (job : List JobValue) (v w : GatewayValue) (bytes jobs results more : ℕ) → CoreHands job v w → more ≡ jobs + length job
+hands : (job : List JobValue) (v w : GatewayValue) (bytes jobs results more : ℕ) → CoreHands job v w → CoreTallies 0 v w → more ≡ jobs + length job
     → BookHands job (book_value v bytes jobs results) (book_value w bytes more results)
-hands job v w bytes jobs results more core more_is opened es taken handed h = record {
+hands job v w bytes jobs results more core tallies more_is opened es taken handed h = record {
   served = core opened es taken handed h.served;
   bytes_are = h.bytes_are;
   jobs_are = omega (arith, h.jobs_are, more_is, length-append handed job);
   results_are = h.results_are;
+  tallied = tallied_then 0 results results v w tallies (omega arith) h.tallied;
 }
 
 pub book_hands : (job : List JobValue) (b : BookValue) (v w : GatewayValue) (bytes jobs results more : ℕ) → book_value v bytes jobs results ≡ b
-    → CoreHands job v w → more ≡ jobs + length job → BookHands job b (book_value w bytes more results)
-book_hands job b v w bytes jobs results more is core more_is =
-    subst (λ (x : BookValue). BookHands job x (book_value w bytes more results)) is (hands job v w bytes jobs results more core more_is)
+    → CoreHands job v w → CoreTallies 0 v w → more ≡ jobs + length job → BookHands job b (book_value w bytes more results)
+book_hands job b v w bytes jobs results more is core tallies more_is =
+    subst (λ (x : BookValue). BookHands job x (book_value w bytes more results)) is (hands job v w bytes jobs results more core tallies more_is)
 
-pub reached_by_job : (job : List JobValue) (v w : GatewayValue) (bytes jobs results more : ℕ) → CoreHands job v w → more ≡ jobs + length job
+pub reached_by_job : (job : List JobValue) (v w : GatewayValue) (bytes jobs results more : ℕ) → CoreHands job v w → CoreTallies 0 v w → more ≡ jobs + length job
     → IsReached (book_value v bytes jobs results) → IsReached (book_value w bytes more results)
-reached_by_job job v w bytes jobs results more core more_is h =
-    (h.0, h.1, h.2, h.3 ++ job, hands job v w bytes jobs results more core more_is h.0 h.1 h.2 h.3 h.4)
+reached_by_job job v w bytes jobs results more core tallies more_is h =
+    (h.0, h.1, h.2, h.3 ++ job, hands job v w bytes jobs results more core tallies more_is h.0 h.1 h.2 h.3 h.4)
 
 abbrev pub CoreReplies : ℕ → Option ReplyValue → GatewayValue → GatewayValue → Type 0
 CoreReplies conn reply v w =
@@ -154,22 +191,23 @@ BookReplies conn reply b c =
     (opened : List ℕ) (es : Before) (taken : ℕ → List ReplyEntry) (handed : List JobValue) → BookStands b opened es taken handed
     → BookStands c opened es (with_reply conn reply taken) handed
 
-replies : (conn : ℕ) (reply : Option ReplyValue) (v w : GatewayValue) (bytes jobs results : ℕ) → CoreReplies conn reply v w
+replies : (conn : ℕ) (reply : Option ReplyValue) (v w : GatewayValue) (bytes jobs results : ℕ) → CoreReplies conn reply v w → CoreTallies 0 v w
     → BookReplies conn reply (book_value v bytes jobs results) (book_value w bytes jobs results)
-replies conn reply v w bytes jobs results core opened es taken handed h = record {
+replies conn reply v w bytes jobs results core tallies opened es taken handed h = record {
   served = core opened es taken handed h.served;
   bytes_are = h.bytes_are;
   jobs_are = h.jobs_are;
   results_are = h.results_are;
+  tallied = tallied_then 0 results results v w tallies (omega arith) h.tallied;
 }
 
 pub book_replies : (conn : ℕ) (reply given : Option ReplyValue) (b : BookValue) (v w : GatewayValue) (bytes jobs results : ℕ) → given ≡ reply
-    → book_value v bytes jobs results ≡ b → CoreReplies conn reply v w → BookReplies conn given b (book_value w bytes jobs results)
-book_replies conn reply given b v w bytes jobs results same is core =
+    → book_value v bytes jobs results ≡ b → CoreReplies conn reply v w → CoreTallies 0 v w → BookReplies conn given b (book_value w bytes jobs results)
+book_replies conn reply given b v w bytes jobs results same is core tallies =
     subst (λ (r : Option ReplyValue). BookReplies conn r b (book_value w bytes jobs results)) (sym same)
-    (subst (λ (x : BookValue). BookReplies conn reply x (book_value w bytes jobs results)) is (replies conn reply v w bytes jobs results core))
+    (subst (λ (x : BookValue). BookReplies conn reply x (book_value w bytes jobs results)) is (replies conn reply v w bytes jobs results core tallies))
 
-pub reached_by_reply : (conn : ℕ) (reply : Option ReplyValue) (v w : GatewayValue) (bytes jobs results : ℕ) → CoreReplies conn reply v w
+pub reached_by_reply : (conn : ℕ) (reply : Option ReplyValue) (v w : GatewayValue) (bytes jobs results : ℕ) → CoreReplies conn reply v w → CoreTallies 0 v w
     → IsReached (book_value v bytes jobs results) → IsReached (book_value w bytes jobs results)
-reached_by_reply conn reply v w bytes jobs results core h =
-    (h.0, h.1, with_reply conn reply h.2, h.3, replies conn reply v w bytes jobs results core h.0 h.1 h.2 h.3 h.4)
+reached_by_reply conn reply v w bytes jobs results core tallies h =
+    (h.0, h.1, with_reply conn reply h.2, h.3, replies conn reply v w bytes jobs results core tallies h.0 h.1 h.2 h.3 h.4)

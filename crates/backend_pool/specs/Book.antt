@@ -1,18 +1,18 @@
 -- The core with its three totals, and the events that it stands for.
-use Rattle.std.specs.Prelude.{◌≡◌, ⊤, ℕ, ◌+◌, ◌^◌, true, false, List, [], ◌∷◌, ◌++◌, length, Option, Some, None, Result, Err, OnOk, ◌↔◌, is_some, option_map, option_to_list}
+use Rattle.std.specs.Prelude.{◌≡◌, ℕ, ◌+◌, ◌^◌, true, List, [], ◌∷◌, ◌++◌, length, Option, Some, None, is_some, option_map, option_to_list}
 use Rattle.gateway_core.specs.declared.entry.ReplyEntry.{ReplyEntry}
+use Rattle.gateway_core.specs.declared.fault.Seen.{Seen}
 use Rattle.gateway_core.specs.declared.fault.Seen.TheVariants.{Counted, Unknown}
-use Rattle.gateway_core.specs.declared.fault.StepFault.{StepFault}
-use Rattle.gateway_core.specs.declared.fault.StepFault.TheVariants.{Gone, Memory}
 use Rattle.gateway_core.specs.declared.fault.Took.{Took}
 use Rattle.gateway_core.specs.Events.{Before, BranchResult, GatewayEvent, Piece}
-use Rattle.gateway_core.specs.Gateway.{GatewayValue, is_broken_conn}
+use Rattle.gateway_core.specs.Gateway.{GatewayValue}
 use Rattle.gateway_core.specs.Job.{HandedJob, JobValue}
 use Rattle.gateway_core.specs.Occurrence.{Occurrence}
 use Rattle.gateway_core.specs.Reply.{ReplyValue}
 use Rattle.gateway_core.specs.Served.{Served}
-use Rattle.gateway_core.specs.Serving.{Breaks, BreaksBy, IsDeaf}
+use Rattle.gateway_core.specs.Serving.{Breaks, BreaksBy}
 use Rattle.gateway_core.specs.Store.{call_at}
+use Rattle.gateway_core.specs.Tally.{tally_of}
 use Rattle.backend_pool.specs.declared.shares.Totals.{Totals}
 use Rattle.backend_pool.specs.declared.next_reply.NextReply.{NextReply}
 use Rattle.backend_pool.specs.declared.next_reply.NextReply.TheVariants.{Ready, Pending, Over}
@@ -54,6 +54,10 @@ abbrev pub results_of : Before → ℕ
 results_of [] = 0
 results_of (e ∷ before) = results_of before + results_in e
 
+-- so many results came, and were seen as the tally of the core says
+abbrev pub IsTallied : GatewayValue → ℕ → Type 0
+IsTallied v results = (seen : List Seen) × (v.tally ≡ tally_of seen) × (length seen ≡ results)
+
 -- ---- what a book stands for
 
 -- the core after these events, newest first, with these replies and jobs taken; and the totals are those of the pieces, the jobs taken and the results
@@ -62,6 +66,7 @@ pub record BookStands (b : BookValue) (opened : List ℕ) (events : Before) (tak
   pub bytes_are : b.bytes ≡ bytes_of events
   pub jobs_are : b.jobs ≡ length handed
   pub results_are : b.results ≡ results_of events
+  pub tallied : IsTallied b.core b.results
 
 -- whatever it stood for, it stands for that and this event more
 abbrev pub TakesEvent : GatewayEvent → BookValue → BookValue → Type 0
@@ -76,19 +81,12 @@ IsReached b =
 
 -- ---- what a call tells
 
--- how a step of one connection went: `Gone` exactly where none of its pieces is taken, and then nothing changed; `Memory` only where it is now broken
-pub record TellsStep (conn : ℕ) (result : Result ⊤ StepFault) (v w : GatewayValue) : Type 0 where
-  pub gone : (result ≡ Err Gone) ↔ IsDeaf conn v
-  pub unchanged : result ≡ Err Gone → w ≡ v
-  pub memory : result ≡ Err Memory → is_broken_conn conn w ≡ true
-  pub unbroken : OnOk result (is_broken_conn conn w ≡ false)
-
--- a connection breaks only by a result that counts and concerns it, and nothing changes by one of a branch that is not out
+-- a connection breaks only by a result that counts and concerns it, and nothing but the tally changes by one of a branch that is not out
 pub record TellsTook (o : Occurrence) (took : Took) (v w : GatewayValue) : Type 0 where
   pub counted : took.broke ≡ true → took.seen ≡ Counted
   pub broke : Breaks v w took.broke
   pub concerned : BreaksBy o v w
-  pub unknown : took.seen ≡ Unknown → w ≡ v
+  pub unknown : took.seen ≡ Unknown → w ≡ record v { tally = w.tally }
 
 abbrev pub job_list : Option HandedJob → List JobValue
 job_list job = option_to_list (option_map (λ j. j.job) job)

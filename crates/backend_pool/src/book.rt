@@ -1,4 +1,4 @@
-ghost use Rattle.std.specs.Prelude.{◌≡◌, ◌==◌, ◌+◌, ◌<◌, ◌≤◌, ◌^◌, ◌∷◌, ◌++◌, [], IfErr, IfOk, IfSome, IsTrue, List, MatchResult, None, OnErr, OnOk, Some, false, true, is_some, length, option_map, option_to_list, ℕ, ◌↔◌};
+ghost use Rattle.std.specs.Prelude.{◌≡◌, ◌==◌, ◌+◌, ◌<◌, ◌≤◌, ◌^◌, ◌∷◌, ◌++◌, [], Err, IfErr, IfOk, IfSome, IsTrue, List, MatchResult, None, OnErr, OnOk, Some, false, true, is_some, length, option_map, option_to_list, ℕ, ◌↔◌, ◌⊎◌};
 ghost use Rattle.connect_codec.specs.declared.answer.Outcome.{Outcome as Outcomes};
 ghost use Rattle.gateway_core.specs.declared.entry.ReplyEntry.{ReplyEntry};
 ghost use Rattle.gateway_core.specs.Conn.{ConnValue};
@@ -8,11 +8,11 @@ ghost use Rattle.gateway_core.specs.Job.{JobValue};
 ghost use Rattle.gateway_core.specs.Past.{judged, marked};
 ghost use Rattle.gateway_core.specs.Served.{Served, with_reply};
 ghost use Rattle.gateway_core.specs.Occurrence as concerning;
-ghost use Rattle.gateway_core.specs.Serving.{Breaks, BreaksBy, TakesOnly};
+ghost use Rattle.gateway_core.specs.Serving.{Breaks, BreaksBy, TakesOnly, TellsStep};
 ghost use Rattle.gateway_core.specs.Starts.{Placed, occurrences};
 ghost use Rattle.gateway_core.specs.Store.{conn_of};
 ghost use Rattle.backend_pool.specs.declared.next_reply.NextReply.{NextReply};
-ghost use Rattle.backend_pool.specs.Book.{BookStands, GivesJob, TakesEvent, TellsStep, TellsTook, book_value, job_list, most_total, reply_given, totals_of};
+ghost use Rattle.backend_pool.specs.Book.{BookStands, GivesJob, TakesEvent, TellsTook, book_value, job_list, most_total, reply_given, totals_of};
 
 use crate::counter::Counter;
 use crate::ledger_full::LedgerFull;
@@ -20,7 +20,9 @@ use crate::next_reply::NextReply;
 use crate::shares::{Blanks, Shares, Totals};
 use call_plan::Plans;
 use connect_codec::Outcome;
-use gateway_core::{CallId, ConnId, Core, Job, OpenError, ReplyHook, StepFault, Stock, Took};
+use gateway_core::{
+    CallId, ConnId, Core, Job, OpenError, ReplyHook, StepFault, Stock, Tally, Took,
+};
 use gateway_run::deliver;
 use std::alloc::{AllocError, Global};
 use std::marker::Model;
@@ -118,7 +120,7 @@ impl<H: ReplyHook + Drop, L: Ledger, J: Ledger, K: Ledger> Book<H, L, J, K> {
     ) -> Result<Result<(), StepFault>, LedgerFull>
         requires { 0 < mine.old.parts }
         ensures stands { OnOk result (TakesEvent (Piece conn bytes.now) self.old self.new) }
-        ensures tells { IfOk result (λ step. TellsStep conn step self.old.core self.new.core) }
+        ensures tells { IfOk result (λ step. TellsStep conn self.old.core self.new.core step) }
         ensures counts { OnOk result
             (self.new ≡ record self.old { core = self.new.core; bytes = self.old.bytes + length bytes.now }) }
         ensures full { MatchResult result (λ _. self.old.bytes + length bytes.now ≤ most_total)
@@ -139,7 +141,8 @@ impl<H: ReplyHook + Drop, L: Ledger, J: Ledger, K: Ledger> Book<H, L, J, K> {
     /// The peer of a connection hung up.
     pub fn hang_up(&mut self, conn: ConnId) -> Result<(), StepFault>
         ensures stands { TakesEvent (HangUp conn) self.old self.new }
-        ensures tells { TellsStep conn result self.old.core self.new.core }
+        ensures tells { TellsStep conn self.old.core self.new.core result }
+        ensures begins { result ≡ Err StepFault.Exhausted → ⊥ }
         ensures counts { self.new ≡ record self.old { core = self.new.core } }
     {
         self.core.hang_up(conn)
@@ -290,11 +293,20 @@ impl<H: ReplyHook + Drop, L: Ledger, J: Ledger, K: Ledger> Book<H, L, J, K> {
         NextReply::of(reply, self.core.ended(conn))
     }
 
-    /// Whether some job that was taken has no result yet.
+    /// Whether some branch may be asked or is: a job waits to be taken, or one that was taken has no result yet.
     pub fn is_asking(&self) -> bool
-        ensures { IsTrue result ↔ (self.now.results < self.now.jobs) }
+        ensures { IsTrue result ↔ ((self.now.results < self.now.jobs) ⊎ (0 < length self.now.core.machine.jobs)) }
     {
-        self.results.total() < self.jobs.total()
+        self.results.total() < self.jobs.total() || self.core.has_job()
+    }
+
+    /// How the results were seen. Their number is the total of results.
+    pub fn tally(&self) -> Tally
+        ensures tally { result ≡ self.now.core.tally }
+        ensures total { result.counted + result.late + result.unknown ≡ self.now.results }
+    {
+        let _ = self.results.total();
+        self.core.tally()
     }
 
     /// The totals. Shares have no more than those, and where they have all parts of a ledger they have all of its

@@ -36,7 +36,8 @@ impl<L: Ledger> Counter<L> {
 
     /// The total.
     pub fn total(&self) -> u64
-        ensures { result ≡ self.now }
+        ensures is { result ≡ self.now }
+        ensures bound { result ≤ most_total }
     {
         self.total
     }

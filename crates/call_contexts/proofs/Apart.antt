@@ -4,6 +4,8 @@ use Rattle.std.specs.Prelude.{◌⊎◌, All, unwrap_or}
 use Rattle.std.specs.List.{list_any}
 use Rattle.std.proofs.lemmas.List.Elements.{All-head, All-tail}
 use Rattle.std.proofs.lemmas.Bool.{cases_Bool}
+use Rattle.std.proofs.Math.Bool.{or-false}
+use Rattle.std.proofs.lemmas.Option.{same_Some}
 use Rattle.context_tree.specs.declared.node.Kind.{Kind}
 use Rattle.context_tree.specs.declared.node.Kind.TheVariants.{Background, Cancel, Value}
 use Rattle.context_tree.specs.Context.{Id, same, held, parent_of}
@@ -11,7 +13,7 @@ use Rattle.context_tree.specs.Tree.{TreeValue, is_among}
 use Rattle.after_funcs.specs.declared.callbacks.AfterFuncs.{AfterFuncs}
 use Rattle.call_contexts.specs.declared.life.Life.{Life}
 use Rattle.call_contexts.specs.Sound.{Op, IsSound, IsLife, IsConn, IsHolder, kind_of, contexts, owns, is_kept}
-use Rattle.call_contexts.proofs.Trees.{same_true, some_same, or_false, apart_kinds}
+use Rattle.call_contexts.proofs.Trees.{same_true, apart_kinds}
 
 pub kind_parent : (V : Type 0) (p q : Id) (d : Option ℕ) → parent_of (kind_of {V = V} p d) ≡ Some q → p ≡ q
 kind_parent V p q None e = cc
@@ -31,7 +33,7 @@ module _ {V : Type 0} where
   kind_cancel p q (Some at) e = cc
 
   pub differ : (x y : Id) (k l : Kind (Unit {0}) V) (past : List (Op V)) → held x past ≡ Some k → held y past ≡ Some l → (k ≡ l → ⊥) → x ≡ y → ⊥
-  differ x y k l past xs ys other e = other (some_same k l (sym xs ∙ subst (λ z. held z past ≡ Some l) (sym e) ys))
+  differ x y k l past xs ys other e = other (same_Some k l (sym xs ∙ subst (λ z. held z past ≡ Some l) (sym e) ys))
 
 module _ {V : Type 0} (past : List (Op V)) (root base : Id) (root_is : held root past ≡ Some Background) (base_is : held base past ≡ Some (Cancel root)) where
   base_root : base ≡ root → ⊥
@@ -145,22 +147,22 @@ owner_in P y (l ∷ ls) all is = ⊎_elim
     (cases_Bool (owns y l))
 
 owned : (y ctx : Id) (holder : Option Id) → is_among y (contexts ctx holder) ≡ true → (y ≡ ctx) ⊎ (holder ≡ Some y)
-owned y ctx None is = inl (same_true y ctx (sym (or_false (same y ctx)) ∙ is))
+owned y ctx None is = inl (same_true y ctx (sym (or-false (same y ctx)) ∙ is))
 owned y ctx (Some x) is = ⊎_elim
     (λ (h : same y ctx ≡ true). inl (same_true y ctx h))
-    (λ (n : same y ctx ≡ false). let e : y ≡ x = same_true y x (sym (or_false (same y x)) ∙ (rw n at is)) in inr (ap (λ z. Some z) (sym e)))
+    (λ (n : same y ctx ≡ false). let e : y ≡ x = same_true y x (sym (or-false (same y x)) ∙ (rw n at is)) in inr (ap (λ z. Some z) (sym e)))
     (cases_Bool (same y ctx))
 
 module _ {V H : Type 0} {f : AfterFuncs H} {base : Id} {conns : List Id} {calls : List Life} {old : TreeValue (Unit {0}) V} (s : IsSound old f base conns calls)
     (P : Life → Type 0) (each : All (λ l. IsLife s.past base l × P l) calls) where
   of_parent : (x : Id) (k : Kind (Unit {0}) V) (y : Id) (l : Kind (Unit {0}) V) → held y s.past ≡ Some k → held y s.past ≡ Some l → parent_of k ≡ Some x → parent_of l ≡ Some x
-  of_parent x k y l ks ls is = ap parent_of (some_same l k (sym ls ∙ ks)) ∙ is
+  of_parent x k y l ks ls is = ap parent_of (same_Some l k (sym ls ∙ ks)) ∙ is
 
   by_holder : (x y : Id) (k : Kind (Unit {0}) V) → held y s.past ≡ Some k → parent_of k ≡ Some x → (conn : Id) → (holder : Option Id) → IsHolder s.past conn holder → holder ≡ Some y → conn ≡ x
   by_holder x y k ks is conn None h e = cc
   by_holder x y k ks is conn (Some z) h e =
-      let zy : z ≡ y = some_same z y e in
-      some_same conn x (of_parent x k y (Value conn 0 h.0) ks (subst (λ w. held w s.past ≡ Some (Value conn 0 h.0)) zy h.1) is)
+      let zy : z ≡ y = same_Some z y e in
+      same_Some conn x (of_parent x k y (Value conn 0 h.0) ks (subst (λ w. held w s.past ≡ Some (Value conn 0 h.0)) zy h.1) is)
 
   by_call : (x y ctx conn : Id) → (holder : Option Id) → unwrap_or holder conn ≡ x → y ≡ ctx → (conn ≡ x) ⊎ ((holder ≡ Some x) × (y ≡ ctx))
   by_call x y ctx conn None e same_ctx = inl e
@@ -175,11 +177,11 @@ module _ {V H : Type 0} {f : AfterFuncs H} {base : Id} {conns : List Id} {calls 
       (λ (nr : same y s.root ≡ false). ⊎_elim
       (λ (b : same y base ≡ true).
       let e : Some s.root ≡ Some x = of_parent x k y (Cancel s.root) ks (subst (λ z. held z s.past ≡ Some (Cancel s.root)) (sym (same_true y base b)) s.base_is) is in
-      inl (sym (some_same s.root x e)))
+      inl (sym (same_Some s.root x e)))
       (λ (nb : same y base ≡ false). ⊎_elim
       (λ (c : is_among y conns ≡ true).
       let e : Some base ≡ Some x = of_parent x k y (Cancel base) ks (among_in (IsConn base s.past) y conns s.conns_are c) is in
-      inr (inl (sym (some_same base x e))))
+      inr (inl (sym (same_Some base x e))))
       (λ (nc : is_among y conns ≡ false). ⊎_elim
       (λ (o : list_any (owns y) calls ≡ true). inr (inr (of_call (owner_in (λ l. IsLife s.past base l × P l) y calls each o))))
       (λ (none : list_any (owns y) calls ≡ false).

@@ -3,9 +3,10 @@ use Rattle.std.proofs.Common.{◌≡◌, refl, sym, ap, ◌∙◌, ℕ, ◌≤�
 use Rattle.std.specs.Prelude.{◌||◌, ◌^◌, not, is_some, map, nat_le, option_and_then, unwrap_or, Result, Err, IfErr}
 use Rattle.std.specs.List.{list_any}
 use Rattle.std.specs.Option.{option_map_or}
-use Rattle.std.proofs.lemmas.Bool.{cases_Bool}
+use Rattle.std.proofs.lemmas.Bool.{cases_Bool, or_parts}
 use Rattle.std.proofs.lemmas.List.{map-append}
 use Rattle.std.proofs.lemmas.List.Elements.{All-push, All-weaker}
+use Rattle.std.proofs.Math.Bool.{or-false}
 use Rattle.context_tree.specs.declared.node.Kind.{Kind}
 use Rattle.context_tree.specs.declared.node.Kind.TheVariants.{Cancel, Value}
 use Rattle.context_tree.specs.Context.{Id, same, Makes, held}
@@ -19,7 +20,7 @@ use Rattle.after_funcs.specs.Stands.{StandsFor as HooksStand}
 use Rattle.call_contexts.specs.declared.life.Life.{Life}
 use Rattle.call_contexts.specs.Standing.{seen, seen_conn, seen_call, value_in, is_conn, is_call, is_fresh, is_ended_conn, opened, begun}
 use Rattle.call_contexts.specs.Sound.{Op, TreeLaws, IsSound, IsLife, IsConn, IsHolder, Touches, kind_of, moment_of, with_call, contexts, hook_of, kept_of, same_ctx, same_holder, owns, is_kept}
-use Rattle.call_contexts.proofs.Trees.{same_turned, or_false, neither, shown, shown_request, far_one, far_new, touch_made, made_held}
+use Rattle.call_contexts.proofs.Trees.{same_turned, shown, shown_request, far_one, far_new, touch_made, made_held}
 use Rattle.call_contexts.proofs.Making.{born_ended, call_new, call_touches, call_held, holder_held, call_ended}
 use Rattle.call_contexts.proofs.Seeing.{seen_as, call_as, ended_found}
 use Rattle.call_contexts.proofs.Lists.{any_map, any_append, none_any, no_two_pushed}
@@ -54,10 +55,10 @@ module _ {V H : Type 0} (laws : TreeLaws V) {f : AfterFuncs H} {base : Id} {conn
 
   open_else : (x : Id) → is_kept s.root base (conns ++ id ∷ []) calls x ≡ false → held x (Makes id (Cancel base) 0 ∷ s.past) ≡ None
   open_else x none =
-      let one = neither (same x s.root) _ none in
-      let two = neither (same x base) _ one.1 in
-      let three = neither (is_among x (conns ++ id ∷ [])) (list_any (owns x) calls) two.1 in
-      let four = neither (is_among x conns) (is_among x (id ∷ [])) (sym (any_append (same x) conns (id ∷ [])) ∙ three.0) in
+      let one = or_parts (same x s.root) _ none in
+      let two = or_parts (same x base) _ one.1 in
+      let three = or_parts (is_among x (conns ++ id ∷ [])) (list_any (owns x) calls) two.1 in
+      let four = or_parts (is_among x conns) (is_among x (id ∷ [])) (sym (any_append (same x) conns (id ∷ [])) ∙ three.0) in
       open_touches.held_is x four.1 ∙ s.none_else x (rw (one.0, two.0, four.0, three.1) refl)
 
   pub sound_opened : IsSound new f base (conns ++ id ∷ []) calls
@@ -73,7 +74,7 @@ module _ {V H : Type 0} (laws : TreeLaws V) {f : AfterFuncs H} {base : Id} {conn
   pub seen_opened : seen new.slots base (conns ++ id ∷ []) calls ≡ opened id (seen old.slots base conns calls)
   seen_opened =
       let ended : not (is_live new.slots id) ≡ not (is_live old.slots base) =
-      shown laws new later id (Cancel base) st (made_held s.past id (Cancel base) 0) ∙ born_ended s.past id base None 0 ∙ or_false _ ∙ sym (shown laws old s.past base (Cancel s.root) s.tree_is s.base_is) in
+      shown laws new later id (Cancel base) st (made_held s.past id (Cancel base) 0) ∙ born_ended s.past id base None 0 ∙ or-false _ ∙ sym (shown laws old s.past base (Cancel s.root) s.tree_is s.base_is) in
       seen_as new.slots base (conns ++ id ∷ []) calls _ _ _
       (drained_kept laws s (id ∷ []) later new st open_touches (root_new s (id ∷ []) open_far) (base_new s (id ∷ []) open_far))
       (map-append (seen_conn new.slots) conns (id ∷ [])
@@ -100,12 +101,12 @@ module _ {V H : Type 0} (laws : TreeLaws V) {f : AfterFuncs H} {base : Id} {conn
 
   -- no call has been of that context
   first_of : (ctx : Id) (holder : Option Id) (x : Id) → is_among x (contexts ctx holder) ≡ false → same x ctx ≡ false
-  first_of ctx None x far = sym (or_false (same x ctx)) ∙ far
-  first_of ctx (Some h) x far = (neither (same x ctx) _ far).0
+  first_of ctx None x far = sym (or-false (same x ctx)) ∙ far
+  first_of ctx (Some h) x far = (or_parts (same x ctx) _ far).0
 
   holder_of : (ctx : Id) (holder : Option Id) (x : Id) → is_among x (contexts ctx holder) ≡ false → option_map_or (λ h. same x h) holder false ≡ false
   holder_of ctx None x far = refl
-  holder_of ctx (Some h) x far = sym (or_false (same x h)) ∙ (neither (same x ctx) _ far).1
+  holder_of ctx (Some h) x far = sym (or-false (same x h)) ∙ (or_parts (same x ctx) _ far).1
 
   new_ctx : (m : Life) → IsLife s.past base m → same_ctx m l ≡ false
   new_ctx m is = same_turned l.ctx m.ctx ∙ first_of l.ctx l.holder m.ctx (begin_far m.ctx (kind_of (unwrap_or m.holder m.conn) m.deadline) is.call_is)
@@ -116,11 +117,11 @@ module _ {V H : Type 0} (laws : TreeLaws V) {f : AfterFuncs H} {base : Id} {conn
 
   begin_else : (x : Id) → is_kept s.root base conns (calls ++ l ∷ []) x ≡ false → held x (with_call l.ctx l.holder l.conn l.deadline now request_id s.past) ≡ None
   begin_else x none =
-      let one = neither (same x s.root) _ none in
-      let two = neither (same x base) _ one.1 in
-      let three = neither (is_among x conns) (list_any (owns x) (calls ++ l ∷ [])) two.1 in
-      let four = neither (list_any (owns x) calls) (owns x l || false) (sym (any_append (owns x) calls (l ∷ [])) ∙ three.1) in
-      begin_touches.held_is x (sym (or_false (owns x l)) ∙ four.1) ∙ s.none_else x (rw (one.0, two.0, three.0, four.0) refl)
+      let one = or_parts (same x s.root) _ none in
+      let two = or_parts (same x base) _ one.1 in
+      let three = or_parts (is_among x conns) (list_any (owns x) (calls ++ l ∷ [])) two.1 in
+      let four = or_parts (list_any (owns x) calls) (owns x l || false) (sym (any_append (owns x) calls (l ∷ [])) ∙ three.1) in
+      begin_touches.held_is x (sym (or-false (owns x l)) ∙ four.1) ∙ s.none_else x (rw (one.0, two.0, three.0, four.0) refl)
 
   pub sound_begun : (hook : H) (f' : AfterFuncs H) → HooksStand f' (AfterFunc l.ctx false hook ∷ s.hooks) → l.hook ≡ registered s.hooks → IsSound new f' base conns (calls ++ l ∷ [])
   sound_begun hook f' hs numbered =

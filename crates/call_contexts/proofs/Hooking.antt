@@ -6,6 +6,7 @@ use Rattle.std.specs.declared.alloc.AllocError.{AllocError}
 use Rattle.std.proofs.lemmas.Bool.{cases_Bool, eqb-true}
 use Rattle.std.proofs.lemmas.List.{map-append}
 use Rattle.std.proofs.lemmas.List.Elements.{All-nil, All-cons, All-head, All-tail, All-map, All-from_get_or}
+use Rattle.std.proofs.lemmas.Option.{same_Some}
 use Rattle.context_tree.specs.Context.{Id, same}
 use Rattle.after_funcs.specs.declared.callbacks.AfterFuncs.{AfterFuncs}
 use Rattle.after_funcs.specs.declared.registration.Registration.{Registration}
@@ -14,7 +15,7 @@ use Rattle.after_funcs.specs.Stands.{StandsFor as HooksStand}
 use Rattle.call_contexts.specs.declared.life.Life.{Life}
 use Rattle.call_contexts.specs.Standing.{WithHooks, Slots, on_ctx, hook_for, seen_call}
 use Rattle.call_contexts.specs.Sound.{hook_of, kept_of, life_at, NoTwo, same_ctx}
-use Rattle.call_contexts.proofs.Trees.{same_true, some_same}
+use Rattle.call_contexts.proofs.Trees.{same_true}
 use Rattle.call_contexts.proofs.Lists.{any_map, all_stay}
 
 pub pair_is : {V H : Type 0} (v w : WithHooks V H) → v.standing ≡ w.standing → v.hooks ≡ w.hooks → v ≡ w
@@ -137,7 +138,7 @@ module _ (id : Id) where
   hook_above : (n : ℕ) (l : Life) (ls : List Life) → All (λ m. n < m) (map (λ l. l.hook) ls) → life_at id ls ≡ Some l → n < l.hook
   hook_above n l [] all is = cc
   hook_above n l (m ∷ ms) all is = ⊎_elim
-      (λ (y : same m.ctx id ≡ true). let e : m ≡ l = some_same m l (rw y at is) in subst (λ (k : Life). n < k.hook) e (All-head (λ m. n < m) m.hook (map (λ l. l.hook) ms) all))
+      (λ (y : same m.ctx id ≡ true). let e : m ≡ l = same_Some m l (rw y at is) in subst (λ (k : Life). n < k.hook) e (All-head (λ m. n < m) m.hook (map (λ l. l.hook) ms) all))
       (λ (o : same m.ctx id ≡ false). hook_above n l ms (All-tail (λ m. n < m) m.hook (map (λ l. l.hook) ms) all) (rw o at is))
       (cases_Bool (same m.ctx id))
 
@@ -154,7 +155,7 @@ module _ (id : Id) where
   all_agree k [] rising distinct is = All-nil (λ l. nat_eq l.hook k.hook ≡ same l.ctx id)
   all_agree k (l ∷ ls) rising distinct is = ⊎_elim
       (λ (y : same l.ctx id ≡ true).
-      let e : l.hook ≡ k.hook = ap (λ (m : Life). m.hook) (some_same l k (rw y at is)) in
+      let e : l.hook ≡ k.hook = ap (λ (m : Life). m.hook) (same_Some l k (rw y at is)) in
       All-cons (λ l. nat_eq l.hook k.hook ≡ same l.ctx id) l ls (eq-eqb l.hook k.hook e ∙ sym y)
       (rest_apart k.hook ls (subst (λ n. All (λ m. n < m) (map (λ l. l.hook) ls)) e rising.0) (subst (λ x. list_any (λ (m : Life). same m.ctx x) ls ≡ false) (same_true l.ctx id y) distinct.0)))
       (λ (o : same l.ctx id ≡ false). All-cons (λ l. nat_eq l.hook k.hook ≡ same l.ctx id) l ls (unnamed l.hook k.hook (hook_above l.hook k ls rising.0 (rw o at is)) ∙ sym o)
@@ -212,7 +213,7 @@ module _ {H E O : Type 0} (gives : H → E → Result O AllocError → Type 0) (
   first_gives : (rs : List (Registration H)) (answer : Option (ℕ × Result O AllocError)) → hook_for id (map on_ctx rs) ≡ Some h → IsAnswerOfFirst gives event (filter (is_on id) rs) answer → IfSome answer (λ ran. gives h event ran.1)
   first_gives [] answer is of = cc
   first_gives (r ∷ rs) answer is of = ⊎_elim
-      (λ (y : same r.ctx id ≡ true). taken answer r.hook (some_same r.hook h (rw y at is)) r.id (rw y at of))
+      (λ (y : same r.ctx id ≡ true). taken answer r.hook (same_Some r.hook h (rw y at is)) r.id (rw y at of))
       (λ (n : same r.ctx id ≡ false). first_gives rs answer (rw n at is) (rw n at of))
       (cases_Bool (same r.ctx id))
     where

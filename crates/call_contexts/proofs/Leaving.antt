@@ -3,8 +3,10 @@ use Rattle.std.proofs.Common.{◌≡◌, refl, sym, ap, ◌∙◌, List, [], ◌
 use Rattle.std.specs.Prelude.{◌⊎◌, ◌||◌, ◌&&◌, not, is_some, map, filter, All, unwrap_or, option_and_then, option_map}
 use Rattle.std.specs.List.{list_any}
 use Rattle.std.specs.Option.{option_map_or}
-use Rattle.std.proofs.lemmas.Bool.{cases_Bool}
+use Rattle.std.proofs.lemmas.Bool.{cases_Bool, or_parts}
 use Rattle.std.proofs.lemmas.List.Elements.{All-weaker}
+use Rattle.std.proofs.Math.Bool.{or-false}
+use Rattle.std.proofs.lemmas.Option.{same_Some}
 use Rattle.context_tree.specs.declared.node.Kind.TheVariants.{Cancel, Value}
 use Rattle.context_tree.specs.Context.{Id, same, Releases, HasChild, held, ending, nearest, line}
 use Rattle.context_tree.specs.Tree.{TreeValue, StandsFor, is_live, is_among}
@@ -14,7 +16,7 @@ use Rattle.after_funcs.specs.Stands.{StandsFor as HooksStand}
 use Rattle.call_contexts.specs.declared.life.Life.{Life}
 use Rattle.call_contexts.specs.Standing.{seen, seen_conn, seen_call, value_in, without, closed, is_over, request_for, AreApart}
 use Rattle.call_contexts.specs.Sound.{TreeLaws, IsSound, IsLife, IsConn, IsHolder, IsFree, AreFree, Touches, kind_of, contexts, let_go, hook_of, kept_of, life_at, NoTwo, same_ctx, same_holder, owns, is_kept}
-use Rattle.call_contexts.proofs.Trees.{same_refl, same_true, same_turned, or_false, neither, not_both, some_same, shown, touch_released, released_held, call_value}
+use Rattle.call_contexts.proofs.Trees.{same_refl, same_true, same_turned, not_both, shown, touch_released, released_held, call_value}
 use Rattle.call_contexts.proofs.Making.{go_touches, gone_unheld}
 use Rattle.call_contexts.proofs.Apart.{conn_root, conn_base, base_far_conn, root_far_conn, root_far_holder, base_far_holder, conn_far_holder, holder_far_conn, holder_root, holder_base, conn_holder, root_far_call, base_far_call, conn_far_call, call_far_conn, call_far_holder, holder_far_call, call_root, call_base, conn_call, holder_call, Derives, origin}
 use Rattle.call_contexts.proofs.Lists.{any_map, all_stay, all_none, both_all, no_two_kept, found_in, found_any, owns_none, holders_apart, filtered, conns_filtered, among_none}
@@ -50,8 +52,8 @@ module _ {V H : Type 0} (laws : TreeLaws V) {f : AfterFuncs H} {base : Id} {conn
   far_both x ctx_far holder_far = of l.holder holder_far
     where
       of : (holder : Option Id) → ((h : Id) → holder ≡ Some h → same x h ≡ false) → is_among x (contexts l.ctx holder) ≡ false
-      of None hs = or_false (same x l.ctx) ∙ ctx_far
-      of (Some h) hs = rw ctx_far (or_false (same x h) ∙ hs h refl)
+      of None hs = or-false (same x l.ctx) ∙ ctx_far
+      of (Some h) hs = rw ctx_far (or-false (same x h) ∙ hs h refl)
 
   -- the context that has the call's request id
   holds : (h : Id) → l.holder ≡ Some h → (r : V) × (held h s.past ≡ Some (Value l.conn 0 r))
@@ -59,7 +61,7 @@ module _ {V H : Type 0} (laws : TreeLaws V) {f : AfterFuncs H} {base : Id} {conn
     where
       of : (holder : Option Id) → IsHolder s.past l.conn holder → holder ≡ Some h → (r : V) × (held h s.past ≡ Some (Value l.conn 0 r))
       of None hs e = cc
-      of (Some x) hs e = (hs.0, subst (λ z. held z s.past ≡ Some (Value l.conn 0 hs.0)) (some_same x h e) hs.1)
+      of (Some x) hs e = (hs.0, subst (λ z. held z s.past ≡ Some (Value l.conn 0 hs.0)) (same_Some x h e) hs.1)
 
   root_far : is_among s.root (contexts l.ctx l.holder) ≡ false
   root_far = far_both s.root (root_far_call s.past s.root base s.root_is s.base_is l is)
@@ -127,7 +129,7 @@ module _ {V H : Type 0} (laws : TreeLaws V) {f : AfterFuncs H} {base : Id} {conn
 
       of : (conn : Id) (holder : Option Id) → IsHolder s.past conn holder → holder ≡ Some l.ctx → ⊥
       of conn None hs e = cc
-      of conn (Some x) hs e = holder_call s.past s.root base s.root_is s.base_is l is x conn hs.0 hs.1 (some_same x l.ctx e)
+      of conn (Some x) hs e = holder_call s.past s.root base s.root_is s.base_is l is x conn hs.0 hs.1 (same_Some x l.ctx e)
 
   -- none but the call's own context derives from the one that has its request id
   no_other_child : (h : Id) → l.holder ≡ Some h → HasChild h (Releases l.ctx ∷ s.past) → ⊥
@@ -186,9 +188,9 @@ module _ {V H : Type 0} (laws : TreeLaws V) {f : AfterFuncs H} {base : Id} {conn
     gone_else x none = ⊎_elim
         (λ (y : owns x l ≡ true). gone_unheld l.ctx s.past l.holder x y)
         (λ (n : owns x l ≡ false).
-        let a = neither (same x s.root) _ none in
-        let b = neither (same x base) _ a.1 in
-        let c = neither (is_among x conns) (list_any (owns x) (filter (λ m. not (same m.ctx id)) calls)) b.1 in
+        let a = or_parts (same x s.root) _ none in
+        let b = or_parts (same x base) _ a.1 in
+        let c = or_parts (is_among x conns) (list_any (owns x) (filter (λ m. not (same m.ctx id)) calls)) b.1 in
         touches.held_is x n ∙ s.none_else x (rw (a.0, b.0, c.0, owns_none id x l calls s.distinct found n c.1) refl))
         (cases_Bool (owns x l))
 
@@ -231,7 +233,7 @@ module _ {V H : Type 0} (laws : TreeLaws V) {f : AfterFuncs H} {base : Id} {conn
 
       of : (conn : Id) (holder : Option Id) → IsHolder s.past conn holder → holder ≡ Some id → ⊥
       of conn None hs e = cc
-      of conn (Some x) hs e = conn_holder s.past s.root base s.root_is s.base_is x conn hs.0 hs.1 id id_is (sym (some_same x id e))
+      of conn (Some x) hs e = conn_holder s.past s.root base s.root_is s.base_is x conn hs.0 hs.1 id id_is (sym (same_Some x id e))
 
   pub conn_free : IsFree id s.past
   conn_free = record { is_held = ap is_some id_is; childless = no_call }
@@ -241,7 +243,7 @@ module _ {V H : Type 0} (laws : TreeLaws V) {f : AfterFuncs H} {base : Id} {conn
     close_touches = touch_released id s.past
 
     far : (x : Id) → same x id ≡ false → is_among x (id ∷ []) ≡ false
-    far x n = or_false (same x id) ∙ n
+    far x n = or-false (same x id) ∙ n
 
     root_apart : is_among s.root (id ∷ []) ≡ false
     root_apart = far s.root (root_far_conn s.past s.root base s.root_is s.base_is id id_is)
@@ -270,9 +272,9 @@ module _ {V H : Type 0} (laws : TreeLaws V) {f : AfterFuncs H} {base : Id} {conn
     close_else x gone = ⊎_elim
         (λ (y : same x id ≡ true). subst (λ z. held z (Releases id ∷ s.past) ≡ None) (sym (same_true x id y)) (released_held s.past id))
         (λ (n : same x id ≡ false).
-        let a = neither (same x s.root) _ gone in
-        let b = neither (same x base) _ a.1 in
-        let c = neither (is_among x (filter (λ c. not (same c id)) conns)) (list_any (owns x) calls) b.1 in
+        let a = or_parts (same x s.root) _ gone in
+        let b = or_parts (same x base) _ a.1 in
+        let c = or_parts (is_among x (filter (λ c. not (same c id)) conns)) (list_any (owns x) calls) b.1 in
         close_touches.held_is x (far x n) ∙ s.none_else x (rw (a.0, b.0, among_none id x conns n c.0, c.1) refl))
         (cases_Bool (same x id))
 
@@ -311,14 +313,14 @@ none_over slots id ls any = over_is slots id ls ∙ rw any refl
 pub request_seen : {V : Type 0} (slots : _) (id : Id) (l : Life) (ls : List Life) → life_at id ls ≡ Some l → request_for id (map (seen_call {V = V} slots) ls) ≡ option_and_then (value_in slots) l.holder
 request_seen slots id l [] found = cc
 request_seen slots id l (m ∷ ms) found = ⊎_elim
-    (λ (y : same m.ctx id ≡ true). rw y (ap (λ (k : Life). option_and_then (value_in slots) k.holder) (some_same m l (rw y at found))))
+    (λ (y : same m.ctx id ≡ true). rw y (ap (λ (k : Life). option_and_then (value_in slots) k.holder) (same_Some m l (rw y at found))))
     (λ (n : same m.ctx id ≡ false). rw n (request_seen slots id l ms (rw n at found)))
     (cases_Bool (same m.ctx id))
 
 pub no_request : {V : Type 0} (slots : _) (id : Id) (ls : List Life) → list_any (λ m. same m.ctx id) ls ≡ false → request_for id (map (seen_call {V = V} slots) ls) ≡ None
 no_request slots id [] none = refl
 no_request slots id (m ∷ ms) none =
-    let two = neither (same m.ctx id) (list_any (λ k. same k.ctx id) ms) none in
+    let two = or_parts (same m.ctx id) (list_any (λ k. same k.ctx id) ms) none in
     rw two.0 (no_request slots id ms two.1)
 
 module _ {V H : Type 0} (laws : TreeLaws V) {f : AfterFuncs H} {base : Id} {conns : List Id} {calls : List Life} {old : TreeValue (Unit {0}) V} (s : IsSound old f base conns calls)

@@ -3,14 +3,16 @@ use Rattle.std.proofs.Common.{◌≡◌, refl, sym, ap, ◌∙◌, List, [], ◌
 use Rattle.std.specs.Prelude.{◌⊎◌, ◌||◌, not, map, filter, All}
 use Rattle.std.specs.List.{list_any}
 use Rattle.std.specs.Option.{option_map_or}
-use Rattle.std.proofs.lemmas.Bool.{cases_Bool}
+use Rattle.std.proofs.lemmas.Bool.{cases_Bool, or_parts}
 use Rattle.std.proofs.lemmas.List.Elements.{All-nil, All-cons, All-head, All-tail}
+use Rattle.std.proofs.Math.Bool.{or-true}
+use Rattle.std.proofs.lemmas.Option.{same_Some}
 use Rattle.context_tree.specs.Context.{Id, same}
 use Rattle.context_tree.specs.Tree.{is_among}
 use Rattle.call_contexts.specs.declared.life.Life.{Life}
 use Rattle.call_contexts.specs.Standing.{Conn, is_conn}
 use Rattle.call_contexts.specs.Sound.{NoTwo, same_ctx, same_holder, owns, life_at}
-use Rattle.call_contexts.proofs.Trees.{same_refl, same_true, same_turned, some_same, neither}
+use Rattle.call_contexts.proofs.Trees.{same_refl, same_true, same_turned}
 
 pub any_map : {A B : Type 0} (p : B → Bool) (f : A → B) (xs : List A) → list_any p (map f xs) ≡ list_any (λ x. p (f x)) xs
 any_map p f [] = refl
@@ -27,7 +29,7 @@ any_append p (x ∷ xs) ys = ap (λ b. p x || b) (any_append p xs ys) ∙ or_or 
 pub all_stay : {A : Type 0} (p : A → Bool) (xs : List A) → list_any p xs ≡ false → filter (λ x. not (p x)) xs ≡ xs
 all_stay p [] is = refl
 all_stay p (x ∷ xs) is =
-    let two = neither (p x) (list_any p xs) is in
+    let two = or_parts (p x) (list_any p xs) is in
     rw two.0 (ap (λ l. x ∷ l) (all_stay p xs two.1))
 
 pub none_any : {A : Type 0} (p : A → Bool) (xs : List A) → All (λ x. p x ≡ false) xs → list_any p xs ≡ false
@@ -38,7 +40,7 @@ none_any p (x ∷ xs) all =
 
 pub all_none : {A : Type 0} (p : A → Bool) (xs : List A) → list_any p xs ≡ false → All (λ x. p x ≡ false) xs
 all_none p [] is = All-nil (λ x. p x ≡ false)
-all_none p (x ∷ xs) is = let two = neither (p x) (list_any p xs) is in All-cons (λ x. p x ≡ false) x xs two.0 (all_none p xs two.1)
+all_none p (x ∷ xs) is = let two = or_parts (p x) (list_any p xs) is in All-cons (λ x. p x ≡ false) x xs two.0 (all_none p xs two.1)
 
 pub both_all : {A : Type 0} (P Q : A → Type 0) (xs : List A) → All P xs → All Q xs → All (λ x. P x × Q x) xs
 both_all P Q [] ps qs = All-nil (λ x. P x × Q x)
@@ -47,7 +49,7 @@ both_all P Q (x ∷ xs) ps qs = All-cons (λ x. P x × Q x) x xs (All-head P x x
 any_kept : {A : Type 0} (p q : A → Bool) (xs : List A) → list_any p xs ≡ false → list_any p (filter q xs) ≡ false
 any_kept p q [] is = refl
 any_kept p q (x ∷ xs) is =
-    let two = neither (p x) (list_any p xs) is in
+    let two = or_parts (p x) (list_any p xs) is in
     ⊎_elim
     (λ (y : q x ≡ true). rw (y, two.0) (any_kept p q xs two.1))
     (λ (n : q x ≡ false). rw n (any_kept p q xs two.1))
@@ -83,7 +85,7 @@ module _ (id : Id) where
   found_in P l [] all is = cc
   found_in P l (m ∷ ms) all is = ⊎_elim
       (λ (y : same m.ctx id ≡ true).
-      let e : m ≡ l = some_same m l (rw y at is) in
+      let e : m ≡ l = same_Some m l (rw y at is) in
       (subst P e (All-head P m ms all), ap (λ (k : Life). k.ctx) (sym e) ∙ same_true m.ctx id y))
       (λ (n : same m.ctx id ≡ false). found_in P l ms (All-tail P m ms all) (rw n at is))
       (cases_Bool (same m.ctx id))
@@ -119,11 +121,11 @@ module _ (id : Id) where
   owns_none x l [] distinct is far none = cc
   owns_none x l (m ∷ ms) distinct is far none = ⊎_elim
       (λ (y : same m.ctx id ≡ true).
-      let e : m ≡ l = some_same m l (rw y at is) in
+      let e : m ≡ l = same_Some m l (rw y at is) in
       let rest : list_any (owns x) ms ≡ false = subst (λ ks. list_any (owns x) ks ≡ false) (all_stay (λ k. same k.ctx id) ms (gone_first m ms distinct.0 y)) (rw y at none) in
       rw (subst (λ k. owns x k ≡ false) (sym e) far) rest)
       (λ (n : same m.ctx id ≡ false).
-      let two = neither (owns x m) (list_any (owns x) (filter (λ k. not (same k.ctx id)) ms)) (rw n at none) in
+      let two = or_parts (owns x m) (list_any (owns x) (filter (λ k. not (same k.ctx id)) ms)) (rw n at none) in
       rw two.0 (owns_none x l ms distinct.1 (rw n at is) far two.1))
       (cases_Bool (same m.ctx id))
 
@@ -132,7 +134,7 @@ module _ (id : Id) where
   holders_apart l [] apart is = cc
   holders_apart l (m ∷ ms) apart is = ⊎_elim
       (λ (y : same m.ctx id ≡ true).
-      let e : m ≡ l = some_same m l (rw y at is) in
+      let e : m ≡ l = same_Some m l (rw y at is) in
       All-cons (λ k. (k.ctx ≡ id) ⊎ (same_holder l k ≡ false)) m ms (inl (same_true m.ctx id y))
       (rights ms (subst (λ k. All (λ j. same_holder k j ≡ false) ms) e (all_none (same_holder m) ms apart.0))))
       (λ (n : same m.ctx id ≡ false).
@@ -171,7 +173,7 @@ module _ (id : Id) where
       let here : same x c ≡ false = subst (λ z. same x z ≡ false) (sym (same_true c id y)) far in
       rw here (among_none x cs far (rw y at none)))
       (λ (n : same c id ≡ false).
-      let two = neither (same x c) (is_among x (filter (λ d. not (same d id)) cs)) (rw n at none) in
+      let two = or_parts (same x c) (is_among x (filter (λ d. not (same d id)) cs)) (rw n at none) in
       rw two.0 (among_none x cs far two.1))
       (cases_Bool (same c id))
 
@@ -179,8 +181,4 @@ module _ (id : Id) where
 
 pub known_last : (id : Id) (cs : List Conn) (ended : Bool) → is_conn id (cs ++ record { id = id; ended = ended } ∷ []) ≡ true
 known_last id [] ended = rw (same_refl id) refl
-known_last id (c ∷ cs) ended = rw (known_last id cs ended) (or_true (same c.id id))
-  where
-    or_true : (b : Bool) → (b || true) ≡ true
-    or_true true = refl
-    or_true false = refl
+known_last id (c ∷ cs) ended = rw (known_last id cs ended) (or-true (same c.id id))

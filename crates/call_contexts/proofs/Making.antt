@@ -2,14 +2,16 @@
 use Rattle.std.proofs.Common.{◌≡◌, refl, sym, ap, ◌∙◌, ℕ, List, [], ◌∷◌, Option, Some, None, Bool, true, false, ⊎_elim, subst}
 use Rattle.std.specs.Prelude.{◌||◌, is_some, nat_le, if◌then◌else◌, option_map, unwrap_or}
 use Rattle.std.specs.Option.{option_or}
-use Rattle.std.proofs.lemmas.Bool.{cases_Bool}
+use Rattle.std.proofs.lemmas.Bool.{cases_Bool, or_parts}
+use Rattle.std.proofs.Math.Bool.{or-false}
+use Rattle.std.proofs.lemmas.Option.{same_Some}
 use Rattle.context_tree.specs.declared.node.Kind.{Kind}
 use Rattle.context_tree.specs.declared.node.Kind.TheVariants.{Value}
 use Rattle.context_tree.specs.Context.{Id, same, Makes, Releases, held, ending}
 use Rattle.context_tree.specs.Frames.{is_due}
 use Rattle.context_tree.specs.Tree.{TreeValue, StandsFor, IsLawful, is_among}
 use Rattle.call_contexts.specs.Sound.{Op, TreeLaws, IsFree, AreFree, IsHolder, Touches, StandsAlike, contexts, kind_of, moment_of, with_holder, with_call, let_go, parent_of_call}
-use Rattle.call_contexts.proofs.Trees.{same_refl, same_true, same_turned, or_false, neither, far_one, far_new, touch_made, touch_released, touch_next, touch_more, touch_none, free_alike, made_held, released_held, alike, some_same, new_free, made_and_released}
+use Rattle.call_contexts.proofs.Trees.{same_refl, same_true, same_turned, far_one, far_new, touch_made, touch_released, touch_next, touch_more, touch_none, free_alike, made_held, released_held, alike, new_free, made_and_released}
 
 map_some : {A B : Type 0} (f : A → B) (o : Option A) → is_some (option_map f o) ≡ is_some o
 map_some f None = refl
@@ -34,7 +36,7 @@ module _ {V : Type 0} (past : List (Op V)) where
 
   -- one that has a request id has ended where its parent had
   pub holder_ended : (id conn : Id) (request_id : V) → is_some (ending id (Makes id (Value conn 0 request_id) 0 ∷ past)) ≡ is_some (ending conn past)
-  holder_ended id conn request_id = rw (same_refl id) (or_some _ None ∙ ap (λ b. b || false) (map_some _ (ending conn past)) ∙ or_false _)
+  holder_ended id conn request_id = rw (same_refl id) (or_some _ None ∙ ap (λ b. b || false) (map_some _ (ending conn past)) ∙ or-false _)
 
 module _ {V : Type 0} (laws : TreeLaws V) (ctx conn : Id) (at : Option ℕ) (now : ℕ) (past : List (Op V)) where
   -- both contexts are new
@@ -55,9 +57,9 @@ module _ {V : Type 0} (laws : TreeLaws V) (ctx conn : Id) (at : Option ℕ) (now
   call_touches (Some holder) None agree = cc
   call_touches (Some holder) (Some r) agree =
       touch_next (ctx ∷ holder ∷ []) past (Makes holder (Value conn 0 r) 0 ∷ past) (with_call ctx (Some holder) conn at now (Some r) past)
-      (touch_more (holder ∷ []) (ctx ∷ holder ∷ []) past (Makes holder (Value conn 0 r) 0 ∷ past) (λ x far. (neither (same x ctx) (same x holder || false) far).1) (touch_made holder (Value conn 0 r) 0 past))
+      (touch_more (holder ∷ []) (ctx ∷ holder ∷ []) past (Makes holder (Value conn 0 r) 0 ∷ past) (λ x far. (or_parts (same x ctx) (same x holder || false) far).1) (touch_made holder (Value conn 0 r) 0 past))
       (touch_more (ctx ∷ []) (ctx ∷ holder ∷ []) (Makes holder (Value conn 0 r) 0 ∷ past) (with_call ctx (Some holder) conn at now (Some r) past)
-      (λ x far. or_false (same x ctx) ∙ (neither (same x ctx) (same x holder || false) far).0) (touch_made ctx (kind_of holder at) (moment_of at now) (Makes holder (Value conn 0 r) 0 ∷ past)))
+      (λ x far. or-false (same x ctx) ∙ (or_parts (same x ctx) (same x holder || false) far).0) (touch_made ctx (kind_of holder at) (moment_of at now) (Makes holder (Value conn 0 r) 0 ∷ past)))
 
   -- what the call has
   pub call_held : (holder : Option Id) (request_id : Option V) → held ctx (with_call ctx holder conn at now request_id past) ≡ Some (kind_of (parent_of_call holder conn) at)
@@ -115,16 +117,16 @@ module _ {V : Type 0} (ctx : Id) (past : List (Op V)) where
   go_touches None = touch_released ctx past
   go_touches (Some holder) =
       touch_next (ctx ∷ holder ∷ []) past (Releases ctx ∷ past) (Releases holder ∷ Releases ctx ∷ past)
-      (touch_more (ctx ∷ []) (ctx ∷ holder ∷ []) past (Releases ctx ∷ past) (λ x far. or_false (same x ctx) ∙ (neither (same x ctx) (same x holder || false) far).0) (touch_released ctx past))
-      (touch_more (holder ∷ []) (ctx ∷ holder ∷ []) (Releases ctx ∷ past) (Releases holder ∷ Releases ctx ∷ past) (λ x far. (neither (same x ctx) (same x holder || false) far).1) (touch_released holder (Releases ctx ∷ past)))
+      (touch_more (ctx ∷ []) (ctx ∷ holder ∷ []) past (Releases ctx ∷ past) (λ x far. or-false (same x ctx) ∙ (or_parts (same x ctx) (same x holder || false) far).0) (touch_released ctx past))
+      (touch_more (holder ∷ []) (ctx ∷ holder ∷ []) (Releases ctx ∷ past) (Releases holder ∷ Releases ctx ∷ past) (λ x far. (or_parts (same x ctx) (same x holder || false) far).1) (touch_released holder (Releases ctx ∷ past)))
 
   pub gone_unheld : (holder : Option Id) (x : Id) → is_among x (contexts ctx holder) ≡ true → held x (let_go ctx holder past) ≡ None
   gone_unheld None x among =
-      let e : x ≡ ctx = same_true x ctx (sym (or_false (same x ctx)) ∙ among) in
+      let e : x ≡ ctx = same_true x ctx (sym (or-false (same x ctx)) ∙ among) in
       subst (λ z. held z (Releases ctx ∷ past) ≡ None) (sym e) (released_held past ctx)
   gone_unheld (Some holder) x among = ⊎_elim
       (λ (y : same holder x ≡ true). rw y refl)
-      (λ (n : same holder x ≡ false). let e : x ≡ ctx = same_true x ctx (sym (or_false (same x ctx)) ∙ ap (λ b. same x ctx || b) (sym (or_false (same x holder) ∙ same_turned x holder ∙ n)) ∙ among) in
+      (λ (n : same holder x ≡ false). let e : x ≡ ctx = same_true x ctx (sym (or-false (same x ctx)) ∙ ap (λ b. same x ctx || b) (sym (or-false (same x holder) ∙ same_turned x holder ∙ n)) ∙ among) in
       rw n (subst (λ z. held z (Releases ctx ∷ past) ≡ None) (sym e) (released_held past ctx)))
       (cases_Bool (same holder x))
 
@@ -149,7 +151,7 @@ module _ {V : Type 0} (laws : TreeLaws V) (conn : Id) (past : List (Op V)) (new 
   some_alike mid None request_id h is agree st goes = cc
   some_alike mid (Some x) None h is agree st goes = cc
   some_alike mid (Some x) (Some r) h is agree st goes =
-      let e : x ≡ h = some_same x h is in
+      let e : x ≡ h = same_Some x h is in
       let goes_x : IsFree x (Makes x (Value conn 0 r) 0 ∷ past) → StandsFor new (Releases x ∷ Makes x (Value conn 0 r) 0 ∷ past) =
       subst (λ z. IsFree z (Makes x (Value conn 0 r) 0 ∷ past) → StandsFor new (Releases z ∷ Makes x (Value conn 0 r) 0 ∷ past)) (sym e) goes in
       record {

@@ -2,7 +2,8 @@
 use Rattle.std.proofs.Common.{◌≡◌, refl, sym, ap, ◌∙◌, ℕ, List, [], ◌∷◌, Option, Some, None, Bool, true, false, ⊎_elim, is_none}
 use Rattle.std.specs.Prelude.{◌&&◌, ◌||◌, not, is_some, map, All, option_and_then, unwrap_or}
 use Rattle.std.proofs.lemmas.List.Elements.{All-nil, All-head, All-tail, All-weaker}
-use Rattle.std.proofs.lemmas.Bool.{cases_Bool}
+use Rattle.std.proofs.lemmas.Bool.{cases_Bool, or_parts}
+use Rattle.std.proofs.Math.Bool.{or-false, or-true}
 use Rattle.context_tree.specs.declared.node.Kind.{Kind}
 use Rattle.context_tree.specs.declared.node.Kind.TheVariants.{Background, Cancel, Value}
 use Rattle.context_tree.specs.Context.{Id, same, Makes, Cancels, Advances, held, chain, least, has_cancel, ending, deadline}
@@ -13,7 +14,7 @@ use Rattle.after_funcs.specs.Stands.{StandsFor as HooksStand}
 use Rattle.call_contexts.specs.declared.life.Life.{Life}
 use Rattle.call_contexts.specs.Standing.{Conn, Call, Slots, value_in, seen, seen_conn, seen_call, ends_if, is_conn, is_ended_conn, expired, all_ended}
 use Rattle.call_contexts.specs.Sound.{Op, TreeLaws, IsSound, IsLife, IsConn, IsHolder, kind_of, is_kept}
-use Rattle.call_contexts.proofs.Trees.{same_refl, same_true, same_turned, or_false, neither, shown, shown_request, advanced, struck, base_chain, conn_chain, call_hit, call_deadline, far_new, made_held}
+use Rattle.call_contexts.proofs.Trees.{same_refl, same_true, same_turned, shown, shown_request, advanced, struck, base_chain, conn_chain, call_hit, call_deadline, far_new, made_held}
 
 pub maps_agree : {A B : Type 0} (f g : A → B) (xs : List A) → All (λ x. f x ≡ g x) xs → map f xs ≡ map g xs
 maps_agree f g [] all = refl
@@ -29,13 +30,9 @@ map_twice f g (x ∷ xs) = ap (λ l. f (g x) ∷ l) (map_twice f g xs)
 pub maps_to : {A B C : Type 0} (f : A → C) (g : B → C) (h : A → B) (xs : List A) → All (λ x. f x ≡ g (h x)) xs → map f xs ≡ map g (map h xs)
 maps_to f g h xs all = maps_agree f (λ x. g (h x)) xs all ∙ map_twice g h xs
 
-or_last : (a : Bool) → (a || true) ≡ true
-or_last true = refl
-or_last false = refl
-
 or_any : (a b : Bool) → (a || (b || true)) ≡ true
 or_any true b = refl
-or_any false b = or_last b
+or_any false b = or-true b
 
 or_anywhere : (a b c : Bool) → (a || (b || (c || true))) ≡ (a || true)
 or_anywhere true b c = refl
@@ -109,9 +106,9 @@ module _ {V : Type 0} (laws : TreeLaws V) (root base : Id) (t : TreeValue (Unit 
 
   not_made : (x : Id) → is_kept root base [] [] x ≡ false → held {C = Unit {0}} {V = V} x (Makes base (Cancel root) 0 ∷ Makes root Background 0 ∷ []) ≡ None
   not_made x far =
-      let r = neither (same x root) (same x base || false) far in
+      let r = or_parts (same x root) (same x base || false) far in
       let one : same root x ≡ false = same_turned root x ∙ r.0 in
-      let two : same base x ≡ false = same_turned base x ∙ (neither (same x base) false r.1).0 in
+      let two : same base x ≡ false = same_turned base x ∙ (or_parts (same x base) false r.1).0 in
       rw (two, one) refl
 
   base_root : same base root ≡ false
@@ -152,7 +149,7 @@ module _ {V H : Type 0} (laws : TreeLaws V) {f : AfterFuncs H} {base : Id} {conn
     one_advanced x kind d is at = shown laws new (Advances now ∷ s.past) x kind st is ∙ advanced laws s.past x now d at ∙ ap (λ b. b || is_due now d) (sym (shown laws old s.past x kind s.tree_is is))
 
     untouched : (x : Id) (kind : Kind (Unit {0}) V) → held x s.past ≡ Some kind → deadline x s.past ≡ None → not (is_live new.slots x) ≡ not (is_live old.slots x)
-    untouched x kind is at = one_advanced x kind None is at ∙ or_false _
+    untouched x kind is at = one_advanced x kind None is at ∙ or-false _
 
     pub seen_expired : seen new.slots base conns calls ≡ expired now (seen old.slots base conns calls)
     seen_expired =
@@ -298,7 +295,7 @@ module _ {V H : Type 0} (laws : TreeLaws V) {f : AfterFuncs H} {base : Id} {conn
 
     pub seen_drained : seen new.slots base conns calls ≡ all_ended (seen old.slots base conns calls)
     seen_drained = seen_as new.slots base conns calls true _ _
-        (all_struck base (Cancel s.root) s.base_is ∙ rw (base_chain laws s.past lawful s.root base s.root_is s.base_is, same_refl base) (or_last _))
+        (all_struck base (Cancel s.root) s.base_is ∙ rw (base_chain laws s.past lawful s.root base s.root_is s.base_is, same_refl base) (or-true _))
         (maps_to (seen_conn new.slots) (λ c. record { id = c.id; ended = true }) (seen_conn old.slots) conns
         (All-weaker (IsConn base s.past) (λ c. seen_conn new.slots c ≡ record { id = c; ended = true }) all_conn conns s.conns_are))
         (maps_to (seen_call new.slots) (ends_if true) (seen_call old.slots) calls

@@ -2,6 +2,8 @@
 use Rattle.std.proofs.Common.{◌≡◌, refl, sym, ap, ◌∙◌, arith, rules, ℕ, List, [], ◌∷◌, Option, Some, None, Bool, true, false, inl, inr, ⊎_elim, subst}
 use Rattle.std.specs.Prelude.{◌⊎◌, ◌&&◌, ◌||◌, ◌↔◌, not, is_some, is_none, if◌then◌else◌, option_and_then, unwrap_or}
 use Rattle.std.proofs.lemmas.Bool.{cases_Bool}
+use Rattle.std.proofs.Math.Bool.{or-false}
+use Rattle.std.proofs.lemmas.Option.{same_Some}
 use Rattle.context_tree.specs.declared.released.Released.{Released}
 use Rattle.context_tree.specs.declared.released.Released.TheVariants.{Gone, HasChildren, Unknown}
 use Rattle.context_tree.specs.declared.node.Kind.{Kind}
@@ -23,20 +25,9 @@ same_true x y is = grind (arith, rules)
 pub same_turned : (x y : Id) → same x y ≡ same y x
 same_turned x y = grind (arith, rules)
 
-pub some_same : {A : Type 0} (a b : A) → Some a ≡ Some b → a ≡ b
-some_same a b is = cc
-
 pub option_cases : {A : Type 0} (x : Option A) → (x ≡ None) ⊎ ((a : A) × (x ≡ Some a))
 option_cases None = inl refl
 option_cases (Some a) = inr (a, refl)
-
-pub or_false : (b : Bool) → (b || false) ≡ b
-or_false true = refl
-or_false false = refl
-
-pub neither : (a b : Bool) → (a || b) ≡ false → (a ≡ false) × (b ≡ false)
-neither true b is = cc
-neither false b is = (refl, is)
 
 pub not_both : (b : Bool) → b ≡ true → b ≡ false → ⊥
 not_both true y n = cc
@@ -56,10 +47,10 @@ cannot false b = refl
 
 -- one that is held is no other
 pub far_one : (x id : Id) → same id x ≡ false → is_among x (id ∷ []) ≡ false
-far_one x id far = or_false (same x id) ∙ same_turned x id ∙ far
+far_one x id far = or-false (same x id) ∙ same_turned x id ∙ far
 
 pub one_far : (x id : Id) → is_among x (id ∷ []) ≡ false → same id x ≡ false
-one_far x id far = same_turned id x ∙ sym (or_false (same x id)) ∙ far
+one_far x id far = same_turned id x ∙ sym (or-false (same x id)) ∙ far
 
 -- ---- what the slots show
 
@@ -200,7 +191,7 @@ module _ {V : Type 0} where
 
   pub apart_kinds : (x y : Id) (k l : Kind (Unit {0}) V) (past : List (Op V)) → held x past ≡ Some k → held y past ≡ Some l → (k ≡ l → ⊥) → same x y ≡ false
   apart_kinds x y k l past xs ys other = ⊎_elim
-      (λ (h : same x y ≡ true). absurd (other (some_same k l (sym xs ∙ subst (λ z. held z past ≡ Some l) (sym (same_true x y h)) ys))))
+      (λ (h : same x y ≡ true). absurd (other (same_Some k l (sym xs ∙ subst (λ z. held z past ≡ Some l) (sym (same_true x y h)) ys))))
       (λ (n : same x y ≡ false). n)
       (cases_Bool (same x y))
 

@@ -3,6 +3,7 @@ use Rattle.std.proofs.Common.{◌≡◌, ℕ, suc, ◌+◌, ◌-◌, ◌<◌, �
 use Rattle.std.specs.List.{list_any, find}
 use Rattle.std.proofs.lemmas.List.{drop_all, take_all, length-drop}
 use Rattle.std.proofs.lemmas.List.Folds.{list_any-append}
+use Rattle.std.proofs.lemmas.Bool.{or_parts}
 use Rattle.call_plan.specs.declared.branch.Branch.{Branch}
 use Rattle.call_plan.specs.Plan.{has_repeat, names}
 
@@ -27,16 +28,12 @@ pub is_some-find : {X : Type 0} (p : X → Bool) (xs : List X) → is_some (find
 is_some-find p [] = refl
 is_some-find p (x ∷ xs) = some_or (p x) x _ _ (is_some-find p xs)
 
-neither : (a b : Bool) → (a || b) ≡ false → (a ≡ false) × (b ≡ false)
-neither true b h = cc
-neither false b h = (refl, h)
-
 -- a text that none equals, behind texts of which none stands twice
 pub has_repeat-push : (xs : List (List ℕ)) (y : List ℕ) → has_repeat xs ≡ false → list_any (λ x. bytes_eq x y) xs ≡ false → has_repeat (xs ++ y ∷ []) ≡ false
 has_repeat-push [] y once new = refl
 has_repeat-push (x ∷ xs) y once new =
-    let apart = neither (list_any (bytes_eq x) xs) (has_repeat xs) once in
-    let other = neither (bytes_eq x y) (list_any (λ z. bytes_eq z y) xs) new in
+    let apart = or_parts (list_any (bytes_eq x) xs) (has_repeat xs) once in
+    let other = or_parts (bytes_eq x y) (list_any (λ z. bytes_eq z y) xs) new in
     rw (list_any-append (bytes_eq x) xs (y ∷ []), apart.0, other.0) (has_repeat-push xs y apart.1 other.1)
 
 -- the names from place i on: the one there stands again behind it, or some other one stands twice

@@ -1,7 +1,7 @@
 -- A request's own timeout has ten digits at most.
-use Rattle.std.proofs.Common.{◌≡◌, ℕ, ◌+◌, ◌-◌, ◌≤◌, ◌<◌, ◌^◌, Bool, true, false, List, [], ◌∷◌, length, Option, None, Some, refl, ◌∙◌, subst, arith}
+use Rattle.std.proofs.Common.{◌≡◌, ℕ, ◌-◌, ◌≤◌, ◌<◌, ◌^◌, Bool, true, false, List, [], ◌∷◌, length, Option, None, Some, ◌∙◌, subst, arith}
 use Rattle.std.proofs.lemmas.Bool.Decides.{nat_tests}
-use Rattle.std.proofs.lemmas.Bool.{cond-true, cond-false}
+use Rattle.std.proofs.lemmas.Bool.{cond-true, cond-false, and_parts}
 use Rattle.std.specs.Prelude.{⊤, ◌&&◌, codes, nat_le, nat_lt, IfSome}
 use Rattle.std.specs.List.{list_all}
 use Rattle.std.specs.Result.{result_unwrap_or}
@@ -18,10 +18,6 @@ use Rattle.connect_codec.specs.Verdict.{bare_refusals, first_that_applies, proto
 use Rattle.connect_codec.specs.declared.verdict.Verdict.{Verdict}
 use Rattle.connect_codec.specs.declared.verdict.Verdict.TheVariants.{Ask, Bare, Fail}
 
-both_true : (a b : Bool) → (a && b) ≡ true → (a ≡ true) × (b ≡ true)
-both_true true b e = (refl, e)
-both_true false b e = absurd (cc)
-
 digit_low : (c : ℕ) → is_ascii_digit c ≡ true → digit_value c < 10
 digit_low c digit =
     let low : 48 ≤ c = grind (arith, nat_tests) in
@@ -34,13 +30,13 @@ digit_low c digit =
 all_digits : (text : List ℕ) → list_all is_ascii_digit text ≡ true → AllDigits 10 text
 all_digits [] e = tt
 all_digits (c ∷ text) e =
-    let b = both_true (is_ascii_digit c) (list_all is_ascii_digit text) e in
+    let b = and_parts (is_ascii_digit c) (list_all is_ascii_digit text) e in
     (digit_low c b.0, all_digits text b.1)
 
 decimal_low : (text : List ℕ) → is_decimal text ≡ true → digits_value 10 text ≤ MAX_DECIMAL
 decimal_low text e =
-    let a = both_true (nat_lt 0 (length text) && nat_le (length text) 10) (list_all is_ascii_digit text) e in
-    let b = both_true (nat_lt 0 (length text)) (nat_le (length text) 10) a.0 in
+    let a = and_parts (nat_lt 0 (length text) && nat_le (length text) 10) (list_all is_ascii_digit text) e in
+    let b = and_parts (nat_lt 0 (length text)) (nat_le (length text) 10) a.0 in
     let short_is : nat_le (length text) 10 ≡ true = b.1 in
     let short : length text ≤ 10 = grind (arith, nat_tests) in
     let less : digits_value 10 text < 10 ^ length text = digits_value-lt 10 text (all_digits text a.1) in

@@ -92,8 +92,7 @@ fn hand_in<R: Wait, H: ReplyHook + Drop, L: Ledger, J: Ledger, K: Ledger>(
     }
     state.book.moment(moment);
     let asking = state.book.is_asking();
-    // A moment starts no job, so no worker is woken. With no backend asked, a call that it ended has all its jobs yet to
-    // be taken: whoever takes them wakes the write sides with their results, which come at once.
+    // A moment starts no job, so no worker is woken. With no branch out there is no call that it could have ended.
     if asking {
         shared.replies.notify_all();
     }

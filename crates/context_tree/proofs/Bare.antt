@@ -2,12 +2,12 @@
 use Rattle.std.proofs.Common.{◌≡◌, refl, sym, ap, ◌∙◌, ℕ, List, Option, Some, None, true, false, ⊎_elim, option_map}
 use Rattle.std.specs.Prelude.{◌==◌, is_some, option_and_then}
 use Rattle.std.proofs.lemmas.Bool.{cases_Bool}
+use Rattle.std.proofs.lemmas.Option.{same_Some}
 use Rattle.std.specs.Option.{option_map_or}
 use Rattle.context_tree.specs.declared.node.Node.{Node}
 use Rattle.context_tree.specs.Context.{parent_of}
 use Rattle.context_tree.specs.Links.{bare, slot_of, parent_in, number_in}
 use Rattle.context_tree.specs.Tree.{numbered}
-use Rattle.context_tree.proofs.Lineage.{some_same}
 
 module _ {C V : Type 0} where
   pub bare_numbered : (n : ℕ) (o : Option (Node C V)) → bare (numbered n o) ≡ numbered n (bare o)
@@ -36,7 +36,7 @@ module _ {C V : Type 0} where
   -- a node that is there, where it is without its links
   pub bare_there : (o : Option (Node C V)) (m : Node C V) → bare o ≡ Some m → (n : Node C V) × (o ≡ Some n) × (n.kind ≡ m.kind)
   bare_there None m is = cc
-  bare_there (Some n) m is = (n, refl, ap (λ (k : Node C V). k.kind) (some_same _ m is))
+  bare_there (Some n) m is = (n, refl, ap (λ (k : Node C V). k.kind) (same_Some _ m is))
 
   -- slots that hold the same but for links
   pub same_there : (a b : Option (Node C V)) → bare a ≡ bare b → is_some a ≡ is_some b

@@ -1,16 +1,18 @@
 -- The places of a queue: one comes in behind the last, and any goes.
-use Rattle.std.proofs.Common.{◌≡◌, refl, sym, ap, subst, ◌∙◌, arith, rules, ℕ, zero, suc, ◌≤◌, List, [], ◌∷◌, ◌++◌, length, Option, Some, None, Bool, true, false, ⊎_elim}
+use Rattle.std.proofs.Common.{◌≡◌, refl, sym, ap, subst, ◌∙◌, arith, ℕ, zero, suc, ◌≤◌, List, [], ◌∷◌, ◌++◌, length, Option, Some, None, true, false, ⊎_elim}
 use Rattle.std.specs.Prelude.{◌||◌, ◌==◌, not, filter, is_some, is_none, if◌then◌else◌}
-use Rattle.std.proofs.lemmas.Bool.{cases_Bool, eqb-true, eq-eqb}
+use Rattle.std.proofs.lemmas.Bool.{cases_Bool, eqb-true, eq-eqb, or_parts, or_from}
+use Rattle.std.proofs.Math.Bool.{or-false}
+use Rattle.std.proofs.lemmas.Option.{same_Some}
 use Rattle.context_tree.specs.declared.queue.Place.{Place}
 use Rattle.context_tree.specs.Context.{Id, same}
 use Rattle.context_tree.specs.Links.{put}
 use Rattle.context_tree.specs.Walks.{is_in, first_key, AreApart, keys_of}
 use Rattle.context_tree.specs.Queue.{empty_place, joined, ids_from, IsChain, IsQueue}
-use Rattle.context_tree.proofs.Keys.{apart_push, in_append, in_left, in_right, neither, none}
+use Rattle.context_tree.proofs.Keys.{apart_push, in_append, in_left, in_right, swapped}
 use Rattle.context_tree.proofs.Linking.{put_other, put_same}
-use Rattle.context_tree.proofs.Lineage.{same_true, some_same}
-use Rattle.context_tree.proofs.Ordering.{or_none}
+use Rattle.context_tree.proofs.Lineage.{same_true}
+use Rattle.context_tree.proofs.Tests.{not_both}
 
 abbrev pub place : Option ℕ → Option ℕ → Option ℕ → Place
 place number before after = record { number = number; before = before; after = after }
@@ -40,32 +42,25 @@ in_here k ks = rw (eq-eqb k k refl) refl
 pub in_later : (k j : ℕ) (ks : List ℕ) → is_in k ks ≡ true → is_in k (j ∷ ks) ≡ true
 in_later k j ks is = in_right k (j ∷ []) ks is
 
-pub both_ways : (b : Bool) → b ≡ true → b ≡ false → ⊥
-both_ways true t f = cc
-both_ways false t f = cc
-
-swapped : (a b : ℕ) → (b == a) ≡ false → (a == b) ≡ false
-swapped a b is = grind (arith, rules)
-
 not_same : (a b : ℕ) → (a == b) ≡ false → a ≡ b → ⊥
-not_same a b other e = both_ways (a == b) (eq-eqb a b e) other
+not_same a b other e = not_both (a == b) (eq-eqb a b e) other
 
 not_some : (a b : ℕ) → (a == b) ≡ false → Some a ≡ Some b → ⊥
-not_some a b other e = not_same a b other (some_same a b e)
+not_some a b other e = not_same a b other (same_Some a b e)
 
 -- a key that is among some is none that is not
 out_other : (k j : ℕ) (ks : List ℕ) → is_in k ks ≡ false → is_in j ks ≡ true → (j == k) ≡ false
 out_other k j ks out here = ⊎_elim
-    (λ (yes' : (j == k) ≡ true). absurd (both_ways (is_in k ks) (subst (λ z. is_in z ks ≡ true) (eqb-true j k yes') here) out))
+    (λ (yes' : (j == k) ≡ true). absurd (not_both (is_in k ks) (subst (λ z. is_in z ks ≡ true) (eqb-true j k yes') here) out))
     (λ (no' : (j == k) ≡ false). no')
     (cases_Bool (j == k))
 
 pub first_in : (xs : List Id) (k : ℕ) → first_key (keys_of xs) ≡ Some k → is_in k (keys_of xs) ≡ true
 first_in [] k is = cc
-first_in (x ∷ xs) k is = rw (eq-eqb k x.1 (sym (some_same x.1 k is))) refl
+first_in (x ∷ xs) k is = rw (eq-eqb k x.1 (sym (same_Some x.1 k is))) refl
 
 pub last_in : (before : Option ℕ) (x : Id) (xs : List Id) (k : ℕ) → last_slot before (x ∷ xs) ≡ Some k → is_in k (keys_of (x ∷ xs)) ≡ true
-last_in before x [] k is = rw (eq-eqb k x.1 (sym (some_same x.1 k is))) refl
+last_in before x [] k is = rw (eq-eqb k x.1 (sym (same_Some x.1 k is))) refl
 last_in before x (y ∷ ys) k is = in_later k x.1 (keys_of (y ∷ ys)) (last_in (Some x.1) y ys k is)
 
 last_some : (k : ℕ) (xs : List Id) → is_none (last_slot (Some k) xs) ≡ false
@@ -133,14 +128,14 @@ module _ (at at2 : ℕ → Place) (id : Id) (last : Option ℕ) (is : (k : ℕ) 
   next_after : (y : Id) (after : Option ℕ) (ys : List Id) → IsChain at (Some y.1) after ys last → is_in y.1 (keys_of ys) ≡ false → put last (Some id.1) y.1 after ≡ (if is_none after then Some id.1 else after)
   next_after y after [] c out = put_same last (Some id.1) y.1 after c.1 ∙ sym (rw c.0 refl)
   next_after y after (z ∷ zs) c out =
-      put_other last (Some id.1) y.1 after (λ e. both_ways (is_in y.1 (keys_of (z ∷ zs))) (last_in (Some y.1) z zs y.1 (sym (last_is at (Some y.1) after last (z ∷ zs) c) ∙ e)) out) ∙ rw c.0 refl
+      put_other last (Some id.1) y.1 after (λ e. not_both (is_in y.1 (keys_of (z ∷ zs))) (last_in (Some y.1) z zs y.1 (sym (last_is at (Some y.1) after last (z ∷ zs) c) ∙ e)) out) ∙ rw c.0 refl
 
   push_chain : (before from : Option ℕ) (xs : List Id) → IsChain at before from xs last → AreApart (keys_of xs) → is_in id.1 (keys_of xs) ≡ false → (before ≡ Some id.1 → ⊥)
       → IsChain at2 before (if is_none from then Some id.1 else from) (xs ++ id ∷ []) (Some id.1)
   push_chain before from [] c own out other =
       (rw c.0 refl, None, new_place (λ e. other (sym c.1 ∙ e)) ∙ ap (λ b. place (Some id.0) b None) c.1, (refl, refl))
   push_chain before from (y ∷ ys) c own out other =
-      let n = neither (id.1 == y.1) (is_in id.1 (keys_of ys)) out in (
+      let n = or_parts (id.1 == y.1) (is_in id.1 (keys_of ys)) out in (
         rw c.0 refl,
         (if is_none c.1 then Some id.1 else c.1),
         other_place y.1 (swapped y.1 id.1 n.0) (Some y.0) before c.1 c.2 ∙ ap (place (Some y.0) before) (next_after y c.1 ys c.3 own.0),
@@ -163,7 +158,7 @@ module _ (at at2 : ℕ → Place) (id : Id) (last : Option ℕ) (is : (k : ℕ) 
         where
           by_items : (xs : List Id) → IsChain at None first xs last → is_in id.1 (keys_of xs) ≡ false → ⊥
           by_items [] c o = let bad : None ≡ Some id.1 = sym c.1 ∙ e in cc
-          by_items (x ∷ xs) c o = both_ways (is_in id.1 (keys_of (x ∷ xs))) (last_in None x xs id.1 (sym (last_is at None first last (x ∷ xs) c) ∙ e)) o
+          by_items (x ∷ xs) c o = not_both (is_in id.1 (keys_of (x ∷ xs))) (last_in None x xs id.1 (sym (last_is at None first last (x ∷ xs) c) ∙ e)) o
 
       here : (k : ℕ) → (k == id.1) ≡ true → is_some (at2 k).number ≡ is_in k (keys_of items ++ id.1 ∷ [])
       here k same =
@@ -173,7 +168,7 @@ module _ (at at2 : ℕ → Place) (id : Id) (last : Option ℕ) (is : (k : ℕ) 
       there : (k : ℕ) → (k == id.1) ≡ false → is_some (at2 k).number ≡ is_in k (keys_of items ++ id.1 ∷ [])
       there k other =
           ap (λ (p : Place). is_some p.number) (other_place k other (at k).number (at k).before (at k).after refl) ∙ q.only k
-          ∙ sym (in_append k (keys_of items) (id.1 ∷ []) ∙ ap (λ b. is_in k (keys_of items) || (b || false)) other ∙ or_none (is_in k (keys_of items)))
+          ∙ sym (in_append k (keys_of items) (id.1 ∷ []) ∙ ap (λ b. is_in k (keys_of items) || (b || false)) other ∙ or-false (is_in k (keys_of items)))
 
 -- ---- one goes
 
@@ -193,8 +188,8 @@ module _ (at at2 : ℕ → Place) (x : Id) (b a last : Option ℕ) (is : (k : �
   head_gone [] before from c own out b_is a_is = (a_is, rw a_is b_is)
   head_gone (z ∷ zs) before from c own out b_is a_is =
       let r = c.3 in
-      let n = neither (x.1 == z.1) (is_in x.1 (keys_of zs)) own.0 in
-      let not_b : b ≡ Some z.1 → ⊥ = λ e. both_ways (is_in z.1 (keys_of (x ∷ z ∷ zs))) (in_later z.1 x.1 (keys_of (z ∷ zs)) (in_here z.1 (keys_of zs))) (out z.1 (sym b_is ∙ e)) in (
+      let n = or_parts (x.1 == z.1) (is_in x.1 (keys_of zs)) own.0 in
+      let not_b : b ≡ Some z.1 → ⊥ = λ e. not_both (is_in z.1 (keys_of (x ∷ z ∷ zs))) (in_later z.1 x.1 (keys_of (z ∷ zs)) (in_here z.1 (keys_of zs))) (out z.1 (sym b_is ∙ e)) in (
         a_is,
         r.1,
         kept_place z.1 (swapped z.1 x.1 n.0) (Some z.0) (Some x.1) r.1 r.2
@@ -203,7 +198,7 @@ module _ (at at2 : ℕ → Place) (x : Id) (b a last : Option ℕ) (is : (k : �
             kept_place k (out_other x.1 k (keys_of zs) n.1 here) (at k).number (at k).before (at k).after refl
             ∙ place_same (at k).number _ (at k).before _ (at k).after
             (put_other a b k (at k).before (λ e. not_some z.1 k (swapped z.1 k (out_other z.1 k (keys_of zs) own.1.0 here)) (sym a_is ∙ e)))
-            (put_other b a k (at k).after (λ e. both_ways (is_in k (keys_of (x ∷ z ∷ zs))) (in_later k x.1 (keys_of (z ∷ zs)) (in_later k z.1 (keys_of zs) here)) (out k (sym b_is ∙ e)))))),
+            (put_other b a k (at k).after (λ e. not_both (is_in k (keys_of (x ∷ z ∷ zs))) (in_later k x.1 (keys_of (z ∷ zs)) (in_later k z.1 (keys_of zs) here)) (out k (sym b_is ∙ e)))))),
       )
 
   take_chain : (front back : List Id) (before from : Option ℕ) → IsChain at before from (front ++ x ∷ back) last → AreApart (keys_of (front ++ x ∷ back)) → ((k : ℕ) → before ≡ Some k → is_in k (keys_of (front ++ x ∷ back)) ≡ false)
@@ -214,20 +209,20 @@ module _ (at at2 : ℕ → Place) (x : Id) (b a last : Option ℕ) (is : (k : �
     from_past ys a c.1,
     kept_place y.1 (swapped y.1 x.1 (out_other y.1 x.1 (keys_of (ys ++ x ∷ back)) own.0 here)) (Some y.0) before c.1 c.2
         ∙ place_same (Some y.0) _ before _ (from_past ys a c.1) (put_other a b y.1 before not_a) (next_past ys b_is own.0),
-    take_chain ys back (Some y.1) c.1 c.3 own.1 (λ k e. subst (λ z. is_in z (keys_of (ys ++ x ∷ back)) ≡ false) (some_same y.1 k e) own.0) b_is a_is,
+    take_chain ys back (Some y.1) c.1 c.3 own.1 (λ k e. subst (λ z. is_in z (keys_of (ys ++ x ∷ back)) ≡ false) (same_Some y.1 k e) own.0) b_is a_is,
   )
     where
       here : is_in x.1 (keys_of (ys ++ x ∷ back)) ≡ true
       here = rw (keys_both ys (x ∷ back)) (in_right x.1 (keys_of ys) (keys_of (x ∷ back)) (in_here x.1 (keys_of back)))
 
       not_a : a ≡ Some y.1 → ⊥
-      not_a e = both_ways (is_in y.1 (keys_of (ys ++ x ∷ back)))
+      not_a e = not_both (is_in y.1 (keys_of (ys ++ x ∷ back)))
           (rw (keys_both ys (x ∷ back)) (in_right y.1 (keys_of ys) (keys_of (x ∷ back)) (in_later y.1 x.1 (keys_of back) (first_in back y.1 (sym a_is ∙ e)))))
           own.0
 
       next_past : (zs : List Id) → b ≡ last_slot (Some y.1) zs → is_in y.1 (keys_of (zs ++ x ∷ back)) ≡ false → put b a y.1 c.1 ≡ from_past zs a c.1
       next_past [] is' o = put_same b a y.1 c.1 is'
-      next_past (z ∷ zs) is' o = put_other b a y.1 c.1 (λ e. both_ways (is_in y.1 (keys_of (z ∷ zs ++ x ∷ back)))
+      next_past (z ∷ zs) is' o = put_other b a y.1 c.1 (λ e. not_both (is_in y.1 (keys_of (z ∷ zs ++ x ∷ back)))
           (ap (is_in y.1) (keys_both (z ∷ zs) (x ∷ back)) ∙ in_left y.1 (keys_of (z ∷ zs)) (keys_of (x ∷ back)) (last_in (Some y.1) z zs y.1 (sym is' ∙ e)))
           o)
 
@@ -235,16 +230,16 @@ module _ (at at2 : ℕ → Place) (x : Id) (b a last : Option ℕ) (is : (k : �
 apart_without : (xs : List ℕ) (k : ℕ) (ys : List ℕ) → AreApart (xs ++ k ∷ ys) → AreApart (xs ++ ys)
 apart_without [] k ys own = own.1
 apart_without (x ∷ xs) k ys own =
-    let n = neither (is_in x xs) (is_in x (k ∷ ys)) (sym (in_append x xs (k ∷ ys)) ∙ own.0) in
-    let m = neither (x == k) (is_in x ys) n.1 in
-    (in_append x xs ys ∙ none (is_in x xs) (is_in x ys) n.0 m.1, apart_without xs k ys own.1)
+    let n = or_parts (is_in x xs) (is_in x (k ∷ ys)) (sym (in_append x xs (k ∷ ys)) ∙ own.0) in
+    let m = or_parts (x == k) (is_in x ys) n.1 in
+    (in_append x xs ys ∙ or_from (is_in x xs) (is_in x ys) n.0 m.1, apart_without xs k ys own.1)
 
 apart_both : (xs : List ℕ) (k : ℕ) (ys : List ℕ) → AreApart (xs ++ k ∷ ys) → is_in k (xs ++ ys) ≡ false
 apart_both [] k ys own = own.0
 apart_both (x ∷ xs) k ys own =
-    let n = neither (is_in x xs) (is_in x (k ∷ ys)) (sym (in_append x xs (k ∷ ys)) ∙ own.0) in
-    let m = neither (x == k) (is_in x ys) n.1 in
-    none (k == x) (is_in k (xs ++ ys)) (swapped k x m.0) (apart_both xs k ys own.1)
+    let n = or_parts (is_in x xs) (is_in x (k ∷ ys)) (sym (in_append x xs (k ∷ ys)) ∙ own.0) in
+    let m = or_parts (x == k) (is_in x ys) n.1 in
+    or_from (k == x) (is_in k (xs ++ ys)) (swapped k x m.0) (apart_both xs k ys own.1)
 
 in_without : (xs : List ℕ) (k j : ℕ) (ys : List ℕ) → (j == k) ≡ false → is_in j (xs ++ k ∷ ys) ≡ is_in j (xs ++ ys)
 in_without [] k j ys other = rw other refl
@@ -294,7 +289,7 @@ taken at at2 front back x first last q is = record {
 filter_out : (id : Id) (xs : List Id) → is_in id.1 (keys_of xs) ≡ false → filter (λ x. not (same x id)) xs ≡ xs
 filter_out id [] out = refl
 filter_out id (x ∷ xs) out =
-    let n = neither (id.1 == x.1) (is_in id.1 (keys_of xs)) out in
+    let n = or_parts (id.1 == x.1) (is_in id.1 (keys_of xs)) out in
     let other : same x id ≡ false = other_slot x id (swapped x.1 id.1 n.0) in
     rw other (ap (λ l. x ∷ l) (filter_out id xs n.1))
 

@@ -1,9 +1,10 @@
 -- A cancel ends what its walk ends, and a moment what the walks of the timers end.
 use Rattle.std.proofs.Common.{◌≡◌, refl, sym, ap, subst, ◌∙◌, arith, ℕ, zero, suc, ◌+◌, ◌<◌, ◌≤◌, List, [], ◌∷◌, ◌++◌, length, map, Option, Some, None, Bool, true, false, ⊎_elim}
-use Rattle.std.specs.Prelude.{◌&&◌, ◌||◌, not, is_some, if◌then◌else◌}
-use Rattle.std.proofs.lemmas.Bool.{cases_Bool, and_parts, eq-eqb}
+use Rattle.std.specs.Prelude.{◌&&◌, not, is_some, if◌then◌else◌}
+use Rattle.std.proofs.lemmas.Bool.{cases_Bool, and_parts, eq-eqb, false_from_ne_true, or_right, or_left, and_from}
 use Rattle.std.proofs.lemmas.Cmp.{nat_eq_equiv}
 use Rattle.std.proofs.lemmas.Map.Made.{length-le_from_is_member}
+use Rattle.std.proofs.lemmas.Option.{same_Some}
 use Rattle.timer_heap.specs.Timers.{Timing}
 use Rattle.context_tree.specs.declared.error.CtxErr.TheVariants.{Canceled}
 use Rattle.context_tree.specs.declared.node.Ending.{Ending}
@@ -15,36 +16,12 @@ use Rattle.context_tree.specs.Tree.{TreeValue, node_at, is_among, IsLawful, Stan
 use Rattle.context_tree.specs.Walks.{is_in, keys_of, id_in, Start, IsWalk, IsWalked}
 use Rattle.context_tree.proofs.Enders.{Ender, ByCancel, op_of}
 use Rattle.context_tree.proofs.Keys.{distinct}
-use Rattle.context_tree.proofs.Lineage.{born, some_same, option_cases, follows_parent, same_true, same_refl}
+use Rattle.context_tree.proofs.Lineage.{born, option_cases, follows_parent, same_true, same_refl}
 use Rattle.context_tree.proofs.Marking.{in_slot}
 use Rattle.context_tree.proofs.Ordering.{among_filter}
+use Rattle.context_tree.proofs.Tests.{not_both, or_cases}
 use Rattle.context_tree.proofs.Underway.{begin, child_node, holds, id_shown, is_below, is_left, IsUnderway}
 use Rattle.context_tree.proofs.WalkEnds.{goes_on, over, took}
-
-not_both : (b : Bool) → b ≡ true → b ≡ false → ⊥
-not_both true t f = cc
-not_both false t f = cc
-
-unless : (b : Bool) → (b ≡ true → ⊥) → b ≡ false
-unless true other = absurd (other refl)
-unless false other = refl
-
-or_right : (a b : Bool) → b ≡ true → (a || b) ≡ true
-or_right true b is = refl
-or_right false b is = is
-
-or_left : (a b : Bool) → a ≡ true → (a || b) ≡ true
-or_left true b is = refl
-or_left false b is = cc
-
-or_cases : (a b : Bool) (P : Type 0) → (a || b) ≡ true → (a ≡ true → P) → (b ≡ true → P) → P
-or_cases true b P is f g = f refl
-or_cases false b P is f g = g is
-
-both : (a b : Bool) → a ≡ true → b ≡ true → (a && b) ≡ true
-both true true a b = refl
-both true false a b = cc
-both false b' a b = cc
 
 none_if : {A : Type 0} (b : Bool) (a : A) → b ≡ false → is_some (if b then Some a else None) ≡ false
 none_if b a is = rw is refl
@@ -74,7 +51,7 @@ module _ {C V : Type 0} where
   listed (HandsOut id ∷ past) x k is = listed past x k is
   listed (Releases id ∷ past) x k is = ⊎_elim
       (λ (yes' : same id x ≡ true). let bad : None ≡ Some k = rw yes' at is in cc)
-      (λ (no' : same id x ≡ false). among_filter (λ y. not (same id y)) x (held_ids past) ∙ both _ _ (listed past x k (rw no' at is)) (ap not no'))
+      (λ (no' : same id x ≡ false). among_filter (λ y. not (same id y)) x (held_ids past) ∙ and_from _ _ (listed past x k (rw no' at is)) (ap not no'))
       (cases_Bool (same id x))
 
   -- what a walk looked at beside its target derives from the target
@@ -96,10 +73,10 @@ module _ {C V : Type 0} where
       let on_p : is_member t (line p past) ≡ true = ap (λ z. is_member t (line z past)) (sym parent_is) ∙ below.on_line in
       let low_v : t.0 ≤ (id_in s.slots v.parent).0 = below.low in
       let low_p : (id_in s.slots v.parent).0 ≡ p.0 = ap (λ z. z.0) parent_is in
-      let other : same x t ≡ false = unless _ (λ same_id. let n : x.0 ≡ t.0 = ap (λ z. z.0) (same_true x t same_id) in omega (arith, n, less, low_v, low_p)) in
+      let other : same x t ≡ false = false_from_ne_true _ (λ same_id. let n : x.0 ≡ t.0 = ap (λ z. z.0) (same_true x t same_id) in omega (arith, n, less, low_v, low_p)) in
       let on : is_member t (line x past) ≡ true = rw (b.line_is, c.2.1) (or_right _ _ on_p) in
       key_of x (descendants t past) (among_filter (λ y. not (same y t) && is_member t (line y past)) x (held_ids past)
-      ∙ both _ _ (listed past x c.0.kind held_is) (both _ _ (ap not other) on))
+      ∙ and_from _ _ (listed past x c.0.kind held_is) (and_from _ _ (ap not other) on))
 
   few_visits : (e : Ender C) (past : List (TreeOp C V)) (s : Start C V) (before : List Id) (timers : Timing) (ended : List Id) (u : IsUnderway e past s.slots s.done before timers ended)
       (new : List (Option (Node C V))) (done2 : List Id) (timers2 : Timing) (visits : ℕ) (w : IsWalked s new done2 timers2 visits)
@@ -128,8 +105,8 @@ module _ {C V : Type 0} where
       ⊎_elim
       (λ (yes' : same x t ≡ true).
       let e : x ≡ t = same_true x t yes' in
-      let ke : k ≡ kt = some_same k kt (sym is ∙ ap (λ z. held z past) e ∙ t_held) in
-      rw b.chain_is (or_left _ _ (both _ _ yes' (ap can_cancel ke ∙ can))))
+      let ke : k ≡ kt = same_Some k kt (sym is ∙ ap (λ z. held z past) e ∙ t_held) in
+      rw b.chain_is (or_left _ _ (and_from _ _ yes' (ap can_cancel ke ∙ can))))
       (λ (no' : same x t ≡ false). ⊎_elim
       (λ (none : follows k ≡ None). let bad : false ≡ true = rw (b.chain_is, no', none) at on in cc)
       (λ (some : (p : Id) × (follows k ≡ Some p)).
@@ -162,7 +139,7 @@ module _ {C V : Type 0} where
       rw has refl in
       let next = goes_on e past s t.done t.timers [] u new done2 timers2 w.keys w.visited w.walk by (sym how_is) (sym target_is) gives (λ at m other. refl) refl in
       over e (record { slots = new; done = done2; timers = timers2; made = t.made; visits = visits }) past t.done ([] ++ map (id_in t.slots) w.keys) next st.queue st.contexts.made_is
-      (λ x k x_held x_live out. none_if (has_cancel id (chain x past)) by (unless _ (λ has.
+      (λ x k x_held x_live out. none_if (has_cancel id (chain x past)) by (false_from_ne_true _ (λ has.
       let on : is_member (id_in t.slots id.1) (chain x past) ≡ true = subst (λ z. is_member z (chain x past) ≡ true) (sym target_is) (has_member id (chain x past) has) in
       not_both _ (took e past s t.done t.timers [] u new done2 timers2 w.keys w.visited w.walk by (sym how_is) (sym target_is) gives (λ at m other. refl) refl x k x_held (rw x_live refl) on) out)))
       (subst (λ z. visits ≤ 1 + length (descendants z past)) target_is (few_visits e past s t.done t.timers [] u new done2 timers2 visits w))

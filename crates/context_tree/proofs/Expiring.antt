@@ -1,12 +1,12 @@
 -- A moment ends what the walks of the timers end that are due.
 use Rattle.std.proofs.Common.{◌≡◌, refl, sym, ap, subst, ◌∙◌, arith, ℕ, zero, suc, ◌+◌, ◌<◌, ◌≤◌, List, [], ◌∷◌, ◌++◌, length, map, Option, Some, None, Bool, true, false, inl, inr, ⊎_elim, option_map}
-use Rattle.std.specs.Prelude.{◌⊎◌, ◌&&◌, ◌||◌, ◌==◌, not, is_some, filter, min, nat_le, nat_lt, All}
+use Rattle.std.specs.Prelude.{◌⊎◌, ◌&&◌, ◌==◌, not, is_some, filter, min, nat_le, nat_lt, All}
 use Rattle.std.specs.Option.{option_map_or}
-use Rattle.std.proofs.lemmas.Bool.{cases_Bool, and_parts, eqb-true, eq-eqb, le-leb, lt-leb, ltb-true}
+use Rattle.std.proofs.lemmas.Bool.{cases_Bool, and_parts, eqb-true, eq-eqb, le-leb, lt-leb, ltb-true, or_right, or_left}
 use Rattle.std.proofs.lemmas.List.Elements.{All-head, All-tail, All-append, All-cons, All-weaker}
 use Rattle.std.proofs.lemmas.List.Folds.{list_any-append}
-use Rattle.timer_heap.specs.Timers.{Timer, Timing, without, popped}
-use Rattle.timer_heap.proofs.FirstDue.{popped_found, popped_none}
+use Rattle.std.proofs.lemmas.Option.{same_Some}
+use Rattle.timer_heap.specs.Timers.{IsFirstDue, Timer, Timing, without, popped}
 use Rattle.context_tree.specs.declared.error.CtxErr.TheVariants.{DeadlineExceeded}
 use Rattle.context_tree.specs.declared.node.Due.{Due}
 use Rattle.context_tree.specs.declared.node.Ending.{Ending}
@@ -21,14 +21,11 @@ use Rattle.context_tree.specs.Timed.{has_entry, if_sooner, deadline_above, time_
 use Rattle.context_tree.specs.Walks.{is_live_at, id_in, IsDueAt, Start, IsWalked}
 use Rattle.context_tree.proofs.Enders.{ByMoment, op_of}
 use Rattle.context_tree.proofs.Framing.{due_some, own_some}
-use Rattle.context_tree.proofs.Lineage.{born, some_same, option_cases, follows_parent, same_true}
+use Rattle.context_tree.proofs.Lineage.{born, option_cases, follows_parent, same_true}
+use Rattle.context_tree.proofs.Tests.{or_cases, is_some-map}
 use Rattle.context_tree.proofs.Timing.{not_before, stopped}
 use Rattle.context_tree.proofs.Underway.{id_shown, is_left, shown, up, IsUnderway}
 use Rattle.context_tree.proofs.WalkEnds.{goes_on, over}
-
-or_cases : (a b : Bool) (P : Type 0) → (a || b) ≡ true → (a ≡ true → P) → (b ≡ true → P) → P
-or_cases true b P is f g = f refl
-or_cases false b P is f g = g is
 
 and_none : (b : Bool) → (b && not true) ≡ false
 and_none true = refl
@@ -37,10 +34,6 @@ and_none false = refl
 and_all : (b : Bool) → (b && not false) ≡ b
 and_all true = refl
 and_all false = refl
-
-map_some : {A B : Type 0} (f : A → B) (o : Option A) → is_some (option_map f o) ≡ is_some o
-map_some f None = refl
-map_some f (Some a) = refl
 
 -- ---- timers
 
@@ -53,15 +46,20 @@ entry_from first at m (e ∷ es) later is = or_cases (e.at == at && e.id == m) (
     let from : first ≤ e.at = All-head (λ (d : Timer). first ≤ d.at) e es later in omega (arith, time, from))
     (λ rest. entry_from first at m es (All-tail (λ (d : Timer). first ≤ d.at) e es later) rest)
 
+-- which timer is popped, and when none is
+pub record PopLaws : Type 0 where
+  pub found : (now : ℕ) (entries : List Timer) (e : Timer) → popped now entries ≡ Some e → IsFirstDue now entries e
+  pub none : (now : ℕ) (entries : List Timer) → popped now entries ≡ None → All (λ e. now < e.at) entries
+
 -- the timer that is popped waits, is due, and none comes before it
 pub record IsFirst (now : ℕ) (entries : List Timer) (e : Timer) : Type 0 where
   pub waits : has_entry e.at e.id entries ≡ true
   pub due : e.at ≤ now
   pub first : (at m : ℕ) → has_entry at m entries ≡ true → e.at ≤ at
 
-pub first_popped : (now : ℕ) (entries : List Timer) (e : Timer) → popped now entries ≡ Some e → IsFirst now entries e
-first_popped now entries e is =
-    let f = popped_found now entries e is in
+pub first_popped : PopLaws → (now : ℕ) (entries : List Timer) (e : Timer) → popped now entries ≡ Some e → IsFirst now entries e
+first_popped laws now entries e is =
+    let f = laws.found now entries e is in
     let stands : entries ≡ f.before ++ e ∷ f.after = f.stands in
     let itself : (e.at == e.at && e.id == e.id) ≡ true = rw (eq-eqb e.at e.at refl, eq-eqb e.id e.id refl) refl in
     let here : has_entry e.at e.id (e ∷ f.after) ≡ true = or_left (e.at == e.at && e.id == e.id) (has_entry e.at e.id f.after) itself in
@@ -74,17 +72,9 @@ first_popped now entries e is =
       due = f.due;
       first = λ at m has. entry_from e.at at m (f.before ++ e ∷ f.after) all (rw stands at has);
     }
-  where
-    or_right : (a b : Bool) → b ≡ true → (a || b) ≡ true
-    or_right true b is = refl
-    or_right false b is = is
 
-    or_left : (a b : Bool) → a ≡ true → (a || b) ≡ true
-    or_left true b is = refl
-    or_left false b is = cc
-
-pub none_first : (now : ℕ) (entries : List Timer) → popped now entries ≡ None → (at m : ℕ) → has_entry at m entries ≡ true → now + 1 ≤ at
-none_first now entries is at m has = entry_from (now + 1) at m entries (All-weaker (λ (d : Timer). now < d.at) (λ (d : Timer). now + 1 ≤ d.at) (λ y lt. omega (arith, lt)) entries (popped_none now entries is)) has
+pub none_first : PopLaws → (now : ℕ) (entries : List Timer) → popped now entries ≡ None → (at m : ℕ) → has_entry at m entries ≡ true → now + 1 ≤ at
+none_first laws now entries is at m has = entry_from (now + 1) at m entries (All-weaker (λ (d : Timer). now < d.at) (λ (d : Timer). now + 1 ≤ d.at) (λ y lt. omega (arith, lt)) entries (laws.none now entries is)) has
 
 filter_short : (p : Timer → Bool) (es : List Timer) → length (filter p es) ≤ length es
 filter_short p [] = omega arith
@@ -105,9 +95,9 @@ shorter at m (e ∷ es) is = ⊎_elim
     (cases_Bool (e.id == m))
 
 -- after a pop, and after more are stopped, fewer wait
-pub fewer_wait : (now : ℕ) (es : List Timer) (e : Timer) (p : Timer → Bool) → popped now es ≡ Some e → length (filter p (without e.id es)) < length es
-fewer_wait now es e p is =
-    let f = first_popped now es e is in
+pub fewer_wait : PopLaws → (now : ℕ) (es : List Timer) (e : Timer) (p : Timer → Bool) → popped now es ≡ Some e → length (filter p (without e.id es)) < length es
+fewer_wait laws now es e p is =
+    let f = first_popped laws now es e is in
     let less : length (without e.id es) < length es = shorter e.at e.id es f.waits in
     let short : length (filter p (without e.id es)) ≤ length (without e.id es) = filter_short p (without e.id es) in
     omega (arith, less, short)
@@ -119,16 +109,16 @@ sooner_at None above at is = cc
 sooner_at (Some a) None at is = (is, λ m bad. cc)
 sooner_at (Some a) (Some b) at is = ⊎_elim
     (λ (yes' : nat_lt a b ≡ true).
-    let e : a ≡ at = some_same a at (rw yes' at is) in
+    let e : a ≡ at = same_Some a at (rw yes' at is) in
     let lt : a < b = ltb-true a b yes' in
-    (ap Some e, λ m same_m. let k : b ≡ m = some_same b m same_m in omega (arith, lt, e, k)))
+    (ap Some e, λ m same_m. let k : b ≡ m = same_Some b m same_m in omega (arith, lt, e, k)))
     (λ (no' : nat_lt a b ≡ false). let bad : None ≡ Some at = rw no' at is in cc)
     (cases_Bool (nat_lt a b))
 
 least_low : (own rest : Option ℕ) (a : ℕ) → own ≡ Some a → (m : ℕ) × (sooner own rest ≡ Some m) × (m ≤ a)
 least_low None rest a is = cc
-least_low (Some b) None a is = (b, refl, let e : b ≡ a = some_same b a is in omega (arith, e))
-least_low (Some b) (Some c) a is = (min b c, refl, let e : b ≡ a = some_same b a is in omega (arith, e))
+least_low (Some b) None a is = (b, refl, let e : b ≡ a = same_Some b a is in omega (arith, e))
+least_low (Some b) (Some c) a is = (min b c, refl, let e : b ≡ a = same_Some b a is in omega (arith, e))
 
 module _ {C : Type 0} where
   -- of a due deadline and a later one, or one as late, the first
@@ -154,7 +144,7 @@ module _ {C V : Type 0} where
   own_is now x Background d is = cc
   own_is now x (Cancel parent) d is = cc
   own_is now x (Deadline parent at cause) d is = ⊎_elim
-      (λ (yes' : nat_le at now ≡ true). let e = some_same _ d (rw yes' at is) in (ap (λ (o : Due C). Some o.at) e, sym (ap (λ (o : Due C). o.member) e)))
+      (λ (yes' : nat_le at now ≡ true). let e = same_Some _ d (rw yes' at is) in (ap (λ (o : Due C). Some o.at) e, sym (ap (λ (o : Due C). o.member) e)))
       (λ (no' : nat_le at now ≡ false). let bad : None ≡ Some d = rw no' at is in cc)
       (cases_Bool (nat_le at now))
   own_is now x (Value parent key value) d is = cc
@@ -174,7 +164,7 @@ module _ {C V : Type 0} where
       by_own : (own rest : Option ℕ) (m : ℕ) → rest ≡ Some m → m ≤ b.at → (l : ℕ) × (sooner own rest ≡ Some l) × (l ≤ b.at)
       by_own None rest m is le = (m, is, le)
       by_own (Some a) None m is le = cc
-      by_own (Some a) (Some c) m is le = (min a c, refl, let e : c ≡ m = some_same c m is in omega (arith, e, le))
+      by_own (Some a) (Some c) m is le = (min a c, refl, let e : c ≡ m = same_Some c m is in omega (arith, e, le))
 
   module _ (now : ℕ) (past : List (TreeOp C V)) (slots : List (Option (Node C V))) (done before : List Id) (timers : Timing) (ended : List Id) (u : IsUnderway (ByMoment now) past slots done before timers ended) where
     -- of one that is left, whose chain has the one whose timer comes first, that one's deadline is the first
@@ -185,11 +175,11 @@ module _ {C V : Type 0} where
         let b = born past u.lawful x k is in
         let o = own_is now t kt d own in
         let times = sooner_at (own_deadline kt) (deadline_above kt past) e.at time in
-        let at_is : d.at ≡ e.at = some_same d.at e.at (sym o.0 ∙ times.0) in
+        let at_is : d.at ≡ e.at = same_Some d.at e.at (sym o.0 ∙ times.0) in
         ⊎_elim
         (λ (yes' : same x t ≡ true).
         let same_id : x ≡ t = same_true x t yes' in
-        let ke : k ≡ kt = some_same k kt (sym is ∙ ap (λ z. held z past) same_id ∙ t_held) in
+        let ke : k ≡ kt = same_Some k kt (sym is ∙ ap (λ z. held z past) same_id ∙ t_held) in
         let own_x : own_due now (x, k) ≡ Some d = ap (λ z. own_due now (z, k)) same_id ∙ ap (λ z. own_due now (t, z)) ke ∙ own in
         rw (b.chain_is, own_x) (keeps_first d (first_due now (option_map_or (λ p. chain p past) (follows k) [])) (λ other other_is.
         let r = due_from now (option_map_or (λ p. chain p past) (follows k) []) other other_is in
@@ -259,16 +249,16 @@ module _ {C V : Type 0} where
     pub underway : IsUnderway (ByMoment now) past slots done before timers ended
 
   -- the first timer is popped, and the walk from its context is over
-  pub moment_on : (now : ℕ) (past : List (TreeOp C V)) (slots : List (Option (Node C V))) (done before : List Id) (timers popped_timers : Timing) → IsMoment now past slots done before timers
+  pub moment_on : PopLaws → (now : ℕ) (past : List (TreeOp C V)) (slots : List (Option (Node C V))) (done before : List Id) (timers popped_timers : Timing) → IsMoment now past slots done before timers
       → (e : Timer) → popped now timers.entries ≡ Some e → popped_timers ≡ record { entries = without e.id timers.entries; sets = timers.sets }
       → (id : Id) (d : Due C) (how : Ending C) → id ≡ id_in slots e.id → ((n : Node C V) → slot_of slots e.id ≡ Some n → own_due now (id_in slots e.id, n.kind) ≡ Some d)
       → how ≡ record { error = DeadlineExceeded; cause = cause_or DeadlineExceeded d.cause }
       → (new : List (Option (Node C V))) (done2 : List Id) (timers2 : Timing) (visits : ℕ)
       → IsWalked (record { slots = slots; done = done; timers = popped_timers; target = id.1; ending = how }) new done2 timers2 visits
       → IsMoment now past new done2 before timers2
-  moment_on now past slots done before timers popped_timers m e is popped_is id d how id_is due_is how_is new done2 timers2 visits walked =
+  moment_on laws now past slots done before timers popped_timers m e is popped_is id d how id_is due_is how_is new done2 timers2 visits walked =
       let u = m.underway in
-      let f = first_popped now timers.entries e is in
+      let f = first_popped laws now timers.entries e is in
       let x = expired now past slots done before timers m.ended u e f in
       let key : id.1 ≡ e.id = ap (λ (z : Id). z.1) id_is in
       let s : Start C V = record { slots = slots; done = done; timers = popped_timers; target = e.id; ending = how } in
@@ -286,15 +276,15 @@ module _ {C V : Type 0} where
       }
 
   -- no timer is left that is due
-  pub moment_over : (now : ℕ) (old t : TreeValue C V) (past : List (TreeOp C V)) → StandsFor old past → t.made ≡ old.made → t.visits ≡ old.visits → IsMoment now past t.slots t.done old.done t.timers → popped now t.timers.entries ≡ None
+  pub moment_over : PopLaws → (now : ℕ) (old t : TreeValue C V) (past : List (TreeOp C V)) → StandsFor old past → t.made ≡ old.made → t.visits ≡ old.visits → IsMoment now past t.slots t.done old.done t.timers → popped now t.timers.entries ≡ None
       → StandsFor t (Advances now ∷ past)
-  moment_over now old t past st made_is visits_is m none =
+  moment_over laws now old t past st made_is visits_is m none =
       let u = m.underway in
       over (ByMoment now) t past old.done m.ended u st.queue (made_is ∙ st.contexts.made_is)
       (λ x k is live out.
       let left : is_left past m.ended x ≡ true = rw (live, out) refl in
-      map_some (expiry (length past)) (first_due now (chain x past)) ∙ due_some now (chain x past) ∙ later (least (chain x past)) (λ at due.
-      not_before (is_left past m.ended) t.timers past u.lawful u.timed (up (ByMoment now) past t.slots t.done old.done t.timers m.ended u) (now + 1) (none_first now t.timers.entries none) (x.0 + 1) x k at (omega arith) is left due))
+      is_some-map (expiry (length past)) (first_due now (chain x past)) ∙ due_some now (chain x past) ∙ later (least (chain x past)) (λ at due.
+      not_before (is_left past m.ended) t.timers past u.lawful u.timed (up (ByMoment now) past t.slots t.done old.done t.timers m.ended u) (now + 1) (none_first laws now t.timers.entries none) (x.0 + 1) x k at (omega arith) is left due))
       (let few : old.visits ≤ most_visits past = st.visits_few in rw visits_is few)
     where
       later : (o : Option ℕ) → ((at : ℕ) → o ≡ Some at → now + 1 ≤ at) → is_due now o ≡ false
@@ -310,7 +300,7 @@ some_not a is = cc
 -- what an answer of a pop tells of the timer
 pub popped_some : (o : Option Timer) (r : Option (ℕ × ℕ)) (at key : ℕ) → r ≡ option_map (λ e. (e.at, e.id)) o → r ≡ Some (at, key) → (e : Timer) × (o ≡ Some e) × (e.id ≡ key)
 popped_some None r at key is some = none_not (at, key) (sym is ∙ some)
-popped_some (Some e) r at key is some = (e, refl, let s : Some (e.at, e.id) ≡ Some (at, key) = sym is ∙ some in ap (λ p. p.1) (some_same (e.at, e.id) (at, key) s))
+popped_some (Some e) r at key is some = (e, refl, let s : Some (e.at, e.id) ≡ Some (at, key) = sym is ∙ some in ap (λ p. p.1) (same_Some (e.at, e.id) (at, key) s))
 
 pub popped_not : (o : Option Timer) (r : Option (ℕ × ℕ)) → r ≡ option_map (λ e. (e.at, e.id)) o → r ≡ None → o ≡ None
 popped_not None r is none = refl

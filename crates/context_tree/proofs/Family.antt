@@ -2,6 +2,7 @@
 use Rattle.std.proofs.Common.{◌≡◌, refl, sym, ap, subst, ◌∙◌, arith, ℕ, ◌^◌, ◌<◌, ◌≤◌, List, [], ◌∷◌, Option, Some, None, true, false, ⊎_elim, option_map}
 use Rattle.std.specs.Prelude.{◌==◌, is_some, is_none, option_and_then}
 use Rattle.std.proofs.lemmas.Bool.{cases_Bool, eqb-true}
+use Rattle.std.proofs.lemmas.Option.{same_Some}
 use Rattle.std.specs.Option.{option_map_or}
 use Rattle.context_tree.specs.declared.node.Node.{Node}
 use Rattle.context_tree.specs.Context.{Id, same, TreeOp, makes, parent_of, HasChild, is_waiting}
@@ -9,7 +10,7 @@ use Rattle.context_tree.specs.Links.{slot_of, parent_in, number_in, links_in, Is
 use Rattle.context_tree.specs.Tree.{TreeValue, EachBefore, ComesFirst, node_at, is_among, is_live, KnowsContexts, StandsFor}
 use Rattle.context_tree.specs.Walks.{is_in, keys_of, AreApart, IsReady}
 use Rattle.context_tree.proofs.Keys.{not_in}
-use Rattle.context_tree.proofs.Lineage.{held_low, born, same_refl, some_same}
+use Rattle.context_tree.proofs.Lineage.{held_low, born, same_refl}
 use Rattle.context_tree.proofs.Linking.{no_child}
 use Rattle.context_tree.proofs.Marking.{in_slot, node_in_slot}
 use Rattle.context_tree.proofs.Ordering.{among_first, among_later}
@@ -38,7 +39,7 @@ module _ {C V : Type 0} where
     where
       by_parent : (n : Node C V) → slot_of slots k ≡ Some n → (o : Option Id) → parent_of n.kind ≡ o → option_map (λ q. q.1) o ≡ Some p → Derived slots k p
       by_parent n slot_is None o_is e = cc
-      by_parent n slot_is (Some q) o_is e = record { node = n; slot_is = slot_is; parent = q; parent_is = o_is; slot_of_parent = some_same q.1 p e }
+      by_parent n slot_is (Some q) o_is e = record { node = n; slot_is = slot_is; parent = q; parent_is = o_is; slot_of_parent = same_Some q.1 p e }
 
       by_slot : (o : Option (Node C V)) → slot_of slots k ≡ o → option_and_then (λ n. option_map (λ q. q.1) (parent_of n.kind)) o ≡ Some p → Derived slots k p
       by_slot None o_is e = cc
@@ -80,7 +81,7 @@ module _ {C V : Type 0} where
   known_there slots (Some p) known = λ k is.
       let n = is_some_of (node_at slots p) known in
       let at : slot_of slots p.1 ≡ Some n.0 = (in_slot slots p n.0 n.1).slot_is in
-      rw (← some_same p.1 k is, at) refl
+      rw (← same_Some p.1 k is, at) refl
 
   -- the first child of a context derives from it
   pub first_derives : (t : TreeValue C V) (past : List (TreeOp C V)) (id : Id) (n : Node C V) → KnowsContexts t past → IsLinked t.slots → node_at t.slots id ≡ Some n
@@ -91,7 +92,7 @@ module _ {C V : Type 0} where
       let w = with_parent t past first.0 id.1 s d in
       let in_id = in_slot t.slots id n here in
       let in_parent = in_slot t.slots d.parent w.node w.node_is in
-      let same_node : w.node ≡ n = some_same w.node n (sym in_parent.slot_is ∙ ap (λ k. slot_of t.slots k) d.slot_of_parent ∙ in_id.slot_is) in
+      let same_node : w.node ≡ n = same_Some w.node n (sym in_parent.slot_is ∙ ap (λ k. slot_of t.slots k) d.slot_of_parent ∙ in_id.slot_is) in
       let number : d.parent.0 ≡ id.0 = sym in_parent.number_is ∙ ap (λ (m : Node C V). m.number) same_node ∙ in_id.number_is in
       record {
         child = (d.node.number, first.0);

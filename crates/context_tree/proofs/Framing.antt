@@ -2,7 +2,7 @@
 use Rattle.std.proofs.Common.{◌≡◌, refl, sym, ap, ◌∙◌, arith, ℕ, zero, suc, ◌+◌, ◌<◌, List, [], ◌∷◌, length, Option, Some, None, Bool, true, false, ⊎_elim, option_map}
 use Rattle.std.specs.Prelude.{◌&&◌, ◌||◌, if◌then◌else◌, is_some, nat_le, IfSome}
 use Rattle.std.specs.Option.{option_map_or}
-use Rattle.std.proofs.lemmas.Bool.{cases_Bool}
+use Rattle.std.proofs.lemmas.Bool.{cases_Bool, or_right, or_left, or_parts}
 use Rattle.std.proofs.lemmas.Bool.Decides.{nat_tests}
 use Rattle.context_tree.specs.declared.error.CtxErr.TheVariants.{DeadlineExceeded}
 use Rattle.context_tree.specs.declared.node.Due.{Due}
@@ -13,24 +13,9 @@ use Rattle.context_tree.specs.Frames.{is_due, was_made, makes_or_releases, relea
 use Rattle.context_tree.specs.Tree.{IsLawful}
 use Rattle.context_tree.proofs.Lineage.{held_low, born, same_true, option_cases, follows_parent}
 use Rattle.context_tree.proofs.LawLemmas.{other_id, child_ends}
-
-or_left : (a b : Bool) → a ≡ true → (a || b) ≡ true
-or_left true b is = refl
-or_left false b is = cc
-
-or_right : (a b : Bool) → b ≡ true → (a || b) ≡ true
-or_right true b is = refl
-or_right false b is = is
-
-neither : (a b : Bool) → (a || b) ≡ false → (a ≡ false) × (b ≡ false)
-neither true b is = cc
-neither false b is = (refl, is)
+use Rattle.context_tree.proofs.Tests.{is_some-map}
 
 -- ---- a moment
-
-map_some : {A B : Type 0} (f : A → B) (o : Option A) → is_some (option_map f o) ≡ is_some o
-map_some f None = refl
-map_some f (Some a) = refl
 
 sooner_due : (now : ℕ) (a b : Option ℕ) → is_due now (sooner a b) ≡ (is_due now a || is_due now b)
 sooner_due now None b = refl
@@ -75,7 +60,7 @@ module _ {C V : Type 0} where
       ∙ sym (sooner_due now (own_deadline m.1) (least ms))
 
   pub expires : (past : List (TreeOp C V)) (x : Id) (now : ℕ) → ending x past ≡ None → is_some (ending x (Advances now ∷ past)) ≡ is_due now (deadline x past)
-  expires past x now none = rw none (map_some (expiry (length past)) (first_due now (chain x past)) ∙ due_some now (chain x past))
+  expires past x now none = rw none (is_some-map (expiry (length past)) (first_due now (chain x past)) ∙ due_some now (chain x past))
 
   pub expires_so : (past : List (TreeOp C V)) (x : Id) (now : ℕ) → ending x past ≡ None → IfSome (ending x (Advances now ∷ past)) (λ e. e.error ≡ DeadlineExceeded)
   expires_so past x now none = rw none (if_expired (length past) (first_due now (chain x past)))
@@ -143,7 +128,7 @@ module _ {C V : Type 0} where
 
   unmade_chain : (past : List (TreeOp C V)) (x : Id) → was_made x past ≡ false → chain x past ≡ []
   unmade_chain [] x no' = refl
-  unmade_chain (Makes id kind now ∷ past) x no' = let n = neither (same id x) (was_made x past) no' in rw n.0 (unmade_chain past x n.1)
+  unmade_chain (Makes id kind now ∷ past) x no' = let n = or_parts (same id x) (was_made x past) no' in rw n.0 (unmade_chain past x n.1)
   unmade_chain (Cancels id cause ∷ past) x no' = unmade_chain past x no'
   unmade_chain (Advances now ∷ past) x no' = unmade_chain past x no'
   unmade_chain (HandsOut id ∷ past) x no' = unmade_chain past x no'
@@ -151,7 +136,7 @@ module _ {C V : Type 0} where
 
   pub unmade_unended : (past : List (TreeOp C V)) (x : Id) → was_made x past ≡ false → ending x past ≡ None
   unmade_unended [] x no' = refl
-  unmade_unended (Makes id kind now ∷ past) x no' = let n = neither (same id x) (was_made x past) no' in rw n.0 (unmade_unended past x n.1)
+  unmade_unended (Makes id kind now ∷ past) x no' = let n = or_parts (same id x) (was_made x past) no' in rw n.0 (unmade_unended past x n.1)
   unmade_unended (Cancels id cause ∷ past) x no' = rw (unmade_unended past x no', unmade_chain past x no') refl
   unmade_unended (Advances now ∷ past) x no' = rw (unmade_unended past x no', unmade_chain past x no') refl
   unmade_unended (HandsOut id ∷ past) x no' = unmade_unended past x no'

@@ -1,35 +1,16 @@
 -- Lists of keys, none of which stands twice.
-use Rattle.std.proofs.Common.{◌≡◌, refl, sym, ◌∙◌, arith, rules, ℕ, ◌<◌, ◌≤◌, List, [], ◌∷◌, ◌++◌, length, Bool, true, false, ⊎_elim}
+use Rattle.std.proofs.Common.{◌≡◌, refl, sym, ◌∙◌, arith, rules, ℕ, ◌<◌, ◌≤◌, List, [], ◌∷◌, ◌++◌, length, true, false, ⊎_elim}
 use Rattle.std.specs.Prelude.{◌||◌, ◌==◌}
 use Rattle.std.specs.List.{IsDistinct, AllByRecursion}
-use Rattle.std.proofs.lemmas.Bool.{cases_Bool, eqb-true, eq-eqb}
+use Rattle.std.proofs.lemmas.Bool.{cases_Bool, eqb-true, eq-eqb, or_right, or_left, or_parts, or_from}
 use Rattle.std.proofs.lemmas.List.Folds.{list_any-append}
 use Rattle.std.proofs.lemmas.Map.Steps.{length-le_from_distinct_below}
+use Rattle.std.proofs.Math.Bool.{or-false}
 use Rattle.context_tree.specs.Walks.{is_in, AreApart}
-use Rattle.context_tree.proofs.Ordering.{or_none}
-
-or_cases : (a b : Bool) (P : Type 0) → (a || b) ≡ true → (a ≡ true → P) → (b ≡ true → P) → P
-or_cases true b P is f g = f refl
-or_cases false b P is f g = g is
+use Rattle.context_tree.proofs.Tests.{or_cases}
 
 pub in_append : (k : ℕ) (xs ys : List ℕ) → is_in k (xs ++ ys) ≡ (is_in k xs || is_in k ys)
 in_append k xs ys = list_any-append (λ j. k == j) xs ys
-
-or_left : (a b : Bool) → a ≡ true → (a || b) ≡ true
-or_left true b is = refl
-or_left false b is = cc
-
-or_right : (a b : Bool) → b ≡ true → (a || b) ≡ true
-or_right true b is = refl
-or_right false b is = is
-
-pub neither : (a b : Bool) → (a || b) ≡ false → (a ≡ false) × (b ≡ false)
-neither true b is = cc
-neither false b is = (refl, is)
-
-pub none : (a b : Bool) → a ≡ false → b ≡ false → (a || b) ≡ false
-none true b is other = cc
-none false b is other = other
 
 pub in_left : (k : ℕ) (xs ys : List ℕ) → is_in k xs ≡ true → is_in k (xs ++ ys) ≡ true
 in_left k xs ys is = in_append k xs ys ∙ or_left _ _ is
@@ -41,7 +22,7 @@ pub in_cases : (k : ℕ) (xs ys : List ℕ) (P : Type 0) → is_in k (xs ++ ys) 
 in_cases k xs ys P is f g = or_cases _ _ P (sym (in_append k xs ys) ∙ is) f g
 
 pub in_one : (k j : ℕ) → is_in k (j ∷ []) ≡ true → k ≡ j
-in_one k j is = eqb-true k j (sym (or_none (k == j)) ∙ is)
+in_one k j is = eqb-true k j (sym (or-false (k == j)) ∙ is)
 
 pub in_last : (k : ℕ) (xs : List ℕ) → is_in k (xs ++ k ∷ []) ≡ true
 in_last k xs = in_right k xs (k ∷ []) (rw (eq-eqb k k refl) refl)
@@ -53,31 +34,28 @@ in_push k j xs P is f g = in_cases k xs (j ∷ []) P is f (λ h. g (in_one k j h
 pub not_in : (k : ℕ) (xs : List ℕ) → (is_in k xs ≡ true → ⊥) → is_in k xs ≡ false
 not_in k xs other = ⊎_elim (λ (y : is_in k xs ≡ true). absurd (other y)) (λ (n : is_in k xs ≡ false). n) (cases_Bool (is_in k xs))
 
+pub swapped : (a b : ℕ) → (b == a) ≡ false → (a == b) ≡ false
+swapped a b is = grind (arith, rules)
+
 pub apart_push : (xs : List ℕ) (k : ℕ) → AreApart xs → is_in k xs ≡ false → AreApart (xs ++ k ∷ [])
 apart_push [] k apart out = (refl, tt)
 apart_push (x ∷ xs) k apart out =
-    let n = neither (k == x) (is_in k xs) out in (
-      in_append x xs (k ∷ []) ∙ none _ _ apart.0 (or_none (x == k) ∙ swapped x k n.0),
+    let n = or_parts (k == x) (is_in k xs) out in (
+      in_append x xs (k ∷ []) ∙ or_from _ _ apart.0 (or-false (x == k) ∙ swapped x k n.0),
       apart_push xs k apart.1 n.1,
     )
-  where
-    swapped : (a b : ℕ) → (b == a) ≡ false → (a == b) ≡ false
-    swapped a b is = grind (arith, rules)
 
 -- of a list of which none stands twice, what is behind is not in front
 pub apart_front : (xs : List ℕ) (k : ℕ) (ys : List ℕ) → AreApart (xs ++ k ∷ ys) → is_in k xs ≡ false
 apart_front [] k ys apart = refl
 apart_front (x ∷ xs) k ys apart =
-    let n = neither (is_in x xs) (is_in x (k ∷ ys)) (sym (in_append x xs (k ∷ ys)) ∙ apart.0) in
-    let m = neither (x == k) (is_in x ys) n.1 in
-    none (k == x) (is_in k xs) (swapped k x m.0) (apart_front xs k ys apart.1)
-  where
-    swapped : (a b : ℕ) → (b == a) ≡ false → (a == b) ≡ false
-    swapped a b is = grind (arith, rules)
+    let n = or_parts (is_in x xs) (is_in x (k ∷ ys)) (sym (in_append x xs (k ∷ ys)) ∙ apart.0) in
+    let m = or_parts (x == k) (is_in x ys) n.1 in
+    or_from (k == x) (is_in k xs) (swapped k x m.0) (apart_front xs k ys apart.1)
 
 each_other : (x : ℕ) (xs : List ℕ) → is_in x xs ≡ false → AllByRecursion (λ y. (x == y) ≡ false) xs
 each_other x [] out = tt
-each_other x (y ∷ ys) out = let n = neither (x == y) (is_in x ys) out in (n.0, each_other x ys n.1)
+each_other x (y ∷ ys) out = let n = or_parts (x == y) (is_in x ys) out in (n.0, each_other x ys n.1)
 
 pub distinct : (xs : List ℕ) → AreApart xs → IsDistinct (λ a b. a == b) xs
 unfolding IsDistinct

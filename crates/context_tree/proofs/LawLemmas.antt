@@ -1,25 +1,23 @@
 -- Laws of endings and deadlines.
-use Rattle.std.proofs.Common.{◌≡◌, refl, sym, ap, ◌∙◌, arith, ℕ, ◌<◌, ◌≤◌, List, [], ◌∷◌, length, Option, Some, None, Bool, true, false, ⊎_elim, option_map}
-use Rattle.std.specs.Prelude.{◌&&◌, ◌||◌, if◌then◌else◌, is_some, option_and_then, min, nat_le}
+use Rattle.std.proofs.Common.{◌≡◌, refl, sym, ap, ◌∙◌, arith, ℕ, ◌<◌, ◌≤◌, List, [], ◌∷◌, length, Option, Some, None, Bool, true, false, ⊎_elim}
+use Rattle.std.specs.Prelude.{◌&&◌, if◌then◌else◌, is_some, option_and_then, min, nat_le}
 use Rattle.std.specs.Option.{option_or}
-use Rattle.std.proofs.lemmas.Bool.{cases_Bool}
+use Rattle.std.proofs.lemmas.Bool.{cases_Bool, or_right}
+use Rattle.std.proofs.lemmas.Option.{same_Some}
 use Rattle.context_tree.specs.declared.node.Due.{Due}
 use Rattle.context_tree.specs.declared.node.Kind.{Kind}
 use Rattle.context_tree.specs.Context.{Id, same, can_cancel, TreeOp, Makes, Cancels, Advances, HandsOut, Releases, Ended, makes, held, chain, follows, own_due, first_of, first_due, has_cancel, ends, ending, expiry, inherited, own_deadline, sooner, deadline}
 use Rattle.context_tree.specs.Tree.{IsLawful}
-use Rattle.context_tree.proofs.Lineage.{held_low, born, same_true, same_false, some_same, option_cases, follows_parent}
+use Rattle.context_tree.proofs.Lineage.{held_low, born, same_true, same_false, option_cases, follows_parent}
+use Rattle.context_tree.proofs.Tests.{is_some-map}
 
 or_some : {A : Type 0} (a b : Option A) → is_some b ≡ true → is_some (option_or a b) ≡ true
 or_some None b is = is
 or_some (Some a) b is = refl
 
-or_first : {A : Type 0} (a b : Option A) → is_some a ≡ true → is_some (option_or a b) ≡ true
+pub or_first : {A : Type 0} (a b : Option A) → is_some a ≡ true → is_some (option_or a b) ≡ true
 or_first None b is = cc
 or_first (Some a) b is = refl
-
-map_some : {A B : Type 0} (f : A → B) (o : Option A) → is_some (option_map f o) ≡ is_some o
-map_some f None = refl
-map_some f (Some a) = refl
 
 sooner_low : (own : Option ℕ) (at : ℕ) → (low : ℕ) × (sooner own (Some at) ≡ Some low) × (low ≤ at)
 sooner_low None at = (at, refl, omega arith)
@@ -32,10 +30,6 @@ first_some (Some a) (Some b) is = ⊎_elim
     (λ (yes' : nat_le b.at a.at ≡ true). rw yes' refl)
     (λ (no' : nat_le b.at a.at ≡ false). rw no' refl)
     (cases_Bool (nat_le b.at a.at))
-
-or_true : (a b : Bool) → b ≡ true → (a || b) ≡ true
-or_true true b is = refl
-or_true false b is = is
 
 is_some_if : {A : Type 0} (b : Bool) (x : A) → b ≡ true → is_some (if b then Some x else None) ≡ true
 is_some_if b x is = rw is refl
@@ -71,11 +65,11 @@ module _ {C V : Type 0} where
   ends_child past x p kind lawful is f turn (Cancels id cause) end =
       let b = born past lawful x kind is in
       let hit : has_cancel id (chain p past) ≡ true = some_if _ _ end in
-      is_some_if _ _ (rw (b.chain_is, f) (or_true (same x id && can_cancel kind) (has_cancel id (chain p past)) hit))
+      is_some_if _ _ (rw (b.chain_is, f) (or_right (same x id && can_cancel kind) (has_cancel id (chain p past)) hit))
   ends_child past x p kind lawful is f turn (Advances now) end =
       let b = born past lawful x kind is in
-      let hit : is_some (first_due now (chain p past)) ≡ true = sym (map_some (expiry turn) (first_due now (chain p past))) ∙ end in
-      map_some (expiry turn) (first_due now (chain x past)) ∙ rw (b.chain_is, f) (first_some (own_due now (x, kind)) (first_due now (chain p past)) hit)
+      let hit : is_some (first_due now (chain p past)) ≡ true = sym (is_some-map (expiry turn) (first_due now (chain p past))) ∙ end in
+      is_some-map (expiry turn) (first_due now (chain x past)) ∙ rw (b.chain_is, f) (first_some (own_due now (x, kind)) (first_due now (chain p past)) hit)
   ends_child past x p kind lawful is f turn (HandsOut id) end = end
   ends_child past x p kind lawful is f turn (Releases id) end = end
 
@@ -87,9 +81,9 @@ module _ {C V : Type 0} where
       let low : p.0 < x.0 = b.parent_low p (follows_parent kind p f) in
       let e : id ≡ x = same_true id x yes' in
       let apart : same id p ≡ false = same_false id p (λ s. let n : id.0 ≡ x.0 = ap (λ y. y.0) e in omega (arith, low, s, n)) in
-      let ke : k ≡ kind = some_same k kind (rw yes' at is) in
+      let ke : k ≡ kind = same_Some k kind (rw yes' at is) in
       let was : is_some (ending p past) ≡ true = rw apart at end in
-      rw yes' (or_first _ _ (map_some (inherited (length past) id) (option_and_then (λ q. ending q past) (follows k)) ∙ rw (ke, f) was)))
+      rw yes' (or_first _ _ (is_some-map (inherited (length past) id) (option_and_then (λ q. ending q past) (follows k)) ∙ rw (ke, f) was)))
       (λ (no' : same id x ≡ false).
       let old : held x past ≡ Some kind = rw no' at is in
       let b = born past lawful.2 x kind old in

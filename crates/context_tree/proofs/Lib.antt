@@ -1,3 +1,4 @@
+pub mod Tests
 pub mod Lineage
 pub mod Bare
 pub mod Linking

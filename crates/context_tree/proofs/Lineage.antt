@@ -3,6 +3,7 @@ use Rattle.std.proofs.Common.{◌≡◌, refl, ap, ◌∙◌, arith, rules, ℕ,
 use Rattle.std.specs.Prelude.{◌⊎◌}
 use Rattle.std.specs.Option.{option_map_or}
 use Rattle.std.proofs.lemmas.Bool.{cases_Bool}
+use Rattle.std.proofs.lemmas.Option.{same_Some}
 use Rattle.context_tree.specs.declared.node.Kind.{Kind}
 use Rattle.context_tree.specs.declared.node.Kind.TheVariants.{Background, Cancel, Deadline, Value, WithoutCancel}
 use Rattle.context_tree.specs.Context.{Id, same, TreeOp, Makes, Cancels, Advances, HandsOut, Releases, makes, held, line, chain, parent_of, follows}
@@ -16,9 +17,6 @@ same_true x y is = grind (arith, rules)
 
 pub same_false : (x y : Id) → (x.0 ≡ y.0 → ⊥) → same x y ≡ false
 same_false x y other = grind (arith, rules)
-
-pub some_same : {A : Type 0} (a b : A) → Some a ≡ Some b → a ≡ b
-some_same a b is = cc
 
 pub option_cases : {A : Type 0} (x : Option A) → (x ≡ None) ⊎ ((a : A) × (x ≡ Some a))
 option_cases None = inl refl
@@ -57,7 +55,7 @@ module _ {C V : Type 0} where
 
   held_parent : (o : Option Id) (past : List (TreeOp C V)) → ParentHeld o past → (p : Id) → o ≡ Some p → (k : Kind C V) × (held p past ≡ Some k)
   held_parent None past h p is = cc
-  held_parent (Some q) past h p is = let e : q ≡ p = some_same q p is in rw (← e) h
+  held_parent (Some q) past h p is = let e : q ≡ p = same_Some q p is in rw (← e) h
 
   -- a context that comes in has a new number, so what was said of those before it stays
   not_new : (past : List (TreeOp C V)) → IsLawful past → (id : Id) → id.0 ≡ makes past → (p : Id) (k : Kind C V) → held p past ≡ Some k → same id p ≡ false
@@ -80,7 +78,7 @@ module _ {C V : Type 0} where
   born (Makes id k now ∷ past) lawful x kind is = ⊎_elim
       (λ (yes' : same id x ≡ true).
       let e : id ≡ x = same_true id x yes' in
-      let ke : k ≡ kind = some_same k kind (rw yes' at is) in
+      let ke : k ≡ kind = same_Some k kind (rw yes' at is) in
       let parent : (p : Id) → parent_of k ≡ Some p → (q : Kind C V) × (held p past ≡ Some q) = held_parent (parent_of k) past lawful.1 in
       let other : (p : Id) → parent_of k ≡ Some p → same id p ≡ false = λ p pe. not_new past lawful.2 id lawful.0 p (parent p pe).0 (parent p pe).1 in
       rw (← e, ← ke) (record {

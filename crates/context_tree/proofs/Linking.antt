@@ -2,9 +2,10 @@
 use Rattle.std.proofs.Common.{◌≡◌, refl, sym, ap, subst, ◌∙◌, arith, ℕ, zero, suc, ◌+◌, ◌<◌, ◌≤◌, Option, Some, None, true, false, inl, inr, ⊎_elim}
 use Rattle.std.specs.Prelude.{◌⊎◌, ◌==◌, is_some, option_and_then}
 use Rattle.std.proofs.lemmas.Bool.{cases_Bool, cases_lt, eqb-true, eq-eqb}
+use Rattle.std.proofs.lemmas.Option.{same_Some}
 use Rattle.context_tree.specs.declared.node.Links.{Links}
 use Rattle.context_tree.specs.Links.{no_links, child_at, AreNext, AreLinked, is_at, put, where_none}
-use Rattle.context_tree.proofs.Lineage.{some_same, option_cases}
+use Rattle.context_tree.proofs.Lineage.{option_cases}
 
 -- ---- keys that may be there
 
@@ -20,7 +21,7 @@ at_true (Some a) k is = ap Some (eqb-true a k is)
 
 at_same : (o : Option ℕ) (k : ℕ) → o ≡ Some k → is_at o k ≡ true
 at_same None k is = cc
-at_same (Some a) k is = eq-eqb a k (some_same a k is)
+at_same (Some a) k is = eq-eqb a k (same_Some a k is)
 
 pub put_same : (at new : Option ℕ) (k : ℕ) (old : Option ℕ) → at ≡ Some k → put at new k old ≡ new
 put_same at new k old is = rw (at_same at k is) refl
@@ -71,7 +72,7 @@ module _ (up : ℕ → Option ℕ) (number : ℕ → ℕ) (links : ℕ → Links
       (λ (first : (links j).prev ≡ None). none_some _ j none (linked.begins j k is first))
       (λ (some : (i : ℕ) × ((links j).prev ≡ Some i)).
       let next = linked.next_is some.0 j (linked.prev_is j some.0 some.1) in
-      let same_parent : next.parent ≡ k = some_same next.parent k (sym next.second_up ∙ is) in
+      let same_parent : next.parent ≡ k = same_Some next.parent k (sym next.second_up ∙ is) in
       let less : number some.0 < number j = next.rises in
       childless n k some.0 none (omega (arith, less, low)) (next.first_up ∙ ap Some same_parent))
       (option_cases (links j).prev)
@@ -87,7 +88,7 @@ module _ (up : ℕ → Option ℕ) (number : ℕ → ℕ) (links : ℕ → Links
       (λ (some : (i : ℕ) × ((links j).prev ≡ Some i)).
       let on = linked.prev_is j some.0 some.1 in
       let next = linked.next_is some.0 j on in
-      let same_parent : next.parent ≡ k = some_same next.parent k (sym next.second_up ∙ is) in
+      let same_parent : next.parent ≡ k = same_Some next.parent k (sym next.second_up ∙ is) in
       let less : number some.0 < number j = next.rises in
       let before = reached n k some.0 (omega (arith, less, low)) (next.first_up ∙ ap Some same_parent) in
       (suc before.0, ap (option_and_then (λ m. (links m).next)) before.1 ∙ on))
@@ -121,7 +122,7 @@ module _ (up : ℕ → Option ℕ) (number : ℕ → ℕ) (links : ℕ → Links
       (λ (earlier : i < l). let low : number a < number before.0 = places_rise k i l a before.0 earlier ia before.1 in omega (arith, low, less))
       (λ (not_earlier : l ≤ i).
       let e : i ≡ l = omega (arith, lt, not_earlier) in
-      let same_child : a ≡ before.0 = some_same a before.0 (sym ia ∙ ap (child_at links k) e ∙ before.1) in
+      let same_child : a ≡ before.0 = same_Some a before.0 (sym ia ∙ ap (child_at links k) e ∙ before.1) in
       rw same_child less)
       (cases_lt i l)
 
@@ -185,7 +186,7 @@ module _ (up up2 : ℕ → Option ℕ) (number number2 : ℕ → ℕ) (links lin
       (λ (o : x ≡ k → ⊥). ⊎_elim
       (λ (here : (where_none last parent ≡ Some x) × (Some k ≡ Some j)).
       let w = where_none_is last parent x here.0 in
-      subst (λ z. (up2 z ≡ Some x) × ((links2 z).prev ≡ None)) (some_same k j here.1) (a.parent_is ∙ w.1, a.own_prev ∙ w.0))
+      subst (λ z. (up2 z ≡ Some x) × ((links2 z).prev ≡ None)) (same_Some k j here.1) (a.parent_is ∙ w.1, a.own_prev ∙ w.0))
       (λ (old : (where_none last parent ≡ Some x → ⊥) × ((links x).first ≡ Some j)).
       let f = linked.first_is x j old.1 in
       let other = not_free j x f.0 in
@@ -197,13 +198,13 @@ module _ (up up2 : ℕ → Option ℕ) (number number2 : ℕ → ℕ) (links lin
   new_last x j is = ⊎_elim
       (λ (e : x ≡ k). absurd (none_some (links2 k).last j a.own_last (ap (λ z. (links2 z).last) (sym e) ∙ is)))
       (λ (o : x ≡ k → ⊥). ⊎_elim
-      (λ (here : (parent ≡ Some x) × (Some k ≡ Some j)). subst (λ z. (up2 z ≡ Some x) × ((links2 z).next ≡ None)) (some_same k j here.1) (a.parent_is ∙ here.0, a.own_next))
+      (λ (here : (parent ≡ Some x) × (Some k ≡ Some j)). subst (λ z. (up2 z ≡ Some x) × ((links2 z).next ≡ None)) (same_Some k j here.1) (a.parent_is ∙ here.0, a.own_next))
       (λ (old : (parent ≡ Some x → ⊥) × ((links x).last ≡ Some j)).
       let f = linked.last_is x j old.1 in
       let other = not_free j x f.0 in
       let not_last : last ≡ Some j → ⊥ = λ l.
       let p = last_of j l in
-      let same_parent = some_same p.0 x (sym (linked.last_is p.0 j p.2).0 ∙ f.0) in
+      let same_parent = same_Some p.0 x (sym (linked.last_is p.0 j p.2).0 ∙ f.0) in
       old.0 (p.1 ∙ ap Some same_parent) in
       (a.others_up j other ∙ f.0, a.next_is j other ∙ put_other last (Some k) j (links j).next not_last ∙ f.1))
       (put_cases _ _ x _ (Some j) (sym (a.last_is x o) ∙ is)))
@@ -217,7 +218,7 @@ module _ (up up2 : ℕ → Option ℕ) (number number2 : ℕ → ℕ) (links lin
       let p = last_of x here.0 in
       let was = (linked.last_is p.0 x p.2).0 in
       let less : number x < number2 k = a.newest x p.0 was in
-      subst (λ z. AreNext up2 number2 links2 x z) (some_same k j here.1) (record {
+      subst (λ z. AreNext up2 number2 links2 x z) (same_Some k j here.1) (record {
         parent = p.0;
         first_up = a.others_up x o ∙ was;
         second_up = a.parent_is ∙ p.1;
@@ -378,7 +379,7 @@ module _ (up up2 : ℕ → Option ℕ) (number number2 : ℕ → ℕ) (links lin
       (λ (old : ((links k).prev ≡ Some x → ⊥) × ((links x).next ≡ Some j)).
       let f = linked.next_is x j old.1 in
       let other : j ≡ k → ⊥ = λ e. old.0 (ap (λ z. (links z).prev) (sym e) ∙ f.back) in
-      let not_next : (links k).next ≡ Some j → ⊥ = λ n. o (some_same x k (sym f.back ∙ (linked.next_is k j n).back)) in
+      let not_next : (links k).next ≡ Some j → ⊥ = λ n. o (same_Some x k (sym f.back ∙ (linked.next_is k j n).back)) in
       let less : number x < number j = f.rises in
       record {
         parent = f.parent;
@@ -399,7 +400,7 @@ module _ (up up2 : ℕ → Option ℕ) (number number2 : ℕ → ℕ) (links lin
       (λ (old : ((links k).next ≡ Some x → ⊥) × ((links x).prev ≡ Some j)).
       let back = linked.prev_is x j old.1 in
       let other : j ≡ k → ⊥ = λ e. old.0 (ap (λ z. (links z).next) (sym e) ∙ back) in
-      let not_prev : (links k).prev ≡ Some j → ⊥ = λ p. o (some_same x k (sym back ∙ linked.prev_is k j p)) in
+      let not_prev : (links k).prev ≡ Some j → ⊥ = λ p. o (same_Some x k (sym back ∙ linked.prev_is k j p)) in
       r.next_is j other ∙ put_other (links k).prev (links k).next j (links j).next not_prev ∙ back)
       (put_cases _ _ x _ (Some j) (sym (r.prev_is x o) ∙ is)))
       (apart x k)
@@ -420,7 +421,7 @@ module _ (up up2 : ℕ → Option ℕ) (number number2 : ℕ → ℕ) (links lin
       (λ (old : ((links k).next ≡ Some x → ⊥) × ((links x).prev ≡ None)).
       let first = linked.begins x p was old.1 in
       let not_at : where_none (links k).prev (up k) ≡ Some p → ⊥ = λ w.
-      let v = where_none_is (links k).prev (up k) p w in o (some_same x k (sym first ∙ linked.begins k p v.1 v.0)) in
+      let v = where_none_is (links k).prev (up k) p w in o (same_Some x k (sym first ∙ linked.begins k p v.1 v.0)) in
       r.first_is p other ∙ put_other _ (links k).next p (links p).first not_at ∙ first)
       (put_cases _ _ x _ None (sym (r.prev_is x o) ∙ none))
 
@@ -437,7 +438,7 @@ module _ (up up2 : ℕ → Option ℕ) (number number2 : ℕ → ℕ) (links lin
       (λ (old : ((links k).prev ≡ Some x → ⊥) × ((links x).next ≡ None)).
       let last = linked.ends x p was old.1 in
       let not_at : where_none (links k).next (up k) ≡ Some p → ⊥ = λ w.
-      let v = where_none_is (links k).next (up k) p w in o (some_same x k (sym last ∙ linked.ends k p v.1 v.0)) in
+      let v = where_none_is (links k).next (up k) p w in o (same_Some x k (sym last ∙ linked.ends k p v.1 v.0)) in
       r.last_is p other ∙ put_other _ (links k).prev p (links p).last not_at ∙ last)
       (put_cases _ _ x _ None (sym (r.next_is x o) ∙ none))
 

@@ -1,15 +1,12 @@
 -- The node in the slot of an id.
-use Rattle.std.proofs.Common.{◌≡◌, refl, ap, arith, rules, ℕ, zero, suc, ◌<◌, ◌≤◌, List, [], ◌∷◌, ◌++◌, length, Option, Some, None, true, false, ⊎_elim, slice_index_or}
+use Rattle.std.proofs.Common.{◌≡◌, refl, ap, arith, ℕ, zero, suc, ◌<◌, ◌≤◌, List, [], ◌∷◌, ◌++◌, length, Option, Some, None, true, false, ⊎_elim, slice_index_or}
 use Rattle.std.specs.Prelude.{◌||◌, ◌==◌}
-use Rattle.std.proofs.lemmas.Bool.{cases_Bool, cases_lt, eq-eqb}
+use Rattle.std.proofs.lemmas.Bool.{cases_Bool, cases_lt, eq-eqb, eqb-true}
 use Rattle.std.proofs.lemmas.List.Folds.{list_any-append}
+use Rattle.std.proofs.lemmas.Option.{same_Some}
 use Rattle.context_tree.specs.declared.node.Node.{Node}
 use Rattle.context_tree.specs.Context.{Id, same}
 use Rattle.context_tree.specs.Tree.{numbered, node_at, is_among}
-use Rattle.context_tree.proofs.Lineage.{some_same}
-
-eqb_true : (a b : ℕ) → (a == b) ≡ true → a ≡ b
-eqb_true a b is = grind (arith, rules)
 
 pub among_push : (x id : Id) (ids : List Id) → is_among x (ids ++ id ∷ []) ≡ (is_among x ids || (same x id || false))
 among_push x id ids = list_any-append (same x) ids (id ∷ [])
@@ -28,7 +25,7 @@ module _ {C V : Type 0} where
   in_slot_of : (o : Option (Node C V)) (k : ℕ) (n : Node C V) → numbered k o ≡ Some n → (o ≡ Some n) × (n.number ≡ k)
   in_slot_of None k n is = cc
   in_slot_of (Some m) k n is = ⊎_elim
-      (λ (yes' : (m.number == k) ≡ true). let e : m ≡ n = some_same m n (rw yes' at is) in (ap Some e, rw (← e) (eqb_true _ _ yes')))
+      (λ (yes' : (m.number == k) ≡ true). let e : m ≡ n = same_Some m n (rw yes' at is) in (ap Some e, rw (← e) (eqb-true _ _ yes')))
       (λ (no' : (m.number == k) ≡ false). let bad : None ≡ Some n = rw no' at is in cc)
       (cases_Bool (m.number == k))
 

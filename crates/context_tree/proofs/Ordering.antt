@@ -1,53 +1,39 @@
 -- Lists of ids, and what stands of each with each that comes later.
 use Rattle.std.proofs.Common.{◌≡◌, refl, sym, subst, ◌∙◌, List, [], ◌∷◌, ◌++◌, Bool, true, false, ⊎_elim}
-use Rattle.std.specs.Prelude.{◌&&◌, ◌||◌, filter}
+use Rattle.std.specs.Prelude.{◌&&◌, filter}
 use Rattle.std.specs.List.{list_any}
-use Rattle.std.proofs.lemmas.Bool.{cases_Bool}
+use Rattle.std.proofs.lemmas.Bool.{cases_Bool, or_right}
 use Rattle.std.proofs.lemmas.List.Folds.{list_any-append}
+use Rattle.std.proofs.Math.Bool.{and-false}
 use Rattle.context_tree.specs.Context.{Id, same}
 use Rattle.context_tree.specs.Tree.{is_among, EachBefore}
 use Rattle.context_tree.proofs.Lineage.{same_true, same_refl}
-
-pub or_none : (b : Bool) → (b || false) ≡ b
-or_none true = refl
-or_none false = refl
+use Rattle.context_tree.proofs.Tests.{or_cases}
 
 pub among_filter : (p : Id → Bool) (x : Id) (ids : List Id) → is_among x (filter p ids) ≡ (is_among x ids && p x)
 among_filter p x [] = refl
 among_filter p x (y ∷ ys) = ⊎_elim
     (λ (e : same x y ≡ true). let xy : x ≡ y = same_true x y e in ⊎_elim
     (λ (k : p y ≡ true). rw (k, e) (rw (xy, k) refl))
-    (λ (k : p y ≡ false). rw (k, among_filter p x ys, e) (rw (xy, k) (no_and (is_among y ys))))
+    (λ (k : p y ≡ false). rw (k, among_filter p x ys, e) (rw (xy, k) (and-false (is_among y ys))))
     (cases_Bool (p y)))
     (λ (e : same x y ≡ false). ⊎_elim
     (λ (k : p y ≡ true). rw (k, e) (among_filter p x ys))
     (λ (k : p y ≡ false). rw (k, e) (among_filter p x ys))
     (cases_Bool (p y)))
     (cases_Bool (same x y))
-  where
-    no_and : (b : Bool) → (b && false) ≡ false
-    no_and true = refl
-    no_and false = refl
-
-or_cases : (a b : Bool) (P : Type 0) → (a || b) ≡ true → (a ≡ true → P) → (b ≡ true → P) → P
-or_cases true b P is f g = f refl
-or_cases false b P is f g = g is
-
-or_true : (a b : Bool) → b ≡ true → (a || b) ≡ true
-or_true true b is = refl
-or_true false b is = is
 
 pub among_first : (x : Id) (xs : List Id) → is_among x (x ∷ xs) ≡ true
 among_first x xs = rw (same_refl x) refl
 
 pub among_later : (x y : Id) (xs : List Id) → is_among x xs ≡ true → is_among x (y ∷ xs) ≡ true
-among_later x y xs is = or_true (same x y) (is_among x xs) is
+among_later x y xs is = or_right (same x y) (is_among x xs) is
 
 pub any_of : (p : Id → Bool) (x : Id) (xs : List Id) → is_among x xs ≡ true → p x ≡ true → list_any p xs ≡ true
 any_of p x [] here is = cc
 any_of p x (y ∷ ys) here is = or_cases (same x y) (is_among x ys) _ here
     (λ first. let e : x ≡ y = same_true x y first in let hit : p y ≡ true = subst (λ z. p z ≡ true) e is in rw hit refl)
-    (λ later. or_true (p y) (list_any p ys) (any_of p x ys later is))
+    (λ later. or_right (p y) (list_any p ys) (any_of p x ys later is))
 
 pub none_of : (p : Id → Bool) (xs : List Id) → ((y : Id) → is_among y xs ≡ true → p y ≡ false) → list_any p xs ≡ false
 none_of p [] no' = refl

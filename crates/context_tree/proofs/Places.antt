@@ -6,13 +6,13 @@ use Rattle.std.specs.Slice.{IsItemAt}
 use Rattle.std.specs.Borrow.{Bor}
 use Rattle.std.proofs.lemmas.Bool.{cases_Bool, cases_lt, eqb-true, eq-eqb, ne_eqb}
 use Rattle.std.proofs.lemmas.List.{get_or-set_same, get_or-set_other, get_or_past, get_or_read, get_or_append_left, get_or-append_right, get_or-replicate, length-replicate, length-set, take_all, take-append-le}
+use Rattle.std.proofs.lemmas.Option.{same_Some}
 use Rattle.context_tree.specs.declared.queue.Place.{Place}
 use Rattle.context_tree.specs.Context.{Id, same}
 use Rattle.context_tree.specs.Walks.{is_in, first_key, keys_of}
 use Rattle.context_tree.specs.Queue.{QueueValue, empty_place, place_at, is_below, joined, items_in, IsQueue}
 use Rattle.context_tree.proofs.Keys.{few_below, in_left, in_right}
 use Rattle.context_tree.proofs.Linking.{apart}
-use Rattle.context_tree.proofs.Lineage.{some_same}
 use Rattle.context_tree.proofs.Chaining.{place, written, last_slot, keys_both, keys_long, in_here, in_later, first_in, last_in, last_is, number_is, before_is, after_is, chain_same, ids_are, pushed, taken, filter_one, filter_none}
 
 pub written_place : (places : List Place) (key : ℕ) (p : Place) → key < length places → (k : ℕ) → place_at (slice_set places key p) k ≡ written (place_at places) key p k
@@ -82,7 +82,7 @@ equal_true (Some a) n is = ap Some (eqb-true a n is)
 
 equal_false : (o : Option ℕ) (n : ℕ) → option_eq (λ (a b : ℕ). a == b) o (Some n) ≡ false → o ≡ Some n → ⊥
 equal_false None n is e = cc
-equal_false (Some a) n is e = let bad : true ≡ false = sym (eq-eqb a n (some_same a n e)) ∙ is in cc
+equal_false (Some a) n is e = let bad : true ≡ false = sym (eq-eqb a n (same_Some a n e)) ∙ is in cc
 
 below : (o : Option ℕ) (n : ℕ) → ((k : ℕ) → o ≡ Some k → k < n) → is_below o n ≡ true
 below None n low = refl
@@ -175,10 +175,10 @@ module _ (places : List Place) (v : QueueValue) (first last : Option ℕ) (view 
       by_items : (xs : List Id) → IsQueue (place_at places) first last xs → v.items ≡ xs → v.items ≡ (number, slot) ∷ left
       by_items [] r is = let bad : None ≡ Some slot = sym r.chain.0 ∙ first_is in cc
       by_items (x ∷ xs) r is =
-          let key : x.1 ≡ slot = some_same x.1 slot (sym r.chain.0 ∙ first_is) in
+          let key : x.1 ≡ slot = same_Some x.1 slot (sym r.chain.0 ∙ first_is) in
           let here : is_in slot (keys_of (x ∷ xs)) ≡ true = subst (λ z. is_in z (keys_of (x ∷ xs)) ≡ true) key (in_here x.1 (keys_of xs)) in
           let p_is : p ≡ place_at places slot = read_place places slot p (place_below places slot (r.only slot ∙ here)) read in
-          let own : x.0 ≡ number = some_same x.0 number (sym (number_is (place_at places) [] xs x None first last r.chain) ∙ ap (λ (s : ℕ). (place_at places s).number) key ∙ ap (λ (z : Place). z.number) (sym p_is) ∙ number_is') in
+          let own : x.0 ≡ number = same_Some x.0 number (sym (number_is (place_at places) [] xs x None first last r.chain) ∙ ap (λ (s : ℕ). (place_at places s).number) key ∙ ap (λ (z : Place). z.number) (sym p_is) ∙ number_is') in
           is ∙ ap (λ l. x ∷ l) (sym (goes [] xs x is key)) ∙ ap (λ n. (n, x.1) ∷ left) own ∙ ap (λ n. (number, n) ∷ left) key
 
   -- one that waits, by its id
@@ -186,7 +186,7 @@ module _ (places : List Place) (v : QueueValue) (first last : Option ℕ) (view 
       → ((front back : List Id) (x : Id) → v.items ≡ front ++ x ∷ back → x.1 ≡ id.1 → left ≡ front ++ back) → left ≡ filter (λ x. not (same x id)) v.items
   one_goes id left number goes =
       let s = split v.items id.1 (sym (queue.only id.1) ∙ ap is_some number) in
-      let own : s.id.0 ≡ id.0 = some_same s.id.0 id.0 (sym (number_is (place_at places) s.front s.back s.id None first last (rw s.parts at queue.chain)) ∙ ap (λ z. (place_at places z).number) s.key_is ∙ number) in
+      let own : s.id.0 ≡ id.0 = same_Some s.id.0 id.0 (sym (number_is (place_at places) s.front s.back s.id None first last (rw s.parts at queue.chain)) ∙ ap (λ z. (place_at places z).number) s.key_is ∙ number) in
       goes s.front s.back s.id s.parts s.key_is ∙ sym (ap (filter (λ x. not (same x id))) s.parts ∙ filter_one s.front s.back s.id id (rw s.parts at queue.apart) own s.key_is)
 
   -- where none of that id waits

@@ -4,30 +4,17 @@ use Rattle.std.specs.Prelude.{◌&&◌, ◌||◌, ◌==◌, not, nat_lt, if◌th
 use Rattle.std.specs.Option.{option_or}
 use Rattle.std.proofs.lemmas.Bool.{cases_Bool}
 use Rattle.std.proofs.lemmas.List.Folds.{list_any-append}
+use Rattle.std.proofs.Math.Bool.{or-false, or-true, and-true, and-false}
+use Rattle.std.proofs.lemmas.Option.{same_Some}
 use Rattle.context_tree.specs.declared.node.Due.{Due}
 use Rattle.context_tree.specs.declared.node.Kind.{Kind}
 use Rattle.context_tree.specs.Context.{Id, same, TreeOp, Makes, Cancels, Advances, HandsOut, Releases, Ended, makes, held, chain, follows, own_due, first_due, has_cancel, ends, ending, expiry, inherited, handed, is_waiting, precedes, IsFirstDone}
 use Rattle.context_tree.specs.Tree.{IsLawful, QueuesDone, ComesFirst, EachBefore, is_among}
 use Rattle.context_tree.proofs.Enders.{Ender, ByCancel, ByMoment, op_of}
-use Rattle.context_tree.proofs.Lineage.{held_low, same_true, same_false, same_refl, some_same, option_cases}
-use Rattle.context_tree.proofs.Ordering.{among_filter, among_first, each-append, each-filter, each-turns, or_none}
+use Rattle.context_tree.proofs.LawLemmas.{or_first}
+use Rattle.context_tree.proofs.Lineage.{held_low, same_true, same_false, same_refl, option_cases}
+use Rattle.context_tree.proofs.Ordering.{among_filter, among_first, each-append, each-filter, each-turns}
 use Rattle.context_tree.proofs.Standing.{among_end, is_some_of, same_false_sym}
-
-or_true : (b : Bool) → (b || true) ≡ true
-or_true true = refl
-or_true false = refl
-
-pub and_true : (b : Bool) → (b && true) ≡ b
-and_true true = refl
-and_true false = refl
-
-pub and_false : (b : Bool) → (b && false) ≡ false
-and_false true = refl
-and_false false = refl
-
-or_some : {A : Type 0} (a b : Option A) → is_some a ≡ true → is_some (option_or a b) ≡ true
-or_some None b is = cc
-or_some (Some a) b is = refl
 
 -- the parts of what waits
 waits : (a b c : Bool) → (a && b && not c) ≡ true → (a ≡ true) × (b ≡ true) × (c ≡ false)
@@ -38,7 +25,7 @@ waits false b c is = cc
 
 waits_if : {A B : Type 0} (o : Option A) (e : Option B) (h : Bool) → is_some o ≡ true → h ≡ false → (is_some o && is_some e && not h) ≡ is_some e
 waits_if None e h is no' = cc
-waits_if (Some a) e h is no' = rw no' (and_true (is_some e))
+waits_if (Some a) e h is no' = rw no' (and-true (is_some e))
 
 abbrev pub done_after : {C : Type 0} → Option (Ended C) → List Id → Id → List Id
 done_after e done id = if is_none e then done else done ++ id ∷ []
@@ -55,7 +42,7 @@ module _ {C : Type 0} where
   aside : (a b : Id) (ea eb : Ended C) → ea.turn ≡ eb.turn → same eb.member a ≡ false → precedes a b (Some ea) (Some eb) ≡ false
   aside a b ea eb is other =
       let not_less : nat_lt ea.turn eb.turn ≡ false = grind (arith, rules) in
-      rw (not_less, other) (and_false (ea.turn == eb.turn))
+      rw (not_less, other) (and-false (ea.turn == eb.turn))
 
   itself : (a : Id) (e : Option (Ended C)) → precedes a a e e ≡ false
   itself a None = refl
@@ -64,13 +51,13 @@ module _ {C : Type 0} where
       rw (not_less, same_refl a) (both_false (e.turn == e.turn) (same e.member a))
     where
       both_false : (b c : Bool) → (b && (c && false)) ≡ false
-      both_false true c = and_false c
+      both_false true c = and-false c
       both_false false c = refl
 
   or_turn : (a : Option (Ended C)) (b : Option (Due C)) (turn : ℕ) (id : Id) (e : Ended C) → option_or (option_map (inherited turn id) a) (option_map (expiry turn) b) ≡ Some e → e.turn ≡ turn
   or_turn None None turn id e is = cc
-  or_turn None (Some d) turn id e is = sym (ap (λ x. x.turn) (some_same (expiry turn d) e is))
-  or_turn (Some a) b turn id e is = sym (ap (λ x. x.turn) (some_same (inherited turn id a) e is))
+  or_turn None (Some d) turn id e is = sym (ap (λ x. x.turn) (same_Some (expiry turn d) e is))
+  or_turn (Some a) b turn id e is = sym (ap (λ x. x.turn) (same_Some (inherited turn id a) e is))
 
   or_either : (a b : Option (Ended C)) (e : Ended C) → option_or a b ≡ Some e → (n : ℕ) → ((x : Ended C) → a ≡ Some x → x.turn < n) → ((x : Ended C) → b ≡ Some x → x.turn < n) → e.turn < n
   or_either None b e is n f g = g e is
@@ -80,12 +67,12 @@ module _ {C V : Type 0} where
   pub ends_turn : (turn : ℕ) (x : Id) (past : List (TreeOp C V)) (op : TreeOp C V) (e : Ended C) → ends turn (chain x past) op ≡ Some e → e.turn ≡ turn
   ends_turn turn x past (Makes id kind now) e is = cc
   ends_turn turn x past (Cancels id cause) e is = ⊎_elim
-      (λ (yes' : has_cancel id (chain x past) ≡ true). sym (ap (λ x. x.turn) (some_same _ e (rw yes' at is))))
+      (λ (yes' : has_cancel id (chain x past) ≡ true). sym (ap (λ x. x.turn) (same_Some _ e (rw yes' at is))))
       (λ (no' : has_cancel id (chain x past) ≡ false). let bad : None ≡ Some e = rw no' at is in cc)
       (cases_Bool (has_cancel id (chain x past)))
   ends_turn turn x past (Advances now) e is = ⊎_elim
       (λ (none : first_due now (chain x past) ≡ None). let bad : None ≡ Some e = rw none at is in cc)
-      (λ (some : (d : Due C) × (first_due now (chain x past) ≡ Some d)). sym (ap (λ x. x.turn) (some_same _ e (rw some.1 at is))))
+      (λ (some : (d : Due C) × (first_due now (chain x past) ≡ Some d)). sym (ap (λ x. x.turn) (same_Some _ e (rw some.1 at is))))
       (option_cases (first_due now (chain x past)))
   ends_turn turn x past (HandsOut id) e is = cc
   ends_turn turn x past (Releases id) e is = cc
@@ -113,8 +100,8 @@ module _ {C V : Type 0} where
       let old = handed_ended past lawful.2 x is in
       let other : same id x ≡ false = same_false id x (λ e. omega (arith, old.0, lawful.0, e)) in
       (omega (arith, old.0), rw other old.1)
-  handed_ended (Cancels id cause ∷ past) lawful x is = let old = handed_ended past lawful x is in (old.0, or_some (ending x past) _ old.1)
-  handed_ended (Advances now ∷ past) lawful x is = let old = handed_ended past lawful x is in (old.0, or_some (ending x past) _ old.1)
+  handed_ended (Cancels id cause ∷ past) lawful x is = let old = handed_ended past lawful x is in (old.0, or_first (ending x past) _ old.1)
+  handed_ended (Advances now ∷ past) lawful x is = let old = handed_ended past lawful x is in (old.0, or_first (ending x past) _ old.1)
   handed_ended (HandsOut id ∷ past) lawful x is = ⊎_elim
       (λ (yes' : same id x ≡ true).
       let e : id ≡ x = same_true id x yes' in
@@ -201,11 +188,11 @@ module _ {C V : Type 0} where
       by_ending (Some e) e_is = record {
         are_waiting = λ x. ⊎_elim
             (λ (yes' : same id x ≡ true). let here : id ≡ x = same_true id x yes' in
-            subst (λ y. is_among y (done ++ id ∷ []) ≡ is_waiting y new) here (among_end id id done true (same_refl id) ∙ or_true (is_among id done) ∙ sym (is_new ∙ ap is_some e_is)))
-            (λ (no' : same id x ≡ false). among_end x id done false (same_false_sym id x no') ∙ or_none (is_among x done) ∙ q.are_waiting x ∙ rw no' refl)
+            subst (λ y. is_among y (done ++ id ∷ []) ≡ is_waiting y new) here (among_end id id done true (same_refl id) ∙ or-true (is_among id done) ∙ sym (is_new ∙ ap is_some e_is)))
+            (λ (no' : same id x ≡ false). among_end x id done false (same_false_sym id x no') ∙ or-false (is_among x done) ∙ q.are_waiting x ∙ rw no' refl)
             (cases_Bool (same id x));
         in_order = each-append (ComesFirst new) done (id ∷ []) order (λ y is. cc, tt) (λ x y xin yin.
-            let here : y ≡ id = same_true y id (sym (or_none (same y id)) ∙ yin) in
+            let here : y ≡ id = same_true y id (sym (or-false (same y id)) ∙ yin) in
             subst (λ z. ComesFirst new x z) (sym here) (last e e_is x xin));
       }
 
@@ -286,7 +273,7 @@ module _ {C V : Type 0} where
           let here : is_some (held x new) ≡ true = ap is_some (held_op e x past ∙ n.is_held) in
           rw (not_yet, yes') (sym (waits_if (held x new) (ending x new) (handed x new) here (handed_op e x past ∙ live_not_handed past lawful x n.was) ∙ ap is_some (now_is x n))))
           (λ (no' : is_among x ended ≡ false).
-          rw no' (or_none (is_among x done) ∙ q.are_waiting x ∙ same_waiting (held x past) (ending x past) _ (handed x past) (λ k is live. all_so x k is live no') ∙ sym (waiting_op e x past)))
+          rw no' (or-false (is_among x done) ∙ q.are_waiting x ∙ same_waiting (held x past) (ending x past) _ (handed x past) (λ k is live. all_so x k is live no') ∙ sym (waiting_op e x past)))
           (cases_Bool (is_among x ended))
         where
           none_waits : (a : Bool) (o : Option (Ended C)) (h : Bool) → o ≡ None → (a && is_some o && not h) ≡ false
@@ -355,14 +342,14 @@ module _ {C V : Type 0} where
       handed_now = rw (same_refl id) (and_no (is_some (held id past)) (is_some (ending id past)))
         where
           and_no : (a b : Bool) → (a && b && false) ≡ false
-          and_no true b = and_false b
+          and_no true b = and-false b
           and_no false b = refl
 
   pub release_queue : (past : List (TreeOp C V)) (id : Id) (done : List Id) → QueuesDone done past → QueuesDone (filter (λ x. not (same x id)) done) (Releases id ∷ past)
   release_queue past id done q = record {
     are_waiting = λ x. among_filter (λ y. not (same y id)) x done ∙ ⊎_elim
-        (λ (yes' : same id x ≡ true). let here : id ≡ x = same_true id x yes' in rw (yes', ← here, same_refl id) (and_false (is_among id done)))
-        (λ (no' : same id x ≡ false). rw (no', same_false_sym id x no') (and_true (is_among x done) ∙ q.are_waiting x))
+        (λ (yes' : same id x ≡ true). let here : id ≡ x = same_true id x yes' in rw (yes', ← here, same_refl id) (and-false (is_among id done)))
+        (λ (no' : same id x ≡ false). rw (no', same_false_sym id x no') (and-true (is_among x done) ∙ q.are_waiting x))
         (cases_Bool (same id x));
     in_order = each-turns (ComesFirst past) (ComesFirst (Releases id ∷ past)) _ (each-filter (ComesFirst past) _ done q.in_order) (λ x y xin yin r. r);
   }

@@ -4,12 +4,12 @@ use Rattle.std.specs.Prelude.{is_some, option_and_then}
 use Rattle.std.specs.Option.{option_map_or}
 use Rattle.std.proofs.lemmas.Bool.{cases_lt}
 use Rattle.std.proofs.lemmas.List.{get_or-set_same, get_or-set_other}
+use Rattle.std.proofs.lemmas.Option.{same_Some}
 use Rattle.context_tree.specs.declared.node.Ending.{Ending}
 use Rattle.context_tree.specs.declared.node.Links.{Links}
 use Rattle.context_tree.specs.declared.node.Node.{Node}
 use Rattle.context_tree.specs.Context.{parent_of}
 use Rattle.context_tree.specs.Links.{no_links, put, keep, where_none, slot_of, parent_in, number_in, links_in, IsLinked, bare, Relinks, IsThere, ArePlaced}
-use Rattle.context_tree.proofs.Lineage.{some_same}
 use Rattle.context_tree.proofs.Bare.{same_there, same_parent, same_number}
 use Rattle.context_tree.proofs.Linking.{apart, appended, same_linked, removed, no_child, put_other, put_same, where_none_is}
 
@@ -152,7 +152,7 @@ module _ {C V : Type 0} where
   set_link slots k n l is f j = ⊎_elim
       (λ (e : j ≡ k). ap (λ z. f (links_in (with_links slots k n l) z)) e ∙ ap (λ o. f (option_map_or (λ (m : Node C V). m.links) o no_links)) (set_here slots k n l is) ∙ sym (put_same (Some k) (f l) j (f (links_in slots j)) (ap Some (sym e))))
       (λ (o : j ≡ k → ⊥). ap (λ s. f (option_map_or (λ (m : Node C V). m.links) s no_links)) (set_other slots k n l j o)
-      ∙ sym (put_other (Some k) (f l) j (f (links_in slots j)) (λ s. o (sym (some_same k j s)))))
+      ∙ sym (put_other (Some k) (f l) j (f (links_in slots j)) (λ s. o (sym (same_Some k j s)))))
       (apart j k)
 
   -- a link of each node, where another one was written

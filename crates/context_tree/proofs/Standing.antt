@@ -2,7 +2,8 @@
 use Rattle.std.proofs.Common.{◌≡◌, refl, sym, ap, ◌∙◌, arith, rules, ℕ, ◌+◌, ◌^◌, ◌<◌, List, [], ◌∷◌, ◌++◌, length, Option, Some, None, Bool, true, false, ⊎_elim, option_map}
 use Rattle.std.specs.Prelude.{◌&&◌, ◌||◌, ◌==◌, if◌then◌else◌, is_some, is_none, option_and_then}
 use Rattle.std.specs.Option.{option_or, option_map_or}
-use Rattle.std.proofs.lemmas.Bool.{cases_Bool, lt-leb}
+use Rattle.std.proofs.lemmas.Bool.{cases_Bool, lt-leb, eqb-true}
+use Rattle.std.proofs.Math.Bool.{or-false}
 use Rattle.slab.specs.Slab.{Slab, get}
 use Rattle.context_tree.specs.declared.node.Ending.{Ending}
 use Rattle.context_tree.specs.declared.node.Due.{Due}
@@ -15,7 +16,6 @@ use Rattle.context_tree.specs.Tree.{TreeValue, numbered, node_at, ending_in, dea
 use Rattle.context_tree.proofs.Lineage.{same_true, same_refl}
 use Rattle.context_tree.proofs.Bare.{bare_numbered, bare_kind, bare_ending, bare_deadline, bare_some}
 use Rattle.context_tree.proofs.Marking.{among_push}
-use Rattle.context_tree.proofs.Ordering.{or_none}
 
 pub and_left : (a b : Bool) → (a && b) ≡ true → a ≡ true
 and_left true b is = refl
@@ -25,13 +25,6 @@ pub is_some_of : {A : Type 0} (o : Option A) → is_some o ≡ true → (a : A) 
 is_some_of None is = cc
 is_some_of (Some a) is = (a, refl)
 
-eqb_true : (a b : ℕ) → (a == b) ≡ true → a ≡ b
-eqb_true a b is = grind (arith, rules)
-
-or_true : (b : Bool) → (b || true) ≡ true
-or_true true = refl
-or_true false = refl
-
 pub same_false_sym : (a b : Id) → same a b ≡ false → same b a ≡ false
 same_false_sym a b is = ⊎_elim
     (λ (yes' : same b a ≡ true). let e : b ≡ a = same_true b a yes' in let bad : same a b ≡ true = rw e (same_refl a) in let no' : true ≡ false = sym bad ∙ is in cc)
@@ -39,7 +32,7 @@ same_false_sym a b is = ⊎_elim
     (cases_Bool (same b a))
 
 pub among_end : (x id : Id) (ids : List Id) (b : Bool) → same x id ≡ b → is_among x (ids ++ id ∷ []) ≡ (is_among x ids || b)
-among_end x id ids b is = among_push x id ids ∙ rw is (ap (λ r. is_among x ids || r) (or_none b))
+among_end x id ids b is = among_push x id ids ∙ rw is (ap (λ r. is_among x ids || r) (or-false b))
 
 told_or : {C : Type 0} (a : Option (Ended C)) (b : Option (Due C)) (turn : ℕ) (id : Id)
     → option_or (option_map told a) (option_map (λ d. told (expiry 0 d)) b) ≡ option_map told (option_or (option_map (inherited turn id) a) (option_map (expiry turn) b))
@@ -47,7 +40,7 @@ told_or None None turn id = refl
 told_or None (Some d) turn id = refl
 told_or (Some e) b turn id = refl
 
-told_none : {C : Type 0} (e : Option (Ended C)) → is_none (option_map told e) ≡ is_none e
+pub told_none : {C : Type 0} (e : Option (Ended C)) → is_none (option_map told e) ≡ is_none e
 told_none None = refl
 told_none (Some e) = refl
 
@@ -112,7 +105,7 @@ module _ {C V : Type 0} where
       → (x : Id) → numbered x.0 (new x.1) ≡ (if same id x then Some n else numbered x.0 (old x.1))
   node_put old new id n number vacant put others x = ⊎_elim
       (λ (slot : (id.1 == x.1) ≡ true).
-      let e : id.1 ≡ x.1 = eqb_true _ _ slot in
+      let e : id.1 ≡ x.1 = eqb-true _ _ slot in
       let new_is : new x.1 ≡ Some n = rw (← e) put in
       let old_is : old x.1 ≡ None = rw (← e) vacant in
       ⊎_elim

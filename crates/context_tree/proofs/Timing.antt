@@ -4,14 +4,17 @@ use Rattle.std.specs.Prelude.{◌⊎◌, ◌&&◌, ◌||◌, ◌==◌, not, is_n
 use Rattle.std.specs.Option.{option_map_or}
 use Rattle.std.proofs.lemmas.Bool.{cases_Bool, and_parts, or_cases, or_left, or_right, eqb-true, eq-eqb, ltb-false, ne_eqb}
 use Rattle.std.proofs.lemmas.List.Folds.{list_any-append}
+use Rattle.std.proofs.Math.Bool.{or-false, and-false}
+use Rattle.std.proofs.lemmas.Option.{same_Some}
 use Rattle.timer_heap.specs.Timers.{Timer, Timing, without}
 use Rattle.context_tree.specs.declared.node.Kind.{Kind}
 use Rattle.context_tree.specs.Context.{Id, same, TreeOp, Makes, HandsOut, Releases, makes, held, chain, parent_of, follows, own_deadline, sooner, least, deadline, ending}
 use Rattle.context_tree.specs.Tree.{IsLawful, ParentHeld}
 use Rattle.context_tree.specs.Timed.{has_entry, if_sooner, deadline_above, time_of, IsTimed, TimedBy, Timed}
 use Rattle.context_tree.proofs.Enders.{Ender, ByCancel, ByMoment, op_of}
-use Rattle.context_tree.proofs.Lineage.{born, same_true, same_refl, some_same, option_cases, follows_parent}
+use Rattle.context_tree.proofs.Lineage.{born, same_true, same_refl, option_cases, follows_parent}
 use Rattle.context_tree.proofs.LawLemmas.{other_id}
+use Rattle.context_tree.proofs.Tests.{and_not_parts, none_from_is_none}
 
 -- ---- the entries alone
 
@@ -19,18 +22,9 @@ use Rattle.context_tree.proofs.LawLemmas.{other_id}
 and_not : (a b : Bool) → a ≡ true → b ≡ false → (a && not b) ≡ true
 and_not a b kept stays = rw (kept, stays) refl
 
-not_both : (a b : Bool) → (a && not b) ≡ true → (a ≡ true) × (b ≡ false)
-not_both true false is = (refl, refl)
-not_both true true is = cc
-not_both false b is = cc
-
 -- the entry is that of this time and this id
 abbrev pub is_entry : ℕ → ℕ → Timer → Bool
 is_entry at id e = e.at == at && e.id == id
-
-and_false : (a : Bool) → (a && false) ≡ false
-and_false true = refl
-and_false false = refl
 
 -- a filter by the ids takes out the timers of those ids
 pub filtered : (at m : ℕ) (es : List Timer) (gone : ℕ → Bool) → has_entry at m (filter (λ e. not (gone e.id)) es) ≡ (has_entry at m es && not (gone m))
@@ -39,7 +33,7 @@ filtered at m (e ∷ es) gone = ⊎_elim
     (λ (out : gone e.id ≡ true). rw out (filtered at m es gone ∙ ⊎_elim
     (λ (hit : is_entry at m e ≡ true).
     let here : gone m ≡ true = subst (λ n. gone n ≡ true) (eqb-true e.id m (and_parts (e.at == at) (e.id == m) hit).1) out in
-    rw here (and_false (has_entry at m es) ∙ sym (and_false (is_entry at m e || has_entry at m es))))
+    rw here (and-false (has_entry at m es) ∙ sym (and-false (is_entry at m e || has_entry at m es))))
     (λ (miss : is_entry at m e ≡ false). ap (λ b. (b || has_entry at m es) && not (gone m)) (sym miss))
     (cases_Bool (is_entry at m e))))
     (λ (stays : gone e.id ≡ false). rw stays (ap (λ b. is_entry at m e || b) (filtered at m es gone) ∙ ⊎_elim
@@ -56,20 +50,12 @@ stopped at m n es = filtered at m es (λ k. k == n)
 
 -- one more is set
 pub entry_added : (at m : ℕ) (es : List Timer) (e : Timer) → has_entry at m (es ++ e ∷ []) ≡ (has_entry at m es || is_entry at m e)
-entry_added at m es e = list_any-append (is_entry at m) es (e ∷ []) ∙ ap (λ b. has_entry at m es || b) (or_none (is_entry at m e))
-  where
-    or_none : (b : Bool) → (b || false) ≡ b
-    or_none true = refl
-    or_none false = refl
+entry_added at m es e = list_any-append (is_entry at m) es (e ∷ []) ∙ ap (λ b. has_entry at m es || b) (or-false (is_entry at m e))
 
 -- ---- the entries and the contexts
 
 some_not : {A : Type 0} (a : A) → Some a ≡ None → ⊥
 some_not a is = cc
-
-none_of_is : {A : Type 0} (o : Option A) → is_none o ≡ true → o ≡ None
-none_of_is None is = refl
-none_of_is (Some a) is = cc
 
 module _ {C V : Type 0} where
   -- one that is held after a release is another one, and was held before it
@@ -110,7 +96,7 @@ module _ {C V : Type 0} where
     where
       by_parent : (o : Option Id) → ParentHeld o past → o ≡ Some p → (q : Kind C V) × (held p past ≡ Some q)
       by_parent None h is = cc
-      by_parent (Some r) h is = let e : r ≡ p = some_same r p is in subst (λ z. (q : Kind C V) × (held z past ≡ Some q)) e h
+      by_parent (Some r) h is = let e : r ≡ p = same_Some r p is in subst (λ z. (q : Kind C V) × (held z past ≡ Some q)) e h
 
   -- one that had a timer has it still
   timed_before : (at slot : ℕ) (past : List (TreeOp C V)) (id : Id) (kind : Kind C V) (now : ℕ) → IsLawful (Makes id kind now ∷ past) → IsTimed (λ x. is_none (ending x past)) at slot past → IsTimed (λ x. is_none (ending x (Makes id kind now ∷ past))) at slot (Makes id kind now ∷ past)
@@ -138,10 +124,10 @@ module _ {C V : Type 0} where
     set_are = λ x k at is live ends_at. ⊎_elim
         (λ (here : same id x ≡ true).
         let ix : id ≡ x = same_true id x here in
-        let ke : kind ≡ k = some_same kind k (rw here at is) in
+        let ke : kind ≡ k = same_Some kind k (rw here at is) in
         absurd (⊎_elim
         (λ (none : time_of kind past ≡ None). some_not at (sym ends_at ∙ ap (λ z. time_of z (Makes id kind now ∷ past)) (sym ke) ∙ time_stays past id kind now lawful kind (parent_of_new past kind lawful.1) ∙ none))
-        (λ (ended : ending id (Makes id kind now ∷ past) ≡ None → ⊥). ended (none_of_is _ (subst (λ z. is_none (ending z (Makes id kind now ∷ past)) ≡ true) (sym ix) live)))
+        (λ (ended : ending id (Makes id kind now ∷ past) ≡ None → ⊥). ended (none_from_is_none _ (subst (λ z. is_none (ending z (Makes id kind now ∷ past)) ≡ true) (sym ix) live)))
         why))
         (λ (other : same id x ≡ false). set_before t past id kind now lawful timed x k at other is live ends_at)
         (cases_Bool (same id x));
@@ -160,8 +146,8 @@ module _ {C V : Type 0} where
         set_are = λ x k time is alive ends_at. entry_added time x.1 t.entries added ∙ ⊎_elim
             (λ (here : same id x ≡ true).
             let slot : id.1 ≡ x.1 = ap (λ z. z.1) (same_true id x here) in
-            let ke : kind ≡ k = some_same kind k (rw here at is) in
-            let same_time : at ≡ time = some_same at time (sym own_now ∙ ap (λ z. time_of z (Makes id kind now ∷ past)) ke ∙ ends_at) in
+            let ke : kind ≡ k = same_Some kind k (rw here at is) in
+            let same_time : at ≡ time = same_Some at time (sym own_now ∙ ap (λ z. time_of z (Makes id kind now ∷ past)) ke ∙ ends_at) in
             or_right (has_entry time x.1 t.entries) (is_entry time x.1 added) (rw (← slot, ← same_time, eq-eqb at at refl) (eq-eqb id.1 id.1 refl)))
             (λ (other : same id x ≡ false). or_left _ _ (set_before t past id kind now lawful timed x k time other is alive ends_at))
             (cases_Bool (same id x));
@@ -190,10 +176,10 @@ module _ {C V : Type 0} where
       → u.sets ≡ t.sets → TimedBy before t past → TimedBy after u past
   stop_timed before after t u past gone same left sets timed = record {
     set_are = λ x k at is live ends_at.
-        let parts = not_both (before x) (gone x.1) (sym (same x k is) ∙ live) in
+        let parts = and_not_parts (before x) (gone x.1) (sym (same x k is) ∙ live) in
         left at x.1 ∙ and_not (has_entry at x.1 t.entries) (gone x.1) (timed.set_are x k at is parts.0 ends_at) parts.1;
     are_set = λ at slot is.
-        let parts = not_both (has_entry at slot t.entries) (gone slot) (sym (left at slot) ∙ is) in
+        let parts = and_not_parts (has_entry at slot t.entries) (gone slot) (sym (left at slot) ∙ is) in
         let it = timed.are_set at slot parts.0 in
         record {
           context = it.context;
@@ -214,7 +200,7 @@ module _ {C V : Type 0} where
   time_kept (ByCancel target cause) k past = refl
   time_kept (ByMoment now) k past = refl
 
-  makes_kept : (e : Ender C) (past : List (TreeOp C V)) → makes (op_of e ∷ past) ≡ makes past
+  pub makes_kept : (e : Ender C) (past : List (TreeOp C V)) → makes (op_of e ∷ past) ≡ makes past
   makes_kept (ByCancel target cause) past = refl
   makes_kept (ByMoment now) past = refl
 
@@ -261,7 +247,7 @@ module _ {C V : Type 0} where
         let bad : true ≡ false = sym (same_refl id) ∙ subst (λ z. same id z ≡ false) e was.0 in cc) in
         stopped at x.1 id.1 t.entries ∙ and_not (has_entry at x.1 t.entries) (x.1 == id.1) (timed.set_are x l at was.1 live ends_at) other;
     are_set = λ at slot is.
-        let parts = not_both (has_entry at slot t.entries) (slot == id.1) (sym (stopped at slot id.1 t.entries) ∙ is) in
+        let parts = and_not_parts (has_entry at slot t.entries) (slot == id.1) (sym (stopped at slot id.1 t.entries) ∙ is) in
         let it = timed.are_set at slot parts.0 in
         let other : same id it.context ≡ false = apart id it.context (λ n.
         let e : slot ≡ id.1 = sym it.slot_is ∙ sym n in
@@ -301,7 +287,7 @@ module _ {C V : Type 0} where
       by_times None above lower timer is = lower at is
       by_times (Some a) None lower timer is = timer at is
       by_times (Some a) (Some m) lower timer is =
-          let e : min a m ≡ at = some_same (min a m) at is in
+          let e : min a m ≡ at = same_Some (min a m) at is in
           let low_m : first ≤ m = lower m refl in
           ⊎_elim
           (λ (yes' : nat_lt a m ≡ true). let low_a : first ≤ a = timer a (rw yes' refl) in omega (arith, e, low_m, low_a))

@@ -2,15 +2,15 @@
 use Rattle.std.proofs.Common.{◌≡◌, refl, sym, ap, subst, ◌∙◌, arith, ℕ, suc, ◌+◌, ◌-◌, ◌<◌, ◌≤◌, List, [], ◌∷◌, ◌++◌, length, map, Option, Some, None, true, false, ⊎_elim, append_assoc, length-append}
 use Rattle.std.specs.Prelude.{◌==◌, is_some, if◌then◌else◌}
 use Rattle.std.specs.Option.{option_map_or}
-use Rattle.std.proofs.lemmas.Bool.{eq-eqb}
+use Rattle.std.proofs.lemmas.Bool.{eq-eqb, or_parts}
+use Rattle.std.proofs.lemmas.Option.{same_Some}
 use Rattle.timer_heap.specs.Timers.{Timing}
 use Rattle.context_tree.specs.declared.node.Node.{Node}
 use Rattle.context_tree.specs.Context.{Id}
 use Rattle.context_tree.specs.Links.{slot_of, IsLinked}
 use Rattle.context_tree.specs.Walks.{is_in, first_key, AreApart, keys_of, id_in, IsReady, Start, IsReachedBy, IsWalk, IsWalking, IsWalkingOn}
 use Rattle.context_tree.proofs.Chaining.{keys_both}
-use Rattle.context_tree.proofs.Keys.{apart_front, few_below, in_left, in_right, neither}
-use Rattle.context_tree.proofs.Lineage.{some_same}
+use Rattle.context_tree.proofs.Keys.{apart_front, few_below, in_left, in_right}
 use Rattle.context_tree.proofs.Slots.{placed_there}
 use Rattle.context_tree.proofs.WalkSteps.{leave, live_there, map_both, same_there, turn}
 
@@ -21,7 +21,7 @@ place_of k (j ∷ js) = if k == j then 0 else suc (place_of k js)
 
 placed : (xs : List ℕ) (k : ℕ) (ys : List ℕ) → is_in k xs ≡ false → place_of k (xs ++ k ∷ ys) ≡ length xs
 placed [] k ys out = rw (eq-eqb k k refl) refl
-placed (x ∷ xs) k ys out = let n = neither (k == x) (is_in k xs) out in let rest : place_of k (xs ++ k ∷ ys) ≡ length xs = placed xs k ys n.1 in rw n.0 (ap suc rest)
+placed (x ∷ xs) k ys out = let n = or_parts (k == x) (is_in k xs) out in let rest : place_of k (xs ++ k ∷ ys) ≡ length xs = placed xs k ys n.1 in rw n.0 (ap suc rest)
 
 module _ {C V : Type 0} where
   keys_shown : (slots : List (Option (Node C V))) (ks : List ℕ) → keys_of (map (id_in slots) ks) ≡ ks
@@ -51,7 +51,7 @@ module _ {C V : Type 0} where
       by_back : (back : List ℕ) → on.keys ≡ on.front ++ back → first_key back ≡ Some key → IsTurn s slots done timers visits key
       by_back [] parts first = cc
       by_back (p ∷ back) parts first =
-          let here : p ≡ key = some_same p key first in
+          let here : p ≡ key = same_Some p key first in
           subst (λ k. IsTurn s slots done timers visits k) here (record {
             keys = on.keys;
             visited = on.visited;

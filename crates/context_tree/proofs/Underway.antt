@@ -2,9 +2,11 @@
 use Rattle.std.proofs.Common.{◌≡◌, refl, sym, ap, subst, ◌∙◌, arith, ℕ, zero, suc, ◌+◌, ◌<◌, ◌≤◌, List, [], ◌++◌, length, map, Option, Some, None, Bool, true, false, ⊎_elim, option_map}
 use Rattle.std.specs.Prelude.{◌&&◌, ◌||◌, not, is_some, is_none, if◌then◌else◌, option_and_then}
 use Rattle.std.specs.Option.{option_map_or}
-use Rattle.std.proofs.lemmas.Bool.{cases_Bool, and_parts, eq-eqb}
+use Rattle.std.proofs.lemmas.Bool.{cases_Bool, and_parts, eq-eqb, or_right, or_left}
 use Rattle.std.proofs.lemmas.List.{append-nil}
 use Rattle.std.proofs.lemmas.List.Folds.{list_any-append}
+use Rattle.std.proofs.Math.Bool.{and-true, and-false}
+use Rattle.std.proofs.lemmas.Option.{same_Some}
 use Rattle.timer_heap.specs.Timers.{Timing}
 use Rattle.context_tree.specs.declared.node.Kind.{Kind}
 use Rattle.context_tree.specs.declared.node.Node.{Node}
@@ -16,59 +18,18 @@ use Rattle.context_tree.specs.Walks.{is_in, is_live_at, is_ended_with, id_in, St
 use Rattle.context_tree.proofs.Enders.{Ender, op_of}
 use Rattle.context_tree.proofs.Bare.{bare_there}
 use Rattle.context_tree.proofs.LawLemmas.{child_ends}
-use Rattle.context_tree.proofs.Lineage.{born, some_same, option_cases, follows_parent, same_true, same_refl}
+use Rattle.context_tree.proofs.Lineage.{born, option_cases, follows_parent, same_true, same_refl}
 use Rattle.context_tree.proofs.Marking.{in_slot, node_in_slot}
 use Rattle.context_tree.proofs.Queueing.{EndsNow, EndsBefore}
-use Rattle.context_tree.proofs.Standing.{is_some_of, node_of}
-
-and_not : (a b : Bool) → (a && not b) ≡ true → (a ≡ true) × (b ≡ false)
-and_not true false is = (refl, refl)
-and_not true true is = cc
-and_not false b is = cc
-
-none_of : {A : Type 0} (o : Option A) → is_none o ≡ true → o ≡ None
-none_of None is = refl
-none_of (Some a) is = cc
-
-told_none : {C : Type 0} (e : Option (Ended C)) → is_none (option_map told e) ≡ is_none e
-told_none None = refl
-told_none (Some e) = refl
-
-not_both : (b : Bool) → b ≡ true → b ≡ false → ⊥
-not_both true t f = cc
-not_both false t f = cc
+use Rattle.context_tree.proofs.Standing.{is_some_of, node_of, told_none}
+use Rattle.context_tree.proofs.Tests.{not_both, and_not_parts, none_from_is_none}
 
 some_none : {A : Type 0} (o : Option A) (a : A) → o ≡ Some a → o ≡ None → ⊥
 some_none None a is none = cc
 some_none (Some b) a is none = cc
 
-left_or : (a b c : Bool) → (a && not (b || c)) ≡ ((a && not b) && not c)
-left_or true true c = refl
-left_or true false c = refl
-left_or false b c = refl
-
-left_none : (b : Bool) → (b && true) ≡ b
-left_none true = refl
-left_none false = refl
-
 pub among_append : (x : Id) (xs ys : List Id) → is_among x (xs ++ ys) ≡ (is_among x xs || is_among x ys)
 among_append x xs ys = list_any-append (same x) xs ys
-
-or_right : (a b : Bool) → b ≡ true → (a || b) ≡ true
-or_right true b is = refl
-or_right false b is = is
-
-or_left : (a b : Bool) → a ≡ true → (a || b) ≡ true
-or_left true b is = refl
-or_left false b is = cc
-
-or_cases : (a b : Bool) (P : Type 0) → (a || b) ≡ true → (a ≡ true → P) → (b ≡ true → P) → P
-or_cases true b P is f g = f refl
-or_cases false b P is f g = g is
-
-neither : (a b : Bool) → (a || b) ≡ false → (a ≡ false) × (b ≡ false)
-neither true b is = cc
-neither false b is = (refl, is)
 
 module _ {C V : Type 0} where
   -- how a context is ended when the operation has ended these
@@ -99,9 +60,9 @@ module _ {C V : Type 0} where
     done_is = sym (append-nil t.done);
     in_order = tt;
     timed = record {
-      set_are = λ x k at is live ends_at. s.timers.set_are x k at is (sym (left_none (is_none (ending x past))) ∙ live) ends_at;
+      set_are = λ x k at is live ends_at. s.timers.set_are x k at is (sym (and-true (is_none (ending x past))) ∙ live) ends_at;
       are_set = λ at slot is. let it = s.timers.are_set at slot is in
-          record { context = it.context; kind = it.kind; slot_is = it.slot_is; is_held = it.is_held; live = left_none (is_none (ending it.context past)) ∙ it.live; ends_at = it.ends_at };
+          record { context = it.context; kind = it.kind; slot_is = it.slot_is; is_held = it.is_held; live = and-true (is_none (ending it.context past)) ∙ it.live; ends_at = it.ends_at };
       sets_low = s.timers.sets_low;
     };
   }
@@ -120,17 +81,13 @@ module _ {C V : Type 0} where
         (λ (yes' : is_among x ended ≡ true).
         let n = u.are_ended x yes' in
         let shown : is_none (option_map told (so_far e past ended x)) ≡ false = rw (yes', n.by_chain) refl in
-        shown ∙ sym (ap (λ b. is_none (ending x past) && not b) yes' ∙ none_and (is_none (ending x past))))
+        shown ∙ sym (ap (λ b. is_none (ending x past) && not b) yes' ∙ and-false (is_none (ending x past))))
         (λ (no' : is_among x ended ≡ false). ap (λ b. is_none (option_map told (if b then ends (length past) (chain x past) (op_of e) else ending x past))) no' ∙ told_none (ending x past)
-        ∙ sym (ap (λ b. is_none (ending x past) && not b) no' ∙ left_none (is_none (ending x past))))
+        ∙ sym (ap (λ b. is_none (ending x past) && not b) no' ∙ and-true (is_none (ending x past))))
         (cases_Bool (is_among x ended))
-      where
-        none_and : (b : Bool) → (b && false) ≡ false
-        none_and true = refl
-        none_and false = refl
 
     same_bare : (n m : Node C V) → bare (Some n) ≡ Some m → is_none n.ending ≡ is_none m.ending
-    same_bare n m is = ap (λ (k : Node C V). is_none k.ending) (some_same _ m is)
+    same_bare n m is = ap (λ (k : Node C V). is_none k.ending) (same_Some _ m is)
 
     pub shown : (x : Id) (k : Kind C V) → held x past ≡ Some k → IsShown x k
     shown x k is =
@@ -152,14 +109,14 @@ module _ {C V : Type 0} where
       where
         by_kind : (o : Option (Kind C V)) → option_map (node_of (n.number, k) (so_far e past ended (n.number, k)) (deadline (n.number, k) past)) o ≡ bare (Some n) → o ≡ Some n.kind
         by_kind None bad = cc
-        by_kind (Some l) same_node = ap (λ (m : Node C V). Some m.kind) (some_same _ (record n { links = no_links }) same_node)
+        by_kind (Some l) same_node = ap (λ (m : Node C V). Some m.kind) (same_Some _ (record n { links = no_links }) same_node)
 
     -- two that are held have not the same slot
     pub one_slot : (x y : Id) (k l : Kind C V) → held x past ≡ Some k → held y past ≡ Some l → x.1 ≡ y.1 → x ≡ y
     one_slot x y k l hx hy slot =
         let a = shown x k hx in
         let b = shown y l hy in
-        let same_node : a.node ≡ b.node = some_same a.node b.node (sym a.slot_is ∙ ap (λ z. slot_of slots z) slot ∙ b.slot_is) in
+        let same_node : a.node ≡ b.node = same_Some a.node b.node (sym a.slot_is ∙ ap (λ z. slot_of slots z) slot ∙ b.slot_is) in
         let number : x.0 ≡ y.0 = sym a.number_is ∙ ap (λ (m : Node C V). m.number) same_node ∙ b.number_is in
         ap (λ z. (z, x.1)) number ∙ ap (λ z. (y.0, z)) slot
 
@@ -169,8 +126,8 @@ module _ {C V : Type 0} where
     -- what a context that is left follows is left
     pub up : (x p : Id) (k : Kind C V) → held x past ≡ Some k → follows k ≡ Some p → is_left past ended x ≡ true → is_left past ended p ≡ true
     up x p k is f left =
-        let parts = and_not (is_none (ending x past)) (is_among x ended) left in
-        let live : ending x past ≡ None = none_of (ending x past) parts.0 in
+        let parts = and_not_parts (is_none (ending x past)) (is_among x ended) left in
+        let live : ending x past ≡ None = none_from_is_none (ending x past) parts.0 in
         let p_live : ending p past ≡ None = ⊎_elim
         (λ (none : ending p past ≡ None). none)
         (λ (some : (o : Ended C) × (ending p past ≡ Some o)).
@@ -187,7 +144,7 @@ module _ {C V : Type 0} where
     left_at : (x : Id) (k : Kind C V) → held x past ≡ Some k → (n : Node C V) → slot_of slots x.1 ≡ Some n → is_none n.ending ≡ true → is_left past ended x ≡ true
     left_at x k is n slot_is live =
         let a = shown x k is in
-        sym a.ending_is ∙ ap (λ (m : Node C V). is_none m.ending) (some_same a.node n (sym a.slot_is ∙ slot_is)) ∙ live
+        sym a.ending_is ∙ ap (λ (m : Node C V). is_none m.ending) (same_Some a.node n (sym a.slot_is ∙ slot_is)) ∙ live
 
     -- ---- a walk
 
@@ -214,7 +171,7 @@ module _ {C V : Type 0} where
       where
         by_parent : (n : Node C V) → slot_of slots k ≡ Some n → (o : Option Id) → parent_of n.kind ≡ o → option_map (λ p. p.1) o ≡ Some q → (n : Node C V) × (slot_of slots k ≡ Some n) × ((p : Id) × (parent_of n.kind ≡ Some p) × (p.1 ≡ q))
         by_parent n slot_is None o_is e' = cc
-        by_parent n slot_is (Some p) o_is e' = (n, slot_is, (p, o_is, some_same p.1 q e'))
+        by_parent n slot_is (Some p) o_is e' = (n, slot_is, (p, o_is, same_Some p.1 q e'))
 
         by_slot : (o : Option (Node C V)) → slot_of slots k ≡ o → option_and_then (λ (n : Node C V). option_map (λ p. p.1) (parent_of n.kind)) o ≡ Some q → (n : Node C V) × (slot_of slots k ≡ Some n) × ((p : Id) × (parent_of n.kind ≡ Some p) × (p.1 ≡ q))
         by_slot None o_is e' = cc
@@ -294,8 +251,8 @@ module _ {C V : Type 0} where
         let ph = b.parent_held f.0 over in
         let less : f.0.0 < x.0 = b.parent_low f.0 over in
         let c = child_node e past s.slots s.done before timers ended u k r.parent r.derives in
-        let same_node : c.0 ≡ g.0 = some_same c.0 g.0 (sym c.1 ∙ g.1) in
-        let same_parent : c.2.0 ≡ f.0 = some_same c.2.0 f.0 (sym c.2.1 ∙ ap (λ (m : Node C V). parent_of m.kind) same_node ∙ over) in
+        let same_node : c.0 ≡ g.0 = same_Some c.0 g.0 (sym c.1 ∙ g.1) in
+        let same_parent : c.2.0 ≡ f.0 = same_Some c.2.0 f.0 (sym c.2.1 ∙ ap (λ (m : Node C V). parent_of m.kind) same_node ∙ over) in
         let slot : f.0.1 ≡ r.parent = ap (λ z. z.1) (sym same_parent) ∙ c.2.2 in
         let number : number_in s.slots f.0.1 ≡ f.0.0 = number_shown e past s.slots s.done before timers ended u f.0 ph.0 ph.1 in
         let own : number_in s.slots k ≡ x.0 = ap (λ z. z.0) id_is in

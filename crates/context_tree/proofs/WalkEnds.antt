@@ -2,7 +2,9 @@
 use Rattle.std.proofs.Common.{◌≡◌, refl, sym, ap, subst, ◌∙◌, ℕ, ◌≤◌, List, [], ◌∷◌, ◌++◌, length, map, Option, Some, None, Bool, true, false, ⊎_elim, option_map, append_assoc}
 use Rattle.std.specs.Prelude.{◌&&◌, ◌||◌, ◌==◌, not, is_some, is_none, if◌then◌else◌}
 use Rattle.std.specs.Option.{option_or}
-use Rattle.std.proofs.lemmas.Bool.{cases_Bool, eqb-true, eq-eqb}
+use Rattle.std.proofs.lemmas.Bool.{cases_Bool, eqb-true, eq-eqb, or_right, or_left, false_from_ne_true}
+use Rattle.std.proofs.Math.Bool.{and-false, and-true}
+use Rattle.std.proofs.lemmas.Option.{same_Some}
 use Rattle.timer_heap.specs.Timers.{Timing}
 use Rattle.context_tree.specs.declared.node.Ending.{Ending}
 use Rattle.context_tree.specs.declared.node.Kind.{Kind}
@@ -13,58 +15,17 @@ use Rattle.context_tree.specs.Tree.{TreeValue, EachBefore, numbered, node_at, to
 use Rattle.context_tree.specs.Timed.{has_entry, TimedBy}
 use Rattle.context_tree.specs.Walks.{is_in, AreApart, with_end, id_in, Start, IsWalk}
 use Rattle.context_tree.proofs.Enders.{Ender, ByCancel, ByMoment, op_of}
-use Rattle.context_tree.proofs.Lineage.{born, some_same, option_cases, same_true, same_refl}
+use Rattle.context_tree.proofs.Lineage.{born, option_cases, same_true, same_refl}
 use Rattle.context_tree.proofs.Ordering.{among_first, each-append}
 use Rattle.context_tree.proofs.Queueing.{EndsNow, EndsBefore, end_queue, ending_op, held_op}
 use Rattle.context_tree.proofs.Standing.{node_of}
-use Rattle.context_tree.proofs.Timing.{end_timed, filtered, stop_timed}
+use Rattle.context_tree.proofs.Tests.{not_both, or_cases, and_not_parts, and_not_or, none_from_is_none, none_from_not_some}
+use Rattle.context_tree.proofs.Timing.{end_timed, filtered, stop_timed, makes_kept}
 use Rattle.context_tree.proofs.Underway.{among_append, id_shown, is_below, is_left, so_far, takes_all, IsUnderway}
-
-and_not : (a b : Bool) → (a && not b) ≡ true → (a ≡ true) × (b ≡ false)
-and_not true false is = (refl, refl)
-and_not true true is = cc
-and_not false b is = cc
-
-none_of : {A : Type 0} (o : Option A) → is_none o ≡ true → o ≡ None
-none_of None is = refl
-none_of (Some a) is = cc
-
-not_some : {A : Type 0} (o : Option A) → is_some o ≡ false → o ≡ None
-not_some None is = refl
-not_some (Some a) is = cc
-
-not_both : (b : Bool) → b ≡ true → b ≡ false → ⊥
-not_both true t f = cc
-not_both false t f = cc
-
-left_or : (a b c : Bool) → (a && not (b || c)) ≡ ((a && not b) && not c)
-left_or true true c = refl
-left_or true false c = refl
-left_or false b c = refl
-
-or_right : (a b : Bool) → b ≡ true → (a || b) ≡ true
-or_right true b is = refl
-or_right false b is = is
-
-or_left : (a b : Bool) → a ≡ true → (a || b) ≡ true
-or_left true b is = refl
-or_left false b is = cc
-
-or_cases : (a b : Bool) (P : Type 0) → (a || b) ≡ true → (a ≡ true → P) → (b ≡ true → P) → P
-or_cases true b P is f g = f refl
-or_cases false b P is f g = g is
 
 or_none : (a b : Bool) → b ≡ false → (a || b) ≡ a
 or_none true b is = refl
 or_none false b is = is
-
-unless : (b : Bool) → (b ≡ true → ⊥) → b ≡ false
-unless true other = absurd (other refl)
-unless false other = refl
-
-none_and : (b : Bool) → (b && false) ≡ false
-none_and true = refl
-none_and false = refl
 
 module _ {C V : Type 0} where
   -- ---- the ids of keys
@@ -133,7 +94,7 @@ module _ {C V : Type 0} where
     in_walk x k held_is is = in_ids s.slots keys x is (id_shown e past s.slots s.done before timers ended u x k held_is)
 
     out_walk : (x : Id) → is_in x.1 keys ≡ false → is_among x (map (id_in s.slots) keys) ≡ false
-    out_walk x out = unless _ (λ is. not_both (is_in x.1 keys) (of_ids s.slots keys x is).0 out)
+    out_walk x out = false_from_ne_true _ (λ is. not_both (is_in x.1 keys) (of_ids s.slots keys x is).0 out)
 
     new_nodes : (x : Id) → bare (node_at new x) ≡ option_map (node_of x (so_far e past (ended ++ map (id_in s.slots) keys) x) (deadline x past)) (held x past)
     new_nodes x = ⊎_elim
@@ -166,7 +127,7 @@ module _ {C V : Type 0} where
         (λ here. let b = by_walk x here in record {
           kind = b.0;
           is_held = b.1;
-          was = none_of (ending x past) (and_not (is_none (ending x past)) (is_among x ended) b.2).0;
+          was = none_from_is_none (ending x past) (and_not_parts (is_none (ending x past)) (is_among x ended) b.2).0;
           ended = how;
           by_chain = b.3;
           member_in = among_append how.member ended (map (id_in s.slots) keys) ∙ or_right _ _ member_in;
@@ -187,7 +148,7 @@ module _ {C V : Type 0} where
         (cases_Bool (is_among x ended)))
 
     differ : (x y : Id) → (x.1 ≡ y.1 → ⊥) → same x y ≡ false
-    differ x y other = unless _ (λ is. other (ap (λ z. z.1) (same_true x y is)))
+    differ x y other = false_from_ne_true _ (λ is. other (ap (λ z. z.1) (same_true x y is)))
 
     -- one of the walk comes before one behind it that is not the target
     one_before : (k : ℕ) (y : Id) → is_in k keys ≡ true → (k ≡ y.1 → ⊥) → (s.target ≡ y.1 → ⊥) → EndsBefore e past (id_in s.slots k) y
@@ -195,7 +156,7 @@ module _ {C V : Type 0} where
       differ (id_in s.slots k) y other,
       λ o by_chain.
           let b = is_below e past s before timers ended u new done2 timers2 keys visited w k inside in
-          let o_is : how ≡ o = some_same how o (sym (gives (id_in s.slots k) b.kind b.is_held b.left b.on_chain) ∙ by_chain) in
+          let o_is : how ≡ o = same_Some how o (sym (gives (id_in s.slots k) b.kind b.is_held b.left b.on_chain) ∙ by_chain) in
           let m : o.member ≡ id_in s.slots s.target = ap (λ (z : Ended C). z.member) (sym o_is) ∙ member_is in
           rw m (differ (id_in s.slots s.target) y not_target),
     )
@@ -208,7 +169,7 @@ module _ {C V : Type 0} where
           one_before k y (inside k (or_left _ _ (eq-eqb k k refl)))
           (λ same_key. let hit : is_in k ks ≡ true = ap (λ z. is_in z ks) same_key ∙ o.0 in not_both (is_in k ks) hit apart.0)
           (λ same_key. let hit : is_in s.target ks ≡ true = ap (λ z. is_in z ks) same_key ∙ o.0 in not_both (s.target == k || is_in s.target ks) (or_right (s.target == k) (is_in s.target ks) hit) out),
-      order ks apart.1 (λ j is. inside j (or_right _ _ is)) (unless _ (λ is. not_both (s.target == k || is_in s.target ks) (or_right _ _ is) out)),
+      order ks apart.1 (λ j is. inside j (or_right _ _ is)) (false_from_ne_true _ (λ is. not_both (s.target == k || is_in s.target ks) (or_right _ _ is) out)),
     )
 
     whole_order : (ks : List ℕ) → keys ≡ ks → AreApart ks → (rest : List ℕ) → ks ≡ s.target ∷ rest → EachBefore (EndsBefore e past) (map (id_in s.slots) ks)
@@ -225,21 +186,21 @@ module _ {C V : Type 0} where
     cross : (x y : Id) → is_among x ended ≡ true → is_among y (map (id_in s.slots) keys) ≡ true → EndsBefore e past x y
     cross x y xin yin =
         let b = by_walk y yin in
-        let y_out : is_among y ended ≡ false = (and_not (is_none (ending y past)) (is_among y ended) b.2).1 in
+        let y_out : is_among y ended ≡ false = (and_not_parts (is_none (ending y past)) (is_among y ended) b.2).1 in
         let n = u.are_ended x xin in (
-          unless _ (λ is. not_both (is_among y ended) (ap (λ z. is_among z ended) (sym (same_true x y is)) ∙ xin) y_out),
+          false_from_ne_true _ (λ is. not_both (is_among y ended) (ap (λ z. is_among z ended) (sym (same_true x y is)) ∙ xin) y_out),
           λ o by_chain.
-              let o_is : n.ended ≡ o = some_same n.ended o (sym n.by_chain ∙ by_chain) in
+              let o_is : n.ended ≡ o = same_Some n.ended o (sym n.by_chain ∙ by_chain) in
               let m : is_among o.member ended ≡ true = ap (λ (z : Ended C). is_among z.member ended) (sym o_is) ∙ n.member_in in
-              unless _ (λ is. not_both (is_among y ended) (ap (λ z. is_among z ended) (sym (same_true o.member y is)) ∙ m) y_out),
+              false_from_ne_true _ (λ is. not_both (is_among y ended) (ap (λ z. is_among z ended) (sym (same_true o.member y is)) ∙ m) y_out),
         )
 
     new_timed : TimedBy (is_left past (ended ++ map (id_in s.slots) keys)) timers2 past
     new_timed = stop_timed (is_left past ended) (is_left past (ended ++ map (id_in s.slots) keys)) timers timers2 past (λ m. is_in m keys)
-        (λ x k held_is. ap (λ b. is_none (ending x past) && not b) (among_append x ended (map (id_in s.slots) keys)) ∙ left_or (is_none (ending x past)) (is_among x ended) (is_among x (map (id_in s.slots) keys))
+        (λ x k held_is. ap (λ b. is_none (ending x past) && not b) (among_append x ended (map (id_in s.slots) keys)) ∙ and_not_or (is_none (ending x past)) (is_among x ended) (is_among x (map (id_in s.slots) keys))
         ∙ ap (λ b. is_left past ended x && not b) (by_slot x k held_is))
         (λ at m. ap (λ (t : Timing). has_entry at m t.entries) w.timers_are ∙ filtered at m s.timers.entries (λ j. is_in j keys) ∙ ⊎_elim
-        (λ (hit : is_in m keys ≡ true). rw hit (none_and (has_entry at m s.timers.entries) ∙ sym (none_and (has_entry at m timers.entries))))
+        (λ (hit : is_in m keys ≡ true). rw hit (and-false (has_entry at m s.timers.entries) ∙ sym (and-false (has_entry at m timers.entries))))
         (λ (miss : is_in m keys ≡ false). ap (λ b. b && not (is_in m keys)) (kept at m (not_target m miss)))
         (cases_Bool (is_in m keys)))
         (ap (λ (t : Timing). t.sets) w.timers_are ∙ sets) u.timed
@@ -251,7 +212,7 @@ module _ {C V : Type 0} where
             (cases_Bool (is_in x.1 keys))
 
         not_target : (m : ℕ) → is_in m keys ≡ false → (m == s.target) ≡ false
-        not_target m miss = unless _ (λ is. not_both (is_in m keys) (rw (eqb-true m s.target is, w.begins.1) (or_left _ _ (eq-eqb s.target s.target refl))) miss)
+        not_target m miss = false_from_ne_true _ (λ is. not_both (is_in m keys) (rw (eqb-true m s.target is, w.begins.1) (or_left _ _ (eq-eqb s.target s.target refl))) miss)
 
     -- the operation has ended what the walk ended too
     pub goes_on : IsUnderway e past new done2 before timers2 (ended ++ map (id_in s.slots) keys)
@@ -275,10 +236,6 @@ module _ {C V : Type 0} where
   lawful_op (ByCancel target cause) past l = l
   lawful_op (ByMoment now) past l = l
 
-  makes_op : (e : Ender C) (past : List (TreeOp C V)) → makes (op_of e ∷ past) ≡ makes past
-  makes_op (ByCancel target cause) past = refl
-  makes_op (ByMoment now) past = refl
-
   deadline_op : (e : Ender C) (x : Id) (past : List (TreeOp C V)) → deadline x (op_of e ∷ past) ≡ deadline x past
   deadline_op (ByCancel target cause) x past = refl
   deadline_op (ByMoment now) x past = refl
@@ -290,7 +247,7 @@ module _ {C V : Type 0} where
   over e t past before ended u q made_is none few = record {
     contexts = record {
       lawful = lawful_op e past u.lawful;
-      made_is = made_is ∙ sym (makes_op e past);
+      made_is = made_is ∙ sym (makes_kept e past);
       nodes_are = λ x. u.nodes_are x ∙ by_kind x (held x past) refl;
     };
     queue = subst (λ d. QueuesDone d (op_of e ∷ past)) (sym u.done_is) (end_queue past e u.lawful before ended q u.are_ended none u.in_order);
@@ -305,7 +262,7 @@ module _ {C V : Type 0} where
           ap (λ b. if b then ends (length past) (chain x past) (op_of e) else ending x past) yes' ∙ sym (ending_op e x past ∙ ap (λ o. option_or o (ends (length past) (chain x past) (op_of e))) n.was))
           (λ (no' : is_among x ended ≡ false). ap (λ b. if b then ends (length past) (chain x past) (op_of e) else ending x past) no' ∙ ⊎_elim
           (λ (live : ending x past ≡ None).
-          live ∙ sym (ending_op e x past ∙ ap (λ o. option_or o (ends (length past) (chain x past) (op_of e))) live ∙ not_some _ (none x k is live no')))
+          live ∙ sym (ending_op e x past ∙ ap (λ o. option_or o (ends (length past) (chain x past) (op_of e))) live ∙ none_from_not_some _ (none x k is live no')))
           (λ (some : (o : Ended C) × (ending x past ≡ Some o)).
           some.1 ∙ sym (ending_op e x past ∙ ap (λ o. option_or o (ends (length past) (chain x past) (op_of e))) some.1))
           (option_cases (ending x past)))
@@ -319,11 +276,7 @@ module _ {C V : Type 0} where
       left_now x k is = ap is_none (sym (ending_now x k is)) ∙ ⊎_elim
           (λ (yes' : is_among x ended ≡ true).
           let n = u.are_ended x yes' in
-          ap (λ b. is_none (if b then ends (length past) (chain x past) (op_of e) else ending x past)) yes' ∙ ap is_none n.by_chain ∙ sym (ap (λ b. is_none (ending x past) && not b) yes' ∙ none_and (is_none (ending x past))))
+          ap (λ b. is_none (if b then ends (length past) (chain x past) (op_of e) else ending x past)) yes' ∙ ap is_none n.by_chain ∙ sym (ap (λ b. is_none (ending x past) && not b) yes' ∙ and-false (is_none (ending x past))))
           (λ (no' : is_among x ended ≡ false).
-          ap (λ b. is_none (if b then ends (length past) (chain x past) (op_of e) else ending x past)) no' ∙ sym (ap (λ b. is_none (ending x past) && not b) no' ∙ and_true (is_none (ending x past))))
+          ap (λ b. is_none (if b then ends (length past) (chain x past) (op_of e) else ending x past)) no' ∙ sym (ap (λ b. is_none (ending x past) && not b) no' ∙ and-true (is_none (ending x past))))
           (cases_Bool (is_among x ended))
-        where
-          and_true : (b : Bool) → (b && true) ≡ b
-          and_true true = refl
-          and_true false = refl

@@ -4,6 +4,8 @@ use Rattle.std.specs.Prelude.{◌||◌, ◌&&◌, ◌==◌, not, is_some, is_non
 use Rattle.std.specs.Option.{option_map_or}
 use Rattle.std.proofs.lemmas.Bool.{cases_Bool, cases_lt, eqb-true, eq-eqb, ne_eqb}
 use Rattle.std.proofs.lemmas.List.{append-nil, get_or-set_same, get_or-set_other}
+use Rattle.std.proofs.Math.Bool.{or-false}
+use Rattle.std.proofs.lemmas.Option.{same_Some}
 use Rattle.timer_heap.specs.Timers.{Timer, Timing, without}
 use Rattle.context_tree.specs.declared.node.Ending.{Ending}
 use Rattle.context_tree.specs.declared.node.Links.{Links}
@@ -12,10 +14,9 @@ use Rattle.context_tree.specs.Context.{Id, parent_of, follows}
 use Rattle.context_tree.specs.Links.{slot_of, parent_in, number_in, links_in, child_at, no_links, IsLinked}
 use Rattle.context_tree.specs.Walks.{is_in, keys_of, with_end, is_live_at, is_ended_with, id_in, EndsAt, IsReady, Start, IsVisited, IsReachedBy, IsWalk, IsWalkingOn}
 use Rattle.context_tree.proofs.Keys.{apart_push, in_append, in_last, in_left, in_one, in_push, not_in}
-use Rattle.context_tree.proofs.Lineage.{some_same}
 use Rattle.context_tree.proofs.Marking.{in_range}
 use Rattle.context_tree.proofs.Linking.{apart, all_reached, only_children, places_rise, same_linked}
-use Rattle.context_tree.proofs.Ordering.{or_none}
+use Rattle.context_tree.proofs.Tests.{not_both}
 
 pub keys_append : (xs : List Id) (x : Id) → keys_of (xs ++ x ∷ []) ≡ keys_of xs ++ x.1 ∷ []
 keys_append [] x = refl
@@ -54,10 +55,6 @@ filter_twice p q (x ∷ xs) = ⊎_elim
     (λ (kept : p x ≡ true). rw kept (⊎_elim (λ (both : q x ≡ true). rw both (ap (λ l. x ∷ l) (filter_twice p q xs))) (λ (one : q x ≡ false). rw one (filter_twice p q xs)) (cases_Bool (q x))))
     (λ (left : p x ≡ false). rw left (filter_twice p q xs))
     (cases_Bool (p x))
-
-not_both : (b : Bool) → b ≡ true → b ≡ false → ⊥
-not_both true t f = cc
-not_both false t f = cc
 
 module _ {C V : Type 0} where
   -- ---- what an ending leaves
@@ -193,7 +190,7 @@ module _ {C V : Type 0} where
         let v = w.visited_are k is in
         let old = start_linked linked in
         let up : parent_in s.slots k ≡ Some p = only_children (parent_in s.slots) (number_in s.slots) (links_in s.slots) old p place k child in
-        let same : v.parent ≡ p = some_same v.parent p (sym v.derives ∙ up) in
+        let same : v.parent ≡ p = same_Some v.parent p (sym v.derives ∙ up) in
         ⊎_elim
         (λ (left : is_in v.parent front ≡ true). not_both (is_in p front) (rw (← same) left) out)
         (λ (before : (i : ℕ) × (i < place) × (v.parent ≡ p) × (child_at (links_in s.slots) p i ≡ Some k)).
@@ -233,7 +230,7 @@ module _ {C V : Type 0} where
           (λ (earlier : i < place). w.closed_in i j earlier at ends)
           (λ (last : place ≤ i).
           let same_place : i ≡ place = omega (arith, lt, last) in
-          let same : j ≡ k = some_same j k (sym at ∙ ap (child_at (links_in s.slots) p) same_place ∙ child) in
+          let same : j ≡ k = same_Some j k (sym at ∙ ap (child_at (links_in s.slots) p) same_place ∙ child) in
           rw same (passed k no' (rw (← same) ends)))
           (cases_lt i place));
       visited_apart = apart_push visited k w.visited_apart (fresh linked out k child);
@@ -252,7 +249,7 @@ module _ {C V : Type 0} where
         let all : is_in j (keys ++ k ∷ []) ≡ true = rw e (in_last k keys) in
         ends j ∙ rw (same, all, e) (ap (with_end s.ending) (out_same k out)))
         (λ (other : (j == k) ≡ false).
-        let all : is_in j (keys ++ k ∷ []) ≡ is_in j keys = in_append j keys (k ∷ []) ∙ ap (λ b. is_in j keys || (b || false)) other ∙ or_none (is_in j keys) in
+        let all : is_in j (keys ++ k ∷ []) ≡ is_in j keys = in_append j keys (k ∷ []) ∙ ap (λ b. is_in j keys || (b || false)) other ∙ or-false (is_in j keys) in
         ends j ∙ rw (other, all) (w.slots_are j))
         (cases_Bool (j == k))
 
@@ -261,7 +258,7 @@ module _ {C V : Type 0} where
         filter_twice (λ (t : Timer). not (is_in t.id keys)) (λ (t : Timer). not (t.id == k)) s.timers.entries ∙ filter_ext _ _ s.timers.entries same_left))
       where
         same_left : (t : Timer) → (not (is_in t.id keys) && not (t.id == k)) ≡ not (is_in t.id (keys ++ k ∷ []))
-        same_left t = sym (ap not (in_append t.id keys (k ∷ []) ∙ ap (λ b. is_in t.id keys || b) (or_none (t.id == k))) ∙ not_or (is_in t.id keys) (t.id == k))
+        same_left t = sym (ap not (in_append t.id keys (k ∷ []) ∙ ap (λ b. is_in t.id keys || b) (or-false (t.id == k))) ∙ not_or (is_in t.id keys) (t.id == k))
 
     ended_done : (k : ℕ) (done2 : List Id) → done2 ≡ done ++ (number_in slots k, k) ∷ [] → done2 ≡ s.done ++ map (id_in s.slots) (keys ++ k ∷ [])
     ended_done k done2 is =
@@ -309,7 +306,7 @@ module _ {C V : Type 0} where
               (λ (earlier : i < place). in_left j keys (k ∷ []) (w.closed_in i j earlier at ends_j))
               (λ (last : place ≤ i).
               let same_place : i ≡ place = omega (arith, lt, last) in
-              let same_child : j ≡ k = some_same j k (sym at ∙ ap (child_at (links_in s.slots) p) same_place ∙ child) in
+              let same_child : j ≡ k = same_Some j k (sym at ∙ ap (child_at (links_in s.slots) p) same_place ∙ child) in
               rw same_child (in_last k keys))
               (cases_lt i place);
           visited_apart = apart_push visited k w.visited_apart (fresh r.linked out k child);
@@ -382,9 +379,9 @@ module _ {C V : Type 0} where
       → done ≡ s.done ++ id_in s.slots s.target ∷ [] → timers ≡ record s.timers { entries = without s.target s.timers.entries }
       → IsWalk s new done timers (s.target ∷ []) [] [] 0 0
   begin s new done timers live ends done_is timers_are = record {
-    slots_are = λ k. ends k ∙ ap (λ b. if b then with_end s.ending (slot_of s.slots k) else slot_of s.slots k) (sym (or_none (k == s.target)));
+    slots_are = λ k. ends k ∙ ap (λ b. if b then with_end s.ending (slot_of s.slots k) else slot_of s.slots k) (sym (or-false (k == s.target)));
     done_is = done_is;
-    timers_are = timers_are ∙ ap (λ es. record s.timers { entries = es }) (filter_ext _ _ s.timers.entries (λ t. ap not (sym (or_none (t.id == s.target)))));
+    timers_are = timers_are ∙ ap (λ es. record s.timers { entries = es }) (filter_ext _ _ s.timers.entries (λ t. ap not (sym (or-false (t.id == s.target)))));
     begins = ([], refl);
     apart = (refl, tt);
     target_live = live;

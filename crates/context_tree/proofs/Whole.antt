@@ -4,7 +4,8 @@ use Rattle.std.specs.Prelude.{Result, Ok, Err, option_copied, ◌==◌, if◌the
 use Rattle.std.specs.Borrow.{Bor}
 use Rattle.std.specs.Result.{OnOk, is_err}
 use Rattle.std.specs.Option.{IfSome, option_or, option_to_list}
-use Rattle.std.proofs.lemmas.Bool.{cases_Bool, eq-eqb}
+use Rattle.std.proofs.lemmas.Bool.{cases_Bool, eq-eqb, eqb-true}
+use Rattle.std.proofs.lemmas.Option.{same_Some}
 use Rattle.slab.specs.Slab.{Slab, get}
 use Rattle.timer_heap.specs.Timers.{Timing, without}
 use Rattle.context_tree.specs.declared.node.Ending.{Ending}
@@ -14,25 +15,14 @@ use Rattle.context_tree.specs.Context.{Id, same, TreeOp, Makes, HandsOut, Releas
 use Rattle.context_tree.specs.Links.{no_links, bare, slot_of, KeepsOthers}
 use Rattle.context_tree.specs.Tree.{TreeValue, numbered, node_at, ending_in, deadline_in, is_live, told, context, IsLawful, IsReached, ParentHeld, Keeps, if_held, KnowsContexts, QueuesDone, StandsFor, most_visits}
 use Rattle.context_tree.specs.Timed.{Timed, with_timer, if_sooner, deadline_above, time_of}
-use Rattle.context_tree.proofs.Lineage.{same_refl, some_same}
+use Rattle.context_tree.proofs.Lineage.{same_refl}
 use Rattle.context_tree.proofs.Bare.{bare_numbered, bare_ending, bare_there, same_there}
 use Rattle.context_tree.proofs.Linking.{apart}
 use Rattle.context_tree.proofs.Marking.{in_slot}
 use Rattle.context_tree.proofs.Ordering.{among_first}
 use Rattle.context_tree.proofs.Queueing.{first_done, make_queue, hand_queue, release_queue}
-use Rattle.context_tree.proofs.Standing.{deadline_there, follows_held, keeps_of, new_known, put_known}
+use Rattle.context_tree.proofs.Standing.{deadline_there, follows_held, keeps_of, new_known, put_known, told_none}
 use Rattle.context_tree.proofs.Timing.{hand_timed, make_timed, make_untimed, new_timed, release_timed}
-
-told_some : {C : Type 0} (e : Option (Ended C)) → is_none (option_map told e) ≡ is_none e
-told_some None = refl
-told_some (Some e) = refl
-
-eqb_true : (a b : ℕ) → (a == b) ≡ true → a ≡ b
-eqb_true a b is = grind (arith, rules)
-
-pub none_popped : {A : Type 0} (o : Option A) → is_some o ≡ false → o ≡ None
-none_popped None is = refl
-none_popped (Some a) is = cc
 
 pub unless_err : {T E : Type 0} (r : Result T E) (P : Type 0) → OnOk r P → is_err r ≡ false → P
 unless_err (Ok t) P p is = p
@@ -73,7 +63,7 @@ module _ {C V : Type 0} where
   told_ending : (t : TreeValue C V) (past : List (TreeOp C V)) (x : Id) (n : Node C V) (kind : Kind C V) → KnowsContexts t past → bare (node_at t.slots x) ≡ Some n → held x past ≡ Some kind → n.ending ≡ option_map told (ending x past)
   told_ending t past x n kind s is held_is =
       let here : Some n ≡ Some (record { number = x.0; kind = kind; ending = option_map told (ending x past); deadline = deadline x past; links = no_links }) = sym is ∙ s.nodes_are x ∙ rw held_is refl in
-      ap (λ (m : Node C V). m.ending) (some_same n _ here)
+      ap (λ (m : Node C V). m.ending) (same_Some n _ here)
 
   -- the timer of a new context
   timer_made : (t : Timing) (past : List (TreeOp C V)) (id : Id) (kind : Kind C V) (now : ℕ) → IsLawful (Makes id kind now ∷ past) → Timed t past → (e : Option (Ended C)) → ending id (Makes id kind now ∷ past) ≡ e
@@ -99,7 +89,7 @@ module _ {C V : Type 0} where
       let in_the_slot : bare (slot_of u.slots slot) ≡ Some n = rw (put_is, ← key_is) here in
       let node_is : bare (node_at u.slots id) ≡ Some n = bare_numbered t.made (slot_of u.slots slot) ∙ ap (numbered t.made) in_the_slot ∙ rw (eq-eqb t.made t.made refl) refl in
       let told_is : e ≡ option_map told (ending id (Makes id kind now ∷ past)) = told_ending u (Makes id kind now ∷ past) id n kind known node_is (rw (same_refl id) refl) in
-      let same_case : is_none e ≡ is_none (ending id (Makes id kind now ∷ past)) = ap is_none told_is ∙ told_some (ending id (Makes id kind now ∷ past)) in
+      let same_case : is_none e ≡ is_none (ending id (Makes id kind now ∷ past)) = ap is_none told_is ∙ told_none (ending id (Makes id kind now ∷ past)) in
       let same_above : above ≡ deadline_above kind past = above_is ∙ ap (λ l. option_and_then (λ p. deadline_in l p) (follows kind)) slots_are ∙ deadline_there t past s.contexts (follows kind) (follows_held kind past parent) in
       let same_time : if_sooner (own_deadline kind) above ≡ time_of kind past = ap (if_sooner (own_deadline kind)) same_above in
       record {
@@ -118,7 +108,7 @@ module _ {C V : Type 0} where
       by_kind : (o : Option (Kind C V)) → is_some o ≡ true → (e : Option (Ended C))
           → is_none (option_and_then (λ (n : Node C V). n.ending) (option_map (λ kind. record { number = x.0; kind = kind; ending = option_map told e; deadline = deadline x past; links = no_links }) o)) ≡ is_none e
       by_kind None is e = cc
-      by_kind (Some k) is e = told_some e
+      by_kind (Some k) is e = told_none e
 
   -- ---- one is handed out
 
@@ -157,7 +147,7 @@ module _ {C V : Type 0} where
       → ((k : ℕ) → (k ≡ id.1 → ⊥) → new k ≡ old k) → (x : Id) → numbered x.0 (new x.1) ≡ (if same id x then None else numbered x.0 (old x.1))
   node_gone old new id n here number gone others x = ⊎_elim
       (λ (slot : (id.1 == x.1) ≡ true).
-      let e : id.1 ≡ x.1 = eqb_true _ _ slot in
+      let e : id.1 ≡ x.1 = eqb-true _ _ slot in
       let new_is : new x.1 ≡ None = rw (← e) gone in
       let old_is : old x.1 ≡ Some n = rw (← e) here in
       ⊎_elim
@@ -176,7 +166,7 @@ module _ {C V : Type 0} where
     where
       by_kind : (o : Option (Kind C V)) → option_map (λ kind. record { number = x.0; kind = kind; ending = option_map told (ending x past); deadline = deadline x past; links = no_links }) o ≡ bare (Some n) → o ≡ Some n.kind
       by_kind None bad = cc
-      by_kind (Some k) e = ap (λ (m : Node C V). Some m.kind) (some_same _ (record n { links = no_links }) e)
+      by_kind (Some k) e = ap (λ (m : Node C V). Some m.kind) (same_Some _ (record n { links = no_links }) e)
 
   pub node_there : (t : TreeValue C V) (past : List (TreeOp C V)) (x : Id) (k : Kind C V) → KnowsContexts t past → held x past ≡ Some k → (n : Node C V) × (node_at t.slots x ≡ Some n) × (n.kind ≡ k)
   node_there t past x k s is =
@@ -189,7 +179,7 @@ module _ {C V : Type 0} where
       let b = node_there t past y l s hy in
       let in_x = in_slot t.slots x a.0 a.1 in
       let in_y = in_slot t.slots y b.0 b.1 in
-      let same_node : a.0 ≡ b.0 = some_same a.0 b.0 (sym in_x.slot_is ∙ ap (λ z. slot_of t.slots z) slot ∙ in_y.slot_is) in
+      let same_node : a.0 ≡ b.0 = same_Some a.0 b.0 (sym in_x.slot_is ∙ ap (λ z. slot_of t.slots z) slot ∙ in_y.slot_is) in
       let number : x.0 ≡ y.0 = sym in_x.number_is ∙ ap (λ (m : Node C V). m.number) same_node ∙ in_y.number_is in
       ap (λ z. (z, x.1)) number ∙ ap (λ z. (y.0, z)) slot
 

@@ -13,6 +13,7 @@ use crate::node::{Due, Ending, Node};
 use crate::queue::Queue;
 use slab::Slab;
 use timer_heap::Timers;
+use timer_heap::laws::first_due_law;
 
 /// Ends a context that is not ended, and those that follow it, and returns how many contexts it looked at: this one, and
 /// the children of each that it ended. Those that it ends wait to be handed out from then on, so their queue is also the
@@ -54,6 +55,7 @@ pub(crate) fn end_due<C: Copy, V>(
         → StandsFor (record { slots = nodes.new.slots; done = done.new.items; timers = timing timers.new; made = made; visits = visits }) (Advances now ∷ past) }
     ensures ready { IsReady nodes.new.slots done.new.items done.new.room }
 {
+    first_due_law();
     while let Some((_, key)) = timers.pop_due(now) {
         let (id, due) = due_at(nodes, key as usize, now);
         let how = Ending::of(CtxErr::DeadlineExceeded, due.cause);

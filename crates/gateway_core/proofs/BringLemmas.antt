@@ -1,16 +1,17 @@
 -- What a piece brings, as the calls of a stream and of the machine make it.
 use Rattle.std.proofs.Common.{◌≡◌, ℕ, zero, suc, ◌<◌, Bool, true, false, List, [], ◌∷◌, length, Option, None, Some, Result, Ok, Err, refl, sym, ap, ◌∙◌, subst, arith}
-use Rattle.std.specs.Prelude.{IfOk, OnErr, if◌then◌else◌, slice_set}
+use Rattle.std.specs.Prelude.{⊤, ◌+◌, ◌≤◌, IfOk, OnErr, if◌then◌else◌, slice_set}
 use Rattle.std.specs.declared.alloc.AllocError.{AllocError}
 use Rattle.call_plan.specs.Plan.{PlanRecord}
 use Rattle.http_pieces.specs.declared.refusal.Refusal.{Refusal}
 use Rattle.http_pieces.specs.declared.state.State.TheVariants as state
 use Rattle.http_pieces.specs.Reader.{Reading, Partial, Waiting, Stopped, Done, after_request, state_of}
 use Rattle.http_pieces.specs.Request.{HttpRequest, closes}
+use Rattle.gateway_core.specs.declared.fault.StepFault.{StepFault}
 use Rattle.gateway_core.specs.Enters.{Enters}
-use Rattle.gateway_core.specs.Gateway.{Brings, Feeds, GatewayValue, StreamValue, is_waiting, stream_at}
+use Rattle.gateway_core.specs.Gateway.{Brings, Feeds, GatewayValue, StreamValue, calls_brought, is_waiting, stream_at}
 use Rattle.gateway_core.specs.Occurrence.{Refused}
-use Rattle.gateway_core.specs.Serving.{gateway_value, BringsAt, ComesBy, MayTake, ReadsAt, ReadsOn, StopsBy}
+use Rattle.gateway_core.specs.Serving.{gateway_value, BringsAt, ComesBy, MayTake, ReadsAt, ReadsOn, StopsBy, calls_with}
 use Rattle.gateway_core.specs.Store.{MachineValue}
 use Rattle.gateway_core.proofs.ServingLemmas.{IsRead}
 
@@ -56,14 +57,14 @@ read_settled (Err e) bytes s t ok err read = ap (λ (x : StreamValue). is_waitin
 
 pub reads_at : (r : Result (ℕ × Option HttpRequest) AllocError) (i : ℕ) (bytes : List ℕ) (t : StreamValue) (v : GatewayValue)
     → IfOk r (λ x. ReadsOn x.0 x.1 bytes (stream_at i v.streams) t)
-    → IfOk r (λ x. ReadsAt i x.0 x.1 bytes v (gateway_value v.plans v.machine (slice_set v.streams i t) v.opened))
+    → IfOk r (λ x. ReadsAt i x.0 x.1 bytes v (gateway_value v.plans v.machine (slice_set v.streams i t) v.opened v.begun v.tally))
 reads_at (Ok (n, q)) i bytes t v ok = record { stream = t; reads = ok; rest = refl }
 reads_at (Err e) i bytes t v ok = tt
 
 pub unread_at : (r : Result (ℕ × Option HttpRequest) AllocError) (i : ℕ) (t : StreamValue) (v : GatewayValue) → OnErr r (t ≡ stream_at i v.streams)
-    → OnErr r (gateway_value v.plans v.machine (slice_set v.streams i t) v.opened ≡ v)
+    → OnErr r (gateway_value v.plans v.machine (slice_set v.streams i t) v.opened v.begun v.tally ≡ v)
 unread_at (Ok x) i t v err = tt
-unread_at (Err e) i t v err = ap (λ s. gateway_value v.plans v.machine (slice_set v.streams i s) v.opened) err ∙ ap (λ ss. gateway_value v.plans v.machine ss v.opened) (set_itself i v.streams)
+unread_at (Err e) i t v err = ap (λ s. gateway_value v.plans v.machine (slice_set v.streams i s) v.opened v.begun v.tally) err ∙ ap (λ ss. gateway_value v.plans v.machine ss v.opened v.begun v.tally) (set_itself i v.streams)
 
 -- ---- what it came to
 
@@ -88,8 +89,9 @@ comes_none plans i (Some q) r v m e stops = absurd (cc)
 
 -- ---- both
 
-pub fed : (i n : ℕ) (request : Option HttpRequest) (bytes : List ℕ) (u v w : GatewayValue) → i < length u.streams → ReadsAt i n request bytes u v → BringsAt i request v w → Feeds i n bytes u w
-fed i n request bytes u v w lt p b = at_once (subst (λ (x : GatewayValue). BringsAt i request x w) p.rest b)
+pub fed : (i n : ℕ) (request : Option HttpRequest) (bytes : List ℕ) (u v w : GatewayValue) (result : Result ⊤ StepFault) → i < length u.streams → ReadsAt i n request bytes u v → BringsAt i request v w result
+    → Feeds i n bytes u w
+fed i n request bytes u v w result lt p b = at_once (subst (λ (x : GatewayValue). BringsAt i request x w result) p.rest b)
   where
     between : GatewayValue
     between = record u { streams = slice_set u.streams i p.stream }
@@ -111,7 +113,11 @@ fed i n request bytes u v w lt p b = at_once (subst (λ (x : GatewayValue). Brin
     stays None s t takes rest = takes.0 ∙ rest ∙ ap (λ (x : StreamValue). record (stream_at i u.streams) { reader = x.reader }) (sym takes.0)
     stays (Some q) s t takes rest = takes.rest ∙ ap (λ (x : StreamValue). record x { reader = t.reader }) rest
 
-    at_once : BringsAt i request between w → Feeds i n bytes u w
+    bound : (q : Option HttpRequest) (s t : StreamValue) → MayTake q s t → w.begun ≤ u.begun + calls_with u.plans q → w.begun ≤ u.begun + calls_brought u.plans s.reader.reading
+    bound None s t takes le = omega (arith, le)
+    bound (Some q) s t takes le = subst (λ r. w.begun ≤ u.begun + calls_brought u.plans r) (sym takes.waited) le
+
+    at_once : BringsAt i request between w result → Feeds i n bytes u w
     at_once x = record {
       pushed = p.reads.pushed.reader;
       new = p.stream.reader;
@@ -122,4 +128,6 @@ fed i n request bytes u v w lt p b = at_once (subst (λ (x : GatewayValue). Brin
       streams_are = ap (λ (y : GatewayValue). y.streams) x.rest
           ∙ ap (λ (s : StreamValue). slice_set u.streams i s) (stays request p.reads.pushed p.stream p.reads.takes p.reads.reads.rest);
       opened_is = ap (λ (y : GatewayValue). y.opened) x.rest;
+      begun_is = bound request p.reads.pushed p.stream p.reads.takes x.bound;
+      tally_is = ap (λ (y : GatewayValue). y.tally) x.rest;
     }

@@ -1,11 +1,10 @@
 -- However the input is cut: a piece may come as two.
 use Rattle.std.proofs.Common.{◌≡◌, ℕ, suc, ◌<◌, ◌≤◌, Bool, true, false, List, [], ◌∷◌, ◌++◌, map, length, refl, sym, ap, ◌∙◌, subst, arith, append_assoc, ⊎_elim}
-use Rattle.std.specs.Prelude.{MatchBool, ◌&&◌, not, nat_lt, ◌==◌, if◌then◌else◌}
+use Rattle.std.specs.Prelude.{⊤, MatchBool, ◌&&◌, not, nat_lt, ◌==◌, if◌then◌else◌}
 use Rattle.std.proofs.lemmas.Bool.{cond_both, cases_Bool, ltb-true, ltb-false, eq-eqb}
 use Rattle.std.proofs.lemmas.List.{append_cancel_left, append-nil, map-append}
 use Rattle.http_pieces.specs.Request.{HttpRequest}
 use Rattle.http_pieces.specs.Requests.{Ending, Open, Broken, Closed, Requests}
-use Rattle.http_pieces.proofs.RequestsLemmas.{IsFinal, requests_unique, requests_stay}
 use Rattle.call_plan.specs.Plan.{PlanRecord}
 use Rattle.gateway_core.specs.Occurrence.{Occurrence, Entering, Entry, Request}
 use Rattle.gateway_core.specs.Arrival.{arrival_of}
@@ -14,6 +13,7 @@ use Rattle.gateway_core.specs.Job.{JobValue}
 use Rattle.gateway_core.specs.Starts.{Placed, start, occurrences, job_started, jobs_by, jobs, starts}
 use Rattle.gateway_core.specs.Past.{Past, mark_of, marked}
 use Rattle.gateway_core.specs.Events.{GatewayEvent, Opening, Piece, HangUp, Moment, BranchResult, Drain, Closing, Before, succeeds, connections, is_closing_of, is_open, hung_up, listens, stream, piece_of, Gains, requests_gained, refusal_gained, OccursAt, Occurs, onto, IsShifted}
+use Rattle.gateway_core.specs.RequestLaws.{RequestLaws}
 use Rattle.gateway_core.proofs.Cases.{or_false, and_true, and_false}
 
 -- ---- connections
@@ -133,6 +133,18 @@ same_later opened shifted (e ∷ later) before conn p q h =
 
 -- ---- what the two pieces bring is what the one brings
 
+-- the stream was refused, or its last request closes
+abbrev IsFinal : Ending → Type 0
+IsFinal (Open left) = ⊥
+IsFinal (Broken r) = ⊤
+IsFinal Closed = ⊤
+
+-- what was refused or closed stays so
+requests_stay : RequestLaws → (k : ℕ) (s more : List ℕ) (given : List HttpRequest) (ending : Ending) → IsFinal ending → Requests k s given ending → Requests k (s ++ more) given ending
+requests_stay laws k s more given (Open left) final h = absurd final
+requests_stay laws k s more given (Broken r) final h = laws.refused_stays k s more given r h
+requests_stay laws k s more given Closed final h = laws.closed_stays k s more given h
+
 refusal_open : (k l : List ℕ) (e : Ending) → refusal_gained (Open k) e ≡ refusal_gained (Open l) e
 refusal_open k l (Open m) = refl
 refusal_open k l (Broken r) = refl
@@ -155,24 +167,24 @@ join_gains plans e0 Closed e2 m1 m2 early late =
     rw (l.0, l.1, append-nil m1, append-nil (requests_gained plans m1 ++ refusal_gained e0 Closed)) refl
 
 -- a stream that has ended brings nothing more
-after_final : (s more : List ℕ) (given later : List HttpRequest) (e f : Ending) → Requests 0 s given e → Requests 0 (s ++ more) (given ++ later) f
+after_final : RequestLaws → (s more : List ℕ) (given later : List HttpRequest) (e f : Ending) → Requests 0 s given e → Requests 0 (s ++ more) (given ++ later) f
     → IsFinal e → (later ≡ []) × (f ≡ e)
-after_final s more given later e f h g final =
-    let u = requests_unique 0 (s ++ more) (given ++ later) given f e g (requests_stay 0 s more given e final h) in
+after_final laws s more given later e f h g final =
+    let u = laws.unique 0 (s ++ more) (given ++ later) given f e g (requests_stay laws 0 s more given e final h) in
     (append_cancel_left given later [] (u.0 ∙ sym (append-nil given)), u.1)
 
-gains_both : (plans : List PlanRecord) (s p q : List ℕ) (x y z : List Entering)
+gains_both : RequestLaws → (plans : List PlanRecord) (s p q : List ℕ) (x y z : List Entering)
     → Gains plans s (s ++ p) x → Gains plans (s ++ p) ((s ++ p) ++ q) y → Gains plans s (s ++ (p ++ q)) z → z ≡ x ++ y
-gains_both plans s p q x y z g h w =
-    let middle = requests_unique 0 (s ++ p) (g.given ++ g.more) h.given g.later h.ending g.longer_is h.text_is in
-    let start = requests_unique 0 s w.given g.given w.ending g.ending w.text_is g.text_is in
+gains_both laws plans s p q x y z g h w =
+    let middle = laws.unique 0 (s ++ p) (g.given ++ g.more) h.given g.later h.ending g.longer_is h.text_is in
+    let start = laws.unique 0 s w.given g.given w.ending g.ending w.text_is g.text_is in
     let far : Requests 0 (s ++ (p ++ q)) (h.given ++ h.more) h.later = subst (λ t. Requests 0 t (h.given ++ h.more) h.later) (append_assoc s p q) h.longer_is in
-    let end = requests_unique 0 (s ++ (p ++ q)) (w.given ++ w.more) (h.given ++ h.more) w.later h.later w.longer_is far in
+    let end = laws.unique 0 (s ++ (p ++ q)) (w.given ++ w.more) (h.given ++ h.more) w.later h.later w.longer_is far in
     let all : g.given ++ w.more ≡ g.given ++ (g.more ++ h.more) =
     ap (λ xs. xs ++ w.more) (sym start.0) ∙ end.0 ∙ ap (λ xs. xs ++ h.more) (sym middle.0) ∙ append_assoc g.given g.more h.more in
     let more : w.more ≡ g.more ++ h.more = append_cancel_left g.given w.more (g.more ++ h.more) all in
-    let early : IsFinal g.ending → g.later ≡ g.ending = λ final. (after_final s p g.given g.more g.ending g.later g.text_is g.longer_is final).1 in
-    let late : IsFinal h.ending → (h.more ≡ []) × (h.later ≡ h.ending) = after_final (s ++ p) q h.given h.more h.ending h.later h.text_is h.longer_is in
+    let early : IsFinal g.ending → g.later ≡ g.ending = λ final. (after_final laws s p g.given g.more g.ending g.later g.text_is g.longer_is final).1 in
+    let late : IsFinal h.ending → (h.more ≡ []) × (h.later ≡ h.ending) = after_final laws (s ++ p) q h.given h.more h.ending h.later h.text_is h.longer_is in
     let joined = join_gains plans g.ending h.ending h.later g.more h.more (λ final. sym middle.1 ∙ early final) late in
     let z_is : z ≡ requests_gained plans (g.more ++ h.more) ++ refusal_gained g.ending h.later = rw (more, start.1, end.1) at w.gained_is in
     let sum : x ++ y ≡ (requests_gained plans g.more ++ refusal_gained g.ending h.ending) ++ (requests_gained plans h.more ++ refusal_gained h.ending h.later) =
@@ -205,44 +217,44 @@ at_same plans opened shifted (BranchResult conn k i o) es fs os h s x = x
 at_same plans opened shifted Drain es fs os h s x = x
 at_same plans opened shifted (Closing conn) es fs os h s x = rw (h.open_is conn) at x
 
-step_same : (plans : List PlanRecord) (opened shifted : List ℕ) (e : GatewayEvent) (es fs : Before) (m n : ℕ) (a b : List Placed) (os us : List Occurrence)
+step_same : RequestLaws → (plans : List PlanRecord) (opened shifted : List ℕ) (e : GatewayEvent) (es fs : Before) (m n : ℕ) (a b : List Placed) (os us : List Occurrence)
     → IsSame opened shifted es fs → succeeds shifted (length fs) ≡ succeeds opened (length es) → occurrences a ≡ occurrences b
     → OccursAt plans opened e es os → OccursAt plans shifted e fs us → occurrences (onto m os a) ≡ occurrences (onto n us b)
-step_same plans opened shifted e es fs m n a b os us same s past h g =
-    let one : os ≡ us = at_unique plans opened e es os us h (at_same plans opened shifted e es fs us same s g) in
+step_same laws plans opened shifted e es fs m n a b os us same s past h g =
+    let one : os ≡ us = at_unique laws plans opened e es os us h (at_same plans opened shifted e es fs us same s g) in
     occurrences_onto m os a ∙ rw (one, past) (sym (occurrences_onto n us b))
 
-before_same : (plans : List PlanRecord) (opened shifted : List ℕ) (n : ℕ) (es : Before) (a b : List Placed) → length es ≤ n → IsShifted n opened shifted
+before_same : RequestLaws → (plans : List PlanRecord) (opened shifted : List ℕ) (n : ℕ) (es : Before) (a b : List Placed) → length es ≤ n → IsShifted n opened shifted
     → Occurs plans opened es a → Occurs plans shifted es b → occurrences a ≡ occurrences b
-before_same plans opened shifted n [] a b le h x y = rw (x, y) refl
-before_same plans opened shifted n (e ∷ es) a b le h x y =
-    let step = step_same plans opened shifted e es es (length es) (length es) x.0 y.0 x.2.0 y.2.0
+before_same laws plans opened shifted n [] a b le h x y = rw (x, y) refl
+before_same laws plans opened shifted n (e ∷ es) a b le h x y =
+    let step = step_same laws plans opened shifted e es es (length es) (length es) x.0 y.0 x.2.0 y.2.0
     (same_before opened shifted n es (omega (arith, le)) h) (h.before (length es) (omega (arith, le)))
-    (before_same plans opened shifted n es x.0 y.0 (omega (arith, le)) h x.1 y.1) x.2.1 y.2.1 in
+    (before_same laws plans opened shifted n es x.0 y.0 (omega (arith, le)) h x.1 y.1) x.2.1 y.2.1 in
     ap occurrences x.2.2 ∙ step ∙ sym (ap occurrences y.2.2)
 
 abbrev Brings : List PlanRecord → List ℕ → List ℕ → ℕ → List Occurrence → Type 0
 Brings plans text longer conn os = (gained : List Entering) × Gains plans text longer gained × (os ≡ map (Entry conn) gained)
 
-pieces_join : (plans : List PlanRecord) (b : Bool) (s p q : List ℕ) (conn : ℕ) (x y z : List Occurrence)
+pieces_join : RequestLaws → (plans : List PlanRecord) (b : Bool) (s p q : List ℕ) (conn : ℕ) (x y z : List Occurrence)
     → MatchBool b (Brings plans s (s ++ p) conn x) (x ≡ [])
     → MatchBool b (Brings plans (if b then s ++ p else s) ((if b then s ++ p else s) ++ q) conn y) (y ≡ [])
     → MatchBool b (Brings plans s (s ++ (p ++ q)) conn z) (z ≡ []) → z ≡ x ++ y
-pieces_join plans true s p q conn x y z g h w =
-    let all : w.0 ≡ g.0 ++ h.0 = gains_both plans s p q g.0 h.0 w.0 g.1 h.1 w.1 in
+pieces_join laws plans true s p q conn x y z g h w =
+    let all : w.0 ≡ g.0 ++ h.0 = gains_both laws plans s p q g.0 h.0 w.0 g.1 h.1 w.1 in
     w.2 ∙ ap (map (Entry conn)) all ∙ map-append (Entry conn) g.0 h.0 ∙ rw (g.2, h.2) refl
-pieces_join plans false s p q conn x y z g h w = rw (g, h, w) refl
+pieces_join laws plans false s p q conn x y z g h w = rw (g, h, w) refl
 
 pub stream_piece : (shifted : List ℕ) (conn : ℕ) (p : List ℕ) (before : Before)
     → stream shifted conn (Piece conn p ∷ before) ≡ (if listens shifted conn before then stream shifted conn before ++ p else stream shifted conn before)
 stream_piece shifted conn p before = rw (eq-eqb conn conn refl) refl
 
-piece_same : (plans : List PlanRecord) (opened shifted : List ℕ) (conn : ℕ) (p q : List ℕ) (before : Before) (a b : List Placed) → IsShifted (length before) opened shifted
+piece_same : RequestLaws → (plans : List PlanRecord) (opened shifted : List ℕ) (conn : ℕ) (p q : List ℕ) (before : Before) (a b : List Placed) → IsShifted (length before) opened shifted
     → Occurs plans opened (Piece conn (p ++ q) ∷ before) a → Occurs plans shifted (Piece conn q ∷ Piece conn p ∷ before) b → occurrences a ≡ occurrences b
-piece_same plans opened shifted conn p q before a b h x y =
+piece_same laws plans opened shifted conn p q before a b h x y =
     let same = same_before opened shifted (length before) before (omega arith) h in
     let first = y.1 in
-    let past : occurrences x.0 ≡ occurrences first.0 = before_same plans opened shifted (length before) before x.0 first.0 (omega arith) h x.1 first.1 in
+    let past : occurrences x.0 ≡ occurrences first.0 = before_same laws plans opened shifted (length before) before x.0 first.0 (omega arith) h x.1 first.1 in
     let second : MatchBool (listens shifted conn before)
     (Brings plans (if listens shifted conn before then stream shifted conn before ++ p else stream shifted conn before)
     ((if listens shifted conn before then stream shifted conn before ++ p else stream shifted conn before) ++ q) conn y.2.0)
@@ -250,7 +262,7 @@ piece_same plans opened shifted conn p q before a b h x y =
     let whole : MatchBool (listens shifted conn before) (Brings plans (stream shifted conn before) (stream shifted conn before ++ (p ++ q)) conn x.2.0) (x.2.0 ≡ []) =
     rw (listens_same opened shifted before before conn same, same.stream_is conn) x.2.1 in
     let joined : x.2.0 ≡ first.2.0 ++ y.2.0 =
-    pieces_join plans (listens shifted conn before) (stream shifted conn before) p q conn first.2.0 y.2.0 x.2.0 first.2.1 second whole in
+    pieces_join laws plans (listens shifted conn before) (stream shifted conn before) p q conn first.2.0 y.2.0 x.2.0 first.2.1 second whole in
     let left : occurrences a ≡ back y.2.0 (back first.2.0 (occurrences first.0)) =
     ap occurrences x.2.2 ∙ occurrences_onto (length before) x.2.0 x.0 ∙ rw (joined, past) (back-append first.2.0 y.2.0 (occurrences first.0)) in
     let right : occurrences b ≡ back y.2.0 (back first.2.0 (occurrences first.0)) =
@@ -259,17 +271,17 @@ piece_same plans opened shifted conn p q before a b h x y =
     left ∙ sym right
 
 -- however the input is cut, the same occurs
-pub any_cut : (plans : List PlanRecord) (opened shifted : List ℕ) (later before : Before) (conn : ℕ) (p q : List ℕ) (a b : List Placed)
+pub any_cut : RequestLaws → (plans : List PlanRecord) (opened shifted : List ℕ) (later before : Before) (conn : ℕ) (p q : List ℕ) (a b : List Placed)
     → IsShifted (length before) opened shifted → Occurs plans opened (later ++ Piece conn (p ++ q) ∷ before) a
     → Occurs plans shifted (later ++ Piece conn q ∷ Piece conn p ∷ before) b → occurrences a ≡ occurrences b
-any_cut plans opened shifted [] before conn p q a b h x y = piece_same plans opened shifted conn p q before a b h x y
-any_cut plans opened shifted (e ∷ later) before conn p q a b h x y =
+any_cut laws plans opened shifted [] before conn p q a b h x y = piece_same laws plans opened shifted conn p q before a b h x y
+any_cut laws plans opened shifted (e ∷ later) before conn p q a b h x y =
     let es : Before = later ++ Piece conn (p ++ q) ∷ before in
     let fs : Before = later ++ Piece conn q ∷ Piece conn p ∷ before in
-    let step = step_same plans opened shifted e es fs (length es) (length fs) x.0 y.0 x.2.0 y.2.0
+    let step = step_same laws plans opened shifted e es fs (length es) (length fs) x.0 y.0 x.2.0 y.2.0
     (same_later opened shifted later before conn p q h)
     (ap (succeeds shifted) (length_split later before conn p q) ∙ h.after (length es) (length_more later before (Piece conn (p ++ q))))
-    (any_cut plans opened shifted later before conn p q x.0 y.0 h x.1 y.1) x.2.1 y.2.1 in
+    (any_cut laws plans opened shifted later before conn p q x.0 y.0 h x.1 y.1) x.2.1 y.2.1 in
     ap occurrences x.2.2 ∙ step ∙ sym (ap occurrences y.2.2)
 
 -- ---- and the same starts, but for places

@@ -19,6 +19,7 @@ use Rattle.gateway_core.specs.Occurrence as occurs
 use Rattle.gateway_core.specs.Past.{Asked, Mark, Past, asked_now, call, call_id, counts, ends_at_arrival, entering_on, entries, event_by, is_answer_to, is_call, is_closed, is_out, mark_of, marked, now}
 use Rattle.gateway_core.specs.Past as past
 use Rattle.gateway_core.specs.Queue.{entry, front, queued_entries}
+use Rattle.gateway_core.specs.RequestLaws.{RequestLaws}
 use Rattle.gateway_core.specs.Starts.{Placed, branches_started, jobs_by, jobs_started, occurrences, start, starts}
 use Rattle.gateway_core.specs.EventAdds.{EventAdds, IsShut}
 use Rattle.gateway_core.proofs.Cases.{and_false, or_true}
@@ -306,7 +307,7 @@ module _ (plans : List PlanRecord) (opened : List ℕ) (c : ℕ) (es : Before) (
 
 -- ---- the whole
 
-module _ (plans : List PlanRecord) (opened : List ℕ) (e : GatewayEvent) (es : Before) (before after : List Placed) where
+module _ (laws : RequestLaws) (plans : List PlanRecord) (opened : List ℕ) (e : GatewayEvent) (es : Before) (before after : List Placed) where
   pub event_adds : Occurs plans opened es before → Occurs plans opened (e ∷ es) after → EventAdds opened e es before after
   event_adds was (other, also, (os, at, is)) = record {
     newer = onto (length es) os [];
@@ -321,7 +322,7 @@ module _ (plans : List PlanRecord) (opened : List ℕ) (e : GatewayEvent) (es : 
   }
     where
       after_is : after ≡ onto (length es) os before
-      after_is = is ∙ ap (onto (length es) os) (occurs_unique plans opened es other before also was)
+      after_is = is ∙ ap (onto (length es) os) (occurs_unique laws plans opened es other before also was)
 
       all_shut : (c : ℕ) → IsShut opened e es c → AllShut c os (occurrences before)
       all_shut c s = shut_at plans opened c es (occurrences before) e os at

@@ -13,9 +13,9 @@ use Rattle.gateway_core.specs.Conn.{ConnValue, added}
 use Rattle.gateway_core.specs.Enters.{Enters, arriving_at}
 use Rattle.gateway_core.specs.Events.{Gains, refusal_gained}
 use Rattle.gateway_core.specs.Fated.{FatedStands}
-use Rattle.gateway_core.specs.Gateway.{StreamValue, stream_at, stream_of, StreamsApart, GatewayValue, Brings, Feeds, refusals, is_waiting, HasCome, goes_on, StreamsStand, Unopened, GatewayStands, with_bytes}
+use Rattle.gateway_core.specs.Gateway.{StreamValue, stream_at, stream_of, StreamsApart, GatewayValue, Brings, Feeds, calls_brought, refusals, is_waiting, HasCome, goes_on, StreamsStand, Unopened, GatewayStands, with_bytes}
 use Rattle.gateway_core.specs.Job.{JobValue}
-use Rattle.gateway_core.specs.Occurrence.{Occurrence, Entering, Entry, Request, Refused}
+use Rattle.gateway_core.specs.Occurrence.{Occurrence, Entering, Entry, Request, Refused, calls_arrived, calls_in}
 use Rattle.gateway_core.specs.Orderly.{FatesAre, IsOrderly}
 use Rattle.gateway_core.specs.Store.{MachineValue, machine, conn_at, conn_of}
 use Rattle.gateway_core.proofs.FeedLemmas.{stream_found, stream_set, midway, other_conn, this_conn, calls_kept, later, entry_stands, entry_fates, entry_none}
@@ -47,9 +47,10 @@ pub record Brought (plans : List PlanRecord) (text longer : List ℕ) (given : L
 module _ (plans : List PlanRecord) (i : ℕ) (text longer left : List ℕ) (given : List HttpRequest) (pushed new : ReaderValue) (v w : MachineValue)
     (was : Requests 0 text given (Open left)) (now : HasRead pushed longer given) where
   brought : (r : Reading) → pushed.reading ≡ r → Brings plans i r pushed new v w
-      → ((w ≡ v) × Brought plans text longer given new []) ⊎ ((x : Entering) × Enters i x v w × Brought plans text longer given new (x ∷ []))
+      → ((w ≡ v) × (calls_brought plans r ≡ 0) × Brought plans text longer given new []) ⊎ ((x : Entering) × Enters i x v w × (calls_brought plans r ≡ calls_in x) × Brought plans text longer given new (x ∷ []))
   brought (Partial l) r_is b = inl (
     b.1,
+    refl,
     record {
       gains = record { given = given; more = []; ending = Open left; later = Open l; text_is = was; longer_is = subst (λ g. Requests 0 longer g (Open l)) (sym (append-nil given)) (reads (Partial l) r_is); gained_is = refl };
       now_given = given;
@@ -63,6 +64,7 @@ module _ (plans : List PlanRecord) (i : ℕ) (text longer left : List ℕ) (give
       reads r e = subst (λ x. HasReadTo x longer given) e now.reads
   brought Done r_is b = inl (
     b.1,
+    refl,
     record {
       gains = record { given = given; more = []; ending = Open left; later = Closed; text_is = was; longer_is = subst (λ g. Requests 0 longer g Closed) (sym (append-nil given)) (subst (λ x. HasReadTo x longer given) r_is now.reads); gained_is = refl };
       now_given = given;
@@ -74,6 +76,7 @@ module _ (plans : List PlanRecord) (i : ℕ) (text longer left : List ℕ) (give
   brought (Stopped r) r_is b = inr (
     Refused r,
     b.1,
+    refl,
     record {
       gains = record { given = given; more = []; ending = Open left; later = Broken r; text_is = was; longer_is = subst (λ g. Requests 0 longer g (Broken r)) (sym (append-nil given)) (subst (λ x. HasReadTo x longer given) r_is now.reads); gained_is = refl };
       now_given = given;
@@ -85,6 +88,7 @@ module _ (plans : List PlanRecord) (i : ℕ) (text longer left : List ℕ) (give
   brought (Waiting q) r_is b = inr (
     Request q (arrival_of plans q),
     b.2,
+    refl,
     record {
       gains = record {
         given = given;
@@ -136,8 +140,8 @@ module _ (i n : ℕ) (bytes : List ℕ) (v w : GatewayValue) (texts : ℕ → Li
   no_refusal : refusals s.reader.reading ≡ 0
   no_refusal = ap refusals left.1
 
-  what : ((w.machine ≡ v.machine) × Brought v.plans (texts c) (texts c ++ more) come.given f.new [])
-      ⊎ ((x : Entering) × Enters i x v.machine w.machine × Brought v.plans (texts c) (texts c ++ more) come.given f.new (x ∷ []))
+  what : ((w.machine ≡ v.machine) × (calls_brought v.plans f.pushed.reading ≡ 0) × Brought v.plans (texts c) (texts c ++ more) come.given f.new [])
+      ⊎ ((x : Entering) × Enters i x v.machine w.machine × (calls_brought v.plans f.pushed.reading ≡ calls_in x) × Brought v.plans (texts c) (texts c ++ more) come.given f.new (x ∷ []))
   what = brought v.plans i (texts c) (texts c ++ more) left.0 come.given f.pushed f.new v.machine w.machine
       (subst (λ x. HasReadTo x (texts c) come.given) left.1 come.reads.reads) (f.reads (texts c) come.given come.reads) f.pushed.reading refl f.brings
 
@@ -197,12 +201,12 @@ module _ (i n : ℕ) (bytes : List ℕ) (v w : GatewayValue) (texts : ℕ → Li
       ⊎ ((x : Entering) × (gained ≡ x ∷ []) × GatewayStands w (with_bytes c more texts) taken handed (Entry c x ∷ os)))
   fed_stands = by_what what
     where
-      by_what : ((w.machine ≡ v.machine) × Brought v.plans (texts c) (texts c ++ more) come.given f.new [])
-          ⊎ ((x : Entering) × Enters i x v.machine w.machine × Brought v.plans (texts c) (texts c ++ more) come.given f.new (x ∷ []))
+      by_what : ((w.machine ≡ v.machine) × (calls_brought v.plans f.pushed.reading ≡ 0) × Brought v.plans (texts c) (texts c ++ more) come.given f.new [])
+          ⊎ ((x : Entering) × Enters i x v.machine w.machine × (calls_brought v.plans f.pushed.reading ≡ calls_in x) × Brought v.plans (texts c) (texts c ++ more) come.given f.new (x ∷ []))
           → (gained : List Entering) × Gains v.plans (texts c) (texts c ++ more) gained
           × (((gained ≡ []) × GatewayStands w (with_bytes c more texts) taken handed os)
           ⊎ ((x : Entering) × (gained ≡ x ∷ []) × GatewayStands w (with_bytes c more texts) taken handed (Entry c x ∷ os)))
-      by_what (inl (m_is, b)) = (
+      by_what (inl (m_is, calls, b)) = (
         [],
         b.gains,
         inl (
@@ -215,6 +219,7 @@ module _ (i n : ℕ) (bytes : List ℕ) (v w : GatewayValue) (texts : ℕ → Li
             streams_stand = streams_then [] b (λ d ne. ap (λ (m : MachineValue). conn_of d m.conns) m_is)
                 (λ l l_is. inr (ap (λ (y : ConnValue). y.taken + length y.slots) (some_same (sym l_is ∙ ap (λ (m : MachineValue). conn_of c m.conns) m_is ∙ conn_is)) ∙ omega arith));
             unopened = λ d le. still d (h.unopened d (subst (λ m. m ≤ d) f.opened_is le));
+            begun_is = let le : w.begun ≤ v.begun + calls_brought v.plans f.pushed.reading = f.begun_is in let was : v.begun ≤ calls_arrived os = h.begun_is in omega (arith, le, was, calls);
           },
         ),
       )
@@ -227,7 +232,7 @@ module _ (i n : ℕ) (bytes : List ℕ) (v w : GatewayValue) (texts : ℕ → Li
             no_stream_is = no_stream_then d (not_this d u.no_conn) u.no_stream_is;
             no_call = subst (λ (m : MachineValue). All (λ y. (y.id.conn == d) ≡ false) m.calls) (sym m_is) u.no_call;
           }
-      by_what (inr (x, enters, b)) = (
+      by_what (inr (x, enters, calls, b)) = (
         x ∷ [],
         b.gains,
         inr (
@@ -244,6 +249,7 @@ module _ (i n : ℕ) (bytes : List ℕ) (v w : GatewayValue) (texts : ℕ → Li
                 ∙ (let size : length (k.slots ++ (arriving_at i x v.machine).reply ∷ []) ≡ length k.slots + 1 = length-append k.slots ((arriving_at i x v.machine).reply ∷ []) in omega (arith, size))))
                 (this_conn i x v.machine w.machine within orderly unbroken enters l l_is));
             unopened = λ d le. still d (h.unopened d (subst (λ m. m ≤ d) f.opened_is le));
+            begun_is = let le : w.begun ≤ v.begun + calls_brought v.plans f.pushed.reading = f.begun_is in let was : v.begun ≤ calls_arrived os = h.begun_is in omega (arith, le, was, calls);
           },
         ),
       )

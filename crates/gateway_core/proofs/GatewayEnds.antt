@@ -31,7 +31,7 @@ use Rattle.gateway_core.proofs.StoreMore.{conn_without}
 module _ (v w : GatewayValue) (texts : ℕ → List ℕ) (taken : ℕ → List ReplyEntry) (handed : List JobValue) (os : List Occurrence)
     (same : (c : ℕ) (t : StreamValue) → stream_of c w.streams ≡ Some t → t.hung_up ≡ false → stream_of c v.streams ≡ Some t)
     (none_more : (c : ℕ) → stream_of c v.streams ≡ None → stream_of c w.streams ≡ None)
-    (opened_is : w.opened ≡ v.opened) (orderly : IsOrderly v.machine) (h : GatewayStands v texts taken handed os) where
+    (opened_is : w.opened ≡ v.opened) (begun_same : w.begun ≡ v.begun) (orderly : IsOrderly v.machine) (h : GatewayStands v texts taken handed os) where
   -- ---- calls end
 
   pub ended_stands : (o : Occurrence) (cause : Cause) (told : MachineValue) → EndsBy o cause v.machine told → CallsEnd cause told w.machine → GatewayStands w texts taken handed (o ∷ os)
@@ -42,6 +42,7 @@ module _ (v w : GatewayValue) (texts : ℕ → List ℕ) (taken : ℕ → List R
     fates_are = ending_fates o cause v.machine told w.machine h.closed h.fates taken handed os by orderly h.fates_are h.fated e;
     streams_stand = streams_go v w texts g same h.streams_stand;
     unopened = λ c le. still c (h.unopened c (subst (λ m. m ≤ c) opened_is le));
+    begun_is = let same = begun_same in let was = h.begun_is in omega (arith, same, was);
   }
     where
       later : ℕ → Fate
@@ -76,6 +77,7 @@ module _ (v w : GatewayValue) (texts : ℕ → List ℕ) (taken : ℕ → List R
     fates_are = fates_next (Closing n) os h.fates w.machine (λ c l l_is on. let x = g.back c l l_is on in sym (h.fates_are c x.0 x.1) ∙ x.2);
     streams_stand = streams_go v w texts g same h.streams_stand;
     unopened = λ c le. still c (h.unopened c (subst (λ m. m ≤ c) opened_is le));
+    begun_is = let same = begun_same in let was = h.begun_is in omega (arith, same, was);
   }
     where
       later : ℕ → Fate

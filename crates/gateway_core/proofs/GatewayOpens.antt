@@ -40,8 +40,8 @@ stream_added d s (x ∷ streams) = ⊎_elim
 module _ (v w : GatewayValue) (texts : ℕ → List ℕ) (taken : ℕ → List ReplyEntry) (handed : List JobValue) (os : List Occurrence) (orderly : IsOrderly v.machine)
     (h : GatewayStands v texts taken handed os) where
   pub opened_stands : HasRead (reader_value 0 (Partial [])) [] [] → texts v.opened ≡ [] → w.machine ≡ opened_as v.opened v.machine → w.streams ≡ v.streams ++ new_stream v.opened ∷ []
-      → w.opened ≡ v.opened + 1 → GatewayStands w texts taken handed (Opening ∷ os)
-  opened_stands fresh no_text w_is streams_are opened_is = record {
+      → w.opened ≡ v.opened + 1 → w.begun ≡ v.begun → GatewayStands w texts taken handed (Opening ∷ os)
+  opened_stands fresh no_text w_is streams_are opened_is begun_same = record {
     closed = h.closed;
     fates = later;
     fated = fated_after Opening (λ c. is_stopped_in c w.machine.conns) (machine h.closed v.machine) (machine h.closed w.machine) h.fates taken handed os refl h.fated
@@ -50,6 +50,7 @@ module _ (v w : GatewayValue) (texts : ℕ → List ℕ) (taken : ℕ → List R
     fates_are = fates_next Opening os h.fates w.machine (λ c l l_is on. by_conn c l l_is on (conn_of c v.machine.conns) refl);
     streams_stand = λ c l t l_is t_is going. by_number c l t l_is t_is going (n == c) refl;
     unopened = λ c le. still c le (h.unopened c (let o = opened_is in omega (arith, le, o)));
+    begun_is = let same = begun_same in let was = h.begun_is in omega (arith, same, was);
   }
     where
       n : ℕ
@@ -130,9 +131,9 @@ module _ (v w : GatewayValue) (texts : ℕ → List ℕ) (taken : ℕ → List R
 
   -- ---- memory was refused to a piece that brings no request
 
-  pub refused_stands : (n : ℕ) (k : ConnValue) → conn_of n v.machine.conns ≡ Some k → k.broken ≡ false → w.machine ≡ broken_at n v.machine → w.streams ≡ v.streams → w.opened ≡ v.opened
+  pub refused_stands : (n : ℕ) (k : ConnValue) → conn_of n v.machine.conns ≡ Some k → k.broken ≡ false → w.machine ≡ broken_at n v.machine → w.streams ≡ v.streams → w.opened ≡ v.opened → w.begun ≡ v.begun
       → GatewayStands w texts taken handed os
-  refused_stands n k there on w_is streams_are opened_is = record {
+  refused_stands n k there on w_is streams_are opened_is begun_same = record {
     closed = h.closed;
     fates = fates_refused n os h.fates;
     fated = refused n (machine h.closed v.machine) (machine h.closed w.machine) h.fates taken handed os fate_is
@@ -140,6 +141,7 @@ module _ (v w : GatewayValue) (texts : ℕ → List ℕ) (taken : ℕ → List R
     fates_are = λ c l l_is. by_conn c l l_is (c == n) refl;
     streams_stand = streams_go v w texts g (λ c t t_is _. ap (stream_of c) (sym streams_are) ∙ t_is) h.streams_stand;
     unopened = λ c le. still c (h.unopened c (subst (λ m. m ≤ c) opened_is le));
+    begun_is = let same = begun_same in let was = h.begun_is in omega (arith, same, was);
   }
     where
       fate_is : is_broken (h.fates n) ≡ false
@@ -172,9 +174,9 @@ module _ (v w : GatewayValue) (texts : ℕ → List ℕ) (taken : ℕ → List R
 
   -- ---- what is taken
 
-  pub job_stands : (job : Option HandedJob) → JobTaken v.machine w.machine job → w.streams ≡ v.streams → w.opened ≡ v.opened
+  pub job_stands : (job : Option HandedJob) → JobTaken v.machine w.machine job → w.streams ≡ v.streams → w.opened ≡ v.opened → w.begun ≡ v.begun
       → GatewayStands w texts taken (handed ++ option_to_list (option_map (λ j. j.job) job)) os
-  job_stands job t streams_are opened_is = record {
+  job_stands job t streams_are opened_is begun_same = record {
     closed = h.closed;
     fates = h.fates;
     fated = subst (λ m. FatedStands (machine h.closed m) h.fates taken (handed ++ option_to_list (option_map (λ j. j.job) job)) os) (sym t.rest) (record {
@@ -188,6 +190,7 @@ module _ (v w : GatewayValue) (texts : ℕ → List ℕ) (taken : ℕ → List R
     fates_are = subst (λ (m : MachineValue). FatesAre h.fates m.conns) (sym t.rest) h.fates_are;
     streams_stand = streams_go v w texts g (λ c s s_is _. ap (stream_of c) (sym streams_are) ∙ s_is) h.streams_stand;
     unopened = λ c le. still c (h.unopened c (subst (λ m. m ≤ c) opened_is le));
+    begun_is = let same = begun_same in let was = h.begun_is in omega (arith, same, was);
   }
     where
       g : Goes v.machine w.machine
@@ -202,15 +205,16 @@ module _ (v w : GatewayValue) (texts : ℕ → List ℕ) (taken : ℕ → List R
         no_call = g.no_call c x.no_call;
       }
 
-  pub reply_stands : (i : ℕ) (r : ReplyValue) → i < length v.machine.conns → ReplyTaken i v.machine w.machine (Some r) → w.streams ≡ v.streams → w.opened ≡ v.opened
+  pub reply_stands : (i : ℕ) (r : ReplyValue) → i < length v.machine.conns → ReplyTaken i v.machine w.machine (Some r) → w.streams ≡ v.streams → w.opened ≡ v.opened → w.begun ≡ v.begun
       → GatewayStands w texts (λ d. if d == (conn_at i v.machine.conns).number then taken d ++ r.entry ∷ [] else taken d) handed os
-  reply_stands i r lt t streams_are opened_is = record {
+  reply_stands i r lt t streams_are opened_is begun_same = record {
     closed = h.closed;
     fates = h.fates;
     fated = reply_handed i r v.machine w.machine h.closed h.fates taken handed os lt orderly.conns_apart t h.fated;
     fates_are = λ c l l_is. by_conn c l l_is (c == k.number) refl;
     streams_stand = streams_go v w texts g (λ c s s_is _. ap (stream_of c) (sym streams_are) ∙ s_is) h.streams_stand;
     unopened = λ c le. still c (h.unopened c (subst (λ m. m ≤ c) opened_is le));
+    begun_is = let same = begun_same in let was = h.begun_is in omega (arith, same, was);
   }
     where
       k : ConnValue

@@ -159,7 +159,7 @@ streams_go v w texts g same h = λ c l t l_is t_is going.
     both true b e = absurd (cc)
 
 module _ (id : CallId) (branch : ℕ) (outcome : Outcome) (v w : GatewayValue) (texts : ℕ → List ℕ) (taken : ℕ → List ReplyEntry) (handed : List JobValue) (os : List Occurrence)
-    (streams_are : w.streams ≡ v.streams) (opened_is : w.opened ≡ v.opened) (orderly : IsOrderly v.machine) (h : GatewayStands v texts taken handed os) where
+    (streams_are : w.streams ≡ v.streams) (opened_is : w.opened ≡ v.opened) (begun_same : w.begun ≡ v.begun) (orderly : IsOrderly v.machine) (h : GatewayStands v texts taken handed os) where
   -- after a step that is this occurrence, and a call that is forgotten
   step_stands : (u : MachineValue) → Goes v.machine u → Forgets id u w.machine
       → FatedStands (machine h.closed u) (fates_after (λ c. is_stopped_in c u.conns) (Result id branch outcome) os h.fates) taken handed (Result id branch outcome ∷ os)
@@ -172,6 +172,7 @@ module _ (id : CallId) (branch : ℕ) (outcome : Outcome) (v w : GatewayValue) (
         (fates_next (Result id branch outcome) os h.fates u (λ c l l_is on. let k = g.back c l l_is on in sym (h.fates_are c k.0 k.1) ∙ k.2));
     streams_stand = streams_go v w texts whole (λ c t t_is on. ap (stream_of c) (sym streams_are) ∙ t_is) h.streams_stand;
     unopened = λ c le. still c (h.unopened c (subst (λ m. m ≤ c) opened_is le));
+    begun_is = let same = begun_same in let was = h.begun_is in omega (arith, same, was);
   }
     where
       whole : Goes v.machine w.machine

@@ -5,10 +5,12 @@ use Rattle.std.specs.Prelude.{⊤, ◌↔◌, ◌&&◌, not, IfOk, IfSome, OnOk,
 use Rattle.std.specs.List.{list_any}
 use Rattle.std.specs.Option.{option_map_or, option_or}
 use Rattle.std.proofs.lemmas.Bool.{cases_Bool, cond_both, eq-eqb, eqb-true, lt-ltb, ltb-true, ne_eqb}
+use Rattle.std.proofs.lemmas.List.{length-map}
 use Rattle.connect_codec.specs.declared.answer.Outcome.{Outcome}
 use Rattle.gateway_core.specs.declared.fault.OpenError.{OpenError}
 use Rattle.gateway_core.specs.declared.fault.StepFault.{StepFault}
-use Rattle.gateway_core.specs.declared.fault.StepFault.TheVariants.{Gone, Memory}
+use Rattle.gateway_core.specs.declared.fault.Seen.{Seen}
+use Rattle.gateway_core.specs.declared.fault.StepFault.TheVariants.{Exhausted, Gone, Memory}
 use Rattle.gateway_core.specs.declared.fault.Seen.TheVariants.{Counted, Late, Unknown}
 use Rattle.gateway_core.specs.declared.fault.Took.{Took}
 use Rattle.gateway_core.specs.declared.event.CallEvent.TheVariants.{HungUp as HungUpNow}
@@ -32,10 +34,11 @@ use Rattle.gateway_core.specs.Opens.{JobTaken}
 use Rattle.gateway_core.specs.Orderly.{FatesAre, IsOrderly}
 use Rattle.gateway_core.specs.Reply.{ReplyValue}
 use Rattle.gateway_core.specs.Results.{Forgets, ResultTaken, Starved, result_at}
-use Rattle.gateway_core.specs.Serving.{BreaksBy, Closes, Ends, FedTo, IsDeaf, came, dropped, unheard, unread, HangsUp, silent, hung, IsServing, Keeps, KeepsBut, ListensAt, Opens, TakesOnly, TakesReply, absent, taken}
+use Rattle.gateway_core.specs.Serving.{BreaksBy, Closes, CountsCalls, IsFault, TellsStep, most_begun, Ends, FedTo, IsDeaf, came, dropped, unheard, unread, HangsUp, silent, hung, IsServing, Keeps, KeepsBut, ListensAt, Opens, TakesOnly, TakesReply, absent, taken}
 use Rattle.gateway_core.specs.Starts.{occurrences}
 use Rattle.gateway_core.specs.Step.{CallState, Live, ended_by, has_out}
-use Rattle.gateway_core.specs.Store.{MachineValue, broken_at, conn_at, conn_of, kept_at, numbers}
+use Rattle.gateway_core.specs.Store.{MachineValue, broken_at, conn_at, conn_of, given_up_if, kept_at, numbers}
+use Rattle.gateway_core.specs.Tally.{tally_of}
 use Rattle.gateway_core.proofs.Concerned.{ends_concern, result_concern, starved_concern}
 use Rattle.gateway_core.proofs.EndLemmas.{fills_in, stopped_now, stopped_then}
 use Rattle.gateway_core.proofs.FeedLemmas.{other_conn, stream_found, stream_set}
@@ -86,9 +89,13 @@ waiting_same (Some k) (Some l) g e = g.replies_same e
 abbrev pub BreaksIn : (ℕ → Bool) → GatewayValue → GatewayValue → Type 0
 BreaksIn breaks v w = (c : ℕ) → is_broken_conn c w ≡ true → is_broken_conn c v ≡ false → breaks c ≡ true
 
-pub keeps_grew : (breaks : ℕ → Bool) (v w : GatewayValue) → w.plans ≡ v.plans → w.opened ≡ v.opened → Grew v.machine w.machine → BreaksIn breaks v w → Keeps breaks v w
-keeps_grew breaks v w plans_are opened_is g broken_are = record {
+-- where so many results were seen so
+keeps_seen : (breaks : ℕ → Bool) (seen : List Seen) (v w : GatewayValue) → w.plans ≡ v.plans → w.opened ≡ v.opened → (length w.machine.calls ≤ length v.machine.calls → w.begun ≡ v.begun)
+    → ((before : List Seen) → v.tally ≡ tally_of before → w.tally ≡ tally_of (seen ++ before)) → Grew v.machine w.machine → BreaksIn breaks v w → KeepsBut (λ c. false) breaks seen v w
+keeps_seen breaks seen v w plans_are opened_is begun_is tally_is g broken_are = record {
   plans_are = plans_are;
+  begun_is = begun_is;
+  tally_is = tally_is;
   stays_silent = λ c silent.
       let p = both_parts (nat_lt c v.opened) (is_off (conn_of c v.machine.conns)) silent in
       rw (ap (nat_lt c) opened_is ∙ p.0, off_then (conn_of c v.machine.conns) (conn_of c w.machine.conns) (g.conns_are c) p.1) refl;
@@ -102,12 +109,16 @@ keeps_grew breaks v w plans_are opened_is g broken_are = record {
   no_jobs = λ c silent. g.no_jobs c (both_parts (nat_lt c v.opened) (is_off (conn_of c v.machine.conns)) silent).1;
 }
 
+-- where none was begun and none was seen
+pub keeps_grew : (breaks : ℕ → Bool) (v w : GatewayValue) → w.plans ≡ v.plans → w.opened ≡ v.opened → w.begun ≡ v.begun → w.tally ≡ v.tally → Grew v.machine w.machine → BreaksIn breaks v w → Keeps breaks v w
+keeps_grew breaks v w plans_are opened_is begun_is tally_is g broken_are = keeps_seen breaks [] v w plans_are opened_is (λ few. begun_is) (λ before e. tally_is ∙ e) g broken_are
+
 -- none breaks
 none_broken : (breaks : ℕ → Bool) (v w : GatewayValue) → w ≡ v → BreaksIn breaks v w
 none_broken breaks v w e c now before = absurd (let clash : true ≡ false = sym now ∙ ap (λ (x : GatewayValue). is_broken_conn c x) e ∙ before in cc)
 
 pub keeps_all : (breaks : ℕ → Bool) (v w : GatewayValue) → w ≡ v → Keeps breaks v w
-keeps_all breaks v w e = keeps_grew breaks v w (ap (λ (x : GatewayValue). x.plans) e) (ap (λ (x : GatewayValue). x.opened) e)
+keeps_all breaks v w e = keeps_grew breaks v w (ap (λ (x : GatewayValue). x.plans) e) (ap (λ (x : GatewayValue). x.opened) e) (ap (λ (x : GatewayValue). x.begun) e) (ap (λ (x : GatewayValue). x.tally) e)
     (grew_same v.machine w.machine (ap (λ (x : GatewayValue). x.machine.conns) e) (ap (λ (x : GatewayValue). x.machine.jobs) e)) (none_broken breaks v w e)
 
 -- where the others are broken as before
@@ -123,6 +134,8 @@ module _ (v w : GatewayValue) where
   opened_keeps : (n : ℕ) → Opens v w n → Keeps (λ c. false) v w
   opened_keeps n o = record {
     plans_are = o.plans_are;
+    begun_is = λ few. o.begun_is;
+    tally_is = λ before e. o.tally_is ∙ e;
     stays_silent = λ c silent.
         let p = both_parts (nat_lt c v.opened) (is_off (conn_of c v.machine.conns)) silent in
         let lt : c < v.opened = ltb-true c v.opened p.0 in
@@ -168,9 +181,11 @@ pub opened_number : {E : Type 0} → (v w : GatewayValue) (r : std.Result ℕ E)
 opened_number v w (Ok n) o = o.number_is
 opened_number v w (Err e) o = tt
 
-pub closing_keeps : (n : ℕ) (v w : GatewayValue) (b : Bool) → Closes n v w b → KeepsBut (λ c. c == n) (λ c. false) v w
+pub closing_keeps : (n : ℕ) (v w : GatewayValue) (b : Bool) → Closes n v w b → KeepsBut (λ c. c == n) (λ c. false) [] v w
 closing_keeps n v w false x = let same = keeps_all (λ c. false) v w x.1 in record {
   plans_are = same.plans_are;
+  begun_is = same.begun_is;
+  tally_is = same.tally_is;
   stays_silent = same.stays_silent;
   stays_broken = λ c other. same.stays_broken c refl;
   broken_are = same.broken_are;
@@ -182,6 +197,8 @@ closing_keeps n v w false x = let same = keeps_all (λ c. false) v w x.1 in reco
 }
 closing_keeps n v w true x = record {
   plans_are = ap (λ (y : GatewayValue). y.plans) x.1;
+  begun_is = λ few. ap (λ (y : GatewayValue). y.begun) x.1;
+  tally_is = λ before e. ap (λ (y : GatewayValue). y.tally) x.1 ∙ e;
   stays_silent = λ c silent.
       let p = both_parts (nat_lt c v.opened) (is_off (conn_of c v.machine.conns)) silent in
       rw (ap (λ (y : GatewayValue). nat_lt c y.opened) x.1 ∙ p.0, ap (λ o. is_off o) (conn_is c) ∙ by_it c (c == n) p.1) refl;
@@ -219,31 +236,49 @@ module _ (n : ℕ) (bytes : List ℕ) (v w : GatewayValue) (serving : IsServing 
   entered_breaks : (i : ℕ) (x : Entering) → ListensAt n v i → Enters i x v.machine w.machine → (c : ℕ) → (c == n) ≡ false → is_broken_conn c w ≡ is_broken_conn c v
   entered_breaks i x l enters c ne = ap (λ o. is_stopped o) (other_conn i x v.machine w.machine l.conn_there serving.orderly l.unbroken enters c (ap (λ m. c == m) l.conn_is ∙ ne))
 
-  fed_grew : (i m : ℕ) → ListensAt n v i → Feeds i m bytes v w → Keeps (λ c. c == n) v w
-  fed_grew i m l f = by_machine (feeds_machine i m bytes v w f)
+  fed_grew : (i m : ℕ) → ListensAt n v i → Feeds i m bytes v w → CountsCalls v w → Keeps (λ c. c == n) v w
+  fed_grew i m l f counts = by_machine (feeds_machine i m bytes v w f)
     where
+      none_begun : length w.machine.calls ≤ length v.machine.calls → w.begun ≡ v.begun
+      none_begun few = omega (arith, few, counts.grows, counts.sum_is)
+
       by_machine : (w.machine ≡ v.machine) ⊎ ((x : Entering) × Enters i x v.machine w.machine) → Keeps (λ c. c == n) v w
-      by_machine (inl e) = keeps_grew (λ c. c == n) v w f.plans_are f.opened_is
+      by_machine (inl e) = keeps_seen (λ c. c == n) [] v w f.plans_are f.opened_is none_begun (λ before e. f.tally_is ∙ e)
           (grew_same v.machine w.machine (ap (λ (y : MachineValue). y.conns) e) (ap (λ (y : MachineValue). y.jobs) e))
           (only_breaks n v w (λ c ne. ap (λ (y : MachineValue). is_stopped_in c y.conns) e))
-      by_machine (inr (x, enters)) = keeps_grew (λ c. c == n) v w f.plans_are f.opened_is
+      by_machine (inr (x, enters)) = keeps_seen (λ c. c == n) [] v w f.plans_are f.opened_is none_begun (λ before e. f.tally_is ∙ e)
           (grew_entered i x v.machine w.machine l.conn_there l.unbroken serving.orderly enters) (only_breaks n v w (entered_breaks i x l enters))
 
   pub fed_keeps : (r : std.Result ℕ StepFault) → FedTo n bytes v w r → Keeps (λ c. c == n) v w
   fed_keeps r (unheard deaf r_is w_is) = keeps_all (λ c. c == n) v w w_is
   fed_keeps r (dropped i l over r_is w_is) = keeps_all (λ c. c == n) v w w_is
   fed_keeps r (unread i l going r_is w_is) = keeps_grew (λ c. c == n) v w (ap (λ (y : GatewayValue). y.plans) w_is) (ap (λ (y : GatewayValue). y.opened) w_is)
+      (ap (λ (y : GatewayValue). y.begun) w_is) (ap (λ (y : GatewayValue). y.tally) w_is)
       (grew_broken n v.machine w.machine (ap (λ (y : GatewayValue). y.machine.conns) w_is) (ap (λ (y : GatewayValue). y.machine.jobs) w_is))
       (only_breaks n v w (λ c ne. ap (λ (y : GatewayValue). is_broken_conn c y) w_is ∙ stopped_then c n v.machine.conns ne))
-  fed_keeps r (came i m l going f within moves r_is) = fed_grew i m l f
+  fed_keeps r (came i m l going f within moves why is counts r_is) = fed_grew i m l f counts
+
+  counts_same : w.begun ≡ v.begun → length w.machine.calls ≡ length v.machine.calls → CountsCalls v w
+  counts_same begun_is size = record {
+    grows = omega (arith, begun_is);
+    sum_is = omega (arith, begun_is, size);
+    few = λ more. absurd (omega (arith, more, begun_is));
+  }
+
+  pub fed_counts : (r : std.Result ℕ StepFault) → FedTo n bytes v w r → CountsCalls v w
+  fed_counts r (unheard deaf r_is w_is) = counts_same (ap (λ (y : GatewayValue). y.begun) w_is) (ap (λ (y : GatewayValue). length y.machine.calls) w_is)
+  fed_counts r (dropped i l over r_is w_is) = counts_same (ap (λ (y : GatewayValue). y.begun) w_is) (ap (λ (y : GatewayValue). length y.machine.calls) w_is)
+  fed_counts r (unread i l going r_is w_is) = counts_same (ap (λ (y : GatewayValue). y.begun) w_is)
+      (ap (λ (y : GatewayValue). length y.machine.calls) w_is ∙ length-map v.machine.calls (given_up_if n))
+  fed_counts r (came i m l going f within moves why is counts r_is) = counts
 
   pub fed_within : (r : std.Result ℕ StepFault) → FedTo n bytes v w r → IfOk r (λ m. m ≤ length bytes)
   fed_within r (unheard deaf r_is w_is) = subst (λ x. IfOk x (λ m. m ≤ length bytes)) (sym r_is) tt
   fed_within r (dropped i l over r_is w_is) = subst (λ x. IfOk x (λ m. m ≤ length bytes)) (sym r_is) (omega arith)
   fed_within r (unread i l going r_is w_is) = subst (λ x. IfOk x (λ m. m ≤ length bytes)) (sym r_is) tt
-  fed_within r (came i m l going f within moves r_is) = subst (λ x. IfOk x (λ k. k ≤ length bytes)) (sym r_is) (by_stop (is_stopped_in n w.machine.conns))
+  fed_within r (came i m l going f within moves why is counts r_is) = subst (λ x. IfOk x (λ k. k ≤ length bytes)) (sym r_is) (by_stop (is_stopped_in n w.machine.conns))
     where
-      by_stop : (b : Bool) → IfOk (if b then Err Memory else Ok m) (λ k. k ≤ length bytes)
+      by_stop : (b : Bool) → IfOk (if b then Err why else Ok m) (λ k. k ≤ length bytes)
       by_stop true = tt
       by_stop false = within
 
@@ -251,38 +286,51 @@ module _ (n : ℕ) (bytes : List ℕ) (v w : GatewayValue) (serving : IsServing 
   fed_moves r (unheard deaf r_is w_is) some = subst (λ x. IfOk x (λ m. 0 < m)) (sym r_is) tt
   fed_moves r (dropped i l over r_is w_is) some = subst (λ x. IfOk x (λ m. 0 < m)) (sym r_is) some
   fed_moves r (unread i l going r_is w_is) some = subst (λ x. IfOk x (λ m. 0 < m)) (sym r_is) tt
-  fed_moves r (came i m l going f within moves r_is) some = subst (λ x. IfOk x (λ k. 0 < k)) (sym r_is) (by_stop (is_stopped_in n w.machine.conns))
+  fed_moves r (came i m l going f within moves why is counts r_is) some = subst (λ x. IfOk x (λ k. 0 < k)) (sym r_is) (by_stop (is_stopped_in n w.machine.conns))
     where
-      by_stop : (b : Bool) → IfOk (if b then Err Memory else Ok m) (λ k. 0 < k)
+      by_stop : (b : Bool) → IfOk (if b then Err why else Ok m) (λ k. 0 < k)
       by_stop true = tt
       by_stop false = moves some
 
-  -- `Gone` at a connection whose pieces are taken would be an answer for want of memory
-  pub not_gone : {A : Type 0} (b : Bool) (a : A) (r : std.Result A StepFault) → r ≡ (if b then Err Memory else Ok a) → r ≡ Err Gone → ⊥
-  not_gone true a r e gone = let clash = sym gone ∙ e in cc
-  not_gone false a r e gone = let clash = sym gone ∙ e in cc
+  -- `Gone` at a connection whose pieces are taken would be an answer as it breaks
+  pub not_gone : {A : Type 0} (b : Bool) (a : A) (why : StepFault) (begun : ℕ) (r : std.Result A StepFault) → IsFault why begun → r ≡ (if b then Err why else Ok a) → r ≡ Err Gone → ⊥
+  not_gone true a why begun r (inl is) e gone = let clash = sym gone ∙ e in cc
+  not_gone true a why begun r (inr is) e gone = let clash = sym gone ∙ e in let its = is.0 in cc
+  not_gone false a why begun r is e gone = let clash = sym gone ∙ e in cc
 
-  stopped_by : {A : Type 0} (b : Bool) (a : A) (r : std.Result A StepFault) → r ≡ (if b then Err Memory else Ok a) → r ≡ Err Memory → b ≡ true
-  stopped_by true a r e memory = refl
-  stopped_by false a r e memory = absurd (let clash = sym memory ∙ e in cc)
+  stopped_by : {A : Type 0} (b : Bool) (a : A) (why fault : StepFault) (r : std.Result A StepFault) → r ≡ (if b then Err why else Ok a) → r ≡ Err fault → b ≡ true
+  stopped_by true a why fault r e at = refl
+  stopped_by false a why fault r e at = absurd (let clash = sym at ∙ e in cc)
+
+  exhausted_by : {A : Type 0} (b : Bool) (a : A) (why : StepFault) (begun : ℕ) (r : std.Result A StepFault) → IsFault why begun → r ≡ (if b then Err why else Ok a) → r ≡ Err Exhausted → most_begun ≤ begun
+  exhausted_by true a why begun r (inl is) e at = absurd (let clash = sym at ∙ e in cc)
+  exhausted_by true a why begun r (inr is) e at = is.1
+  exhausted_by false a why begun r is e at = absurd (let clash = sym at ∙ e in cc)
 
   pub fed_gone : (r : std.Result ℕ StepFault) → FedTo n bytes v w r → r ≡ Err Gone → w ≡ v
   fed_gone r (unheard deaf r_is w_is) gone = w_is
   fed_gone r (dropped i l over r_is w_is) gone = w_is
   fed_gone r (unread i l going r_is w_is) gone = absurd (let clash = sym gone ∙ r_is in cc)
-  fed_gone r (came i m l going f within moves r_is) gone = absurd (not_gone (is_stopped_in n w.machine.conns) m r r_is gone)
+  fed_gone r (came i m l going f within moves why is counts r_is) gone = absurd (not_gone (is_stopped_in n w.machine.conns) m why w.begun r is r_is gone)
 
   pub fed_memory : (r : std.Result ℕ StepFault) → FedTo n bytes v w r → r ≡ Err Memory → is_broken_conn n w ≡ true
   fed_memory r (unheard deaf r_is w_is) memory = absurd (let clash = sym memory ∙ r_is in cc)
   fed_memory r (dropped i l over r_is w_is) memory = absurd (let clash = sym memory ∙ r_is in cc)
   fed_memory r (unread i l going r_is w_is) memory = ap (λ (y : GatewayValue). is_broken_conn n y) w_is
       ∙ stopped_now n n v.machine.conns (eq-eqb n n refl) (ap (λ o. is_some o) (ap (λ m. conn_of m v.machine.conns) (sym l.conn_is) ∙ conn_found i v.machine.conns l.conn_there serving.orderly.conns_apart))
-  fed_memory r (came i m l going f within moves r_is) memory = stopped_by (is_stopped_in n w.machine.conns) m r r_is memory
+  fed_memory r (came i m l going f within moves why is counts r_is) memory = stopped_by (is_stopped_in n w.machine.conns) m why Memory r r_is memory
+
+  pub fed_exhausted : (r : std.Result ℕ StepFault) → FedTo n bytes v w r → r ≡ Err Exhausted → (is_broken_conn n w ≡ true) × (most_begun ≤ w.begun)
+  fed_exhausted r (unheard deaf r_is w_is) e = absurd (let clash = sym e ∙ r_is in cc)
+  fed_exhausted r (dropped i l over r_is w_is) e = absurd (let clash = sym e ∙ r_is in cc)
+  fed_exhausted r (unread i l going r_is w_is) e = absurd (let clash = sym e ∙ r_is in cc)
+  fed_exhausted r (came i m l going f within moves why is counts r_is) e =
+      (stopped_by (is_stopped_in n w.machine.conns) m why Exhausted r r_is e, exhausted_by (is_stopped_in n w.machine.conns) m why w.begun r is r_is e)
 
   pub hung_keeps : (r : std.Result ⊤ StepFault) → HangsUp n v w r → Keeps (λ c. c == n) v w
   hung_keeps r (silent deaf r_is w_is) = keeps_all (λ c. c == n) v w w_is
   hung_keeps r (hung i l ends rest r_is) = keeps_grew (λ c. c == n) v w (ap (λ (y : GatewayValue). y.plans) rest) (ap (λ (y : GatewayValue). y.opened) rest)
-      (grew_ended (HungUp n) v.machine v.machine w.machine refl refl ends)
+      (ap (λ (y : GatewayValue). y.begun) rest) (ap (λ (y : GatewayValue). y.tally) rest) (grew_ended (HungUp n) v.machine v.machine w.machine refl refl ends)
       (λ c now before. let e = ends.breaks_are c now before in
       ap (λ m. m == n) (sym e.its) ∙ hung_of (kept_at e.place v.machine.calls).id (kept_at e.place v.machine.calls).call.out (kept_at e.place v.machine.calls).call.live e.ends)
     where
@@ -296,11 +344,20 @@ module _ (n : ℕ) (bytes : List ℕ) (v w : GatewayValue) (serving : IsServing 
 
   pub hung_gone : (r : std.Result ⊤ StepFault) → HangsUp n v w r → r ≡ Err Gone → w ≡ v
   hung_gone r (silent deaf r_is w_is) gone = w_is
-  hung_gone r (hung i l ends rest r_is) gone = absurd (not_gone (is_stopped_in n w.machine.conns) tt r r_is gone)
+  hung_gone r (hung i l ends rest r_is) gone = absurd (not_gone (is_stopped_in n w.machine.conns) tt Memory w.begun r (inl refl) r_is gone)
 
   pub hung_memory : (r : std.Result ⊤ StepFault) → HangsUp n v w r → r ≡ Err Memory → is_broken_conn n w ≡ true
   hung_memory r (silent deaf r_is w_is) memory = absurd (let clash = sym memory ∙ r_is in cc)
-  hung_memory r (hung i l ends rest r_is) memory = stopped_by (is_stopped_in n w.machine.conns) tt r r_is memory
+  hung_memory r (hung i l ends rest r_is) memory = stopped_by (is_stopped_in n w.machine.conns) tt Memory Memory r r_is memory
+
+  -- no call begins by it
+  pub hung_exhausted : (r : std.Result ⊤ StepFault) → HangsUp n v w r → r ≡ Err Exhausted → ⊥
+  hung_exhausted r (silent deaf r_is w_is) e = let clash = sym e ∙ r_is in cc
+  hung_exhausted r (hung i l ends rest r_is) e = by_stop (is_stopped_in n w.machine.conns) r_is
+    where
+      by_stop : (b : Bool) → r ≡ (if b then Err Memory else Ok tt) → ⊥
+      by_stop true is = let clash = sym e ∙ is in cc
+      by_stop false is = let clash = sym e ∙ is in cc
 
 -- ---- calls that end, results, and what is taken
 
@@ -321,25 +378,25 @@ module _ (n : ℕ) (v : GatewayValue) (serving : IsServing v) where
   fed_deaf bytes w r (unheard deaf r_is w_is) = (λ e. deaf, λ d. r_is)
   fed_deaf bytes w r (dropped i l over r_is w_is) = (λ e. absurd (let clash = sym e ∙ r_is in cc), λ d. absurd (heard i l d))
   fed_deaf bytes w r (unread i l going r_is w_is) = (λ e. absurd (let clash = sym e ∙ r_is in cc), λ d. absurd (heard i l d))
-  fed_deaf bytes w r (came i m l going f within moves r_is) = (λ e. absurd (not_gone n bytes v w serving (is_stopped_in n w.machine.conns) m r r_is e), λ d. absurd (heard i l d))
+  fed_deaf bytes w r (came i m l going f within moves why is counts r_is) = (λ e. absurd (not_gone n bytes v w serving (is_stopped_in n w.machine.conns) m why w.begun r is r_is e), λ d. absurd (heard i l d))
 
   pub hung_deaf : (w : GatewayValue) (r : std.Result ⊤ StepFault) → HangsUp n v w r → (r ≡ Err Gone) ↔ IsDeaf n v
   hung_deaf w r (silent deaf r_is w_is) = (λ e. deaf, λ d. r_is)
-  hung_deaf w r (hung i l ends rest r_is) = (λ e. absurd (not_gone n [] v w serving (is_stopped_in n w.machine.conns) tt r r_is e), λ d. absurd (heard i l d))
+  hung_deaf w r (hung i l ends rest r_is) = (λ e. absurd (not_gone n [] v w serving (is_stopped_in n w.machine.conns) tt Memory w.begun r (inl refl) r_is e), λ d. absurd (heard i l d))
 
-  fine : {A : Type 0} (b : Bool) (a : A) (r : std.Result A StepFault) → r ≡ (if b then Err Memory else Ok a) → OnOk r (b ≡ false)
-  fine true a r e = subst (λ x. OnOk x (true ≡ false)) (sym e) tt
-  fine false a r e = subst (λ x. OnOk x (false ≡ false)) (sym e) refl
+  fine : {A : Type 0} (b : Bool) (a : A) (why : StepFault) (r : std.Result A StepFault) → r ≡ (if b then Err why else Ok a) → OnOk r (b ≡ false)
+  fine true a why r e = subst (λ x. OnOk x (true ≡ false)) (sym e) tt
+  fine false a why r e = subst (λ x. OnOk x (false ≡ false)) (sym e) refl
 
   pub fed_fine : (bytes : List ℕ) (w : GatewayValue) (r : std.Result ℕ StepFault) → FedTo n bytes v w r → OnOk r (is_broken_conn n w ≡ false)
   fed_fine bytes w r (unheard deaf r_is w_is) = subst (λ x. OnOk x (is_broken_conn n w ≡ false)) (sym r_is) tt
   fed_fine bytes w r (dropped i l over r_is w_is) = subst (λ x. OnOk x (is_broken_conn n w ≡ false)) (sym r_is) (ap (λ (x : GatewayValue). is_broken_conn n x) w_is ∙ whole i l)
   fed_fine bytes w r (unread i l going r_is w_is) = subst (λ x. OnOk x (is_broken_conn n w ≡ false)) (sym r_is) tt
-  fed_fine bytes w r (came i m l going f within moves r_is) = fine (is_stopped_in n w.machine.conns) m r r_is
+  fed_fine bytes w r (came i m l going f within moves why is counts r_is) = fine (is_stopped_in n w.machine.conns) m why r r_is
 
   pub hung_fine : (w : GatewayValue) (r : std.Result ⊤ StepFault) → HangsUp n v w r → OnOk r (is_broken_conn n w ≡ false)
   hung_fine w r (silent deaf r_is w_is) = subst (λ x. OnOk x (is_broken_conn n w ≡ false)) (sym r_is) tt
-  hung_fine w r (hung i l ends rest r_is) = fine (is_stopped_in n w.machine.conns) tt r r_is
+  hung_fine w r (hung i l ends rest r_is) = fine (is_stopped_in n w.machine.conns) tt Memory r r_is
 
 module _ (n : ℕ) (v w : GatewayValue) (serving : IsServing v) (then_serving : IsServing w) where
   -- after bytes were taken it is heard as before
@@ -347,7 +404,7 @@ module _ (n : ℕ) (v w : GatewayValue) (serving : IsServing v) (then_serving : 
   fed_heard bytes r (unheard deaf r_is w_is) = subst (λ x. OnOk x (IsDeaf n w → ⊥)) (sym r_is) tt
   fed_heard bytes r (dropped i l over r_is w_is) = subst (λ x. OnOk x (IsDeaf n w → ⊥)) (sym r_is) (λ deaf. heard n v serving i l (subst (IsDeaf n) w_is deaf))
   fed_heard bytes r (unread i l going r_is w_is) = subst (λ x. OnOk x (IsDeaf n w → ⊥)) (sym r_is) tt
-  fed_heard bytes r (came i m l going f within moves r_is) = by_stop (is_stopped_in n w.machine.conns) refl r_is
+  fed_heard bytes r (came i m l going f within moves why is counts r_is) = by_stop (is_stopped_in n w.machine.conns) refl r_is
     where
       stream_is : stream_of n w.streams ≡ Some (record (stream_at i v.streams) { reader = f.new })
       stream_is = ap (stream_of n) f.streams_are ∙ stream_set n i (record (stream_at i v.streams) { reader = f.new }) v.streams l.stream_there (streams_apart v serving) refl
@@ -364,12 +421,32 @@ module _ (n : ℕ) (v w : GatewayValue) (serving : IsServing v) (then_serving : 
           let off : (not k.broken && not (stream_at i v.streams).hung_up) ≡ false = deaf k (record (stream_at i v.streams) { reader = f.new }) o_is stream_is in
           let clash : true ≡ false = sym (rw (unbroken, l.on) refl) ∙ off in cc
 
-      by_stop : (b : Bool) → is_stopped_in n w.machine.conns ≡ b → r ≡ (if is_stopped_in n w.machine.conns then Err Memory else Ok m) → OnOk r (IsDeaf n w → ⊥)
-      by_stop true e is = subst (λ x. OnOk x (IsDeaf n w → ⊥)) (sym (is ∙ ap (λ b. if b then Err Memory else Ok m) e)) tt
-      by_stop false e is = subst (λ x. OnOk x (IsDeaf n w → ⊥)) (sym (is ∙ ap (λ b. if b then Err Memory else Ok m) e)) (by_conn (conn_of n w.machine.conns) refl e)
+      by_stop : (b : Bool) → is_stopped_in n w.machine.conns ≡ b → r ≡ (if is_stopped_in n w.machine.conns then Err why else Ok m) → OnOk r (IsDeaf n w → ⊥)
+      by_stop true e its = subst (λ x. OnOk x (IsDeaf n w → ⊥)) (sym (its ∙ ap (λ b. if b then Err why else Ok m) e)) tt
+      by_stop false e its = subst (λ x. OnOk x (IsDeaf n w → ⊥)) (sym (its ∙ ap (λ b. if b then Err why else Ok m) e)) (by_conn (conn_of n w.machine.conns) refl e)
+
+-- what a step tells
+pub fed_tells : (n : ℕ) (bytes : List ℕ) (v w : GatewayValue) → IsServing v → (r : std.Result ℕ StepFault) → FedTo n bytes v w r → TellsStep n v w r
+fed_tells n bytes v w serving r f = record {
+  gone = fed_deaf n v serving bytes w r f;
+  unchanged = fed_gone n bytes v w serving r f;
+  broke = fed_memory n bytes v w serving r f;
+  exhausted = fed_exhausted n bytes v w serving r f;
+  unbroken = fed_fine n v serving bytes w r f;
+}
+
+pub hung_tells : (n : ℕ) (v w : GatewayValue) → IsServing v → (r : std.Result ⊤ StepFault) → HangsUp n v w r → TellsStep n v w r
+hung_tells n v w serving r h = record {
+  gone = hung_deaf n v serving w r h;
+  unchanged = hung_gone n [] v w serving r h;
+  broke = hung_memory n [] v w serving r h;
+  exhausted = λ e. absurd (hung_exhausted n [] v w serving r h e);
+  unbroken = hung_fine n v serving w r h;
+}
 
 pub ended_keeps : (cause : Cause) (told : MachineValue) (v w : GatewayValue) → told.conns ≡ v.machine.conns → told.jobs ≡ v.machine.jobs → Ends cause told v w → Keeps (λ c. true) v w
 ended_keeps cause told v w conns_are jobs_are x = keeps_grew (λ c. true) v w (ap (λ (y : GatewayValue). y.plans) x.rest) (ap (λ (y : GatewayValue). y.opened) x.rest)
+    (ap (λ (y : GatewayValue). y.begun) x.rest) (ap (λ (y : GatewayValue). y.tally) x.rest)
     (grew_ended cause told v.machine w.machine conns_are jobs_are x.ends) (λ c now before. refl)
 
 -- a connection that breaks was not broken by its fate
@@ -390,12 +467,14 @@ ended_concerns o cause told v w serving by x = λ opened es taken handed occurre
     (fate_before c stands.fates v w stands.fates_are
     (grew_ended cause told v.machine w.machine (ap (λ (m : MachineValue). m.conns) by.machine_is) (ap (λ (m : MachineValue). m.jobs) by.machine_is) x.ends) now before) now
 
-module _ (id : CallId) (branch : ℕ) (u : MachineValue) (took : Took) (v w : GatewayValue) (orderly : IsOrderly v.machine) (rest : w ≡ record v { machine = w.machine }) (forgets : Forgets id u w.machine) where
+module _ (id : CallId) (branch : ℕ) (u : MachineValue) (took : Took) (v w : GatewayValue) (orderly : IsOrderly v.machine) (rest : w ≡ record v { machine = w.machine; tally = w.tally }) (forgets : Forgets id u w.machine)
+    (tally_is : (before : List Seen) → v.tally ≡ tally_of before → w.tally ≡ tally_of (took.seen ∷ before)) where
   forgotten_stop : (c : ℕ) → is_broken_conn c w ≡ is_stopped_in c u.conns
   forgotten_stop c = ap (is_stopped_in c) (forgotten_conns id u w.machine forgets)
 
-  pub result_keeps : (outcome : Outcome) → ResultTaken id branch outcome v.machine u took → Keeps (λ c. c == id.conn) v w
-  result_keeps outcome r = keeps_grew (λ c. c == id.conn) v w (ap (λ (y : GatewayValue). y.plans) rest) (ap (λ (y : GatewayValue). y.opened) rest)
+  pub result_keeps : (outcome : Outcome) → ResultTaken id branch outcome v.machine u took → KeepsBut (λ c. false) (λ c. c == id.conn) (took.seen ∷ []) v w
+  result_keeps outcome r = keeps_seen (λ c. c == id.conn) (took.seen ∷ []) v w (ap (λ (y : GatewayValue). y.plans) rest) (ap (λ (y : GatewayValue). y.opened) rest)
+      (λ few. ap (λ (y : GatewayValue). y.begun) rest) tally_is
       (grew_then v.machine u w.machine (grew_result id branch outcome v.machine u took orderly r) (grew_forgotten id u w.machine forgets))
       (only_breaks id.conn v w (λ c ne. forgotten_stop c ∙ by_way c ne r))
     where
@@ -407,8 +486,9 @@ module _ (id : CallId) (branch : ℕ) (u : MachineValue) (took : Took) (v w : Ga
       by_way c ne (inr (i, f, out, seen, its, inr broke)) = ap (λ (m : MachineValue). is_stopped_in c m.conns) broke.3
           ∙ stopped_then c (kept_at i v.machine.calls).id.conn v.machine.conns (ap (λ (x : CallId). c == x.conn) (same_call (kept_at i v.machine.calls).id id f.1) ∙ ne)
 
-  pub starved_keeps : Starved id branch v.machine u took → Keeps (λ c. c == id.conn) v w
-  starved_keeps r = keeps_grew (λ c. c == id.conn) v w (ap (λ (y : GatewayValue). y.plans) rest) (ap (λ (y : GatewayValue). y.opened) rest)
+  pub starved_keeps : Starved id branch v.machine u took → KeepsBut (λ c. false) (λ c. c == id.conn) (took.seen ∷ []) v w
+  starved_keeps r = keeps_seen (λ c. c == id.conn) (took.seen ∷ []) v w (ap (λ (y : GatewayValue). y.plans) rest) (ap (λ (y : GatewayValue). y.opened) rest)
+      (λ few. ap (λ (y : GatewayValue). y.begun) rest) tally_is
       (grew_then v.machine u w.machine (grew_starved id branch v.machine u took r) (grew_forgotten id u w.machine forgets))
       (only_breaks id.conn v w (λ c ne. forgotten_stop c ∙ by_way c ne r))
     where
@@ -445,6 +525,8 @@ pub only_all : (n : ℕ) (v w : GatewayValue) → w ≡ v → TakesOnly n v w
 only_all n v w e = record {
   plans_are = ap (λ (x : GatewayValue). x.plans) e;
   opened_is = ap (λ (x : GatewayValue). x.opened) e;
+  begun_is = ap (λ (x : GatewayValue). x.begun) e;
+  tally_is = ap (λ (x : GatewayValue). x.tally) e;
   jobs_are = ap (λ (x : GatewayValue). x.machine.jobs) e;
   open_are = λ c. ap (λ (x : GatewayValue). is_some (conn_of c x.machine.conns)) e;
   broken_are = λ c. ap (λ (x : GatewayValue). is_broken_conn c x) e;
@@ -458,6 +540,8 @@ module _ (n : ℕ) (v w : GatewayValue) (serving : IsServing v) where
   reply_only (Some r) (taken i lt number t rest) = record {
     plans_are = ap (λ (x : GatewayValue). x.plans) rest;
     opened_is = ap (λ (x : GatewayValue). x.opened) rest;
+    begun_is = ap (λ (x : GatewayValue). x.begun) rest;
+    tally_is = ap (λ (x : GatewayValue). x.tally) rest;
     jobs_are = ap (λ (m : MachineValue). m.jobs) t.2;
     open_are = λ c. ap (λ o. is_some o) (conn_is c) ∙ same c (λ o. is_some o) refl;
     broken_are = λ c. ap (λ o. option_map_or (λ (x : ConnValue). x.broken) o false) (conn_is c) ∙ same c (λ o. option_map_or (λ (x : ConnValue). x.broken) o false) refl;
@@ -494,8 +578,8 @@ pub unknown_starved : (id : CallId) (branch : ℕ) (v u : MachineValue) (took : 
 unknown_starved id branch v u took (inl n) e = n.2
 unknown_starved id branch v u took (inr (i, f, out, seen, broke, u_is)) e = absurd (seen_known (kept_at i v.calls).call branch out (sym seen ∙ e))
 
-pub unknown_kept : (v w : GatewayValue) → w ≡ record v { machine = w.machine } → w.machine ≡ v.machine → w ≡ v
-unknown_kept v w rest same = rest ∙ ap (λ m. record v { machine = m }) same
+pub unknown_kept : (v w : GatewayValue) → w ≡ record v { machine = w.machine; tally = w.tally } → w.machine ≡ v.machine → w ≡ record v { tally = w.tally }
+unknown_kept v w rest same = rest ∙ ap (λ m. record v { machine = m; tally = w.tally }) same
 
 -- ---- replies are taken in order
 

@@ -17,6 +17,8 @@ pub mod EntryFates
 pub mod RefusalFates
 pub mod SeenLemmas
 pub mod Taking
+pub mod Tallies
+pub mod Bringing
 pub mod Unconcerned
 pub mod GivingUp
 pub mod Readings
@@ -65,3 +67,4 @@ pub mod Standings
 pub mod Breaking
 pub mod SeenResults
 pub mod OpenCount
+pub mod LaterOpenings

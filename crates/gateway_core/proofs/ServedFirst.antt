@@ -8,10 +8,11 @@ use Rattle.gateway_core.specs.Served.{Served}
 use Rattle.gateway_core.specs.Serving.{gateway_value}
 use Rattle.gateway_core.specs.Starts.{occurrences}
 use Rattle.gateway_core.specs.Store.{machine_value}
+use Rattle.gateway_core.specs.Tally.{tally_of}
 use Rattle.gateway_core.proofs.Taking.{first_stands}
 
 abbrev first : List PlanRecord → GatewayValue
-first plans = gateway_value plans (machine_value 0 false [] [] []) [] 0
+first plans = gateway_value plans (machine_value 0 false [] [] []) [] 0 0 (tally_of [])
 
 stands_first : (plans : List PlanRecord) → GatewayStands (first plans) (λ c. []) (λ c. []) [] []
 stands_first plans = record {
@@ -21,6 +22,7 @@ stands_first plans = record {
   fates_are = λ c k k_is. absurd (cc);
   streams_stand = λ c k s k_is s_is going. absurd (cc);
   unopened = λ c le. record { state_is = refl; unbroken = refl; no_conn = refl; no_stream_is = refl; no_call = λ j d lt. absurd (omega (arith, lt)) };
+  begun_is = omega arith;
 }
 
 pub first_served : (plans : List PlanRecord) (v : GatewayValue) → v ≡ first plans → Served v [] [] (λ c. []) []

@@ -7,12 +7,12 @@ use Rattle.http_pieces.specs.Reader.{HasRead}
 use Rattle.http_pieces.specs.Request.{HttpRequest, closes}
 use Rattle.http_pieces.specs.Requests.{Ending, Closed, EndsAt, Requests, unfinished, broken}
 use Rattle.http_pieces.specs.declared.refusal.Refusal.{Refusal}
-use Rattle.http_pieces.proofs.RequestsLemmas.{cut_complete_append, cut_unique}
 use Rattle.gateway_core.specs.declared.entry.ReplyEntry.{ReplyEntry}
 use Rattle.gateway_core.specs.Events.{Before, Gains, Occurs, OccursAt, Piece, IsShifted, listens, onto, refusal_gained, requests_gained, stream, succeeds}
 use Rattle.gateway_core.specs.Gateway.{GatewayStands, GatewayValue}
 use Rattle.gateway_core.specs.Job.{JobValue}
 use Rattle.gateway_core.specs.Occurrence.{Entering, Entry, Occurrence}
+use Rattle.gateway_core.specs.RequestLaws.{RequestLaws}
 use Rattle.gateway_core.specs.Served.{Served}
 use Rattle.gateway_core.specs.Starts.{Placed, occurrences}
 use Rattle.gateway_core.proofs.CutLemmas.{IsSame, any_cut, listens_piece, same_piece, stream_piece}
@@ -26,16 +26,16 @@ cut_of q rest = Complete q rest
 same_cut : (q r : HttpRequest) (a b : List ℕ) → cut_of q a ≡ cut_of r b → (q ≡ r) × (a ≡ b)
 same_cut q r a b e = (cc, cc)
 
-requests_front : (k : ℕ) (s more : List ℕ) (given whole : List HttpRequest) (e f : Ending) → Requests k s given e → Requests k (s ++ more) whole f → (rest : List HttpRequest) × (whole ≡ given ++ rest)
-requests_front k s more [] whole e f h g = (whole, refl)
-requests_front k s more (q ∷ given) [] e f h g = absurd (by_end g)
+requests_front : RequestLaws → (k : ℕ) (s more : List ℕ) (given whole : List HttpRequest) (e f : Ending) → Requests k s given e → Requests k (s ++ more) whole f → (rest : List HttpRequest) × (whole ≡ given ++ rest)
+requests_front laws k s more [] whole e f h g = (whole, refl)
+requests_front laws k s more (q ∷ given) [] e f h g = absurd (by_end g)
   where
     by_end : EndsAt k (s ++ more) f → ⊥
-    by_end (unfinished cut is) = let x = cut_unique k (s ++ more) _ _ cut (cut_complete_append k s more q h.0 h.1) in absurd (cc)
-    by_end (broken r cut is) = let x = cut_unique k (s ++ more) _ _ cut (cut_complete_append k s more q h.0 h.1) in absurd (cc)
-requests_front k s more (q ∷ given) (r ∷ whole) e f h g =
-    let same = same_cut q r (h.0 ++ more) g.0 (cut_unique k (s ++ more) _ _ (cut_complete_append k s more q h.0 h.1) g.1) in
-    by_close (closes q) refl same (λ x y. requests_front (suc k) h.0 more given whole e f x y)
+    by_end (unfinished cut is) = let x = laws.cut_unique k (s ++ more) _ _ cut (laws.cut_stays k s more q h.0 h.1) in absurd (cc)
+    by_end (broken r cut is) = let x = laws.cut_unique k (s ++ more) _ _ cut (laws.cut_stays k s more q h.0 h.1) in absurd (cc)
+requests_front laws k s more (q ∷ given) (r ∷ whole) e f h g =
+    let same = same_cut q r (h.0 ++ more) g.0 (laws.cut_unique k (s ++ more) _ _ (laws.cut_stays k s more q h.0 h.1) g.1) in
+    by_close (closes q) refl same (λ x y. requests_front laws (suc k) h.0 more given whole e f x y)
   where
     by_close : (b : Bool) → closes q ≡ b → (q ≡ r) × (h.0 ++ more ≡ g.0)
         → (Requests (suc k) h.0 given e → Requests (suc k) (h.0 ++ more) whole f → (rest : List HttpRequest) × (whole ≡ given ++ rest))
@@ -51,10 +51,10 @@ requests_front k s more (q ∷ given) (r ∷ whole) e f h g =
         (rest.0, ap (λ x. x ∷ whole) (sym same.0) ∙ ap (λ xs. q ∷ xs) rest.1)
 
 -- what the shorter text gains, and then the longer
-gains_parts : (plans : List PlanRecord) (s t : List ℕ) (given whole : List HttpRequest) (e f : Ending) (more : List ℕ) → t ≡ s ++ more → Requests 0 s given e → Requests 0 t whole f
+gains_parts : RequestLaws → (plans : List PlanRecord) (s t : List ℕ) (given whole : List HttpRequest) (e f : Ending) (more : List ℕ) → t ≡ s ++ more → Requests 0 s given e → Requests 0 t whole f
     → (gained : List Entering) × Gains plans s t gained
-gains_parts plans s t given whole e f more t_is h g =
-    let rest = requests_front 0 s more given whole e f h (subst (λ x. Requests 0 x whole f) t_is g) in (
+gains_parts laws plans s t given whole e f more t_is h g =
+    let rest = requests_front laws 0 s more given whole e f h (subst (λ x. Requests 0 x whole f) t_is g) in (
       requests_gained plans rest.0 ++ refusal_gained e f,
       record {
         given = given;
@@ -69,7 +69,7 @@ gains_parts plans s t given whole e f more t_is h g =
 
 -- ---- two pieces
 
-module _ (n : ℕ) (p q : List ℕ) (w : GatewayValue) (opened : List ℕ) (es : Before) (taken : ℕ → List ReplyEntry) (handed : List JobValue)
+module _ (laws : RequestLaws) (n : ℕ) (p q : List ℕ) (w : GatewayValue) (opened : List ℕ) (es : Before) (taken : ℕ → List ReplyEntry) (handed : List JobValue)
     (below : (place : ℕ) → succeeds opened place ≡ true → place < length es)
     (middle : (gained : List Entering) → Gains w.plans (stream opened n es) (stream opened n es ++ (p ++ q)) gained → (given : List HttpRequest) × (ending : Ending) × Requests 0 (stream opened n es ++ p) given ending)
     (h : Served w opened (Piece n q ∷ Piece n p ∷ es) taken handed) where
@@ -128,8 +128,8 @@ module _ (n : ℕ) (p q : List ℕ) (w : GatewayValue) (opened : List ℕ) (es :
               → (xs : List Occurrence) × (ys : List Occurrence) × OccursAt w.plans opened (Piece n p) es xs × OccursAt w.plans opened (Piece n q) (Piece n p ∷ es) ys
           by_gains (gained, gains, os_are) =
               let m = middle gained gains in
-              let first = gains_parts w.plans (stream opened n es) (stream opened n es ++ p) gains.given m.0 gains.ending m.1 p refl gains.text_is m.2 in
-              let second = gains_parts w.plans (stream opened n es ++ p) ((stream opened n es ++ p) ++ q) m.0 (gains.given ++ gains.more) m.1 gains.later q refl m.2
+              let first = gains_parts laws w.plans (stream opened n es) (stream opened n es ++ p) gains.given m.0 gains.ending m.1 p refl gains.text_is m.2 in
+              let second = gains_parts laws w.plans (stream opened n es ++ p) ((stream opened n es ++ p) ++ q) m.0 (gains.given ++ gains.more) m.1 gains.later q refl m.2
               (subst (λ t. Requests 0 t (gains.given ++ gains.more) gains.later) (sym (append_assoc (stream opened n es) p q)) gains.longer_is) in (
                 map (Entry n) first.0,
                 map (Entry n) second.0,
@@ -143,7 +143,7 @@ module _ (n : ℕ) (p q : List ℕ) (w : GatewayValue) (opened : List ℕ) (es :
           let ps = parts (listens opened n es) refl os at in
           let other = two past before ps.0 ps.1 ps.2 ps.3 in
           let same : occurrences occurred ≡ occurrences (onto (suc (length es)) ps.1 (onto (length es) ps.0 past)) =
-          any_cut w.plans opened opened [] es n p q occurred (onto (suc (length es)) ps.1 (onto (length es) ps.0 past)) shifted (past, before, (os, at, is)) other in
+          any_cut laws w.plans opened opened [] es n p q occurred (onto (suc (length es)) ps.1 (onto (length es) ps.0 past)) shifted (past, before, (os, at, is)) other in
           subst (λ us. GatewayStands w (λ c. stream opened c (Piece n (p ++ q) ∷ es)) taken handed us) (sym same)
           (texts_same w taken handed (λ c. stream opened c (Piece n q ∷ Piece n p ∷ es)) (λ c. stream opened c (Piece n (p ++ q) ∷ es)) (occurrences (onto (suc (length es)) ps.1 (onto (length es) ps.0 past)))
           (λ c. sym (joined.stream_is c)) (h.stands (onto (suc (length es)) ps.1 (onto (length es) ps.0 past)) other))

@@ -114,6 +114,7 @@ module _ (v : GatewayValue) (taken : ℕ → List ReplyEntry) (handed : List Job
     fates_are = h.fates_are;
     streams_stand = λ c k s k_is s_is going. subst (λ text. HasCome k s.reader text) (sym (same c)) (h.streams_stand c k s k_is s_is going);
     unopened = h.unopened;
+    begun_is = h.begun_is;
   }
 
 module _ (v w : GatewayValue) (opened : List ℕ) (e : GatewayEvent) (es : Before) (taken : ℕ → List ReplyEntry) (handed : List JobValue) (plans_are : w.plans ≡ v.plans) where
@@ -184,7 +185,7 @@ module _ (v w : GatewayValue) (opened : List ℕ) (es : Before) (taken : ℕ →
     }) h.conns;
     stands = stands_one v w opened e es taken handed (ap (λ (y : GatewayValue). y.plans) x.rest) o one (λ c. text_still opened c e es (plain.brings_none c))
         (λ os stands. ended_stands v w (λ c. stream opened c es) taken handed os (λ c t t_is on. ap (λ (y : GatewayValue). stream_of c y.streams) (sym x.rest) ∙ t_is)
-        (λ c none. ap (λ (y : GatewayValue). stream_of c y.streams) x.rest ∙ none) (ap (λ (y : GatewayValue). y.opened) x.rest) serving.orderly stands o cause told by x.ends) h.stands;
+        (λ c none. ap (λ (y : GatewayValue). stream_of c y.streams) x.rest ∙ none) (ap (λ (y : GatewayValue). y.opened) x.rest) (ap (λ (y : GatewayValue). y.begun) x.rest) serving.orderly stands o cause told by x.ends) h.stands;
   }
     where
       from_told : Goes told w.machine → Goes v.machine w.machine
@@ -204,7 +205,7 @@ module _ (v w : GatewayValue) (opened : List ℕ) (es : Before) (taken : ℕ →
       (record { opens_none = refl; closes_none = λ c. refl; hangs_none = λ c. refl; brings_none = λ c. refl }) (λ os at. at) refl refl (drain_ends v.machine) x
 
   -- a branch ends
-  module _ (id : CallId) (branch : ℕ) (outcome : Outcome) (u : MachineValue) (took : Took) (rest : w ≡ record v { machine = w.machine }) (forgets : Forgets id u w.machine) where
+  module _ (id : CallId) (branch : ℕ) (outcome : Outcome) (u : MachineValue) (took : Took) (rest : w ≡ record v { machine = w.machine; tally = w.tally }) (forgets : Forgets id u w.machine) where
     came_back : Goes v.machine w.machine → numbers w.machine.conns ≡ numbers v.machine.conns
         → ((os : List Occurrence) → GatewayStands v (λ c. stream opened c es) taken handed os
         → GatewayStands w (λ c. stream opened c es) taken handed (occurs.Result id branch outcome ∷ os))
@@ -220,10 +221,10 @@ module _ (v w : GatewayValue) (opened : List ℕ) (es : Before) (taken : ℕ →
     result_served r = came_back (goes_then v.machine u w.machine (goes_result id branch outcome v.machine u took r) (goes_forgotten id u w.machine forgets))
         (keeps_result id branch outcome v.machine u w.machine took r forgets).numbers_are
         (λ os stands. result_stands id branch outcome v w (λ c. stream opened c es) taken handed os (ap (λ (y : GatewayValue). y.streams) rest) (ap (λ (y : GatewayValue). y.opened) rest)
-        serving.orderly stands u took r forgets)
+        (ap (λ (y : GatewayValue). y.begun) rest) serving.orderly stands u took r forgets)
 
     pub starved_served : Starved id branch v.machine u took → Served w opened (BranchResult id.conn id.request branch outcome ∷ es) taken handed
     starved_served r = came_back (goes_then v.machine u w.machine (goes_starved id branch v.machine u took r) (goes_forgotten id u w.machine forgets))
         (keeps_starved id branch v.machine u w.machine took r forgets).numbers_are
         (λ os stands. starved_stands id branch outcome v w (λ c. stream opened c es) taken handed os (ap (λ (y : GatewayValue). y.streams) rest) (ap (λ (y : GatewayValue). y.opened) rest)
-        serving.orderly stands u took r forgets)
+        (ap (λ (y : GatewayValue). y.begun) rest) serving.orderly stands u took r forgets)

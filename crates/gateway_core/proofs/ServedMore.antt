@@ -166,7 +166,7 @@ module _ (n : ℕ) (v : GatewayValue) (opened : List ℕ) (es : Before) (taken :
       by_listens false x = stands_none v v opened (HangUp n) es taken handed refl (λ os at. at ∙ ap (λ b. once b (occurs.HangUp n)) x) (λ c. text_still opened c (HangUp n) es refl)
           (λ os stands. stands) h.stands
       by_listens true x = stands_one v v opened (HangUp n) es taken handed refl (occurs.HangUp n) (λ os at. at ∙ ap (λ b. once b (occurs.HangUp n)) x) (λ c. text_still opened c (HangUp n) es refl)
-          (λ os stands. ended_stands v v (λ c. stream opened c es) taken handed os (λ c t t_is on. t_is) (λ c none. none) refl serving.orderly stands (occurs.HangUp n) (HungUp n) v.machine
+          (λ os stands. ended_stands v v (λ c. stream opened c es) taken handed os (λ c t t_is on. t_is) (λ c none. none) refl refl serving.orderly stands (occurs.HangUp n) (HungUp n) v.machine
           (hang_up_ends n v.machine) (quiet_hang_up n v.machine serving.orderly (deaf_stopped n v opened es serving h.conns deaf x))) h.stands
 
   -- its calls end, or it breaks
@@ -187,7 +187,7 @@ module _ (n : ℕ) (v : GatewayValue) (opened : List ℕ) (es : Before) (taken :
     stands = stands_one v w opened (HangUp n) es taken handed (ap (λ (y : GatewayValue). y.plans) rest) (occurs.HangUp n) (λ os at. at ∙ ap (λ b. once b (occurs.HangUp n)) listening)
         (λ c. text_still opened c (HangUp n) es refl)
         (λ os stands. ended_stands v w (λ c. stream opened c es) taken handed os (λ c t t_is on. still c t t_is on (c == (stream_at i v.streams).number) refl)
-        (λ c none. no_more c none (c == (stream_at i v.streams).number) refl) opened_is serving.orderly stands (occurs.HangUp n) (HungUp n) v.machine (hang_up_ends n v.machine) ends) h.stands;
+        (λ c none. no_more c none (c == (stream_at i v.streams).number) refl) opened_is (ap (λ (y : GatewayValue). y.begun) rest) serving.orderly stands (occurs.HangUp n) (HungUp n) v.machine (hang_up_ends n v.machine) ends) h.stands;
   }
     where
       opened_is : w.opened ≡ v.opened

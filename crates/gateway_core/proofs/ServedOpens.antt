@@ -221,7 +221,7 @@ module _ (v w : GatewayValue) (opened : List ℕ) (es : Before) (taken : ℕ →
           (texts_same w taken handed (λ c. stream opened c es) (λ c. stream more c (Opening ∷ es)) (occurs.Opening ∷ occurrences past) text_is
           (opened_stands v w (λ c. stream opened c es) taken handed (occurrences past) serving.orderly
           (h.stands past (occurs_before v.plans opened more (length es) es past (omega arith) (grown opened (length es) h.conns.below) before))
-          fresh (unopened_text opened n es (let x = h.conns.count_is in omega (arith, x))) o.machine_is o.streams_are o.opened_is))
+          fresh (unopened_text opened n es (let x = h.conns.count_is in omega (arith, x))) o.machine_is o.streams_are o.opened_is o.begun_is))
 
   -- ---- a closing
 
@@ -296,7 +296,7 @@ module _ (v w : GatewayValue) (opened : List ℕ) (es : Before) (taken : ℕ →
       by_conn (Some k) k_is = stands_one v w opened (Closing n) es taken handed (ap (λ (y : GatewayValue). y.plans) x.1) (occurs.Closing n)
           (λ os at. at ∙ ap (λ b. once b (occurs.Closing n)) (h.conns.open_are n ∙ x.0)) (λ c. text_still opened c (Closing n) es refl)
           (λ os stands. closed_stands v w (λ c. stream opened c es) taken handed os
-          (λ c t t_is on. was c t (c == n) refl t_is) (λ c none. gone c (c == n) refl none) (ap (λ (y : GatewayValue). y.opened) x.1) serving.orderly stands n k k_is
+          (λ c t t_is on. was c t (c == n) refl t_is) (λ c none. gone c (c == n) refl none) (ap (λ (y : GatewayValue). y.opened) x.1) (ap (λ (y : GatewayValue). y.begun) x.1) serving.orderly stands n k k_is
           (ap (λ (y : GatewayValue). y.machine) x.1)) h.stands
         where
           was : (c : ℕ) (t : StreamValue) (b : Bool) → (c == n) ≡ b → stream_of c w.streams ≡ Some t → stream_of c v.streams ≡ Some t

@@ -8,7 +8,6 @@ use Rattle.call_plan.specs.Plan.{PlanRecord}
 use Rattle.http_pieces.specs.Reader.{ReaderValue, Reading, Partial, Waiting, Stopped, Done, HasRead, HasReadTo, is_over, left_of}
 use Rattle.http_pieces.specs.Request.{HttpRequest}
 use Rattle.http_pieces.specs.Requests.{Broken, Closed, Requests}
-use Rattle.http_pieces.proofs.RequestsLemmas.{requests_stay}
 use Rattle.gateway_core.specs.declared.entry.ReplyEntry.{ReplyEntry}
 use Rattle.gateway_core.specs.declared.fault.StepFault.{StepFault}
 use Rattle.gateway_core.specs.declared.fault.StepFault.TheVariants.{Memory}
@@ -25,6 +24,7 @@ use Rattle.gateway_core.specs.Machine.{arriving, next_id, with_slot}
 use Rattle.gateway_core.specs.Occurrence.{Entering, Entry, Occurrence, Refused, Request}
 use Rattle.gateway_core.specs.Arrival.{arrival_of}
 use Rattle.gateway_core.specs.Past.{is_call}
+use Rattle.gateway_core.specs.RequestLaws.{RequestLaws}
 use Rattle.gateway_core.specs.Served.{HasConns, Served, ServedFed, StandsBy}
 use Rattle.gateway_core.specs.Serving.{FedTo, came, dropped, unheard, unread, IsDeaf, IsServing, ListensAt}
 use Rattle.gateway_core.specs.Starts.{occurrences}
@@ -105,6 +105,7 @@ module _ (c : ℕ) (x : Entering) (v : GatewayValue) (texts : ℕ → List ℕ) 
       no_stream_is = u.no_stream_is;
       no_call = u.no_call;
     };
+    begun_is = let was = h.begun_is in omega (arith, was);
   }
 
 entries_quiet : (c : ℕ) (xs : List Entering) (v : GatewayValue) (texts : ℕ → List ℕ) (taken : ℕ → List ReplyEntry) (handed : List JobValue) (os : List Occurrence)
@@ -124,6 +125,7 @@ texts_else v texts others taken handed os same h = record {
   fates_are = h.fates_are;
   streams_stand = λ c k s k_is s_is going. by_text c k s k_is s_is going (same c);
   unopened = h.unopened;
+  begun_is = h.begun_is;
 }
   where
     by_text : (c : ℕ) (k : ConnValue) (s : StreamValue) → conn_of c v.machine.conns ≡ Some k → stream_of c v.streams ≡ Some s → goes_on k s ≡ true
@@ -203,8 +205,8 @@ conns_piece n bytes v w opened es opened_is same back h = record {
       b.6 read.0 read.1;
 }
 
-pub over_more : (reader : ReaderValue) (text more : List ℕ) (given : List HttpRequest) → is_over reader.reading ≡ true → HasRead reader text given → HasRead reader (text ++ more) given
-over_more reader text more given over h = record {
+pub over_more : RequestLaws → (reader : ReaderValue) (text more : List ℕ) (given : List HttpRequest) → is_over reader.reading ≡ true → HasRead reader text given → HasRead reader (text ++ more) given
+over_more laws reader text more given over h = record {
   count = h.count;
   reads = by_reading reader.reading over h.reads;
   looked = record {
@@ -216,8 +218,8 @@ over_more reader text more given over h = record {
     by_reading : (r : Reading) → is_over r ≡ true → HasReadTo r text given → HasReadTo r (text ++ more) given
     by_reading (Partial left) e x = absurd (cc)
     by_reading (Waiting q) e x = absurd (cc)
-    by_reading (Stopped r) e x = requests_stay 0 text more given (Broken r) tt x
-    by_reading Done e x = requests_stay 0 text more given Closed tt x
+    by_reading (Stopped r) e x = laws.refused_stays 0 text more given r x
+    by_reading Done e x = laws.closed_stays 0 text more given x
 
     over_left : (r : Reading) → is_over r ≡ true → (left : List ℕ) → left_of r ≡ Some left → ⊥
     over_left (Partial l) e left x = absurd (cc)
@@ -226,8 +228,8 @@ over_more reader text more given over h = record {
     over_left Done e left x = absurd (cc)
 
 -- a stream that is over gains nothing
-over_gains : (plans : List PlanRecord) (reader : ReaderValue) (text more : List ℕ) (given : List HttpRequest) → is_over reader.reading ≡ true → HasRead reader text given → Gains plans text (text ++ more) []
-over_gains plans reader text more given over h = by_reading reader.reading over h.reads
+over_gains : RequestLaws → (plans : List PlanRecord) (reader : ReaderValue) (text more : List ℕ) (given : List HttpRequest) → is_over reader.reading ≡ true → HasRead reader text given → Gains plans text (text ++ more) []
+over_gains laws plans reader text more given over h = by_reading reader.reading over h.reads
   where
     by_reading : (r : Reading) → is_over r ≡ true → HasReadTo r text given → Gains plans text (text ++ more) []
     by_reading (Partial left) e x = absurd (cc)
@@ -238,7 +240,7 @@ over_gains plans reader text more given over h = by_reading reader.reading over 
       ending = Broken r;
       later = Broken r;
       text_is = x;
-      longer_is = subst (λ gs. Requests 0 (text ++ more) gs (Broken r)) (sym (append-nil given)) (requests_stay 0 text more given (Broken r) tt x);
+      longer_is = subst (λ gs. Requests 0 (text ++ more) gs (Broken r)) (sym (append-nil given)) (laws.refused_stays 0 text more given r x);
       gained_is = refl;
     }
     by_reading Done e x = record {
@@ -247,7 +249,7 @@ over_gains plans reader text more given over h = by_reading reader.reading over 
       ending = Closed;
       later = Closed;
       text_is = x;
-      longer_is = subst (λ gs. Requests 0 (text ++ more) gs Closed) (sym (append-nil given)) (requests_stay 0 text more given Closed tt x);
+      longer_is = subst (λ gs. Requests 0 (text ++ more) gs Closed) (sym (append-nil given)) (laws.closed_stays 0 text more given x);
       gained_is = refl;
     }
 
@@ -322,12 +324,12 @@ module _ (n : ℕ) (v w : GatewayValue) (opened : List ℕ) (es : Before) (taken
     read_here = h.conns.reads_are n (conn_at i v.machine.conns) (stream_at i v.streams) here stream_here (rw (l.unbroken, l.on) refl)
 
     -- the stream is over
-    pub dropped_served : (bytes : List ℕ) → is_over (stream_at i v.streams).reader.reading ≡ true → Served v opened (Piece n bytes ∷ es) taken handed
-    dropped_served bytes over = record {
+    pub dropped_served : RequestLaws → (bytes : List ℕ) → is_over (stream_at i v.streams).reader.reading ≡ true → Served v opened (Piece n bytes ∷ es) taken handed
+    dropped_served laws bytes over = record {
       conns = same_conns bytes (λ c k s k_is s_is on given read. by_number c s s_is given read (n == c) refl);
       stands = stands_gained n bytes v v opened es taken handed refl listening (λ gained os gains stands.
           subst (λ xs. GatewayStands v (with_bytes n bytes (λ d. stream opened d es)) taken handed (back (map (Entry n) xs) os))
-          (gains_unique v.plans (stream opened n es) (stream opened n es ++ bytes) [] gained (over_gains v.plans (stream_at i v.streams).reader (stream opened n es) bytes read_here.0 over read_here.1) gains)
+          (gains_unique laws v.plans (stream opened n es) (stream opened n es ++ bytes) [] gained (over_gains laws v.plans (stream_at i v.streams).reader (stream opened n es) bytes read_here.0 over read_here.1) gains)
           (none_back os (texts_over os stands))) h.stands;
     }
       where
@@ -339,7 +341,7 @@ module _ (n : ℕ) (v w : GatewayValue) (opened : List ℕ) (es : Before) (taken
             let its : stream_at i v.streams ≡ s = some_same (sym stream_here ∙ ap (λ m. stream_of m v.streams) at ∙ s_is) in (
               given,
               subst (λ text. HasRead s.reader text given) (sym (text_on opened c n bytes es listening ∙ ap (λ b. if b then stream opened c es ++ bytes else stream opened c es) (eq-eqb c n (sym at))))
-                  (over_more s.reader (stream opened c es) bytes given (ap (λ (x : StreamValue). is_over x.reader.reading) (sym its) ∙ over) read),
+                  (over_more laws s.reader (stream opened c es) bytes given (ap (λ (x : StreamValue). is_over x.reader.reading) (sym its) ∙ over) read),
             )
 
         none_back : (os : List Occurrence) → GatewayStands v (with_bytes n bytes (λ d. stream opened d es)) taken handed os
@@ -354,6 +356,7 @@ module _ (n : ℕ) (v w : GatewayValue) (opened : List ℕ) (es : Before) (taken
           fates_are = stands.fates_are;
           streams_stand = λ c k s k_is s_is going. by_text c k s s_is (stands.streams_stand c k s k_is s_is going) (c == n) refl;
           unopened = stands.unopened;
+          begun_is = stands.begun_is;
         }
           where
             by_text : (c : ℕ) (k : ConnValue) (s : StreamValue) → stream_of c v.streams ≡ Some s → HasCome k s.reader (stream opened c es) → (b : Bool) → (c == n) ≡ b
@@ -363,7 +366,7 @@ module _ (n : ℕ) (v w : GatewayValue) (opened : List ℕ) (es : Before) (taken
                 let its : stream_at i v.streams ≡ s = some_same (sym stream_here ∙ ap (λ m. stream_of m v.streams) (sym (eqb-true c n e)) ∙ s_is) in
                 subst (λ text. HasCome k s.reader text) (sym (ap (λ b. if b then stream opened c es ++ bytes else stream opened c es) e)) (record {
                   given = come.given;
-                  reads = over_more s.reader (stream opened c es) bytes come.given (ap (λ (x : StreamValue). is_over x.reader.reading) (sym its) ∙ over) come.reads;
+                  reads = over_more laws s.reader (stream opened c es) bytes come.given (ap (λ (x : StreamValue). is_over x.reader.reading) (sym its) ∙ over) come.reads;
                   settled = come.settled;
                   came = come.came;
                 })
@@ -377,7 +380,7 @@ module _ (n : ℕ) (v w : GatewayValue) (opened : List ℕ) (es : Before) (taken
       stands = stands_gained n bytes v u opened es taken handed refl listening (λ gained os gains stands.
           entries_quiet n gained u (with_bytes n bytes (λ d. stream opened d es)) taken handed os stopped
           (texts_else u (λ c. stream opened c es) (with_bytes n bytes (λ d. stream opened d es)) taken handed os (λ c. broken_text c (c == n) refl)
-          (refused_stands v u (λ c. stream opened c es) taken handed os serving.orderly stands n (conn_at i v.machine.conns) here l.unbroken refl refl refl))) h.stands;
+          (refused_stands v u (λ c. stream opened c es) taken handed os serving.orderly stands n (conn_at i v.machine.conns) here l.unbroken refl refl refl refl))) h.stands;
     })
       where
         u : GatewayValue
@@ -395,8 +398,8 @@ module _ (n : ℕ) (v w : GatewayValue) (opened : List ℕ) (es : Before) (taken
         broken_text c false e = inl (ap (λ b. if b then stream opened c es ++ bytes else stream opened c es) e)
 
     -- so many bytes were read, and what they brought came
-    pub came_served : (m : ℕ) (bytes : List ℕ) → is_over (stream_at i v.streams).reader.reading ≡ false → Feeds i m bytes v w → Served w opened (Piece n (take m bytes) ∷ es) taken handed
-    came_served m bytes going f = record {
+    pub came_served : RequestLaws → (m : ℕ) (bytes : List ℕ) → is_over (stream_at i v.streams).reader.reading ≡ false → Feeds i m bytes v w → Served w opened (Piece n (take m bytes) ∷ es) taken handed
+    came_served laws m bytes going f = record {
       conns = conns_piece n (take m bytes) v w opened es f.opened_is same_numbers (λ c k s k_is s_is on. by_number c k s k_is s_is on (n == c) refl) h.conns;
       stands = stands_gained n (take m bytes) v w opened es taken handed f.plans_are listening (λ gained os gains stands. by_gain gained os gains
           (fed_stands i m bytes v w (λ c. stream opened c es) taken handed os l.conn_there l.stream_there serving.orderly (streams_apart v serving) (l.stream_is ∙ sym l.conn_is) l.unbroken l.on going f stands)) h.stands;
@@ -471,31 +474,31 @@ module _ (n : ℕ) (v w : GatewayValue) (opened : List ℕ) (es : Before) (taken
         by_gain : (gained : List Entering) (os : List Occurrence) → Gains v.plans (stream opened n es) (stream opened n es ++ more) gained
             → Fed os → GatewayStands w (with_bytes n more (λ d. stream opened d es)) taken handed (back (map (Entry n) gained) os)
         by_gain gained os gains (real, also, inl (none, stands)) =
-            let same : gained ≡ real = gains_unique v.plans (stream opened n es) (stream opened n es ++ more) gained real gains
+            let same : gained ≡ real = gains_unique laws v.plans (stream opened n es) (stream opened n es ++ more) gained real gains
             (subst (λ m. Gains v.plans (stream opened m es) (stream opened m es ++ more) real) l.conn_is also) in
             subst (λ xs. GatewayStands w (with_bytes n more (λ d. stream opened d es)) taken handed (back (map (Entry n) xs) os)) (sym (same ∙ none))
             (subst (λ m. GatewayStands w (with_bytes m more (λ d. stream opened d es)) taken handed os) l.conn_is stands)
         by_gain gained os gains (real, also, inr (x, one, stands)) =
-            let same : gained ≡ real = gains_unique v.plans (stream opened n es) (stream opened n es ++ more) gained real gains
+            let same : gained ≡ real = gains_unique laws v.plans (stream opened n es) (stream opened n es ++ more) gained real gains
             (subst (λ m. Gains v.plans (stream opened m es) (stream opened m es ++ more) real) l.conn_is also) in
             subst (λ xs. GatewayStands w (with_bytes n more (λ d. stream opened d es)) taken handed (back (map (Entry n) xs) os)) (sym (same ∙ one))
             (subst (λ m. GatewayStands w (with_bytes m more (λ d. stream opened d es)) taken handed (Entry m x ∷ os)) l.conn_is stands)
 
-pub fed_served : (n : ℕ) (bytes : List ℕ) (v w : GatewayValue) (result : Result ℕ StepFault) (opened : List ℕ) (es : Before) (taken : ℕ → List ReplyEntry) (handed : List JobValue)
+pub fed_served : RequestLaws → (n : ℕ) (bytes : List ℕ) (v w : GatewayValue) (result : Result ℕ StepFault) (opened : List ℕ) (es : Before) (taken : ℕ → List ReplyEntry) (handed : List JobValue)
     → IsServing v → Served v opened es taken handed → FedTo n bytes v w result → ServedFed n bytes w opened es taken handed result
-fed_served n bytes v w result opened es taken handed serving h (unheard deaf r w_is) =
+fed_served laws n bytes v w result opened es taken handed serving h (unheard deaf r w_is) =
     subst (ServedFed n bytes w opened es taken handed) (sym r)
     (inl (subst (λ x. Served x opened (Piece n bytes ∷ es) taken handed) (sym w_is) (unheard_served n v v opened es taken handed serving h bytes deaf)))
-fed_served n bytes v w result opened es taken handed serving h (dropped i l over r w_is) =
+fed_served laws n bytes v w result opened es taken handed serving h (dropped i l over r w_is) =
     subst (ServedFed n bytes w opened es taken handed) (sym r)
-    (subst (λ x. Served x opened (Piece n (take (length bytes) bytes) ∷ es) taken handed) (sym w_is) (dropped_served n v v opened es taken handed serving h i l (take (length bytes) bytes) over))
-fed_served n bytes v w result opened es taken handed serving h (unread i l going r w_is) =
+    (subst (λ x. Served x opened (Piece n (take (length bytes) bytes) ∷ es) taken handed) (sym w_is) (dropped_served n v v opened es taken handed serving h i l laws (take (length bytes) bytes) over))
+fed_served laws n bytes v w result opened es taken handed serving h (unread i l going r w_is) =
     subst (ServedFed n bytes w opened es taken handed) (sym r) (inl (unread_served n v w opened es taken handed serving h i l bytes w_is))
-fed_served n bytes v w result opened es taken handed serving h (came i m l going f within moves r) =
+fed_served laws n bytes v w result opened es taken handed serving h (came i m l going f within moves why is counts r) =
     by_stop (is_stopped_in n w.machine.conns) refl (subst (λ x. result ≡ x) refl r)
   where
-    by_stop : (b : Bool) → is_stopped_in n w.machine.conns ≡ b → result ≡ (if is_stopped_in n w.machine.conns then Err Memory else Ok m) → ServedFed n bytes w opened es taken handed result
-    by_stop true stop e = subst (ServedFed n bytes w opened es taken handed) (sym (e ∙ ap (λ b. if b then Err Memory else Ok m) stop))
-        (inr (m, stop, came_served n v w opened es taken handed serving h i l m bytes going f))
-    by_stop false stop e = subst (ServedFed n bytes w opened es taken handed) (sym (e ∙ ap (λ b. if b then Err Memory else Ok m) stop))
-        (came_served n v w opened es taken handed serving h i l m bytes going f)
+    by_stop : (b : Bool) → is_stopped_in n w.machine.conns ≡ b → result ≡ (if is_stopped_in n w.machine.conns then Err why else Ok m) → ServedFed n bytes w opened es taken handed result
+    by_stop true stop e = subst (ServedFed n bytes w opened es taken handed) (sym (e ∙ ap (λ b. if b then Err why else Ok m) stop))
+        (inr (m, stop, came_served n v w opened es taken handed serving h i l laws m bytes going f))
+    by_stop false stop e = subst (ServedFed n bytes w opened es taken handed) (sym (e ∙ ap (λ b. if b then Err why else Ok m) stop))
+        (came_served n v w opened es taken handed serving h i l laws m bytes going f)

@@ -41,7 +41,7 @@ module _ (v w : GatewayValue) (opened : List ℕ) (es : Before) (taken_now : ℕ
         (λ c l l_is. (l, ap (λ (m : MachineValue). conn_of c m.conns) (sym t.rest) ∙ l_is, refl)) h.conns;
     stands = λ occurred all. job_stands v w (λ c. stream opened c es) taken_now handed (occurrences occurred) serving.orderly
         (h.stands occurred (subst (λ plans. Occurs plans opened es occurred) (ap (λ (y : GatewayValue). y.plans) rest) all)) job t
-        (ap (λ (y : GatewayValue). y.streams) rest) (ap (λ (y : GatewayValue). y.opened) rest);
+        (ap (λ (y : GatewayValue). y.streams) rest) (ap (λ (y : GatewayValue). y.opened) rest) (ap (λ (y : GatewayValue). y.begun) rest);
   }
 
   -- none is given
@@ -73,6 +73,7 @@ module _ (v w : GatewayValue) (opened : List ℕ) (es : Before) (taken_now : ℕ
         fates_are = x.fates_are;
         streams_stand = x.streams_stand;
         unopened = x.unopened;
+        begun_is = x.begun_is;
       }
 
   pub reply_served : (n : ℕ) (reply : Option ReplyValue) → TakesReply n v w reply → Served w opened es (with_reply n reply taken_now) handed
@@ -86,7 +87,7 @@ module _ (v w : GatewayValue) (opened : List ℕ) (es : Before) (taken_now : ℕ
     stands = λ occurred all. subst (λ m. GatewayStands w (λ c. stream opened c es) (with_reply m (Some r) taken_now) handed (occurrences occurred)) number
         (reply_stands v w (λ c. stream opened c es) taken_now handed (occurrences occurred) serving.orderly
         (h.stands occurred (subst (λ plans. Occurs plans opened es occurred) (ap (λ (y : GatewayValue). y.plans) rest) all)) i r lt t
-        (ap (λ (y : GatewayValue). y.streams) rest) (ap (λ (y : GatewayValue). y.opened) rest));
+        (ap (λ (y : GatewayValue). y.streams) rest) (ap (λ (y : GatewayValue). y.opened) rest) (ap (λ (y : GatewayValue). y.begun) rest));
   }
     where
       k : ConnValue

@@ -10,6 +10,7 @@ use Rattle.connect_codec.specs.declared.answer.Outcome.{Outcome}
 use Rattle.gateway_core.specs.declared.entry.ReplyEntry.{ReplyEntry}
 use Rattle.gateway_core.specs.declared.fault.Took.{Took}
 use Rattle.gateway_core.specs.declared.id.CallId.{CallId}
+use Rattle.gateway_core.specs.declared.tally.Tally.{Tally}
 use Rattle.gateway_core.specs.declared.machine.cause.Cause.{Cause}
 use Rattle.gateway_core.specs.Conn.{ConnValue, added, conn_value, without_first}
 use Rattle.gateway_core.specs.Ends.{CallsEnd, ended_below, is_stopped_in, without_reply}
@@ -108,7 +109,7 @@ name_at (suc i) (s ∷ streams) (k ∷ conns) same = name_at i streams conns (ap
     rest [] = []
     rest (n ∷ ns) = ns
 
-same_size : (streams : List StreamValue) (conns : List ConnValue) → names streams ≡ numbers conns → length streams ≡ length conns
+pub same_size : (streams : List StreamValue) (conns : List ConnValue) → names streams ≡ numbers conns → length streams ≡ length conns
 same_size streams conns same = sym (length-map streams (λ s. s.number)) ∙ ap (λ (ns : List ℕ). length ns) same ∙ length-map conns (λ k. k.number)
 
 -- ---- what steps keep
@@ -236,14 +237,14 @@ serving_kept v w k same read opened_is h = record {
 }
 
 -- the machine alone changes
-pub machine_kept : (v : GatewayValue) (m : MachineValue) → Keeps v.machine m → IsServing v → IsServing (gateway_value v.plans m v.streams v.opened)
-machine_kept v m k h = serving_kept v (gateway_value v.plans m v.streams v.opened) k refl h.settled refl h
+pub machine_kept : {begun : ℕ} {tally : Tally} (v : GatewayValue) (m : MachineValue) → Keeps v.machine m → IsServing v → IsServing (gateway_value v.plans m v.streams v.opened begun tally)
+machine_kept {begun} {tally} v m k h = serving_kept v (gateway_value v.plans m v.streams v.opened begun tally) k refl h.settled refl h
 
 -- a stream is another of its number
 pub stream_kept : (i : ℕ) (t : StreamValue) (v : GatewayValue) → i < length v.streams → t.number ≡ (stream_at i v.streams).number → IsRead t → IsServing v
-    → IsServing (gateway_value v.plans v.machine (slice_set v.streams i t) v.opened)
+    → IsServing (gateway_value v.plans v.machine (slice_set v.streams i t) v.opened v.begun v.tally)
 stream_kept i t v lt same read h =
-    serving_kept v (gateway_value v.plans v.machine (slice_set v.streams i t) v.opened) (keeps_same v.machine v.machine refl refl) (set_names i t v.streams lt same)
+    serving_kept v (gateway_value v.plans v.machine (slice_set v.streams i t) v.opened v.begun v.tally) (keeps_same v.machine v.machine refl refl) (set_names i t v.streams lt same)
     (All-set IsRead v.streams i t read h.settled) refl h
 
 -- the stream at a place is read
@@ -279,9 +280,9 @@ no_number c n (m ∷ ns) none ne = by_it (m == c) none (λ rest. no_number c n n
     by_it false e rest = rest e
 
 pub opened_serving : (v : GatewayValue) (m : MachineValue) (streams : List StreamValue) → IsServing v → m ≡ opened_as v.opened v.machine → streams ≡ v.streams ++ new_stream v.opened ∷ []
-    → IsServing (gateway_value v.plans m streams (v.opened + 1))
+    → IsServing (gateway_value v.plans m streams (v.opened + 1) v.begun v.tally)
 opened_serving v m streams h m_is streams_are =
-    subst (λ x. IsServing (gateway_value v.plans x streams (v.opened + 1))) (sym m_is) (subst (λ ss. IsServing (gateway_value v.plans (opened_as v.opened v.machine) ss (v.opened + 1))) (sym streams_are) (record {
+    subst (λ x. IsServing (gateway_value v.plans x streams (v.opened + 1) v.begun v.tally)) (sym m_is) (subst (λ ss. IsServing (gateway_value v.plans (opened_as v.opened v.machine) ss (v.opened + 1) v.begun v.tally)) (sym streams_are) (record {
       orderly = opened_order v.opened v.machine (opened_as v.opened v.machine) (h.no_conn v.opened (omega arith)) (h.no_call v.opened (omega arith)) refl h.orderly;
       settled = read_more (new_stream v.opened) v.streams refl h.settled;
       numbers_are = names_more (new_stream v.opened) v.streams ∙ ap (λ ns. ns ++ v.opened ∷ []) h.numbers_are ∙ sym (numbers_more (conn_value v.opened 0 [] false) v.machine.conns);
@@ -422,11 +423,11 @@ was_placed number v None b h p none e = absurd (let clash : false ≡ true = non
 was_placed number v (Some i) b h p none e = placed_open number i v h p
 
 pub closed_value : (number : ℕ) (v : GatewayValue) (m : MachineValue) (streams : List StreamValue) → m ≡ closed_at number v.machine → streams ≡ filter (λ s. not (s.number == number)) v.streams
-    → gateway_value v.plans m streams v.opened ≡ record v { machine = closed_at number v.machine; streams = filter (λ s. not (s.number == number)) v.streams }
-closed_value number v m streams m_is streams_are = ap (λ x. gateway_value v.plans x streams v.opened) m_is ∙ ap (λ ss. gateway_value v.plans (closed_at number v.machine) ss v.opened) streams_are
+    → gateway_value v.plans m streams v.opened v.begun v.tally ≡ record v { machine = closed_at number v.machine; streams = filter (λ s. not (s.number == number)) v.streams }
+closed_value number v m streams m_is streams_are = ap (λ x. gateway_value v.plans x streams v.opened v.begun v.tally) m_is ∙ ap (λ ss. gateway_value v.plans (closed_at number v.machine) ss v.opened v.begun v.tally) streams_are
 
 -- something came on the connection at a place
-pub entered_serving : (i : ℕ) (x : Entering) (m : MachineValue) (v : GatewayValue) → i < length v.streams → (conn_at i v.machine.conns).broken ≡ false → Enters i x v.machine m
-    → IsServing v → IsServing (gateway_value v.plans m v.streams v.opened)
+pub entered_serving : {begun : ℕ} {tally : Tally} (i : ℕ) (x : Entering) (m : MachineValue) (v : GatewayValue) → i < length v.streams → (conn_at i v.machine.conns).broken ≡ false → Enters i x v.machine m
+    → IsServing v → IsServing (gateway_value v.plans m v.streams v.opened begun tally)
 entered_serving i x m v lt on enters h =
     machine_kept v m (keeps_entered i x v.machine m (omega (arith, lt, same_size v.streams v.machine.conns h.numbers_are)) on enters) h

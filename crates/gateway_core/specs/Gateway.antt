@@ -15,13 +15,14 @@ use Rattle.gateway_core.specs.Fated.{FatedStands}
 use Rattle.gateway_core.specs.Job.{JobValue}
 use Rattle.gateway_core.specs.Kept.{KeptValue}
 use Rattle.gateway_core.specs.Machine.{ConnState, new_conn}
-use Rattle.gateway_core.specs.Occurrence.{Occurrence, Entering, Entry, Request, Refused}
+use Rattle.gateway_core.specs.Occurrence.{Occurrence, Entering, Entry, Request, Refused, calls_arrived, calls_in}
 use Rattle.gateway_core.specs.Orderly.{FatesAre}
 use Rattle.gateway_core.specs.Store.{MachineValue, call_at, machine, conn_of}
 use Rattle.gateway_core.specs.Ends.{is_stopped_in}
 use Rattle.gateway_core.specs.Past.{call_id}
 use Rattle.gateway_core.specs.Queue.{front}
 use Rattle.gateway_core.specs.declared.id.CallId.{CallId}
+use Rattle.gateway_core.specs.declared.tally.Tally.{Tally}
 
 -- an open connection's stream: its reader, and whether its peer hung up
 pub record StreamValue : Type 0 where
@@ -47,12 +48,15 @@ stream_of c (s ∷ streams) = if s.number == c then Some s else stream_of c stre
 abbrev pub StreamsApart : List StreamValue → Type 0
 StreamsApart streams = (i j : ℕ) → i < j → j < length streams → ((stream_at i streams).number == (stream_at j streams).number) ≡ false
 
--- the plans, the machine, a stream for each open connection, and how many connections were opened
+-- the plans, the machine, a stream for each open connection, how many connections were opened and how many calls were begun, and
+-- how results were seen
 pub record GatewayValue : Type 0 where
   pub plans : List PlanRecord
   pub machine : MachineValue
   pub streams : List StreamValue
   pub opened : ℕ
+  pub begun : ℕ
+  pub tally : Tally
 
 -- ---- what a piece brings
 
@@ -65,6 +69,13 @@ Brings plans i (Waiting q) pushed new v w =
 Brings plans i (Stopped r) pushed new v w = (new ≡ pushed) × Enters i (Refused r) v w
 Brings plans i Done pushed new v w = (new ≡ pushed) × (w ≡ v)
 
+-- how many calls come where a reader is so after a push
+abbrev pub calls_brought : List PlanRecord → Reading → ℕ
+calls_brought plans (Partial left) = 0
+calls_brought plans (Waiting q) = calls_in (Request q (arrival_of plans q))
+calls_brought plans (Stopped r) = 0
+calls_brought plans Done = 0
+
 -- so many bytes of the stream at that place were read
 pub record Feeds (i n : ℕ) (bytes : List ℕ) (v w : GatewayValue) : Type 0 where
   pub pushed : ReaderValue
@@ -74,6 +85,8 @@ pub record Feeds (i n : ℕ) (bytes : List ℕ) (v w : GatewayValue) : Type 0 wh
   pub plans_are : w.plans ≡ v.plans
   pub streams_are : w.streams ≡ slice_set v.streams i (record (stream_at i v.streams) { reader = new })
   pub opened_is : w.opened ≡ v.opened
+  pub begun_is : w.begun ≤ v.begun + calls_brought v.plans pushed.reading
+  pub tally_is : w.tally ≡ v.tally
 
 -- ---- what it stands for
 
@@ -118,6 +131,7 @@ pub record GatewayStands (v : GatewayValue) (texts : ℕ → List ℕ) (taken : 
   pub fates_are : FatesAre fates v.machine.conns
   pub streams_stand : StreamsStand v texts
   pub unopened : (c : ℕ) → v.opened ≤ c → Unopened v closed fates c
+  pub begun_is : v.begun ≤ calls_arrived os
 
 -- the text of that stream, with these bytes behind it
 abbrev pub with_bytes : ℕ → List ℕ → (ℕ → List ℕ) → ℕ → List ℕ

@@ -21,6 +21,7 @@ pub mod Breaks
 pub mod Kept
 pub mod Conn
 pub mod Store
+pub mod Tally
 pub mod Ends
 pub mod Results
 pub mod Duty
@@ -33,3 +34,4 @@ pub mod Serving
 pub mod Served
 pub mod EventAdds
 pub mod Breaking
+pub mod RequestLaws

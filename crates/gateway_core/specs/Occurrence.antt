@@ -1,10 +1,10 @@
 -- What occurs to a gateway, where the bytes of its connections are already cut into requests.
-use Rattle.std.specs.Prelude.{ℕ}
+use Rattle.std.specs.Prelude.{ℕ, ◌+◌, List, [], ◌∷◌}
 use Rattle.http_pieces.specs.declared.refusal.Refusal.{Refusal}
 use Rattle.http_pieces.specs.Request.{HttpRequest}
 use Rattle.connect_codec.specs.declared.answer.Outcome.{Outcome}
 use Rattle.gateway_core.specs.declared.id.CallId.{CallId}
-use Rattle.gateway_core.specs.Arrival.{Arrival}
+use Rattle.gateway_core.specs.Arrival.{Arrival, Asks, Judged}
 
 -- what comes on a connection's stream
 pub data Entering : Type 0 where
@@ -28,3 +28,18 @@ pub data Occurrence : Type 0 where
   Drain : Occurrence
   -- a connection is closed
   Closing : ℕ → Occurrence
+
+-- how many calls come with it: one with a request that asks for a call, whatever it then comes to
+abbrev pub calls_in : Entering → ℕ
+calls_in (Request q (Judged verdict)) = 0
+calls_in (Request q (Asks plan timeout id)) = 1
+calls_in (Refused refusal) = 0
+
+abbrev pub calls_by : Occurrence → ℕ
+calls_by (Entry c x) = calls_in x
+calls_by _ = 0
+
+-- how many calls have arrived
+abbrev pub calls_arrived : List Occurrence → ℕ
+calls_arrived [] = 0
+calls_arrived (o ∷ os) = calls_by o + calls_arrived os

@@ -1,11 +1,12 @@
 -- What the calls of the open connections and their streams make of them.
 use Rattle.std.specs.Option.{option_map_or}
-use Rattle.std.specs.Prelude.{◌≡◌, ⊤, ℕ, ◌+◌, ◌<◌, ◌≤◌, Bool, true, false, ◌&&◌, not, nat_lt, if◌then◌else◌, ◌==◌, All, List, [], ◌∷◌, ◌++◌, take, map, filter, length, Option, None, Some, is_some, Result, Ok, Err, slice_set}
+use Rattle.std.specs.Prelude.{◌≡◌, ◌↔◌, ◌⊎◌, ⊤, ℕ, ◌+◌, ◌^◌, ◌<◌, ◌≤◌, IfErr, OnErr, OnOk, Bool, true, false, ◌&&◌, not, nat_lt, if◌then◌else◌, ◌==◌, All, List, [], ◌∷◌, ◌++◌, take, map, filter, length, Option, None, Some, is_some, Result, Ok, Err, slice_set}
 use Rattle.http_pieces.specs.Reader.{Reading, HasRead, Stopped, Waiting, after_request, is_over}
 use Rattle.http_pieces.specs.Request.{HttpRequest}
 use Rattle.call_plan.specs.Plan.{PlanRecord}
 use Rattle.gateway_core.specs.declared.fault.StepFault.{StepFault}
-use Rattle.gateway_core.specs.declared.fault.StepFault.TheVariants.{Gone, Memory}
+use Rattle.gateway_core.specs.declared.fault.StepFault.TheVariants.{Exhausted, Gone, Memory}
+use Rattle.gateway_core.specs.declared.fault.Seen.{Seen}
 use Rattle.gateway_core.specs.declared.machine.cause.Cause.{Cause}
 use Rattle.gateway_core.specs.declared.machine.cause.Cause.TheVariants.{HungUp}
 use Rattle.gateway_core.specs.Conn.{ConnValue}
@@ -13,10 +14,10 @@ use Rattle.gateway_core.specs.Ends.{CallsEnd, is_stopped_in}
 use Rattle.gateway_core.specs.Arrival.{arrival_of}
 use Rattle.gateway_core.specs.Breaks.{is_of}
 use Rattle.gateway_core.specs.declared.entry.ReplyEntry.{ReplyEntry}
-use Rattle.gateway_core.specs.Enters.{Enters}
+use Rattle.gateway_core.specs.Enters.{Enters, arriving_at, entered_at}
 use Rattle.gateway_core.specs.Events.{Before, Occurs}
 use Rattle.gateway_core.specs.Fate.{concerns}
-use Rattle.gateway_core.specs.Occurrence.{Occurrence, Request, Refused}
+use Rattle.gateway_core.specs.Occurrence.{Entering, Occurrence, Request, Refused, calls_in}
 use Rattle.gateway_core.specs.Gateway.{Feeds, GatewayValue, StreamValue, goes_on, is_broken_conn, is_waiting, new_stream, stream_at, stream_of, untaken_of}
 use Rattle.gateway_core.specs.Job.{JobValue}
 use Rattle.gateway_core.specs.Kept.{KeptValue}
@@ -28,9 +29,15 @@ use Rattle.gateway_core.specs.Reply.{ReplyValue}
 use Rattle.gateway_core.specs.Served.{Served}
 use Rattle.gateway_core.specs.Starts.{Placed, occurrences}
 use Rattle.gateway_core.specs.Store.{MachineValue, broken_at, conn_at, conn_of, numbers}
+use Rattle.gateway_core.specs.Tally.{tally_of}
+use Rattle.gateway_core.specs.declared.tally.Tally.{Tally}
 
-abbrev pub gateway_value : List PlanRecord → MachineValue → List StreamValue → ℕ → GatewayValue
-gateway_value plans machine streams opened = record { plans = plans; machine = machine; streams = streams; opened = opened }
+abbrev pub gateway_value : List PlanRecord → MachineValue → List StreamValue → ℕ → ℕ → Tally → GatewayValue
+gateway_value plans machine streams opened begun tally = record { plans = plans; machine = machine; streams = streams; opened = opened; begun = begun; tally = tally }
+
+-- as many calls may be begun
+abbrev pub most_begun : ℕ
+most_begun = 2 ^ 56
 
 -- no call of that connection is kept
 abbrev pub NoCallOf : ℕ → List KeptValue → Type 0
@@ -53,6 +60,8 @@ pub record Opens (v w : GatewayValue) (number : ℕ) : Type 0 where
   pub streams_are : w.streams ≡ v.streams ++ new_stream v.opened ∷ []
   pub opened_is : w.opened ≡ v.opened + 1
   pub plans_are : w.plans ≡ v.plans
+  pub begun_is : w.begun ≡ v.begun
+  pub tally_is : w.tally ≡ v.tally
 
 -- ---- which streams are read
 
@@ -121,9 +130,39 @@ abbrev pub ComesBy : List PlanRecord → ℕ → Option HttpRequest → Reading 
 ComesBy plans i (Some q) reading v w = Enters i (Request q (arrival_of plans q)) v w
 ComesBy plans i None reading v w = StopsBy i reading v w
 
-pub record BringsAt (i : ℕ) (request : Option HttpRequest) (v w : GatewayValue) : Type 0 where
+-- how many calls come with a request, if one comes
+abbrev pub calls_with : List PlanRecord → Option HttpRequest → ℕ
+calls_with plans None = 0
+calls_with plans (Some q) = calls_in (Request q (arrival_of plans q))
+
+-- why a connection breaks as something comes on it: memory was refused, or as many calls were begun as may be
+abbrev pub IsFault : StepFault → ℕ → Type 0
+IsFault fault begun = (fault ≡ Memory) ⊎ ((fault ≡ Exhausted) × (most_begun ≤ begun))
+
+-- as many calls were begun as are kept more, and no more than may be
+pub record CountsCalls (v w : GatewayValue) : Type 0 where
+  pub grows : v.begun ≤ w.begun
+  pub sum_is : w.begun + length v.machine.calls ≡ v.begun + length w.machine.calls
+  pub few : v.begun < w.begun → w.begun ≤ most_begun
+
+-- a request came on the connection at that place, or it broke
+pub record IsMade (i : ℕ) (x : Entering) (begun : ℕ) (v : MachineValue) (begun_then : ℕ) (w : MachineValue) (result : Result ⊤ StepFault) : Type 0 where
+  pub ok : OnOk result (w ≡ entered_at i (arriving_at i x v) v)
+  pub err : OnErr result (w ≡ broken_at (conn_at i v.conns).number v)
+  pub fault : IfErr result (λ f. IsFault f begun_then)
+  pub grows : begun ≤ begun_then
+  pub sum_is : begun_then + length v.calls ≡ begun + length w.calls
+  pub few : begun < begun_then → begun_then ≤ most_begun
+  pub bound : begun_then ≤ begun + calls_in x
+
+pub record BringsAt (i : ℕ) (request : Option HttpRequest) (v w : GatewayValue) (result : Result ⊤ StepFault) : Type 0 where
   pub comes : ComesBy v.plans i request (stream_at i v.streams).reader.reading v.machine w.machine
-  pub rest : w ≡ record v { machine = w.machine }
+  pub fine : OnOk result (is_stopped_in (conn_at i v.machine.conns).number w.machine.conns ≡ false)
+  pub stopped : OnErr result (is_stopped_in (conn_at i v.machine.conns).number w.machine.conns ≡ true)
+  pub fault : IfErr result (λ f. IsFault f w.begun)
+  pub counts : CountsCalls v w
+  pub bound : w.begun ≤ v.begun + calls_with v.plans request
+  pub rest : w ≡ record v { machine = w.machine; begun = w.begun }
 
 -- what bytes of a stream come to
 pub data FedTo (number : ℕ) (bytes : List ℕ) (v w : GatewayValue) (result : Result ℕ StepFault) : Type 0 where
@@ -134,10 +173,10 @@ pub data FedTo (number : ℕ) (bytes : List ℕ) (v w : GatewayValue) (result : 
   -- the reader found no memory
   unread : (i : ℕ) → ListensAt number v i → is_over (stream_at i v.streams).reader.reading ≡ false → result ≡ Err Memory
       → w ≡ record v { machine = broken_at number v.machine } → FedTo number bytes v w result
-  -- so many were read, and what they brought came, or found no memory
+  -- so many were read, and what they brought came, or broke the connection
   came : (i n : ℕ) → ListensAt number v i → is_over (stream_at i v.streams).reader.reading ≡ false → Feeds i n bytes v w
-      → n ≤ length bytes → (0 < length bytes → 0 < n)
-      → result ≡ (if is_stopped_in number w.machine.conns then Err Memory else Ok n) → FedTo number bytes v w result
+      → n ≤ length bytes → (0 < length bytes → 0 < n) → (fault : StepFault) → IsFault fault w.begun → CountsCalls v w
+      → result ≡ (if is_stopped_in number w.machine.conns then Err fault else Ok n) → FedTo number bytes v w result
 
 -- ---- what else is done
 
@@ -184,9 +223,12 @@ abbrev pub is_silent : ℕ → GatewayValue → Bool
 is_silent c v = nat_lt c v.opened && option_map_or (λ k. k.broken) (conn_of c v.machine.conns) true
 
 -- the plans stay, and what can be taken stays, though more may stand behind it; nothing comes of a silent connection. But for the
--- connections of the first numbers, which close; those of the second alone may break
-pub record KeepsBut (closed breaks : ℕ → Bool) (v w : GatewayValue) : Type 0 where
+-- connections of the first numbers, which close; those of the second alone may break. Where no more calls are kept, none was begun;
+-- and so many results were seen so
+pub record KeepsBut (closed breaks : ℕ → Bool) (seen : List Seen) (v w : GatewayValue) : Type 0 where
   pub plans_are : w.plans ≡ v.plans
+  pub begun_is : length w.machine.calls ≤ length v.machine.calls → w.begun ≡ v.begun
+  pub tally_is : (before : List Seen) → v.tally ≡ tally_of before → w.tally ≡ tally_of (seen ++ before)
   pub stays_silent : (c : ℕ) → is_silent c v ≡ true → is_silent c w ≡ true
   pub stays_broken : (c : ℕ) → closed c ≡ false → is_broken_conn c v ≡ true → is_broken_conn c w ≡ true
   pub broken_are : (c : ℕ) → is_broken_conn c w ≡ true → is_broken_conn c v ≡ false → breaks c ≡ true
@@ -196,9 +238,17 @@ pub record KeepsBut (closed breaks : ℕ → Bool) (v w : GatewayValue) : Type 0
   pub jobs_are : w.machine.jobs ≡ v.machine.jobs ++ jobs
   pub no_jobs : (c : ℕ) → is_silent c v ≡ true → filter (is_of c) jobs ≡ []
 
--- the same, where none closes
+-- the same, where none closes and no result comes
 abbrev pub Keeps : (ℕ → Bool) → GatewayValue → GatewayValue → Type 0
-Keeps breaks v w = KeepsBut (λ c. false) breaks v w
+Keeps breaks v w = KeepsBut (λ c. false) breaks [] v w
+
+-- what a step tells of a connection by its answer
+pub record TellsStep {A : Type 0} (c : ℕ) (v w : GatewayValue) (result : Result A StepFault) : Type 0 where
+  pub gone : (result ≡ Err Gone) ↔ IsDeaf c v
+  pub unchanged : result ≡ Err Gone → w ≡ v
+  pub broke : result ≡ Err Memory → is_broken_conn c w ≡ true
+  pub exhausted : result ≡ Err Exhausted → (is_broken_conn c w ≡ true) × (most_begun ≤ w.begun)
+  pub unbroken : OnOk result (is_broken_conn c w ≡ false)
 
 -- a connection that breaks in the step is one that this occurrence concerns
 abbrev pub BreaksBy : Occurrence → GatewayValue → GatewayValue → Type 0
@@ -211,6 +261,8 @@ BreaksBy o v w =
 pub record TakesOnly (n : ℕ) (v w : GatewayValue) : Type 0 where
   pub plans_are : w.plans ≡ v.plans
   pub opened_is : w.opened ≡ v.opened
+  pub begun_is : w.begun ≡ v.begun
+  pub tally_is : w.tally ≡ v.tally
   pub jobs_are : w.machine.jobs ≡ v.machine.jobs
   pub open_are : (c : ℕ) → is_some (conn_of c w.machine.conns) ≡ is_some (conn_of c v.machine.conns)
   pub broken_are : (c : ℕ) → is_broken_conn c w ≡ is_broken_conn c v

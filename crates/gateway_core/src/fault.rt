@@ -1,3 +1,7 @@
+ghost use Rattle.std.specs.Prelude.{◌≡◌};
+ghost use Rattle.gateway_core.specs.declared.fault.StepFault.TheVariants as fault;
+
+use std::alloc::AllocError;
 use thiserror::Error;
 
 /// Why no connection was opened.
@@ -20,9 +24,20 @@ pub enum StepFault {
     /// There is no such connection, or it is closed, hung up or broken. Nothing changed.
     #[error("the connection is gone")]
     Gone,
-    /// The connection is now broken: it queues no more replies.
+    /// A call would begin, and as many were begun as may be: 2^56. The connection is now broken: it queues no more replies.
+    #[error("no more calls can begin")]
+    Exhausted,
+    /// Memory was refused. The connection is now broken: it queues no more replies.
     #[error("no memory")]
     Memory,
+}
+
+impl From<AllocError> for StepFault {
+    ghost from_gives = { λ _ e. e ≡ fault.Memory };
+
+    fn from(_error: AllocError) -> StepFault {
+        StepFault::Memory
+    }
 }
 
 /// How a branch's result was seen.

@@ -1,10 +1,11 @@
-ghost use Rattle.std.specs.Prelude.{◌≡◌, ◌==◌, ◌↔◌, ◌^◌, ◌∷◌, ◌++◌, ◌<◌, ◌≤◌, [], Err, IfOk, IfErr, IfSome, None, OnErr, OnOk, Some, false, is_some, ℕ, List, MatchResult, length, option_map, option_to_list, take, true};
+ghost use Rattle.std.specs.Prelude.{◌≡◌, ◌==◌, ◌^◌, ◌∷◌, ◌++◌, ◌<◌, ◌≤◌, [], Err, IfOk, IfErr, IfSome, None, OnErr, OnOk, Some, false, is_some, not, ℕ, List, MatchResult, length, option_map, option_to_list, take, true};
 ghost use Rattle.connect_codec.specs.declared.answer.Outcome.{Outcome as Outcomes};
 ghost use Rattle.gateway_core.specs.declared.entry.ReplyEntry.{ReplyEntry};
 ghost use Rattle.gateway_core.specs.Gateway.{is_broken_conn, is_ended, next_reply, outs_of, untaken_of};
 ghost use Rattle.gateway_core.specs.declared.fault.Seen.{Seen};
 ghost use Rattle.gateway_core.specs.Occurrence as concerning;
-ghost use Rattle.gateway_core.specs.Serving.{Breaks, BreaksBy, IsDeaf, Keeps, KeepsBut, TakesOnly};
+ghost use Rattle.gateway_core.specs.Serving.{Breaks, BreaksBy, CountsCalls, IsDeaf, Keeps, KeepsBut, TakesOnly, TellsStep};
+ghost use Rattle.gateway_core.specs.Tally.{tally_of};
 ghost use Rattle.gateway_core.specs.Conn.{ConnValue};
 ghost use Rattle.gateway_core.specs.Past.{judged, marked};
 ghost use Rattle.gateway_core.specs.Starts.{Placed, occurrences};
@@ -18,9 +19,11 @@ use crate::hook::ReplyHook;
 use crate::id::{CallId, ConnId};
 use crate::job::Job;
 use crate::reply::Reply;
+use crate::request_laws::request_laws;
 use crate::served_laws::opening_law;
 use crate::stock::Stock;
 use crate::streams::Streams;
+use crate::tally::Tally;
 use call_plan::Plans;
 use connect_codec::Outcome;
 use std::alloc::{AllocError, Global};
@@ -44,6 +47,7 @@ impl<H: ReplyHook + Drop> Core<H> {
     /// A gateway that serves these plans, with no connection.
     pub fn new(alloc: Global, plans: Plans) -> Result<Core<H>, AllocError>
         ensures plans { IfOk result (λ core. core.plans ≡ plans) }
+        ensures tally { IfOk result (λ core. core.tally ≡ tally_of []) }
         ensures stands { IfOk result (λ core. Served core [] [] (λ c. []) []) }
     {
         let streams = Streams::new(alloc, plans)?;
@@ -79,13 +83,12 @@ impl<H: ReplyHook + Drop> Core<H> {
             (λ _. Served self.new opened (Piece conn (fed ++ bytes.now) ∷ es) taken handed) }
         ensures within { IfOk result (λ n. n ≤ length bytes.now) }
         ensures moves { 0 < length bytes.now → IfOk result (λ n. 0 < n) }
-        ensures gone { (result ≡ Err StepFault.Gone) ↔ IsDeaf conn self.old }
-        ensures unchanged { result ≡ Err StepFault.Gone → self.new ≡ self.old }
-        ensures memory { result ≡ Err StepFault.Memory → is_broken_conn conn self.new ≡ true }
-        ensures unbroken { OnOk result (is_broken_conn conn self.new ≡ false) }
+        ensures tells { TellsStep conn self.old self.new result }
         ensures heard { OnOk result (IsDeaf conn self.new → ⊥) }
+        ensures counts { CountsCalls self.old self.new }
         ensures keeps { Keeps (λ c. c == conn) self.old self.new }
     {
+        request_laws();
         self.streams.serving_law();
         let fed = self.streams.feed(conn.number(), bytes);
         self.streams.serving_law();
@@ -96,10 +99,8 @@ impl<H: ReplyHook + Drop> Core<H> {
     pub fn hang_up(&mut self, conn: ConnId) -> Result<(), StepFault>
         ensures stands { (opened : List ℕ) (es : List GatewayEvent) (taken : ℕ → List ReplyEntry) (handed : List JobValue)
             → Served self.old opened es taken handed → Served self.new opened (HangUp conn ∷ es) taken handed }
-        ensures gone { (result ≡ Err StepFault.Gone) ↔ IsDeaf conn self.old }
-        ensures unchanged { result ≡ Err StepFault.Gone → self.new ≡ self.old }
-        ensures memory { result ≡ Err StepFault.Memory → is_broken_conn conn self.new ≡ true }
-        ensures unbroken { OnOk result (is_broken_conn conn self.new ≡ false) }
+        ensures tells { TellsStep conn self.old self.new result }
+        ensures begins { result ≡ Err StepFault.Exhausted → ⊥ }
         ensures keeps { Keeps (λ c. c == conn) self.old self.new }
     {
         self.streams.serving_law();
@@ -135,7 +136,7 @@ impl<H: ReplyHook + Drop> Core<H> {
         ensures stands { (opened : List ℕ) (es : List GatewayEvent) (taken : ℕ → List ReplyEntry) (handed : List JobValue)
             → Served self.old opened es taken handed → Served self.new opened (Closing conn ∷ es) taken handed }
         ensures closed { result ≡ is_some (conn_of conn self.old.machine.conns) }
-        ensures keeps { KeepsBut (λ c. c == conn) (λ c. false) self.old self.new }
+        ensures keeps { KeepsBut (λ c. c == conn) (λ c. false) [] self.old self.new }
     {
         self.streams.serving_law();
         self.streams.close(conn.number())
@@ -152,9 +153,9 @@ impl<H: ReplyHook + Drop> Core<H> {
             → result.seen ≡ judged call.now branch (marked (occurrences occurred)) }
         ensures counted { result.broke ≡ true → result.seen ≡ Seen.Counted }
         ensures broke { Breaks self.old self.new result.broke }
-        ensures unknown { result.seen ≡ Seen.Unknown → self.new ≡ self.old }
+        ensures unknown { result.seen ≡ Seen.Unknown → self.new ≡ record self.old { tally = self.new.tally } }
         ensures concerned { BreaksBy (concerning.Result call.now branch outcome) self.old self.new }
-        ensures keeps { Keeps (λ c. c == call.now.conn) self.old self.new }
+        ensures keeps { KeepsBut (λ c. false) (λ c. c == call.now.conn) (result.seen ∷ []) self.old self.new }
     {
         self.streams.serving_law();
         self.streams.result(call, branch, outcome)
@@ -171,9 +172,9 @@ impl<H: ReplyHook + Drop> Core<H> {
             → result.seen ≡ judged call.now branch (marked (occurrences occurred)) }
         ensures counted { result.broke ≡ true → result.seen ≡ Seen.Counted }
         ensures broke { Breaks self.old self.new result.broke }
-        ensures unknown { result.seen ≡ Seen.Unknown → self.new ≡ self.old }
+        ensures unknown { result.seen ≡ Seen.Unknown → self.new ≡ record self.old { tally = self.new.tally } }
         ensures concerned { (outcome : Outcomes) → BreaksBy (concerning.Result call.now branch outcome) self.old self.new }
-        ensures keeps { Keeps (λ c. c == call.now.conn) self.old self.new }
+        ensures keeps { KeepsBut (λ c. false) (λ c. c == call.now.conn) (result.seen ∷ []) self.old self.new }
     {
         self.streams.serving_law();
         self.streams.starve(call, branch)
@@ -204,6 +205,20 @@ impl<H: ReplyHook + Drop> Core<H> {
     {
         self.streams.serving_law();
         self.streams.take_reply(conn.number())
+    }
+
+    /// Whether a job waits to be taken.
+    pub fn has_job(&self) -> bool
+        ensures { result ≡ not (length self.now.machine.jobs == 0) }
+    {
+        self.streams.has_job()
+    }
+
+    /// How the results that came were seen, those of `starved` among them.
+    pub fn tally(&self) -> Tally
+        ensures { result ≡ self.now.tally }
+    {
+        self.streams.tally()
     }
 
     /// Whether the connection no longer brings requests or replies: it is unknown, closed or broken, or its stream has ended

@@ -54,12 +54,12 @@ pub fn ended_law()
 pub fn taken_law()
     ensures result { (id : CallId) (branch : ℕ) (outcome : Outcome) (v w : GatewayValue) (texts : ℕ → List ℕ)
         (taken : ℕ → List ReplyEntry) (handed : List JobValue) (os : List Occurrence) (u : MachineValue) (took : Took)
-        → w.streams ≡ v.streams → w.opened ≡ v.opened → IsOrderly v.machine → GatewayStands v texts taken handed os
+        → w.streams ≡ v.streams → w.opened ≡ v.opened → w.begun ≡ v.begun → IsOrderly v.machine → GatewayStands v texts taken handed os
         → ResultTaken id branch outcome v.machine u took → Forgets id u w.machine
         → GatewayStands w texts taken handed (Result id branch outcome ∷ os) }
     ensures starved { (id : CallId) (branch : ℕ) (outcome : Outcome) (v w : GatewayValue) (texts : ℕ → List ℕ)
         (taken : ℕ → List ReplyEntry) (handed : List JobValue) (os : List Occurrence) (u : MachineValue) (took : Took)
-        → w.streams ≡ v.streams → w.opened ≡ v.opened → IsOrderly v.machine → GatewayStands v texts taken handed os
+        → w.streams ≡ v.streams → w.opened ≡ v.opened → w.begun ≡ v.begun → IsOrderly v.machine → GatewayStands v texts taken handed os
         → Starved id branch v.machine u took → Forgets id u w.machine
         → GatewayStands w texts taken handed (Result id branch outcome ∷ os) }
 {}
@@ -71,7 +71,7 @@ pub fn ends_law()
         → ((c : ℕ) (t : StreamValue) → stream_of c w.streams ≡ Some t → t.hung_up ≡ false
         → stream_of c v.streams ≡ Some t)
         → ((c : ℕ) → stream_of c v.streams ≡ None → stream_of c w.streams ≡ None)
-        → w.opened ≡ v.opened → IsOrderly v.machine → GatewayStands v texts taken handed os
+        → w.opened ≡ v.opened → w.begun ≡ v.begun → IsOrderly v.machine → GatewayStands v texts taken handed os
         → EndsBy o cause v.machine told → CallsEnd cause told w.machine
         → GatewayStands w texts taken handed (o ∷ os) }
     ensures closed { (n : ℕ) (k : ConnValue) (v w : GatewayValue) (texts : ℕ → List ℕ)
@@ -79,7 +79,7 @@ pub fn ends_law()
         → ((c : ℕ) (t : StreamValue) → stream_of c w.streams ≡ Some t → t.hung_up ≡ false
         → stream_of c v.streams ≡ Some t)
         → ((c : ℕ) → stream_of c v.streams ≡ None → stream_of c w.streams ≡ None)
-        → w.opened ≡ v.opened → IsOrderly v.machine → GatewayStands v texts taken handed os
+        → w.opened ≡ v.opened → w.begun ≡ v.begun → IsOrderly v.machine → GatewayStands v texts taken handed os
         → conn_of n v.machine.conns ≡ Some k → w.machine ≡ closed_at n v.machine
         → GatewayStands w texts taken handed (Closing n ∷ os) }
 {}
@@ -89,22 +89,22 @@ pub fn opens_law()
     ensures opened { (v w : GatewayValue) (texts : ℕ → List ℕ) (taken : ℕ → List ReplyEntry) (handed : List JobValue)
         (os : List Occurrence) → IsOrderly v.machine → GatewayStands v texts taken handed os
         → HasRead (reader_value 0 (Partial [])) [] [] → texts v.opened ≡ [] → w.machine ≡ opened_as v.opened v.machine
-        → w.streams ≡ v.streams ++ new_stream v.opened ∷ [] → w.opened ≡ v.opened + 1
+        → w.streams ≡ v.streams ++ new_stream v.opened ∷ [] → w.opened ≡ v.opened + 1 → w.begun ≡ v.begun
         → GatewayStands w texts taken handed (Opening ∷ os) }
     ensures refused { (n : ℕ) (k : ConnValue) (v w : GatewayValue) (texts : ℕ → List ℕ)
         (taken : ℕ → List ReplyEntry) (handed : List JobValue) (os : List Occurrence)
         → IsOrderly v.machine → GatewayStands v texts taken handed os
         → conn_of n v.machine.conns ≡ Some k → k.broken ≡ false → w.machine ≡ broken_at n v.machine
-        → w.streams ≡ v.streams → w.opened ≡ v.opened → GatewayStands w texts taken handed os }
+        → w.streams ≡ v.streams → w.opened ≡ v.opened → w.begun ≡ v.begun → GatewayStands w texts taken handed os }
     ensures job { (job : Option HandedJob) (v w : GatewayValue) (texts : ℕ → List ℕ)
         (taken : ℕ → List ReplyEntry) (handed : List JobValue) (os : List Occurrence)
         → IsOrderly v.machine → GatewayStands v texts taken handed os
-        → JobTaken v.machine w.machine job → w.streams ≡ v.streams → w.opened ≡ v.opened
+        → JobTaken v.machine w.machine job → w.streams ≡ v.streams → w.opened ≡ v.opened → w.begun ≡ v.begun
         → GatewayStands w texts taken (handed ++ option_to_list (option_map (λ j. j.job) job)) os }
     ensures reply { (i : ℕ) (r : ReplyValue) (v w : GatewayValue) (texts : ℕ → List ℕ)
         (taken : ℕ → List ReplyEntry) (handed : List JobValue) (os : List Occurrence)
         → IsOrderly v.machine → GatewayStands v texts taken handed os → i < length v.machine.conns
-        → ReplyTaken i v.machine w.machine (Some r) → w.streams ≡ v.streams → w.opened ≡ v.opened
+        → ReplyTaken i v.machine w.machine (Some r) → w.streams ≡ v.streams → w.opened ≡ v.opened → w.begun ≡ v.begun
         → GatewayStands w texts
         (λ d. if d == (conn_at i v.machine.conns).number then taken d ++ r.entry ∷ [] else taken d) handed os }
 {}

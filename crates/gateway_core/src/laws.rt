@@ -19,6 +19,8 @@ ghost use Rattle.connect_codec.specs.Reply.{error_reply};
 ghost use Rattle.gateway_core.specs.Errors.{cause_of, ending_error, ending_with};
 ghost use Rattle.gateway_core.specs.Queue.{call_reply, entry, joined_reply, replies, queued, IsPrefixOf};
 
+use crate::request_laws::request_laws;
+
 /// What a request is answered by stays, whatever comes later.
 pub fn entry_law()
     ensures decided_stays { (id : CallId) (m : Mark) (past : Past) (e : CallEvent) → decided id past ≡ Some e → decided id (m ∷ past) ≡ Some e }
@@ -100,4 +102,6 @@ pub fn event_law()
     ensures adds { (plans : List PlanRecord) (opened : List ℕ) (e : GatewayEvent) (es : List GatewayEvent) (before after : List Placed)
         → Occurs plans opened es before → Occurs plans opened (e ∷ es) after → EventAdds opened e es before after }
     ensures jobs { (placed : List Placed) → map job_started (starts placed) ≡ jobs (marked (occurrences placed)) }
-{}
+{
+    request_laws();
+}

@@ -24,6 +24,7 @@ ghost use Rattle.gateway_core.specs.Serving.{Closes, Ends, FedTo, HangsUp, IsSer
 ghost use Rattle.gateway_core.specs.Step.{moment_after};
 ghost use Rattle.gateway_core.specs.Store.{MachineValue, conn_of};
 
+use crate::request_laws::request_laws;
 use http_pieces::laws::fresh_law;
 
 /// A moment, and the drain.
@@ -68,12 +69,12 @@ pub fn result_law()
     ensures result { (id : CallId) (branch : ℕ) (outcome : Outcome) (u : MachineValue) (took : Took)
         (v w : GatewayValue) (opened : List ℕ) (es : List GatewayEvent)
         (taken : ℕ → List ReplyEntry) (handed : List JobValue) → IsServing v → Served v opened es taken handed
-        → w ≡ record v { machine = w.machine } → Forgets id u w.machine → ResultTaken id branch outcome v.machine u took
+        → w ≡ record v { machine = w.machine; tally = w.tally } → Forgets id u w.machine → ResultTaken id branch outcome v.machine u took
         → Served w opened (BranchResult id.conn id.request branch outcome ∷ es) taken handed }
     ensures starved { (id : CallId) (branch : ℕ) (outcome : Outcome) (u : MachineValue) (took : Took)
         (v w : GatewayValue) (opened : List ℕ) (es : List GatewayEvent)
         (taken : ℕ → List ReplyEntry) (handed : List JobValue) → IsServing v → Served v opened es taken handed
-        → w ≡ record v { machine = w.machine } → Forgets id u w.machine → Starved id branch v.machine u took
+        → w ≡ record v { machine = w.machine; tally = w.tally } → Forgets id u w.machine → Starved id branch v.machine u took
         → Served w opened (BranchResult id.conn id.request branch outcome ∷ es) taken handed }
 {}
 
@@ -83,7 +84,9 @@ pub fn piece_law()
         (opened : List ℕ) (es : List GatewayEvent)
         (taken : ℕ → List ReplyEntry) (handed : List JobValue) → IsServing v → Served v opened es taken handed
         → FedTo n bytes v w result → ServedFed n bytes w opened es taken handed result }
-{}
+{
+    request_laws();
+}
 
 /// What is taken is no event.
 pub fn taken_law()
@@ -105,7 +108,9 @@ pub fn joined_law()
         → (given : List HttpRequest) × (ending : Ending) × Requests 0 (stream opened n es ++ p) given ending)
         → Served w opened (Piece n q ∷ Piece n p ∷ es) taken handed
         → Served w opened (Piece n (p ++ q) ∷ es) taken handed }
-{}
+{
+    request_laws();
+}
 
 /// A piece that is fed in parts, from its beginning to its end or to a fault.
 pub fn parts_law()
@@ -119,7 +124,9 @@ pub fn parts_law()
         (es : List GatewayEvent) (taken : ℕ → List ReplyEntry) (handed : List JobValue)
         → IsServing v → IsServing w → ServedUpTo n p v opened es taken handed
         → FedTo n q v w (Err fault) → Served w opened (Piece n (p ++ q) ∷ es) taken handed }
-{}
+{
+    request_laws();
+}
 
 /// What a gateway has queued and started is what the definitions say of the events that it stands for.
 pub fn standing_law()

@@ -1,4 +1,4 @@
-ghost use Rattle.std.specs.Prelude.{◌≡◌, ◌==◌, ◌<◌, ◌≤◌, ◌^◌, IfOk, IfErr, OnErr, false, true, not, filter, length, []};
+ghost use Rattle.std.specs.Prelude.{◌≡◌, ◌==◌, ◌<◌, ◌≤◌, ◌^◌, ◌∷◌, IfOk, IfErr, List, OnErr, false, true, not, filter, length, []};
 ghost use Rattle.gateway_core.specs.Ends.{is_stopped_in};
 ghost use Rattle.gateway_core.specs.Gateway.{is_broken_conn, is_ended, outs_of, untaken_of};
 ghost use Rattle.gateway_core.specs.Step.{moment_after};
@@ -7,6 +7,7 @@ ghost use Rattle.gateway_core.specs.declared.fault.Seen.{Seen};
 ghost use Rattle.gateway_core.specs.Opens.{JobTaken};
 ghost use Rattle.gateway_core.specs.Serving.{Breaks, BringsAt, Closes, Ends, FedTo, gateway_value, HangsUp, IsListening, IsPlaced, IsServing, ListensAt, Opens, ReadsAt, TakesReply, without_more};
 ghost use Rattle.gateway_core.specs.Store.{MachineValue, broken_at, conn_at, machine_value};
+ghost use Rattle.gateway_core.specs.Tally.{tally_of};
 
 use crate::contexts::Contexts;
 use crate::fault::{OpenError, StepFault, Took};
@@ -18,6 +19,7 @@ use crate::machine::store::Machine;
 use crate::machine::stream::Stream;
 use crate::reply::Reply;
 use crate::stock::Stock;
+use crate::tally::Tally;
 use call_plan::Plans;
 use connect_codec::Outcome;
 use http_pieces::{Request, State};
@@ -41,6 +43,9 @@ pub(crate) struct Streams<H> {
     streams: Vec<Stream>,
     /// How many connections were opened: the number of the next.
     opened: u64,
+    /// How many calls were begun.
+    begun: u64,
+    tally: Tally,
 }
 
 impl<H> Model for Streams<H> {
@@ -49,15 +54,15 @@ impl<H> Model for Streams<H> {
 
     ghost Value = { GatewayValue };
 
-    ghost view = { λ s. gateway_value s.plans s.machine s.streams.items s.opened };
+    ghost view = { λ s. gateway_value s.plans s.machine s.streams.items s.opened s.begun s.tally };
 
-    ghost invariant = { λ s. IsServing (gateway_value s.plans s.machine s.streams.items s.opened) };
+    ghost invariant = { λ s. IsServing (gateway_value s.plans s.machine s.streams.items s.opened s.begun s.tally) };
 }
 
 impl<H: ReplyHook + Drop> Streams<H> {
     /// No connection is open.
     pub(crate) fn new(alloc: Global, plans: Plans) -> Result<Streams<H>, AllocError>
-        ensures { IfOk result (λ streams. streams ≡ gateway_value plans (machine_value 0 false [] [] []) [] 0) }
+        ensures { IfOk result (λ streams. streams ≡ gateway_value plans (machine_value 0 false [] [] []) [] 0 0 (tally_of [])) }
     {
         Ok(Streams {
             alloc,
@@ -66,6 +71,8 @@ impl<H: ReplyHook + Drop> Streams<H> {
             contexts: Contexts::new(alloc)?,
             streams: Vec::new(alloc),
             opened: 0,
+            begun: 0,
+            tally: Tally::new(),
         })
     }
 
@@ -115,10 +122,7 @@ impl<H: ReplyHook + Drop> Streams<H> {
             self.break_conn(number);
             return Err(StepFault::Memory);
         };
-        self.bring(index, request);
-        if self.machine.is_stopped(number) {
-            return Err(StepFault::Memory);
-        }
+        self.bring(index, request)?;
         Ok(taken)
     }
 
@@ -174,10 +178,14 @@ impl<H: ReplyHook + Drop> Streams<H> {
         ensures taken { (between : MachineValue) × ResultTaken id.now branch outcome self.old.machine between result
             × Forgets id.now between self.new.machine }
         ensures unknown { result.seen ≡ Seen.Unknown → self.new.machine ≡ self.old.machine }
-        ensures rest { self.new ≡ record self.old { machine = self.new.machine } }
+        ensures tally { (before : List Seen) → self.old.tally ≡ tally_of before → self.new.tally ≡ tally_of (result.seen ∷ before) }
+        ensures rest { self.new ≡ record self.old { machine = self.new.machine; tally = self.new.tally } }
     {
-        self.machine
-            .take_result(self.alloc, &mut self.contexts, id, branch, outcome)
+        let took = self
+            .machine
+            .take_result(self.alloc, &mut self.contexts, id, branch, outcome);
+        self.tally.add(took.seen);
+        took
     }
 
     /// A worker found no memory for what a branch ended with: where that counts, its connection breaks.
@@ -185,9 +193,12 @@ impl<H: ReplyHook + Drop> Streams<H> {
         ensures starved { (between : MachineValue) × Starved id.now branch self.old.machine between result
             × Forgets id.now between self.new.machine }
         ensures unknown { result.seen ≡ Seen.Unknown → self.new.machine ≡ self.old.machine }
-        ensures rest { self.new ≡ record self.old { machine = self.new.machine } }
+        ensures tally { (before : List Seen) → self.old.tally ≡ tally_of before → self.new.tally ≡ tally_of (result.seen ∷ before) }
+        ensures rest { self.new ≡ record self.old { machine = self.new.machine; tally = self.new.tally } }
     {
-        self.machine.starve(&mut self.contexts, id, branch)
+        let took = self.machine.starve(&mut self.contexts, id, branch);
+        self.tally.add(took.seen);
+        took
     }
 
     /// Hands out the next job, in order of start.
@@ -206,6 +217,20 @@ impl<H: ReplyHook + Drop> Streams<H> {
             return None;
         };
         self.machine.take_reply(index)
+    }
+
+    /// Whether a job waits to be taken.
+    pub(crate) fn has_job(&self) -> bool
+        ensures { result ≡ not (length self.now.machine.jobs == 0) }
+    {
+        self.machine.has_job()
+    }
+
+    /// How results were seen.
+    pub(crate) fn tally(&self) -> Tally
+        ensures { result ≡ self.now.tally }
+    {
+        self.tally
     }
 
     /// Whether the connection of that number brings nothing more: it is not open, or is broken, or its stream has ended and no
@@ -303,20 +328,28 @@ impl<H: ReplyHook + Drop> Streams<H> {
         self.machine.break_conn(&mut self.contexts, number);
     }
 
-    /// The request comes on the connection at that place, or the refusal that its stream has come to.
-    fn bring(&mut self, index: usize, request: Option<Request>)
+    /// The request comes on the connection at that place, or the refusal that its stream has come to; or the connection breaks.
+    fn bring(&mut self, index: usize, request: Option<Request>) -> Result<(), StepFault>
         requires there { index < length self.old.streams }
         requires on { (conn_at index self.old.machine.conns).broken ≡ false }
-        ensures { BringsAt index request self.old self.new }
+        ensures { BringsAt index request self.old self.new result }
     {
         if let Some(request) = request {
-            self.machine.come(self.alloc, &mut self.contexts, &self.plans, index, request);
-            return;
+            return self.machine.come(
+                self.alloc,
+                &mut self.contexts,
+                &self.plans,
+                index,
+                request,
+                &mut self.begun,
+            );
         }
         if let State::Refused(refusal) = self.streams[index].state() {
-            self.machine
+            return self
+                .machine
                 .stop(self.alloc, &mut self.contexts, index, refusal);
         }
+        Ok(())
     }
 
     /// The calls end that this ends. True where a connection broke.

@@ -1,11 +1,11 @@
 -- What is known of the core's definitions and of what it stands for: the laws of the crate below that the proofs of a run use.
-use Rattle.std.specs.Prelude.{◌≡◌, ℕ, true, false, List, ◌∷◌, ◌++◌, map, Some}
+use Rattle.std.specs.Prelude.{◌≡◌, ◌↔◌, ℕ, ◌<◌, ◌≤◌, true, false, List, [], ◌∷◌, ◌++◌, length, map, Some}
 use Rattle.call_plan.specs.Plan.{PlanRecord}
 use Rattle.gateway_core.specs.declared.entry.ReplyEntry.{ReplyEntry}
 use Rattle.gateway_core.specs.Breaking.{BrokeNow}
 use Rattle.gateway_core.specs.Conn.{ConnValue}
 use Rattle.gateway_core.specs.EventAdds.{EventAdds}
-use Rattle.gateway_core.specs.Events.{Before, GatewayEvent, Occurs, onto}
+use Rattle.gateway_core.specs.Events.{Before, GatewayEvent, Occurs, connections, is_open, onto, open_connections, succeeds}
 use Rattle.gateway_core.specs.Gateway.{GatewayValue, untaken_of}
 use Rattle.gateway_core.specs.Job.{JobValue}
 use Rattle.gateway_core.specs.Occurrence.{Occurrence}
@@ -36,3 +36,14 @@ BreakingLaw = (c place : ℕ) (v w : GatewayValue) (opened later : List ℕ) (e 
     → w.machine.jobs ≡ v.machine.jobs ++ added → IsPrefixOf (untaken_of c v) (untaken_of c w) → (k l : ConnValue)
     → conn_of c v.machine.conns ≡ Some k → k.broken ≡ false → conn_of c w.machine.conns ≡ Some l → l.broken ≡ true
     → BrokeNow c place (taken c ++ untaken_of c w) added before after
+
+-- one more opening that succeeds, behind some events and all others that do, changes nothing of what these come to
+pub record OpeningsLaws : Type 0 where
+  pub occurs : (plans : List PlanRecord) (opened : List ℕ) (place : ℕ) (es : Before) (occurred : List Placed) → ((other : ℕ) → succeeds opened other ≡ true → other < place)
+      → length es ≤ place → Occurs plans (opened ++ place ∷ []) es occurred ↔ Occurs plans opened es occurred
+  pub connections : (opened : List ℕ) (place : ℕ) (es : Before) → ((other : ℕ) → succeeds opened other ≡ true → other < place)
+      → length es ≤ place → connections (opened ++ place ∷ []) es ≡ connections opened es
+  pub is_open : (opened : List ℕ) (place : ℕ) (es : Before) → ((other : ℕ) → succeeds opened other ≡ true → other < place)
+      → length es ≤ place → (c : ℕ) → is_open (opened ++ place ∷ []) c es ≡ is_open opened c es
+  pub open_connections : (opened : List ℕ) (place : ℕ) (es : Before) → ((other : ℕ) → succeeds opened other ≡ true → other < place)
+      → length es ≤ place → open_connections (opened ++ place ∷ []) es ≡ open_connections opened es

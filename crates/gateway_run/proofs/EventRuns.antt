@@ -3,24 +3,22 @@ use Rattle.std.proofs.Common.{◌≡◌, ℕ, suc, ◌+◌, ◌<◌, ◌≤◌, 
 use Rattle.std.specs.Prelude.{if◌then◌else◌, ◌||◌, ◌==◌}
 use Rattle.std.proofs.lemmas.Bool.{cases_Bool, eq-eqb, eqb-true, ne_eqb}
 use Rattle.std.proofs.lemmas.List.{length-append}
+use Rattle.std.proofs.lemmas.List.Recursion.{or_push}
 use Rattle.gateway_core.specs.declared.entry.ReplyEntry.{ReplyEntry}
-use Rattle.gateway_core.specs.Events.{Before, Closing, IsShifted, GatewayEvent, IsOpened, IsRising, Opening, OpensAt, connections, is_closing_of, is_open, most_open, open_connections, succeeds}
+use Rattle.gateway_core.specs.Events.{Before, Closing, GatewayEvent, IsOpened, IsRising, Opening, OpensAt, connections, is_closing_of, is_open, most_open, open_connections, succeeds}
 use Rattle.gateway_core.specs.Events as events
 use Rattle.gateway_core.specs.Gateway.{GatewayValue}
-use Rattle.gateway_core.specs.Past.{count_below}
 use Rattle.gateway_core.specs.Job.{JobValue}
 use Rattle.gateway_core.specs.Served.{HasConns, Served}
+use Rattle.gateway_core.specs.declared.fault.Seen.{Seen}
 use Rattle.gateway_core.specs.Serving.{KeepsBut}
 use Rattle.gateway_core.specs.Starts.{job_started}
-use Rattle.gateway_core.proofs.CutLemmas.{IsSame, same_before}
-use Rattle.gateway_core.proofs.OpenCount.{count_same}
-use Rattle.gateway_core.proofs.ServedOpens.{grown, occurs_before, succeeds_more}
 use Rattle.gateway_run.specs.Log.{HasRun, LogValue, StartsAll}
 use Rattle.gateway_run.specs.Stepping.{BreaksAt, CollectsFor, log_after, opened_by}
 use Rattle.gateway_run.specs.declared.stepping.Stepped.{Stepped}
 use Rattle.gateway_run.specs.declared.stepping.Stepped.TheVariants.{Done, Opened, NotOpened, Saw, Fault, Broke}
 use Rattle.gateway_run.proofs.Flags.{more_default}
-use Rattle.gateway_run.proofs.CoreLaws.{BreakingLaw, EventLaws, StandingLaws}
+use Rattle.gateway_run.proofs.CoreLaws.{BreakingLaw, EventLaws, OpeningsLaws, StandingLaws}
 use Rattle.gateway_run.proofs.Gathering.{collected_run}
 use Rattle.gateway_run.proofs.RunSteps.{Steps, run_on}
 
@@ -88,22 +86,16 @@ opens_later opened e es place o = record {
   few = o.few;
 }
 
--- the same the other way round
-shrunk : (opened : List ℕ) (n : ℕ) → ((place : ℕ) → succeeds opened place ≡ true → place < n) → IsShifted n (opened ++ n ∷ []) opened
-shrunk opened n below = record {
-  before = λ t lt. sym ((grown opened n below).before t lt);
-  after = λ t lt. none (suc t) (omega (arith, lt)) ∙ sym (succeeds_more opened n t ∙ ap (λ b. b || (n == t)) (none t (omega (arith, lt))) ∙ ne_eqb n t (λ same. absurd (omega (arith, lt, same))));
-}
-  where
-    none : (t : ℕ) → n ≤ t → succeeds opened t ≡ false
-    none t le = ⊎_elim (λ (its : succeeds opened t ≡ true). absurd (let lt = below t its in omega (arith, lt, le))) (λ (no : succeeds opened t ≡ false). no) (cases_Bool (succeeds opened t))
+succeeds_more : (opened : List ℕ) (place at : ℕ) → succeeds (opened ++ place ∷ []) at ≡ (succeeds opened at || (place == at))
+succeeds_more opened place at = or_push (λ places. succeeds places at) (λ p. p == at) refl (λ p places. refl) opened place
 
 module _ (e : GatewayEvent) (es : Before) (v w : GatewayValue) (opened : List ℕ) where
   -- none succeeded at this event
-  steps_on : ((taken : ℕ → List ReplyEntry) (handed : List JobValue) → Served v opened es taken handed → Served w opened (e ∷ es) taken handed)
-      → BreaksAt e v w → KeepsBut (λ c. is_closing_of c e) (λ c. true) v w → Steps e es v w opened opened
-  steps_on served concerned keeps = record {
+  steps_on : {seen : List Seen} → ((taken : ℕ → List ReplyEntry) (handed : List JobValue) → Served v opened es taken handed → Served w opened (e ∷ es) taken handed)
+      → BreaksAt e v w → KeepsBut (λ c. is_closing_of c e) (λ c. true) seen v w → Steps e es v w opened opened
+  steps_on {seen} served concerned keeps = record {
     served = served;
+    seen = seen;
     keeps = keeps;
     concerned = concerned;
     opened_are = λ o h. record { rising = o.rising; openings = λ place its. opens_later opened e es place (o.openings place its) };
@@ -114,32 +106,27 @@ module _ (e : GatewayEvent) (es : Before) (v w : GatewayValue) (opened : List �
   }
 
   -- one did
-  steps_open : e ≡ Opening → open_connections opened es < most_open
+  steps_open : {seen : List Seen} → OpeningsLaws → e ≡ Opening → open_connections opened es < most_open
       → ((taken : ℕ → List ReplyEntry) (handed : List JobValue) → Served v opened es taken handed → Served w (opened ++ length es ∷ []) (e ∷ es) taken handed)
-      → BreaksAt e v w → KeepsBut (λ c. is_closing_of c e) (λ c. true) v w → Steps e es v w opened (opened ++ length es ∷ [])
-  steps_open e_is few served concerned keeps = record {
+      → BreaksAt e v w → KeepsBut (λ c. is_closing_of c e) (λ c. true) seen v w → Steps e es v w opened (opened ++ length es ∷ [])
+  steps_open {seen} openings e_is few served concerned keeps = record {
     served = served;
+    seen = seen;
     keeps = keeps;
     concerned = concerned;
     opened_are = λ o h. record {
       rising = rising_more opened (length es) o.rising h.below;
       openings = λ place its. by_place o h place (succeeds opened place) refl its;
     };
-    same_count = λ h. (same h).connections_are;
-    same_open = λ h c. (same h).open_is c;
-    before = λ occurred h o. occurs_before v.plans opened (opened ++ length es ∷ []) (length es) es occurred (omega arith) (grown opened (length es) h.below) o;
-    after = λ earlier occurred le h o. occurs_before v.plans (opened ++ length es ∷ []) opened (length es) earlier occurred le (shrunk opened (length es) h.below) o;
+    same_count = λ h. openings.connections opened (length es) es h.below (omega arith);
+    same_open = λ h. openings.is_open opened (length es) es h.below (omega arith);
+    before = λ occurred h o. (openings.occurs v.plans opened (length es) es occurred h.below (omega arith)).0 o;
+    after = λ earlier occurred le h o. (openings.occurs v.plans opened (length es) earlier occurred h.below le).1 o;
   }
     where
-      same : HasConns v opened es → IsSame opened (opened ++ length es ∷ []) es es
-      same h = same_before opened (opened ++ length es ∷ []) (length es) es (omega arith) (grown opened (length es) h.below)
-
       -- as many were open
       few_before : (before : Before) → length before ≤ length es → HasConns v opened es → open_connections opened before < most_open → open_connections (opened ++ length es ∷ []) before < most_open
-      few_before before le h lt =
-          let now : IsSame opened (opened ++ length es ∷ []) before before = same_before opened (opened ++ length es ∷ []) (length es) before le (grown opened (length es) h.below) in
-          subst (λ n. n < most_open) (sym (ap (λ n. count_below n (λ c. is_open (opened ++ length es ∷ []) c before)) now.connections_are
-          ∙ count_same (connections opened before) (λ c. is_open (opened ++ length es ∷ []) c before) (λ c. is_open opened c before) (λ c within. now.open_is c))) lt
+      few_before before le h lt = subst (λ n. n < most_open) (sym (openings.open_connections opened (length es) before h.below le)) lt
 
       shorter : (later before : Before) → es ≡ later ++ Opening ∷ before → length before ≤ length es
       shorter later before is =
@@ -164,14 +151,14 @@ module _ (e : GatewayEvent) (es : Before) (v w : GatewayValue) (opened : List �
 
 -- ---- the event
 
-module _ {H : Type 0} (event : EventLaws) (standing : StandingLaws) (breaking : BreakingLaw) (e : GatewayEvent) (es : Before) (v u w x : GatewayValue) (log gathered next end : LogValue) (stepped : Stepped H) where
-  pub event_run : HasRun (λ c. false) v log es → CollectsFor e v u log gathered
+module _ {H : Type 0} (event : EventLaws) (openings : OpeningsLaws) (standing : StandingLaws) (breaking : BreakingLaw) (e : GatewayEvent) (es : Before) (v u w x : GatewayValue) (log gathered next end : LogValue) (stepped : Stepped H) where
+  pub event_run : {seen : List Seen} → HasRun (λ c. false) v log es → CollectsFor e v u log gathered
       → ((opened : List ℕ) (es : Before) (taken : ℕ → List ReplyEntry) (handed : List JobValue) → Served u opened es taken handed
       → Served w (opened_by stepped (length es) opened) (e ∷ es) taken handed)
       → ((conn : ℕ) → stepped ≡ Opened conn → e ≡ Opening)
       → ((conn : ℕ) (opened : List ℕ) (es : Before) (taken : ℕ → List ReplyEntry) (handed : List JobValue) → stepped ≡ Opened conn → Served u opened es taken handed
       → open_connections opened es < most_open)
-      → BreaksAt e u w → KeepsBut (λ c. is_closing_of c e) (λ c. true) u w → next ≡ log_after stepped (length es) gathered → StartsAll (length es) w x next end
+      → BreaksAt e u w → KeepsBut (λ c. is_closing_of c e) (λ c. true) seen u w → next ≡ log_after stepped (length es) gathered → StartsAll (length es) w x next end
       → HasRun (λ c. false) x end (e ∷ es)
   event_run h collects served opens few concerned keeps next_is starts = by_step stepped refl
     where
@@ -221,7 +208,7 @@ module _ {H : Type 0} (event : EventLaws) (standing : StandingLaws) (breaking : 
 
       by_step : (r : Stepped H) → stepped ≡ r → HasRun (λ c. false) x end (e ∷ es)
       by_step (Opened conn) r_is = run_on event standing breaking e es u w gathered (log_after {H = H} (Opened conn) (length es) gathered) mid
-          (steps_open e es u w gathered.opened e_is (few conn gathered.opened es mid.taken (map job_started mid.started) r_is mid.served)
+          (steps_open e es u w gathered.opened openings e_is (few conn gathered.opened es mid.taken (map job_started mid.started) r_is mid.served)
           (λ taken handed s. subst (λ o. Served w o (e ∷ es) taken handed) (ap (λ y. opened_by y (length es) gathered.opened) r_is) (served gathered.opened es taken handed s)) concerned keeps)
           (λ c. more_default gathered.queued c []) (λ c. more_default gathered.broke c false) refl x end (starts_on (log_after {H = H} (Opened conn) (length es) gathered) (next_is ∙ ap (λ y. log_after y (length es) gathered) r_is))
           (length-append gathered.opened (length es ∷ []) ∙ (let a = mid.opened_size in omega (arith, a, size)))
@@ -234,9 +221,6 @@ module _ {H : Type 0} (event : EventLaws) (standing : StandingLaws) (breaking : 
           served_now : Served w (gathered.opened ++ length es ∷ []) (e ∷ es) mid.taken (map job_started mid.started)
           served_now = subst (λ o. Served w o (e ∷ es) mid.taken (map job_started mid.started)) (ap (λ y. opened_by y (length es) gathered.opened) r_is) now
 
-          same : IsSame gathered.opened (gathered.opened ++ length es ∷ []) es es
-          same = same_before gathered.opened (gathered.opened ++ length es ∷ []) (length es) es (omega arith) (grown gathered.opened (length es) mid.served.conns.below)
-
           succeeded : succeeds (gathered.opened ++ length es ∷ []) (length es) ≡ true
           succeeded = succeeds_more gathered.opened (length es) (length es) ∙ ap (λ b. succeeds gathered.opened (length es) || b) (eq-eqb (length es) (length es) refl) ∙ or_true (succeeds gathered.opened (length es))
             where
@@ -246,7 +230,7 @@ module _ {H : Type 0} (event : EventLaws) (standing : StandingLaws) (breaking : 
 
           size : w.opened ≡ u.opened + 1
           size =
-              let n : connections (gathered.opened ++ length es ∷ []) es ≡ u.opened = same.connections_are ∙ mid.served.conns.count_is in
+              let n : connections (gathered.opened ++ length es ∷ []) es ≡ u.opened = openings.connections gathered.opened (length es) es mid.served.conns.below (omega arith) ∙ mid.served.conns.count_is in
               sym served_now.conns.count_is ∙ ap (λ y. connections (gathered.opened ++ length es ∷ []) (y ∷ es)) e_is
               ∙ ap (λ b. if b then suc (connections (gathered.opened ++ length es ∷ []) es) else connections (gathered.opened ++ length es ∷ []) es) succeeded ∙ (omega (arith, n))
       by_step Done r_is = none_new Done r_is (λ opened. refl) refl (λ o. not_yet)

@@ -27,6 +27,8 @@ only_then : (n : ℕ) (u v w : GatewayValue) → TakesOnly n u v → TakesOnly n
 only_then n u v w a b = record {
   plans_are = b.plans_are ∙ a.plans_are;
   opened_is = b.opened_is ∙ a.opened_is;
+  begun_is = b.begun_is ∙ a.begun_is;
+  tally_is = b.tally_is ∙ a.tally_is;
   jobs_are = b.jobs_are ∙ a.jobs_are;
   open_are = λ c. b.open_are c ∙ a.open_are c;
   broken_are = λ c. b.broken_are c ∙ a.broken_are c;
@@ -36,7 +38,7 @@ only_then n u v w a b = record {
 -- one reply more, or none
 pub took_none : (n : ℕ) (v : GatewayValue) → Took n [] v v
 took_none n v = record {
-  only = record { plans_are = refl; opened_is = refl; jobs_are = refl; open_are = λ c. refl; broken_are = λ c. refl; others_are = λ c ne. refl };
+  only = record { plans_are = refl; opened_is = refl; begun_is = refl; tally_is = refl; jobs_are = refl; open_are = λ c. refl; broken_are = λ c. refl; others_are = λ c ne. refl };
   untaken_are = refl;
   served = λ opened es taken handed h. (taken, h, λ c. same c (c == n) (taken c));
 }

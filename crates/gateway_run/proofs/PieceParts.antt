@@ -1,9 +1,9 @@
 -- A piece that is fed in parts.
-use Rattle.std.proofs.Common.{◌≡◌, ℕ, ◌-◌, Bool, true, false, List, [], ◌∷◌, ◌++◌, take, drop, length, refl, sym, ap, ◌∙◌, subst, arith, append-nil, append_assoc}
-use Rattle.std.specs.Prelude.{◌==◌, ◌↔◌, filter, Result, Ok, Err, IsErr, IsErrAnd}
+use Rattle.std.proofs.Common.{◌≡◌, ℕ, ◌-◌, Bool, true, false, List, [], ◌∷◌, ◌++◌, take, drop, length, refl, sym, ap, ◌∙◌, subst, arith, inl, inr, append-nil, append_assoc}
+use Rattle.std.specs.Prelude.{◌==◌, ◌↔◌, ◌⊎◌, ◌+◌, ◌<◌, ◌≤◌, filter, OnOk, Result, Ok, Err, IsErr, IsErrAnd}
 use Rattle.gateway_core.specs.declared.fault.StepFault.{StepFault}
-use Rattle.gateway_core.specs.declared.fault.StepFault.TheVariants.{Gone, Memory}
-use Rattle.std.proofs.lemmas.Bool.{eqb-true}
+use Rattle.gateway_core.specs.declared.fault.StepFault.TheVariants.{Exhausted, Gone, Memory}
+use Rattle.std.proofs.lemmas.Bool.{cases_lt, eqb-true}
 use Rattle.std.proofs.lemmas.List.Elements.{filter-append}
 use Rattle.std.proofs.lemmas.List.{length-drop, take-append-drop, take_all}
 use Rattle.gateway_core.specs.declared.entry.ReplyEntry.{ReplyEntry}
@@ -12,7 +12,8 @@ use Rattle.gateway_core.specs.Breaks.{is_of}
 use Rattle.gateway_core.specs.Gateway.{GatewayValue, is_broken_conn, untaken_of}
 use Rattle.gateway_core.specs.Job.{JobValue}
 use Rattle.gateway_core.specs.Served.{Served, ServedUpTo}
-use Rattle.gateway_core.specs.Serving.{IsDeaf, Keeps}
+use Rattle.gateway_core.specs.Serving.{CountsCalls, IsDeaf, Keeps, TellsStep, most_begun}
+use Rattle.gateway_core.specs.Store.{MachineValue}
 
 -- nothing was fed yet, or the connection is heard, and was
 pub data Hearing (conn : ℕ) (v w : GatewayValue) : Type 0 where
@@ -25,6 +26,7 @@ pub record Delivery (conn : ℕ) (piece rest : List ℕ) (v w : GatewayValue) : 
   pub whole : done ++ rest ≡ piece
   pub served : (opened : List ℕ) (es : Before) (taken : ℕ → List ReplyEntry) (handed : List JobValue) → Served v opened es taken handed → ServedUpTo conn done w opened es taken handed
   pub keeps : Keeps (λ c. c == conn) v w
+  pub counts : CountsCalls v w
   pub hears : Hearing conn v w
 
 abbrev pub Begins : Type 0
@@ -34,6 +36,8 @@ Begins = (n : ℕ) (v : GatewayValue) (opened : List ℕ) (es : Before) (taken :
 keeps_still : (breaks : ℕ → Bool) (v : GatewayValue) → Keeps breaks v v
 keeps_still breaks v = record {
   plans_are = refl;
+  begun_is = λ few. refl;
+  tally_is = λ before e. e;
   stays_silent = λ c silent. silent;
   stays_broken = λ c other broken. broken;
   broken_are = λ c now before. absurd (let clash : true ≡ false = sym now ∙ before in cc);
@@ -44,18 +48,37 @@ keeps_still breaks v = record {
   no_jobs = λ c silent. refl;
 }
 
+counts_still : (v : GatewayValue) → CountsCalls v v
+counts_still v = record { grows = omega arith; sum_is = refl; few = λ more. absurd (omega (arith, more)) }
+
+-- calls are begun one step after another
+pub counts_then : (u v w : GatewayValue) → CountsCalls u v → CountsCalls v w → CountsCalls u w
+counts_then u v w a b = record {
+  grows = omega (arith, a.grows, b.grows);
+  sum_is = omega (arith, a.sum_is, b.sum_is);
+  few = λ more. by_last (cases_lt v.begun w.begun) more;
+}
+  where
+    by_last : (v.begun < w.begun) ⊎ (w.begun ≤ v.begun) → u.begun < w.begun → w.begun ≤ most_begun
+    by_last (inl lt) more = b.few lt
+    by_last (inr le) more = let first : u.begun < v.begun → v.begun ≤ most_begun = a.few in let same : w.begun ≡ v.begun = omega (arith, le, b.grows) in
+        subst (λ n. n ≤ most_begun) (sym same) (first (omega (arith, more, same)))
+
 pub begun : Begins → (conn : ℕ) (piece : List ℕ) (v : GatewayValue) → Delivery conn piece piece v v
 begun begins conn piece v = record {
   done = [];
   whole = refl;
   served = λ opened es taken handed h. begins conn v opened es taken handed h;
   keeps = keeps_still (λ c. c == conn) v;
+  counts = counts_still v;
   hears = first refl;
 }
 
-pub keeps_then : (breaks : ℕ → Bool) (u v w : GatewayValue) → Keeps breaks u v → Keeps breaks v w → Keeps breaks u w
-keeps_then breaks u v w a b = record {
+pub keeps_then : (breaks : ℕ → Bool) (u v w : GatewayValue) → Keeps breaks u v → Keeps breaks v w → CountsCalls u w → Keeps breaks u w
+keeps_then breaks u v w a b counts = record {
   plans_are = b.plans_are ∙ a.plans_are;
+  begun_is = λ few. omega (arith, few, counts.grows, counts.sum_is);
+  tally_is = λ before e. b.tally_is before (a.tally_is before e);
   stays_silent = λ c silent. b.stays_silent c (a.stays_silent c silent);
   stays_broken = λ c other broken. b.stays_broken c other (a.stays_broken c other broken);
   broken_are = λ c now before. by_middle c (is_broken_conn c v) refl now before;
@@ -85,12 +108,16 @@ pub deaf_now : (conn : ℕ) (u v : GatewayValue) → Hearing conn u v → IsDeaf
 deaf_now conn u v (first same) deaf = subst (IsDeaf conn) (sym same) deaf
 deaf_now conn u v (later now before) deaf = absurd (before deaf)
 
+abbrev fault_in : {A : Type 0} → Result A StepFault → StepFault
+fault_in (Ok a) = Gone
+fault_in (Err fault) = fault
+
 -- what is answered of the piece, by what was of its last part
 pub gone_so : {A B : Type 0} (conn : ℕ) (u v : GatewayValue) (fed : Result A StepFault) (r : Result B StepFault) (fault : StepFault) → Hearing conn u v → fed ≡ Err fault → r ≡ Err fault
     → (fed ≡ Err Gone) ↔ IsDeaf conn v → (r ≡ Err Gone) ↔ IsDeaf conn u
 gone_so {A} {B} conn u v fed r fault h fed_is r_is gone = (
-  λ e. (deaf_at_first conn u v h (gone.0 (fed_is ∙ ap (λ f. err_a f) (same fault (sym r_is ∙ e))))).1,
-  λ deaf. r_is ∙ ap (λ f. err_b f) (same_a fault (sym fed_is ∙ gone.1 (deaf_now conn u v h deaf))),
+  λ e. (deaf_at_first conn u v h (gone.0 (fed_is ∙ ap (λ f. err_a f) (ap fault_in (sym r_is ∙ e))))).1,
+  λ deaf. r_is ∙ ap (λ f. err_b f) (ap fault_in (sym fed_is ∙ gone.1 (deaf_now conn u v h deaf))),
 )
   where
     err_a : StepFault → Result A StepFault
@@ -99,17 +126,9 @@ gone_so {A} {B} conn u v fed r fault h fed_is r_is gone = (
     err_b : StepFault → Result B StepFault
     err_b f = Err f
 
-    same : (f : StepFault) → err_b f ≡ err_b Gone → f ≡ Gone
-    same Gone e = refl
-    same Memory e = absurd (let clash = e in cc)
-
-    same_a : (f : StepFault) → err_a f ≡ err_a Gone → f ≡ Gone
-    same_a Gone e = refl
-    same_a Memory e = absurd (let clash = e in cc)
-
-pub fault_same : {A B : Type 0} (fed : Result A StepFault) (r : Result B StepFault) (fault : StepFault) → fed ≡ Err fault → r ≡ Err fault → r ≡ Err Gone → fed ≡ Err Gone
-fault_same fed r Gone fed_is r_is e = fed_is
-fault_same fed r Memory fed_is r_is e = absurd (let clash = sym r_is ∙ e in cc)
+-- both end by the same fault
+pub fault_same : {A B : Type 0} (fed : Result A StepFault) (r : Result B StepFault) (fault other : StepFault) → fed ≡ Err fault → r ≡ Err fault → r ≡ Err other → fed ≡ Err other
+fault_same fed r fault other fed_is r_is e = fed_is ∙ ap (λ f. Err f) (ap fault_in (sym r_is ∙ e))
 
 pub heard_ok : (conn : ℕ) (v : GatewayValue) (fed : Result ℕ StepFault) (n : ℕ) → fed ≡ Ok n → (fed ≡ Err Gone) ↔ IsDeaf conn v → IsDeaf conn v → ⊥
 heard_ok conn v fed n is gone deaf = let clash : Ok n ≡ Err Gone = sym is ∙ gone.1 deaf in cc
@@ -120,12 +139,13 @@ from_err (Err e) f bad same = ap Err same
 
 pub fed_on : (conn n : ℕ) (piece rest : List ℕ) (u v w : GatewayValue) → Delivery conn piece rest u v
     → ((fed : List ℕ) (opened : List ℕ) (es : Before) (taken : ℕ → List ReplyEntry) (handed : List JobValue) → ServedUpTo conn fed v opened es taken handed → ServedUpTo conn (fed ++ take n rest) w opened es taken handed)
-    → Keeps (λ c. c == conn) v w → (IsDeaf conn v → ⊥) → (IsDeaf conn w → ⊥) → Delivery conn piece (drop n rest) u w
-fed_on conn n piece rest u v w d stands keeps was now = record {
+    → Keeps (λ c. c == conn) v w → CountsCalls v w → (IsDeaf conn v → ⊥) → (IsDeaf conn w → ⊥) → Delivery conn piece (drop n rest) u w
+fed_on conn n piece rest u v w d stands keeps counts was now = record {
   done = d.done ++ take n rest;
   whole = append_assoc d.done (take n rest) (drop n rest) ∙ ap (λ xs. d.done ++ xs) (take-append-drop n rest) ∙ d.whole;
   served = λ opened es taken handed h. stands d.done opened es taken handed (d.served opened es taken handed h);
-  keeps = keeps_then (λ c. c == conn) u v w d.keeps keeps;
+  keeps = keeps_then (λ c. c == conn) u v w d.keeps keeps (counts_then u v w d.counts counts);
+  counts = counts_then u v w d.counts counts;
   hears = later now (at_first conn u v d.hears was);
 }
 
@@ -153,3 +173,24 @@ empty_rest n rest e =
     nothing : (xs : List ℕ) → length xs ≡ 0 → xs ≡ []
     nothing [] e = refl
     nothing (x ∷ xs) e = absurd (omega (arith, e))
+
+-- ---- what the piece tells, by what its last part does
+
+pub fault_tells : {A B : Type 0} (conn : ℕ) (u v w : GatewayValue) (fed : Result A StepFault) (r : Result B StepFault) (fault : StepFault) → Hearing conn u v → fed ≡ Err fault → r ≡ Err fault
+    → TellsStep conn v w fed → TellsStep conn u w r
+fault_tells conn u v w fed r fault h fed_is r_is tells = record {
+  gone = gone_so conn u v fed r fault h fed_is r_is tells.gone;
+  unchanged = λ e. let gone = fault_same fed r fault Gone fed_is r_is e in tells.unchanged gone ∙ (deaf_at_first conn u v h (tells.gone.0 gone)).0;
+  broke = λ e. tells.broke (fault_same fed r fault Memory fed_is r_is e);
+  exhausted = λ e. tells.exhausted (fault_same fed r fault Exhausted fed_is r_is e);
+  unbroken = subst (λ x. OnOk x (is_broken_conn conn w ≡ false)) (sym r_is) tt;
+}
+
+pub whole_tells : {B : Type 0} (conn n : ℕ) (u v w : GatewayValue) (fed : Result ℕ StepFault) (b : B) → Hearing conn u v → fed ≡ Ok n → TellsStep conn v w fed → TellsStep conn u w (Ok b)
+whole_tells conn n u v w fed b h fed_is tells = record {
+  gone = (λ e. absurd (let clash = e in cc), λ deaf. absurd (at_first conn u v h (heard_ok conn v fed n fed_is tells.gone) deaf));
+  unchanged = λ e. absurd (let clash = e in cc);
+  broke = λ e. absurd (let clash = e in cc);
+  exhausted = λ e. absurd (let clash = e in cc);
+  unbroken = subst (λ x. OnOk x (is_broken_conn conn w ≡ false)) fed_is tells.unbroken;
+}

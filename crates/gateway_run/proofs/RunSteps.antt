@@ -16,6 +16,7 @@ use Rattle.gateway_core.specs.Job.{JobValue}
 use Rattle.gateway_core.specs.Past.{Past, marked}
 use Rattle.gateway_core.specs.Queue.{IsPrefixOf, front, queued_entries}
 use Rattle.gateway_core.specs.Served.{HasConns, JobsAre, QueueIs, Served}
+use Rattle.gateway_core.specs.declared.fault.Seen.{Seen}
 use Rattle.gateway_core.specs.Serving.{KeepsBut, is_silent}
 use Rattle.gateway_core.specs.Starts.{Placed, job_started, jobs, occurrences, start, starts}
 use Rattle.gateway_core.specs.Store.{conn_of}
@@ -54,7 +55,8 @@ no_more xs ys zs (rest, is) same = empty ys rest (append_cancel_left xs (ys ++ r
 -- what the step of an event comes to
 pub record Steps (e : GatewayEvent) (es : Before) (v w : GatewayValue) (opened later : List ℕ) : Type 0 where
   pub served : (taken : ℕ → List ReplyEntry) (handed : List JobValue) → Served v opened es taken handed → Served w later (e ∷ es) taken handed
-  pub keeps : KeepsBut (λ c. is_closing_of c e) (λ c. true) v w
+  pub seen : List Seen
+  pub keeps : KeepsBut (λ c. is_closing_of c e) (λ c. true) seen v w
   pub concerned : BreaksAt e v w
   pub opened_are : IsOpened opened es → HasConns v opened es → IsOpened later (e ∷ es)
   pub same_count : HasConns v opened es → connections later es ≡ connections opened es

@@ -3,15 +3,16 @@ use Rattle.std.proofs.Common.{◌≡◌, ℕ, Bool, true, false, List, [], ◌�
 use Rattle.std.proofs.lemmas.Bool.{eq-eqb, ne_eqb}
 use Rattle.std.specs.Prelude.{◌==◌, ⊤, OnOk, IfOk, MatchResult, Option, Result, Ok, Err, option_map, option_to_list}
 use Rattle.gateway_core.specs.declared.fault.OpenError.{OpenError}
+use Rattle.gateway_core.specs.declared.fault.Seen.{Seen}
 use Rattle.gateway_core.specs.declared.fault.StepFault.{StepFault}
-use Rattle.gateway_run.specs.Stepping.{TellsBreaks, TellsConn, done_of, opened_by, opening_of, taken_of}
+use Rattle.gateway_run.specs.Stepping.{TellsBreaks, TellsConn, done_of, opened_by, opening_of, seen_in, taken_of}
 use Rattle.gateway_run.specs.declared.stepping.Stepped.{Stepped}
 use Rattle.gateway_run.specs.declared.stepping.Stepped.TheVariants.{NotOpened, Opened}
 use Rattle.gateway_core.specs.declared.entry.ReplyEntry.{ReplyEntry}
 use Rattle.gateway_core.specs.Events.{Before}
 use Rattle.gateway_core.specs.Gateway.{GatewayValue, is_broken_conn}
-use Rattle.gateway_core.specs.Serving.{Breaks, Keeps, KeepsBut}
-use Rattle.gateway_core.specs.declared.fault.StepFault.TheVariants.{Gone, Memory}
+use Rattle.gateway_core.specs.Serving.{Breaks, KeepsBut, TellsStep}
+use Rattle.gateway_core.specs.declared.fault.StepFault.TheVariants.{Exhausted, Gone, Memory}
 use Rattle.gateway_core.specs.Job.{HandedJob, JobValue}
 use Rattle.gateway_core.specs.Served.{Served}
 use Rattle.gateway_run.specs.Log.{log_value}
@@ -84,21 +85,47 @@ module _ {H : Type 0} where
 
 -- ---- what is told
 
-pub conn_told : (H : Type 0) (n : ℕ) (answer : Result ⊤ StepFault) (w : GatewayValue) → (answer ≡ Err Memory → is_broken_conn n w ≡ true) → OnOk answer (is_broken_conn n w ≡ false) → TellsConn n (done_of {H = H} answer) w
-conn_told H n (Ok all) w h fine = fine
-conn_told H n (Err Gone) w h fine = tt
-conn_told H n (Err Memory) w h fine = h refl
+pub conn_told : (H : Type 0) (n : ℕ) (answer : Result ⊤ StepFault) (w : GatewayValue) → (v : GatewayValue) → TellsStep n v w answer → TellsConn n (done_of {H = H} answer) w
+conn_told H n (Ok all) w v tells = tells.unbroken
+conn_told H n (Err Gone) w v tells = tt
+conn_told H n (Err Exhausted) w v tells = tells.exhausted refl
+conn_told H n (Err Memory) w v tells = tells.broke refl
 
 pub breaks_told : (H : Type 0) (broke : Bool) (v w : GatewayValue) → Breaks v w broke → TellsBreaks (taken_of {H = H} broke) v w
 breaks_told H true v w h = h
 breaks_told H false v w h = h
 
+-- ---- what is seen
+
+pub none_done : {H : Type 0} → (answer : Result ⊤ StepFault) (stepped : Stepped H) → stepped ≡ done_of answer → seen_in stepped ≡ []
+none_done {H} answer stepped is = ap (λ s. seen_in s) is ∙ none answer
+  where
+    none : (r : Result ⊤ StepFault) → seen_in (done_of {H = H} r) ≡ []
+    none (Ok all) = refl
+    none (Err fault) = refl
+
+pub none_taken : {H : Type 0} → (broke : Bool) (stepped : Stepped H) → stepped ≡ taken_of broke → seen_in stepped ≡ []
+none_taken {H} broke stepped is = ap (λ s. seen_in s) is ∙ none broke
+  where
+    none : (b : Bool) → seen_in (taken_of {H = H} b) ≡ []
+    none true = refl
+    none false = refl
+
+pub none_opening : {H : Type 0} → (answer : Result ℕ (List H × OpenError)) (stepped : Stepped H) → stepped ≡ opening_of answer → seen_in stepped ≡ []
+none_opening {H} answer stepped is = ap (λ s. seen_in s) is ∙ none answer
+  where
+    none : (r : Result ℕ (List H × OpenError)) → seen_in (opening_of {H = H} r) ≡ []
+    none (Ok conn) = refl
+    none (Err refused) = refl
+
 -- ---- what is kept
 
 -- where none closes, and whatever breaks
-pub keeps_for : (closes breaks : ℕ → Bool) (v w : GatewayValue) → Keeps breaks v w → KeepsBut closes (λ c. true) v w
-keeps_for closes breaks v w k = record {
+pub keeps_for : (closes breaks : ℕ → Bool) (seen : List Seen) (v w : GatewayValue) → KeepsBut (λ c. false) breaks seen v w → KeepsBut closes (λ c. true) seen v w
+keeps_for closes breaks seen v w k = record {
   plans_are = k.plans_are;
+  begun_is = k.begun_is;
+  tally_is = k.tally_is;
   stays_silent = k.stays_silent;
   stays_broken = λ c other. k.stays_broken c refl;
   broken_are = λ c now before. refl;
@@ -109,9 +136,11 @@ keeps_for closes breaks v w k = record {
   no_jobs = k.no_jobs;
 }
 
-pub keeps_closing : (n : ℕ) (v w : GatewayValue) → KeepsBut (λ c. c == n) (λ c. false) v w → KeepsBut (λ c. n == c) (λ c. true) v w
+pub keeps_closing : (n : ℕ) (v w : GatewayValue) → KeepsBut (λ c. c == n) (λ c. false) [] v w → KeepsBut (λ c. n == c) (λ c. true) [] v w
 keeps_closing n v w k = record {
   plans_are = k.plans_are;
+  begun_is = k.begun_is;
+  tally_is = k.tally_is;
   stays_silent = k.stays_silent;
   stays_broken = λ c other. k.stays_broken c (turned c other);
   broken_are = λ c now before. refl;

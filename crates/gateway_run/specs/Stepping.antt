@@ -1,5 +1,5 @@
 -- What a step answers, and what a run takes down of it.
-use Rattle.std.specs.Prelude.{◌≡◌, ⊤, ℕ, Bool, true, false, List, [], ◌∷◌, ◌++◌, Result, Ok, Err}
+use Rattle.std.specs.Prelude.{◌≡◌, ◌≤◌, ⊤, ℕ, Bool, true, false, List, [], ◌∷◌, ◌++◌, Result, Ok, Err}
 use Rattle.gateway_core.specs.declared.entry.ReplyEntry.{ReplyEntry}
 use Rattle.gateway_core.specs.Breaking.{can_break}
 use Rattle.gateway_core.specs.Job.{JobValue}
@@ -7,12 +7,13 @@ use Rattle.gateway_core.specs.Past.{marked}
 use Rattle.gateway_core.specs.Served.{Served}
 use Rattle.gateway_core.specs.Starts.{Placed, occurrences}
 use Rattle.gateway_core.specs.Events.{Before, GatewayEvent, Occurs, Opening, Piece, HangUp, Moment, BranchResult, Drain, Closing}
+use Rattle.gateway_core.specs.declared.fault.Seen.{Seen}
 use Rattle.gateway_core.specs.declared.fault.Seen.TheVariants.{Counted}
 use Rattle.gateway_core.specs.declared.fault.OpenError.{OpenError}
 use Rattle.gateway_core.specs.declared.fault.StepFault.{StepFault}
-use Rattle.gateway_core.specs.declared.fault.StepFault.TheVariants.{Gone, Memory}
+use Rattle.gateway_core.specs.declared.fault.StepFault.TheVariants.{Exhausted, Gone, Memory}
 use Rattle.gateway_core.specs.Gateway.{GatewayValue, is_broken_conn}
-use Rattle.gateway_core.specs.Serving.{Breaks}
+use Rattle.gateway_core.specs.Serving.{Breaks, most_begun}
 use Rattle.gateway_run.specs.Log.{Collects, LogValue, log_value}
 use Rattle.gateway_run.specs.declared.stepping.Stepped.{Stepped}
 use Rattle.gateway_run.specs.declared.stepping.Stepped.TheVariants.{Broke, Done, Fault, NotOpened, Opened, Saw}
@@ -21,6 +22,11 @@ use Rattle.gateway_run.specs.declared.stepping.Stepped.TheVariants.{Broke, Done,
 abbrev pub opened_by : {H : Type 0} → Stepped H → ℕ → List ℕ → List ℕ
 opened_by (Opened conn) place opened = opened ++ place ∷ []
 opened_by _ place opened = opened
+
+-- how a result was seen, where the event was one
+abbrev pub seen_in : {H : Type 0} → Stepped H → List Seen
+seen_in (Saw took) = took.seen ∷ []
+seen_in _ = []
 
 -- the log with room for the connection that was opened, if one was
 abbrev pub log_after : {H : Type 0} → Stepped H → ℕ → LogValue → LogValue
@@ -57,10 +63,11 @@ TellsOpening (Opened conn) v w = ⊤
 TellsOpening (NotOpened hooks error) v w = w ≡ v
 TellsOpening _ v w = ⊥
 
--- want of memory is told exactly where the connection broke
+-- want of memory, and of numbers for calls, is told exactly where the connection broke
 abbrev pub TellsConn : {H : Type 0} → ℕ → Stepped H → GatewayValue → Type 0
 TellsConn conn Done w = is_broken_conn conn w ≡ false
 TellsConn conn (Fault Gone) w = ⊤
+TellsConn conn (Fault Exhausted) w = (is_broken_conn conn w ≡ true) × (most_begun ≤ w.begun)
 TellsConn conn (Fault Memory) w = is_broken_conn conn w ≡ true
 TellsConn conn _ w = ⊥
 

@@ -1,17 +1,17 @@
-ghost use Rattle.std.specs.Prelude.{◌≡◌, ◌==◌, ◌↔◌, ◌∷◌, Err, OnOk, ℕ, List, false, true};
+ghost use Rattle.std.specs.Prelude.{◌==◌, ◌∷◌, ℕ, List};
 ghost use Rattle.gateway_core.specs.declared.entry.ReplyEntry.{ReplyEntry};
 ghost use Rattle.gateway_core.specs.Events.{GatewayEvent, Piece};
-ghost use Rattle.gateway_core.specs.Gateway.{is_broken_conn};
 ghost use Rattle.gateway_core.specs.Job.{JobValue};
 ghost use Rattle.gateway_core.specs.Served.{Served};
-ghost use Rattle.gateway_core.specs.Serving.{IsDeaf, Keeps};
+ghost use Rattle.gateway_core.specs.Serving.{CountsCalls, Keeps, TellsStep};
 
 use gateway_core::served_laws::parts_law;
 use gateway_core::{ConnId, Core, ReplyHook, StepFault};
 
 /// Feeds a whole piece of a connection's stream to the core, request by request.
 ///
-/// `Gone` where the connection is not open, hung up or is broken, and then nothing changed; `Memory` where it broke on the way.
+/// `Gone` where the connection is not open, hung up or is broken, and then nothing changed; `Exhausted` and `Memory` where it broke
+/// on the way.
 pub fn deliver<H: ReplyHook + Drop>(
     core: &mut Core<H>,
     conn: ConnId,
@@ -19,10 +19,8 @@ pub fn deliver<H: ReplyHook + Drop>(
 ) -> Result<(), StepFault>
     ensures stands { (opened : List ℕ) (es : List GatewayEvent) (taken : ℕ → List ReplyEntry) (handed : List JobValue)
         → Served core.old opened es taken handed → Served core.new opened (Piece conn piece.now ∷ es) taken handed }
-    ensures gone { (result ≡ Err StepFault.Gone) ↔ IsDeaf conn core.old }
-    ensures unchanged { result ≡ Err StepFault.Gone → core.new ≡ core.old }
-    ensures memory { result ≡ Err StepFault.Memory → is_broken_conn conn core.new ≡ true }
-    ensures unbroken { OnOk result (is_broken_conn conn core.new ≡ false) }
+    ensures tells { TellsStep conn core.old core.new result }
+    ensures counts { CountsCalls core.old core.new }
     ensures keeps { Keeps (λ c. c == conn) core.old core.new }
 {
     parts_law();

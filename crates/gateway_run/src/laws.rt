@@ -18,6 +18,7 @@ ghost use Rattle.gateway_core.specs.Events.{GatewayEvent, Piece, Occurs, has_no_
 ghost use Rattle.gateway_run.specs.Headline.{HasAnswered, IsAnswered, brought_by, came_on, past_by, shifted_by};
 ghost use Rattle.gateway_run.specs.Run.{bytes_of};
 
+use gateway_core::event_laws::pieces_law;
 use gateway_core::laws::{
     decided_law, event_law, limit_law as out_limit_law, queue_law, record_law,
 };
@@ -124,6 +125,7 @@ pub fn any_cut_law()
         → map job_started (starts a) ≡ map job_started (starts b) }
 {
     event_law();
+    pieces_law();
 }
 
 /// What was queued by some events is the beginning of what is queued by those and later ones.

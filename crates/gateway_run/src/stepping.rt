@@ -5,7 +5,7 @@ ghost use Rattle.gateway_core.specs.Job.{JobValue};
 ghost use Rattle.gateway_core.specs.Served.{Served};
 ghost use Rattle.gateway_core.specs.Serving.{KeepsBut};
 ghost use Rattle.gateway_run.specs.Run.{gateway_event, is_opening};
-ghost use Rattle.gateway_run.specs.Stepping.{BreaksAt, Tells, done_of, opened_by, opening_of, taken_of};
+ghost use Rattle.gateway_run.specs.Stepping.{BreaksAt, Tells, done_of, opened_by, opening_of, seen_in, taken_of};
 
 use crate::delivery::deliver;
 use crate::event::Event;
@@ -44,7 +44,7 @@ pub fn step<H: ReplyHook + Drop>(
         → result ≡ Stepped.Opened conn → Served core.old opened es taken handed → open_connections opened es < most_open }
     ensures back { (hooks : List H) (error : _) → result ≡ Stepped.NotOpened hooks error → stock ≡ Some hooks }
     ensures concerned { BreaksAt (gateway_event event) core.old core.new }
-    ensures keeps { KeepsBut (λ c. is_closing_of c (gateway_event event)) (λ c. true) core.old core.new }
+    ensures keeps { KeepsBut (λ c. is_closing_of c (gateway_event event)) (λ c. true) (seen_in result) core.old core.new }
 {
     match event {
         Event::Opening => match stock {

@@ -16,6 +16,7 @@ use crate::log::Log;
 use crate::outcome::{Run, RunError};
 use crate::stepping::{Stepped, step};
 use call_plan::Plans;
+use gateway_core::event_laws::openings_law;
 use gateway_core::laws::event_law;
 use gateway_core::served_laws::{breaking_law, standing_law};
 use gateway_core::{Core, ReplyHook, Stock};
@@ -142,6 +143,7 @@ fn take_event<H: ReplyHook + Drop>(
 {
     event_law();
     breaking_law();
+    openings_law();
     standing_law();
     collect_for(core, log, &event)?;
     let stepped = step(core, event, stock);

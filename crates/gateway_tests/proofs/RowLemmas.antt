@@ -1,7 +1,7 @@
 -- Requests that are no calls are answered at once, in their order.
-use Rattle.std.proofs.Common.{◌≡◌, ℕ, zero, suc, ◌+◌, [], ◌∷◌, ◌++◌, Option, None, Some, map, length, refl, sym, ap, ◌∙◌, arith, add-zero}
+use Rattle.std.proofs.Common.{◌≡◌, ◌==◌, ⊎_elim, true, false, ℕ, zero, suc, ◌+◌, ◌≤◌, [], ◌∷◌, ◌++◌, Option, None, Some, map, length, refl, sym, ap, ◌∙◌, arith, add-zero}
 use Rattle.std.specs.List.{range_with_len}
-use Rattle.std.proofs.lemmas.Bool.{eq-eqb}
+use Rattle.std.proofs.lemmas.Bool.{cases_Bool, eq-eqb, ne_eqb}
 use Rattle.std.proofs.lemmas.List.FromFn.{map-range_with_len_more, length-map-range_with_len}
 use Rattle.http_pieces.specs.Request.{closes}
 use Rattle.connect_codec.specs.Reply.{bare_reply}
@@ -10,11 +10,10 @@ use Rattle.gateway_core.specs.declared.reply_bytes.ReplyBytes.{ReplyBytes}
 use Rattle.gateway_core.specs.Reply.{reply_of}
 use Rattle.gateway_core.specs.Past.{Mark, Past, call_id, entries, mark_of, marked}
 use Rattle.gateway_core.specs.declared.entry.ReplyEntry.{ReplyEntry}
+use Rattle.gateway_core.specs.declared.id.CallId.{CallId}
 use Rattle.gateway_core.specs.declared.entry.ReplyEntry.TheVariants.{Judged as Judging}
 use Rattle.gateway_core.specs.Queue.{answer_of, came, entry, front, queued_entries, replies}
 use Rattle.gateway_tests.specs.Rows.{get_request, gets, after_gets}
-use Rattle.gateway_core.proofs.Unborn.{unborn}
-use Rattle.gateway_core.proofs.PastLemmas.{entry_stays}
 
 -- one more that is there, where all before are there and stay
 front_more : {A : Type 0} (f g : ℕ → Option A) → ((k : ℕ) (x : A) → f k ≡ Some x → g k ≡ Some x) → (k n : ℕ) (a : A)
@@ -43,24 +42,34 @@ unfolding after_gets
 gets_entries zero = refl
 gets_entries (suc n) = ap suc (gets_entries n)
 
-gets_queued : (n : ℕ) → queued_entries 0 (marked (after_gets n)) ≡ map (λ k. Judging (Bare 405) (closes (get_request k))) (range_with_len 0 n)
+-- the next one has not come
+not_come : (n k : ℕ) → n ≤ k → came (call_id 0 k) (marked (after_gets n)) ≡ None
 unfolding after_gets
-gets_queued zero = refl
-gets_queued (suc n) =
+not_come zero k le = ⊎_elim (λ (first : (0 == k) ≡ true). rw first refl) (λ (later : (0 == k) ≡ false). rw later refl) (cases_Bool (0 == k))
+not_come (suc n) k le = rw (not_come n k (omega (arith, le)), ne_eqb (entries 0 (marked (after_gets n))) k (λ same. omega (arith, le, same, gets_entries n))) refl
+
+-- what a request is answered by stays
+abbrev pub EntryStays : Type 0
+EntryStays = (id : CallId) (m : Mark) (past : Past) (x : ReplyEntry) → entry id past ≡ Some x → entry id (m ∷ past) ≡ Some x
+
+gets_queued : EntryStays → (n : ℕ) → queued_entries 0 (marked (after_gets n)) ≡ map (λ k. Judging (Bare 405) (closes (get_request k))) (range_with_len 0 n)
+unfolding after_gets
+gets_queued stays zero = refl
+gets_queued stays (suc n) =
     let past : Past = marked (after_gets n) in
     let m : Mark = mark_of past (gets n) in
     let e : ReplyEntry = Judging (Bare 405) (closes (get_request n)) in
     let f : ℕ → Option ReplyEntry = λ k. entry (call_id 0 k) past in
     let g : ℕ → Option ReplyEntry = λ k. entry (call_id 0 k) (m ∷ past) in
     let count : entries 0 past ≡ n = gets_entries n in
-    let none : came (call_id 0 n) past ≡ None = (unborn (call_id 0 n) past (omega (arith, count))).not_came in
+    let none : came (call_id 0 n) past ≡ None = not_come n n (omega arith) in
     let here : g n ≡ Some e = rw (none, eq-eqb (entries 0 past) n count) refl in
     let before : front (map f (range_with_len 0 n)) ≡ map (λ k. Judging (Bare 405) (closes (get_request k))) (range_with_len 0 n) =
-    ap (λ c. front (map f (range_with_len 0 c))) (sym count) ∙ gets_queued n in
+    ap (λ c. front (map f (range_with_len 0 c))) (sym count) ∙ gets_queued stays n in
     let full : length (front (map f (range_with_len 0 n))) ≡ n = ap length before ∙ length-map-range_with_len (λ k. Judging (Bare 405) (closes (get_request k))) 0 n in
     let at : 0 + n ≡ n = omega arith in
     ap (λ c. front (map g (range_with_len 0 (suc c)))) count
-    ∙ front_more f g (λ k x. entry_stays (call_id 0 k) m past x) 0 n e full (ap g at ∙ here)
+    ∙ front_more f g (λ k x. stays (call_id 0 k) m past x) 0 n e full (ap g at ∙ here)
     ∙ ap (λ es. es ++ e ∷ []) before ∙ sym (more n)
   where
     more : (n : ℕ) → map (λ k. Judging (Bare 405) (closes (get_request k))) (range_with_len 0 (suc n)) ≡ map (λ k. Judging (Bare 405) (closes (get_request k))) (range_with_len 0 n) ++ Judging (Bare 405) (closes (get_request n)) ∷ []
@@ -70,5 +79,5 @@ gets_queued (suc n) =
         ∙ map-range_with_len_more (λ k. Judging (Bare 405) (closes (get_request k))) 0 n n (omega arith)
 
 -- so many requests that are no calls
-pub gets_answered : (n : ℕ) → replies 0 (marked (after_gets n)) ≡ map answer_of (map (λ k. Judging (Bare 405) (closes (get_request k))) (range_with_len 0 n))
-gets_answered n = ap (map answer_of) (gets_queued n)
+pub gets_answered : EntryStays → (n : ℕ) → replies 0 (marked (after_gets n)) ≡ map answer_of (map (λ k. Judging (Bare 405) (closes (get_request k))) (range_with_len 0 n))
+gets_answered stays n = ap (map answer_of) (gets_queued stays n)

@@ -1,6 +1,6 @@
 -- The requests of a stream whose bytes are written out: its head is found and read by tests that compute.
-use Rattle.std.proofs.Common.{◌≡◌, ℕ, zero, suc, ◌+◌, ◌<◌, ◌≤◌, Bool, true, false, ◌&&◌, not, nat_lt, nat_le, nat_eq, if◌then◌else◌, List, [], ◌∷◌, ◌++◌, map, length, take, drop, refl, sym, ap, subst, ◌∙◌, arith, lit≤, get_or, length-append, length-take-le}
-use Rattle.std.proofs.lemmas.Bool.{eq-eqb, ne_eqb}
+use Rattle.std.proofs.Common.{◌≡◌, ℕ, zero, suc, ◌+◌, ◌<◌, ◌≤◌, Bool, true, false, ◌&&◌, not, nat_lt, nat_le, nat_eq, List, [], ◌∷◌, ◌++◌, map, length, take, drop, refl, sym, ap, subst, ◌∙◌, arith, lit≤, get_or, length-append, length-take-le}
+use Rattle.std.proofs.lemmas.Bool.{and_parts, eq-eqb, ne_eqb}
 use Rattle.std.proofs.lemmas.Bool.Decides.{nat_tests}
 use Rattle.std.proofs.lemmas.List.{take-append-drop, take-append-le}
 use Rattle.std.proofs.Math.Seq.{drop-append_seam}
@@ -13,20 +13,17 @@ use Rattle.std.specs.Bool.{MatchBool}
 use Rattle.std.specs.List.{flat_map, list_all, range_with_len, starts_with}
 use Rattle.httparse.proofs.OnLiterals.{httparse_on_literals}
 use Rattle.httparse.proofs.GrammarLemmas.{request_unique}
-use Rattle.httparse.specs.Grammar.{crlf, is_token, is_uri_byte, is_value_byte, IsField, RequestHead, IsRequestHead, print_request, ReadsRequest}
+use Rattle.httparse.specs.Grammar.{Field, crlf, is_token, is_token_byte, is_uri_byte, is_value_byte, IsField, IsToken, RequestHead, IsRequestHead, print_request, ReadsRequest}
 use Rattle.http_pieces.specs.declared.refusal.Refusal.{Refusal}
 use Rattle.http_pieces.specs.declared.refusal.Refusal.TheVariants.{NotAHead}
 use Rattle.http_pieces.specs.declared.version.Version.{Version}
 use Rattle.http_pieces.specs.declared.version.Version.TheVariants.{V10, V11}
-use Rattle.http_pieces.specs.Cut.{Refused, Complete, IsBlock, most_head, HasNoBlock, IsCut, IsCutText, with_head, without_head, cut_after}
+use Rattle.http_pieces.specs.Cut.{Body, Refused, Complete, IsBlock, most_head, HasNoBlock, IsCut, IsCutText, with_head, without_block, without_head, cut_after}
 use Rattle.http_pieces.specs.Fields.{NamedValue}
 use Rattle.http_pieces.specs.Head.{request_asks, request_kind, most_fields}
 use Rattle.http_pieces.specs.Request.{HttpRequest, closes}
-use Rattle.http_pieces.specs.Requests.{Open, Broken, Closed, broken, Requests}
-use Rattle.http_pieces.proofs.CutLemmas.{after_complete_intro, block_append}
-use Rattle.http_pieces.proofs.RequestsLemmas.{requests_one, requests_stay}
+use Rattle.http_pieces.specs.Requests.{Open, Broken, Closed, broken, unfinished, Requests}
 use Rattle.connect_codec.specs.Headers.{is_visible}
-use Rattle.connect_codec.proofs.FieldLineLemmas.{both_true, sound_name, as_field}
 use Rattle.gateway_tests.specs.Rows.{get_request, head_text, text_of}
 use Rattle.gateway_tests.proofs.OnLiterals.{replies_on_literals}
 
@@ -46,7 +43,7 @@ not_there : (n : ℕ) (front rest : List ℕ) → no_empty_line n (front ++ empt
 not_there zero front rest none lt = omega (arith, lt)
 not_there (suc n) [] rest none lt = cc
 not_there (suc n) (b ∷ front) rest none lt =
-    not_there n front rest (both_true (not (starts_with nat_eq (b ∷ front ++ empty_line ++ rest) empty_line)) (no_empty_line n (front ++ empty_line ++ rest)) none).1 (omega (arith, lt))
+    not_there n front rest (and_parts (not (starts_with nat_eq (b ∷ front ++ empty_line ++ rest) empty_line)) (no_empty_line n (front ++ empty_line ++ rest)) none).1 (omega (arith, lt))
 
 -- the first n + 4 bytes are the block, where its empty line begins at place n and none before
 pub block_at : (text : List ℕ) (n : ℕ) → nat_le (n + 4) (length text) ≡ true → nat_le (n + 4) most_head ≡ true
@@ -63,7 +60,26 @@ block_at text n within limit ends none = record {
       (omega (arith, lt, short, ap length also.1, length-append also.0 empty_line));
 }
 
+-- the block stays where more follows
+block_append : (text more : List ℕ) (n : ℕ) → IsBlock text n → IsBlock (text ++ more) n
+block_append text more n b = record {
+  within = omega (arith, b.within, length-append text more);
+  limit = b.limit;
+  ends = rw (take-append-le n text more b.within) b.ends;
+  shortest = λ m lt ends. b.shortest m lt (rw (take-append-le m text more (omega (arith, b.within))) at ends);
+}
+
 -- ---- the head
+
+-- the field as the grammar has it, where its value stands behind one space
+abbrev pub as_field : NamedValue → Field
+as_field f = record { name = f.0; raw = 32 ∷ f.1; end = crlf }
+
+sound_name : (name : List ℕ) → is_token name ≡ true → IsToken name
+sound_name name e =
+    let h = and_parts (nat_lt 0 (length name)) (list_all is_token_byte name) e in
+    let some = h.0 in
+    (grind (arith, nat_tests), AllPass-from_list_all is_token_byte name h.1)
 
 -- a version's second number
 abbrev minor_of : Version → ℕ
@@ -101,7 +117,7 @@ pub record BeginsWith (text : List ℕ) (n : ℕ) (q : HttpRequest) : Type 0 whe
 -- each is a field of the grammar
 line_field : (f : NamedValue) → is_line f ≡ true → IsField (as_field f)
 line_field f line =
-    let both = both_true (is_token f.0) (list_all is_value_byte f.1) line in
+    let both = and_parts (is_token f.0) (list_all is_value_byte f.1) line in
     record { name = sound_name f.0 both.0; raw = AllPass-from_list_all is_value_byte (32 ∷ f.1) both.1 }
 
 line_fields : (fields : List NamedValue) → list_all is_line fields ≡ true → All IsField (map as_field fields)
@@ -163,20 +179,42 @@ no_block text none n le ends =
     not_there (length text) ends.0 (drop n text) (subst (λ t. no_empty_line (length text) t ≡ true) whole none)
     (omega (arith, ap length whole, length-append (ends.0 ++ empty_line) (drop n text), length-append ends.0 empty_line))
 
+-- what follows a head that asks for n bytes, where as many follow
+pub body_taken : {R V : Type 0} (n : ℕ) (message : List ℕ → V) (after : List ℕ) → n ≤ length after
+    → cut_after {R = R} (Body n message) after ≡ Complete (message (take n after)) (drop n after)
+body_taken n message after le =
+    let enough : nat_lt (length after) n ≡ false = grind (arith, nat_tests) in
+    rw enough refl
+
 -- ---- the requests
 
--- one request, behind which more may come, and nothing has
+-- a refusal stays, whatever follows
+abbrev pub RefusedStays : Type 0
+RefusedStays = (k : ℕ) (text more : List ℕ) (given : List HttpRequest) (r : Refusal) → Requests k text given (Broken r) → Requests k (text ++ more) given (Broken r)
+
+-- so does a request that closes
+abbrev pub ClosedStays : Type 0
+ClosedStays = (k : ℕ) (text more : List ℕ) (given : List HttpRequest) → Requests k text given Closed → Requests k (text ++ more) given Closed
+
+-- request number k, behind which more may come, and nothing has
+pub request_at : (k : ℕ) (text : List ℕ) (q : HttpRequest) → IsCut (request_kind k) text (Complete q []) → closes q ≡ false → Requests k text (q ∷ []) (Open [])
+request_at k text q cut on = (
+  [],
+  cut,
+  subst (λ b. MatchBool b ((◌≡◌ {A = List HttpRequest} [] []) × (Open [] ≡ Closed)) (Requests (suc k) [] [] (Open []))) (sym on) (unfinished (without_block (no_block [] refl) refl) refl),
+)
+
 pub one_request : (text : List ℕ) (q : HttpRequest) → IsCut (request_kind 0) text (Complete q []) → closes q ≡ false → Requests 0 text (q ∷ []) (Open [])
-one_request text q cut on = subst (Requests 0 text (q ∷ [])) (ap (λ b. if b then Closed else Open []) on) (requests_one 0 text q cut)
+one_request = request_at 0
 
 -- one request that closes, and whatever follows
-pub last_request : (text : List ℕ) (q : HttpRequest) → IsCut (request_kind 0) text (Complete q []) → closes q ≡ true → (more : List ℕ) → Requests 0 (text ++ more) (q ∷ []) Closed
-last_request text q cut last more =
-    requests_stay 0 text more (q ∷ []) Closed tt (subst (Requests 0 text (q ∷ [])) (ap (λ b. if b then Closed else Open []) last) (requests_one 0 text q cut))
+pub last_request : ClosedStays → (text : List ℕ) (q : HttpRequest) → IsCut (request_kind 0) text (Complete q []) → closes q ≡ true → (more : List ℕ) → Requests 0 (text ++ more) (q ∷ []) Closed
+last_request stays text q cut last more =
+    stays 0 text more (q ∷ []) ([], cut, subst (λ b. MatchBool b ((◌≡◌ {A = List HttpRequest} [] []) × (Closed ≡ Closed)) (Requests 1 [] [] Closed)) (sym last) (refl, refl))
 
 -- a refusal, and whatever follows
-pub refused_stream : (text : List ℕ) (r : Refusal) → IsCut (request_kind 0) text (Refused r) → (more : List ℕ) → Requests 0 (text ++ more) [] (Broken r)
-refused_stream text r cut more = requests_stay 0 text more [] (Broken r) tt (broken r cut refl)
+pub refused_stream : RefusedStays → (text : List ℕ) (r : Refusal) → IsCut (request_kind 0) text (Refused r) → (more : List ℕ) → Requests 0 (text ++ more) [] (Broken r)
+refused_stream stays text r cut more = stays 0 text more [] r (broken r cut refl)
 
 -- ---- a hundred requests
 
@@ -188,7 +226,7 @@ get_begins k = record { within = refl; limit = refl; ends = refl; none_before = 
 get_cut : (k : ℕ) (rest : List ℕ) → IsCut (request_kind k) (text_of (get_request k) ++ rest) (Complete (get_request k) rest)
 unfolding replies_on_literals httparse_on_literals
 get_cut k rest =
-    subst (IsCut (request_kind k) (text_of (get_request k) ++ rest)) (after_complete_intro 0 (λ body. record (get_request k) { body = body }) rest (omega arith))
+    subst (IsCut (request_kind k) (text_of (get_request k) ++ rest)) (body_taken 0 (λ body. record (get_request k) { body = body }) rest (omega arith))
     (cut_by_head k (head_text (get_request k)) rest 40 (get_request k) (get_begins k) refl (lit≤ tt))
 
 -- those from number k to 99 are the last of their stream

@@ -13,6 +13,8 @@ ghost use Rattle.gateway_core.specs.Queue.{replies, queued};
 ghost use Rattle.gateway_core.specs.Record.{is_lawful, is_decided};
 ghost use Rattle.gateway_tests.specs.Rows.{row_starts, starts_then, is_lawful_row, quote_record, ping, quote, asks, gets, after_gets, refuses, answers, fails, succeeded, failed, document, bytes_queued, flooded};
 
+use gateway_core::laws::{entry_law, unknown_law};
+
 /// One call, answered.
 fn ping_answered()
     ensures replies { replies 0 (past_of (Opening ∷ asks ping None 0 ∷ answers 0 0 (codes "{\"ok\":true}") ∷ []))
@@ -172,7 +174,9 @@ fn judged_and_refused()
 fn hundred_requests()
     ensures replies { replies 0 (marked (after_gets 100)) ≡ replicate 99 (reply_of (bare_reply 405 false) false) ++ reply_of (bare_reply 405 true) true ∷ [] }
     ensures bytes { length (queued 0 (marked (after_gets 100))) ≡ 6719 }
-{}
+{
+    entry_law();
+}
 
 /// A new connection has another number: a result for the old one's call is late, and nothing is queued for the new one.
 fn stale_connection()
@@ -202,7 +206,9 @@ fn floods()
     ensures strange { (strangers repeats : ℕ) → judged (call_id 7 0) 0 (marked (flooded strangers repeats)) ≡ Seen.Unknown }
     ensures goes_on { (strangers repeats : ℕ) → judged (call_id 0 0) 0 (marked (flooded strangers repeats)) ≡ Seen.Counted }
     ensures replies { (strangers repeats : ℕ) → replies 0 (marked (flooded strangers repeats)) ≡ [] }
-{}
+{
+    unknown_law();
+}
 
 /// The records of decided calls are lawful and decided.
 fn lawful_records()

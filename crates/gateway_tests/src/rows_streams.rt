@@ -13,6 +13,8 @@ ghost use Rattle.gateway_core.specs.Past.{past_of};
 ghost use Rattle.gateway_core.specs.Queue.{replies};
 ghost use Rattle.gateway_tests.specs.Rows.{ping, request_for, get_request, ping_adding, ping_of_length, ping_closing, ping_old, ping_hostless, ping_filled, ping_crowded, head_text, text_of, arrives, comes, refuses, answers, error, document, bytes_queued};
 
+use http_pieces::laws::requests_law;
+
 /// A request for Ping, also behind empty lines, and two in one stream.
 fn first_request()
     ensures text { text_of (request_for ping.path 0)
@@ -34,7 +36,9 @@ fn closing_request()
     ensures reply { success_reply (codes "{\"pong\":{\"ok\":true}}") true
         ≡ codes "HTTP/1.1 200 OK\r\nContent-Type: application/json\r\nContent-Length: 20\r\nConnection: close\r\n\r\n{\"pong\":{\"ok\":true}}" }
     ensures bytes { bytes_queued (Opening ∷ comes ping_closing ∷ answers 0 0 (codes "{\"ok\":true}") ∷ []) ≡ 110 }
-{}
+{
+    requests_law();
+}
 
 /// A request of HTTP/1.0, which needs no `Host`: the same.
 fn old_request()
@@ -47,7 +51,9 @@ fn old_request()
     ensures reply { success_reply (codes "{\"pong\":{\"ok\":true}}") true
         ≡ codes "HTTP/1.1 200 OK\r\nContent-Type: application/json\r\nContent-Length: 20\r\nConnection: close\r\n\r\n{\"pong\":{\"ok\":true}}" }
     ensures bytes { bytes_queued (Opening ∷ comes ping_old ∷ answers 0 0 (codes "{\"ok\":true}") ∷ []) ≡ 110 }
-{}
+{
+    requests_law();
+}
 
 /// Two lengths, and whatever follows.
 fn two_lengths()
@@ -55,7 +61,9 @@ fn two_lengths()
     ensures replies { replies 0 (past_of (Opening ∷ refuses Refusal.BadLength ∷ [])) ≡ reply_of (bare_reply 400 true) true ∷ [] }
     ensures reply { bare_reply 400 true ≡ codes "HTTP/1.1 400 Bad Request\r\nContent-Length: 0\r\nConnection: close\r\n\r\n" }
     ensures bytes { bytes_queued (Opening ∷ refuses Refusal.BadLength ∷ []) ≡ 66 }
-{}
+{
+    requests_law();
+}
 
 /// A chunked body.
 fn chunked_body()
@@ -63,7 +71,9 @@ fn chunked_body()
     ensures replies { replies 0 (past_of (Opening ∷ refuses Refusal.LengthRequired ∷ [])) ≡ reply_of (bare_reply 411 true) true ∷ [] }
     ensures reply { bare_reply 411 true ≡ codes "HTTP/1.1 411 Length Required\r\nContent-Length: 0\r\nConnection: close\r\n\r\n" }
     ensures bytes { bytes_queued (Opening ∷ refuses Refusal.LengthRequired ∷ []) ≡ 70 }
-{}
+{
+    requests_law();
+}
 
 /// HTTP/1.1 without `Host`.
 fn without_host()
@@ -71,7 +81,9 @@ fn without_host()
     ensures replies { replies 0 (past_of (Opening ∷ refuses Refusal.BadHost ∷ [])) ≡ reply_of (bare_reply 400 true) true ∷ [] }
     ensures reply { bare_reply 400 true ≡ codes "HTTP/1.1 400 Bad Request\r\nContent-Length: 0\r\nConnection: close\r\n\r\n" }
     ensures bytes { bytes_queued (Opening ∷ refuses Refusal.BadHost ∷ []) ≡ 66 }
-{}
+{
+    requests_law();
+}
 
 /// A body of one byte more than may be; one that is no larger is taken.
 fn large_body()
@@ -84,7 +96,9 @@ fn large_body()
     ensures reply { error_reply (error Code.ResourceExhausted (codes "body larger than 65536 bytes")) true
         ≡ codes "HTTP/1.1 429 Too Many Requests\r\nContent-Type: application/json\r\nContent-Length: 70\r\nConnection: close\r\n\r\n{\"code\":\"resource_exhausted\",\"message\":\"body larger than 65536 bytes\"}" }
     ensures bytes { bytes_queued (Opening ∷ refuses Refusal.BodyTooLarge ∷ []) ≡ 175 }
-{}
+{
+    requests_law();
+}
 
 /// A head of 8,192 bytes is taken, and no more without an end.
 fn large_head()
@@ -95,7 +109,9 @@ fn large_head()
     ensures replies { replies 0 (past_of (Opening ∷ refuses Refusal.HeadTooLarge ∷ [])) ≡ reply_of (bare_reply 431 true) true ∷ [] }
     ensures reply { bare_reply 431 true ≡ codes "HTTP/1.1 431 Request Header Fields Too Large\r\nContent-Length: 0\r\nConnection: close\r\n\r\n" }
     ensures bytes { bytes_queued (Opening ∷ refuses Refusal.HeadTooLarge ∷ []) ≡ 86 }
-{}
+{
+    requests_law();
+}
 
 /// A head of 64 fields is taken, and one of 65 is none.
 fn many_fields()
@@ -104,7 +120,9 @@ fn many_fields()
     ensures replies { replies 0 (past_of (Opening ∷ refuses Refusal.NotAHead ∷ [])) ≡ reply_of (bare_reply 400 true) true ∷ [] }
     ensures reply { bare_reply 400 true ≡ codes "HTTP/1.1 400 Bad Request\r\nContent-Length: 0\r\nConnection: close\r\n\r\n" }
     ensures bytes { bytes_queued (Opening ∷ refuses Refusal.NotAHead ∷ []) ≡ 66 }
-{}
+{
+    requests_law();
+}
 
 /// A head that does not end before its peer hangs up: nothing is queued.
 fn incomplete_head()

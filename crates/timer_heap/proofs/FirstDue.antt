@@ -4,6 +4,7 @@ use Rattle.std.specs.Prelude.{◌⊎◌, All, nat_le, ◌==◌}
 use Rattle.std.proofs.lemmas.Bool.{cases_Bool, leb-true, leb-false, le-leb, lt-leb}
 use Rattle.std.proofs.lemmas.List.Elements.{All-nil, All-cons, All-head, All-tail, All-append, All-weaker}
 use Rattle.std.proofs.lemmas.List.Folds.{list_any-append}
+use Rattle.std.proofs.lemmas.Option.{same_Some}
 use Rattle.timer_heap.specs.Timers.{Timer, earlier, earliest, popped, IsFirstDue, without, is_set, waiting, TimerOp, Set, PopDue}
 
 -- stands among these, where those before it are later, and none of those behind is sooner
@@ -21,9 +22,6 @@ option_cases (Some a) = inr (a, refl)
 none_only : (entries : List Timer) → earliest entries ≡ None → entries ≡ []
 none_only [] is = refl
 none_only (x ∷ xs) is = cc
-
-some_same : {A : Type 0} (a b : A) → Some a ≡ Some b → a ≡ b
-some_same a b is = cc
 
 -- all of them are at this time or later
 abbrev From : ℕ → Timer → Type 0
@@ -49,14 +47,14 @@ earliest_found [] e is = cc
 earliest_found (x ∷ xs) e is =
     ⊎_elim
     (λ (none : earliest xs ≡ None).
-    let same : x ≡ e = some_same x e (rw none at is) in
+    let same : x ≡ e = same_Some x e (rw none at is) in
     rw (← same) (record { before = []; after = xs; stands = refl; before_later = All-nil (After x.at); after_no_sooner = rw (none_only xs none) (All-nil (From x.at)) }))
     (λ (some : (d : Timer) × (earliest xs ≡ Some d)).
     let d = some.0 in
     let rest = earliest_found xs d some.1 in
     ⊎_elim
     (λ (le : nat_le x.at d.at ≡ true).
-    let same : x ≡ e = some_same x e (rw (some.1, le) at is) in
+    let same : x ≡ e = same_Some x e (rw (some.1, le) at is) in
     let low : x.at ≤ d.at = leb-true _ _ le in
     rw (← same) (record {
       before = [];
@@ -66,7 +64,7 @@ earliest_found (x ∷ xs) e is =
       after_no_sooner = rw rest.stands (lower x.at d rest.before rest.after low rest.before_later rest.after_no_sooner);
     }))
     (λ (gt : nat_le x.at d.at ≡ false).
-    let same : d ≡ e = some_same d e (rw (some.1, gt) at is) in
+    let same : d ≡ e = same_Some d e (rw (some.1, gt) at is) in
     rw (← same) (record {
       before = x ∷ rest.before;
       after = rest.after;
@@ -105,7 +103,7 @@ popped_found now entries e is =
     let d = some.0 in
     ⊎_elim
     (λ (le : nat_le d.at now ≡ true).
-    let same : d ≡ e = some_same d e (rw (some.1, le) at is) in
+    let same : d ≡ e = same_Some d e (rw (some.1, le) at is) in
     let first = earliest_found entries d some.1 in
     rw (← same) (record { before = first.before; after = first.after; stands = first.stands; due = leb-true _ _ le; before_later = first.before_later; after_no_sooner = first.after_no_sooner }))
     (λ (gt : nat_le d.at now ≡ false). let bad : None ≡ Some e = rw (some.1, gt) at is in cc)

@@ -2,16 +2,14 @@
 use Rattle.std.proofs.Common.{◌≡◌, ◌≢◌, sym, ap, ◌∙◌, arith, ℕ, ◌+◌, ◌<◌, List, [], ◌∷◌, ◌++◌, length, Option, Some, None, ⊎_elim, length-append}
 use Rattle.std.specs.List.{swap}
 use Rattle.std.proofs.lemmas.Bool.{cases_eq}
+use Rattle.std.proofs.lemmas.Option.{same_Some}
 use Rattle.timer_heap.specs.declared.heap.Entry.{Entry}
 use Rattle.timer_heap.specs.Heap.{entry_at, ArePlaced, IsPut}
 use Rattle.timer_heap.proofs.Heaps.{swapped_at, pushed_at, last_at, Filled}
 
-some_same : (a b : ℕ) → Some a ≡ Some b → a ≡ b
-some_same a b is = cc
-
 -- two entries of one id are at one place
 pub one_place : (xs : List Entry) (f : ℕ → Option ℕ) (i j : ℕ) → ArePlaced xs f → i < length xs → j < length xs → (entry_at xs i).id ≡ (entry_at xs j).id → i ≡ j
-one_place xs f i j placed i_in j_in same = some_same i j (sym (placed.found i i_in) ∙ ap f same ∙ placed.found j j_in)
+one_place xs f i j placed i_in j_in same = same_Some i j (sym (placed.found i i_in) ∙ ap f same ∙ placed.found j j_in)
 
 pub is_there : (o : Option ℕ) (place : ℕ) → o ≡ Some place → o ≢ None
 is_there o place is = λ none. let bad : Some place ≡ None = sym is ∙ none in cc
@@ -48,11 +46,11 @@ exchange_placed xs ys f g h a b placed a_in b_in apart long is put_a put_b =
           (cases_eq k b);
       only = λ id k is_at. ⊎_elim
           (λ (e : id ≡ (entry_at ys b).id).
-          let same : b ≡ k = some_same b k (sym put_b.here ∙ ap h (sym e) ∙ is_at) in
+          let same : b ≡ k = same_Some b k (sym put_b.here ∙ ap h (sym e) ∙ is_at) in
           rw (← same) (omega arith, sym e))
           (λ (id_b : id ≡ (entry_at ys b).id → ⊥). ⊎_elim
           (λ (e : id ≡ (entry_at ys a).id).
-          let same : a ≡ k = some_same a k (sym at_a ∙ ap h (sym e) ∙ is_at) in
+          let same : a ≡ k = same_Some a k (sym at_a ∙ ap h (sym e) ∙ is_at) in
           rw (← same) (omega arith, sym e))
           (λ (id_a : id ≡ (entry_at ys a).id → ⊥).
           let old = placed.only id k (sym (put_b.others id id_b ∙ put_a.others id id_a) ∙ is_at) in
@@ -77,7 +75,7 @@ push_placed xs e f g placed free put =
           (cases_eq k (length xs));
       only = λ id k is_at. ⊎_elim
           (λ (same : id ≡ e.id).
-          let last : length xs ≡ k = some_same _ _ (sym put.here ∙ ap g (sym same) ∙ is_at) in
+          let last : length xs ≡ k = same_Some _ _ (sym put.here ∙ ap g (sym same) ∙ is_at) in
           rw (← last) (omega arith, ap (λ (d : Entry). d.id) (last_at xs e) ∙ sym same))
           (λ (other : id ≡ e.id → ⊥).
           let old = placed.only id k (sym (put.others id other) ∙ is_at) in
@@ -120,7 +118,7 @@ fill_placed xs ys place f g h filled within here placed put_none put =
           (cases_eq k place);
       only = λ id k is_at. ⊎_elim
           (λ (same : id ≡ (entry_at ys place).id).
-          let e : place ≡ k = some_same place k (sym put.here ∙ ap h (sym same) ∙ is_at) in
+          let e : place ≡ k = same_Some place k (sym put.here ∙ ap h (sym same) ∙ is_at) in
           rw (← e) (within, sym same))
           (λ (id_not : id ≡ (entry_at ys place).id → ⊥). ⊎_elim
           (λ (same : id ≡ (entry_at xs place).id). absurd (is_there _ k is_at (put.others id id_not ∙ ap g same ∙ put_none.here)))

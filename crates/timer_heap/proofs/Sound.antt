@@ -1,12 +1,13 @@
 -- How a sound heap stands for the timers that wait, and what keeps it sound.
 use Rattle.std.proofs.Common.{◌≡◌, refl, sym, ap, ◌∙◌, subst, rules, arith, ℕ, zero, suc, ◌+◌, ◌≤◌, ◌<◌, List, [], ◌∷◌, ◌++◌, length, Bool, true, false, Option, Some, None, inl, inr, ⊎_elim, add-one}
-use Rattle.std.specs.Prelude.{◌⊎◌, All, filter, map, ◌==◌, ◌||◌, not, is_some}
+use Rattle.std.specs.Prelude.{◌⊎◌, All, filter, map, ◌==◌, not, is_some}
 use Rattle.std.specs.List.{list_any}
-use Rattle.std.proofs.lemmas.Bool.{cases_Bool, cases_eq}
+use Rattle.std.proofs.lemmas.Bool.{cases_Bool, cases_eq, not_from_true, not_from_false, eq-eqb, ne_eqb}
 use Rattle.std.proofs.lemmas.List.{append-nil, map-append, length-map}
 use Rattle.std.proofs.lemmas.List.Elements.{All-nil, All-tail, All-push, All-map, All-weaker, All-get_or, All-from_get_or, filter-append}
 use Rattle.std.proofs.lemmas.List.Folds.{list_any-append, list_any_none}
 use Rattle.std.proofs.lemmas.List.Sorted.{All-permutation}
+use Rattle.std.proofs.Math.Bool.{or-true}
 use Rattle.timer_heap.specs.declared.heap.Entry.{Entry}
 use Rattle.timer_heap.specs.Timers.{Timer, is_set, without, earliest}
 use Rattle.timer_heap.specs.Heap.{entry_at, Leads, Added, TakenOut, Unchanged, ranked, in_order, IsSound}
@@ -48,19 +49,13 @@ is_place : (o : Option ℕ) → (o ≡ None) ⊎ ((k : ℕ) × (o ≡ Some k))
 is_place None = inl refl
 is_place (Some k) = inr (k, refl)
 
-same_id : (a b : ℕ) → a ≡ b → (a == b) ≡ true
-same_id a b is = grind (arith, rules)
-
-other_id : (a b : ℕ) → (a ≡ b → ⊥) → (a == b) ≡ false
-other_id a b is = grind (arith, rules)
-
 module _ (sets : ℕ) (xs : List Entry) (f : ℕ → Option ℕ) where
   -- what stands before and behind the entry at a place
   split_at : (k : ℕ) → IsSound sets xs f → k < length xs → (after : List Entry) × (ranked sets xs ≡ ranked (entry_at xs k).number xs ++ entry_at xs k ∷ after)
   split_at k sound k_in =
       let e = entry_at xs k in
       ranked_split sets xs e (All-get_or (λ (d : Entry). d.number < sets) xs k (record { at = 0; id = 0; number = 0 }) k_in sound.below)
-      (filter_one (λ d. d.number == e.number) xs k k_in (same_id e.number e.number refl) (sound.apart e.number))
+      (filter_one (λ d. d.number == e.number) xs k k_in (eq-eqb e.number e.number refl) (sound.apart e.number))
 
   -- an id has a place where a timer of it waits
   pub set_where_placed : (id : ℕ) → IsSound sets xs f → is_some (f id) ≡ is_set id (in_order sets xs)
@@ -68,18 +63,15 @@ module _ (sets : ℕ) (xs : List Entry) (f : ℕ → Option ℕ) where
   set_where_placed id sound = ⊎_elim
       (λ (none : f id ≡ None).
       let apart : All (λ e. (e.id == id) ≡ false) xs = All-from_get_or (λ (e : Entry). (e.id == id) ≡ false) xs (record { at = 0; id = 0; number = 0 })
-      (λ k k_in. other_id _ _ (λ same. is_there _ k (sound.placed.found k k_in) (ap f same ∙ none))) in
+      (λ k k_in. ne_eqb _ _ (λ same. is_there _ k (sound.placed.found k k_in) (ap f same ∙ none))) in
       rw none (sym (any_mapped (λ t. t.id == id) (ranked sets xs) ∙ list_any_none (λ (e : Entry). e.id == id) (ranked sets xs) (ranked_all (λ e. (e.id == id) ≡ false) sets xs apart))))
       (λ (some : (k : ℕ) × (f id ≡ Some k)).
       let at_k = sound.placed.only id some.0 some.1 in
       let parts = split_at some.0 sound at_k.0 in
       let e = entry_at xs some.0 in
       rw some.1 (sym (any_mapped (λ t. t.id == id) (ranked sets xs) ∙ ap (list_any (λ (d : Entry). d.id == id)) parts.1
-      ∙ list_any-append (λ (d : Entry). d.id == id) (ranked e.number xs) (e ∷ parts.0) ∙ rw (same_id e.id id at_k.1) (or_true _))))
+      ∙ list_any-append (λ (d : Entry). d.id == id) (ranked e.number xs) (e ∷ parts.0) ∙ rw (eq-eqb e.id id at_k.1) (or-true _))))
       (is_place (f id))
-    where
-      or_true : (b : Bool) → (b || true) ≡ true
-      or_true b = grind rules
 
   -- the root is the earliest
   pub first_in_order : IsSound sets xs f → 0 < length xs → earliest (in_order sets xs) ≡ Some (timer (entry_at xs 0))
@@ -114,12 +106,6 @@ fewer_kept p e xs = ⊎_elim
     (λ (other : p e ≡ false). rw other (omega arith))
     (cases_Bool (p e))
 
-not_true : (b : Bool) → b ≡ true → not b ≡ false
-not_true b is = grind rules
-
-not_false : (b : Bool) → b ≡ false → not b ≡ true
-not_false b is = grind rules
-
 module _ (sets place moves : ℕ) (xs ys : List Entry) (f g : ℕ → Option ℕ) where
   pub less_sound : IsSound sets xs f → TakenOut place xs ys g moves → IsSound sets ys g
   less_sound sound taken =
@@ -142,8 +128,8 @@ module _ (sets place moves : ℕ) (xs ys : List Entry) (f g : ℕ → Option ℕ
       let e = entry_at xs place in
       let q : Entry → Bool = λ d. not (d.id == e.id) in
       let others : All (λ d. q d ≡ true) ys = All-from_get_or (λ d. q d ≡ true) ys (record { at = 0; id = 0; number = 0 })
-      (λ k k_in. not_false _ (other_id _ _ (λ same. is_there _ k (taken.placed.found k k_in) (ap g same ∙ taken.gone)))) in
-      let left : filter q (e ∷ ys) ≡ ys = rw (not_true (e.id == e.id) (same_id e.id e.id refl)) (filter_all q ys others) in
+      (λ k k_in. not_from_false _ (ne_eqb _ _ (λ same. is_there _ k (taken.placed.found k k_in) (ap g same ∙ taken.gone)))) in
+      let left : filter q (e ∷ ys) ≡ ys = rw (not_from_true (e.id == e.id) (eq-eqb e.id e.id refl)) (filter_all q ys others) in
       sym (filter_mapped (λ t. not (t.id == e.id)) (ranked sets xs)
       ∙ ap (map timer) (ap (filter q) (sym (ranked_permuted sets xs (e ∷ ys) taken.same sound.apart)) ∙ ranked_filter q sets (e ∷ ys) ∙ ap (ranked sets) left))
 
@@ -165,7 +151,7 @@ module _ (sets moves : ℕ) (e : Entry) (xs ys : List Entry) (f g : ℕ → Opti
   apart_with : IsSound sets xs f → e.number ≡ sets → (n : ℕ) → length (filter (λ d. d.number == n) (xs ++ e ∷ [])) ≤ 1
   apart_with sound is n = rw (filter-append (λ (d : Entry). d.number == n) xs (e ∷ [])) (⊎_elim
       (λ (same : n ≡ sets). rw (none_of_number n sound same) (at_most_one (e.number == n)))
-      (λ (other : n ≡ sets → ⊥). rw (other_id e.number n (λ here. other (sym here ∙ is)), append-nil (filter (λ d. d.number == n) xs)) (sound.apart n))
+      (λ (other : n ≡ sets → ⊥). rw (ne_eqb e.number n (λ here. other (sym here ∙ is)), append-nil (filter (λ d. d.number == n) xs)) (sound.apart n))
       (cases_eq n sets))
     where
       at_most_one : (b : Bool) → length ([] ++ filter (λ d. b) (e ∷ [])) ≤ 1
@@ -189,7 +175,7 @@ module _ (sets moves : ℕ) (e : Entry) (xs ys : List Entry) (f g : ℕ → Opti
   more_in_order sound added is =
       rw (add-one sets) (ap (map timer) (ranked_permuted (suc sets) (xs ++ e ∷ []) ys added.same (apart_with sound is)
       ∙ ap (λ l. l ++ filter (λ d. d.number == sets) (xs ++ e ∷ [])) (ranked_push sets xs e (omega arith))
-      ∙ ap (λ l. ranked sets xs ++ l) (filter-append (λ (d : Entry). d.number == sets) xs (e ∷ []) ∙ rw (none_of_number sets sound refl, same_id e.number sets is) refl))
+      ∙ ap (λ l. ranked sets xs ++ l) (filter-append (λ (d : Entry). d.number == sets) xs (e ∷ []) ∙ rw (none_of_number sets sound refl, eq-eqb e.number sets is) refl))
       ∙ map-append timer (ranked sets xs) (e ∷ []))
 
 -- ---- no change, and none yet

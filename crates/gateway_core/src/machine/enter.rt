@@ -1,15 +1,18 @@
-ghost use Rattle.std.specs.Prelude.{[], ◌≡◌, ◌+◌, ◌<◌, ◌≤◌, ◌++◌, Some, None as Nothing, IfOk, OnOk, OnErr, length, map};
+ghost use Rattle.std.specs.Prelude.{[], ◌≡◌, ◌+◌, ◌<◌, ◌≤◌, ◌++◌, Some, None as Nothing, IfErr, IfOk, OnOk, OnErr, length, map};
 ghost use Rattle.std.specs.VecDeque.{deque_capacity};
 ghost use Rattle.gateway_core.specs.Arrival.{arrival_of};
 ghost use Rattle.gateway_core.specs.Begins.{begins};
 ghost use Rattle.gateway_core.specs.Conn.{next_of};
 ghost use Rattle.gateway_core.specs.Enters.{arriving_at, asking_at, entered_at, ComesTo, Enters};
 ghost use Rattle.gateway_core.specs.Job.{job_at};
-ghost use Rattle.gateway_core.specs.Occurrence.{Entering};
+ghost use Rattle.gateway_core.specs.Occurrence.{Entering, calls_in};
+ghost use Rattle.gateway_core.specs.Serving.{IsFault, IsMade, most_begun};
 ghost use Rattle.gateway_core.specs.Step.{gone, step_to};
-ghost use Rattle.gateway_core.specs.Store.{conn_at, waiting};
+ghost use Rattle.gateway_core.specs.Store.{broken_at, conn_at, waiting};
+ghost use Rattle.gateway_core.specs.declared.fault.StepFault.TheVariants as fault;
 
 use crate::contexts::Contexts;
+use crate::fault::StepFault;
 use crate::hook::ReplyHook;
 use crate::job::Job;
 use crate::machine::arriving::Arriving;
@@ -27,8 +30,12 @@ use http_pieces::{Refusal, Request};
 use std::alloc::{AllocError, Global};
 use std::collections::VecDeque;
 
+/// Calls that may be begun.
+const MOST_BEGUN: u64 = 1 << 56;
+
 impl Machine {
-    /// A request comes on the connection at that place, which breaks where memory is refused.
+    /// A request comes on the connection at that place, which breaks where memory is refused, and where a call would begin and as
+    /// many have begun as may. `begun` counts the calls that have.
     pub(crate) fn come<H: ReplyHook + Drop>(
         &mut self,
         alloc: Global,
@@ -36,17 +43,17 @@ impl Machine {
         plans: &Plans,
         index: usize,
         request: Request,
-    )
+        begun: &mut u64,
+    ) -> Result<(), StepFault>
         requires { index < length self.old.conns }
-        ensures { Enters index (Entering.Request request (arrival_of plans.now request)) self.old self.new }
+        ensures { IsMade index (Entering.Request request (arrival_of plans.now request)) begun.old self.old begun.new self.new result }
     {
-        if self
-            .take_in(alloc, contexts, plans, index, request)
-            .is_err()
-        {
+        let came = self.take_in(alloc, contexts, plans, index, request, begun);
+        if came.is_err() {
             let number = self.conns[index].number;
             self.break_conn(contexts, number);
         }
+        came
     }
 
     /// The stream of the connection at that place is refused; the connection breaks where memory is.
@@ -56,18 +63,21 @@ impl Machine {
         contexts: &mut Contexts<H>,
         index: usize,
         refusal: Refusal,
-    )
+    ) -> Result<(), StepFault>
         requires { index < length self.old.conns }
-        ensures { Enters index (Entering.Refused refusal) self.old self.new }
+        ensures ok { OnOk result (self.new ≡ entered_at index (arriving_at index (Entering.Refused refusal) self.old) self.old) }
+        ensures err { OnErr result (self.new ≡ broken_at (conn_at index self.old.conns).number self.old) }
+        ensures fault { IfErr result (λ f. f ≡ fault.Memory) }
     {
-        if self.refuse(alloc, index, refusal).is_err() {
+        let stopped = self.refuse(alloc, index, refusal);
+        if stopped.is_err() {
             let number = self.conns[index].number;
             self.break_conn(contexts, number);
         }
+        stopped
     }
 
-    /// A request comes on the connection at that place: it is answered at once, or begins a call. Where memory is refused,
-    /// nothing changes.
+    /// A request comes on the connection at that place: it is answered at once, or begins a call. At a fault nothing changes.
     fn take_in<H: ReplyHook + Drop>(
         &mut self,
         alloc: Global,
@@ -75,16 +85,47 @@ impl Machine {
         plans: &Plans,
         index: usize,
         request: Request,
-    ) -> Result<(), AllocError>
+        begun: &mut u64,
+    ) -> Result<(), StepFault>
         requires { index < length self.old.conns }
         ensures ok { OnOk result (self.new
             ≡ entered_at index (arriving_at index (Entering.Request request (arrival_of plans.now request)) self.old) self.old) }
         ensures err { OnErr result (self.new ≡ self.old) }
+        ensures fault { IfErr result (λ f. IsFault f begun.new) }
+        ensures grows { begun.old ≤ begun.new }
+        ensures counts { begun.new + length self.old.calls ≡ begun.old + length self.new.calls }
+        ensures few { begun.old < begun.new → begun.new ≤ most_begun }
+        ensures bound { begun.new ≤ begun.old + calls_in (Entering.Request request (arrival_of plans.now request)) }
     {
         match self.arriving(alloc, contexts, plans, index, request)? {
-            Arriving::Answered(reply) => self.answer(index, reply),
-            Arriving::Begins(asked) => self.begin(alloc, index, asked),
+            Arriving::Answered(reply) => self.answer(index, reply)?,
+            Arriving::Begins(asked) => self.begin_counted(alloc, index, asked, begun)?,
         }
+        Ok(())
+    }
+
+    /// A call begins on the connection at that place, and is counted, unless as many have begun as may.
+    fn begin_counted(
+        &mut self,
+        alloc: Global,
+        index: usize,
+        asked: Asked,
+        begun: &mut u64,
+    ) -> Result<(), StepFault>
+        requires { index < length self.old.conns }
+        ensures ok { OnOk result (self.new
+            ≡ entered_at index (begins self.old.moment Nothing (next_of (conn_at index self.old.conns)) asked) self.old) }
+        ensures err { OnErr result (self.new ≡ self.old) }
+        ensures counted { OnOk result ((begun.new ≡ begun.old + 1) × (begun.new ≤ most_begun)) }
+        ensures same { OnErr result (begun.new ≡ begun.old) }
+        ensures fault { IfErr result (λ f. IsFault f begun.new) }
+    {
+        if *begun >= MOST_BEGUN {
+            return Err(StepFault::Exhausted);
+        }
+        self.begin(alloc, index, asked)?;
+        *begun += 1;
+        Ok(())
     }
 
     /// What a request comes to on the connection at that place. A call gets its context; nothing else changes.
@@ -152,13 +193,15 @@ impl Machine {
     }
 
     /// The stream of the connection at that place is refused.
-    fn refuse(&mut self, alloc: Global, index: usize, refusal: Refusal) -> Result<(), AllocError>
+    fn refuse(&mut self, alloc: Global, index: usize, refusal: Refusal) -> Result<(), StepFault>
         requires { index < length self.old.conns }
         ensures ok { OnOk result (self.new ≡ entered_at index (arriving_at index (Entering.Refused refusal) self.old) self.old) }
         ensures err { OnErr result (self.new ≡ self.old) }
+        ensures fault { IfErr result (λ f. f ≡ fault.Memory) }
     {
         let reply = Reply::refused(alloc, self.conns[index].next_id(), refusal)?;
-        self.answer(index, reply)
+        self.answer(index, reply)?;
+        Ok(())
     }
 
     /// What comes on the connection at that place is answered at once.

@@ -1,4 +1,4 @@
-ghost use Rattle.std.specs.Prelude.{◌≡◌, ◌<◌, false, true, length, map, []};
+ghost use Rattle.std.specs.Prelude.{◌≡◌, ◌==◌, ◌<◌, false, not, true, length, map, []};
 ghost use Rattle.std.specs.List.{count_by};
 ghost use Rattle.gateway_core.specs.Gateway.{are_all_there};
 ghost use Rattle.gateway_core.specs.Queue.{front};
@@ -57,6 +57,13 @@ impl Machine {
             calls: Vec::new(alloc),
             jobs: VecDeque::new(alloc),
         }
+    }
+
+    /// Whether a job waits to be taken.
+    pub fn has_job(&self) -> bool
+        ensures { result ≡ not (length self.now.jobs == 0) }
+    {
+        !self.jobs.is_empty()
     }
 
     /// Takes a moment, in milliseconds, and answers the greatest so far.

@@ -3,4 +3,4 @@ use Rattle.gateway_core.proofs.EventStarts.{event_adds}
 use Rattle.gateway_core.proofs.laws.event_law.Goals as goal
 
 pub returns : goal.returns
-returns c = record { adds = event_adds; jobs = jobs_of_starts }
+returns c = record { adds = event_adds c.request_laws.ensures; jobs = jobs_of_starts }

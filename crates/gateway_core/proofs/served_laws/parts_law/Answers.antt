@@ -3,7 +3,7 @@ use Rattle.gateway_core.proofs.served_laws.parts_law.Goals as goal
 
 pub returns : goal.returns
 returns c = record {
-  begins = begun_served;
-  goes_on = λ n m p q v w opened es taken handed serving h f. fed_more n p q v w opened es taken handed serving h m f;
-  ends = λ n fault p q v w opened es taken handed serving then_serving h f. fed_fault n p q v w opened es taken handed serving h fault then_serving f;
+  begins = begun_served c.request_laws.ensures;
+  goes_on = λ n m p q v w opened es taken handed serving h f. fed_more c.request_laws.ensures n p q v w opened es taken handed serving h m f;
+  ends = λ n fault p q v w opened es taken handed serving then_serving h f. fed_fault c.request_laws.ensures n p q v w opened es taken handed serving h fault then_serving f;
 }

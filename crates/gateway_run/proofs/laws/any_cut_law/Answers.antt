@@ -2,12 +2,11 @@ use Rattle.std.proofs.Common.{ap, sym, ◌∙◌}
 use Rattle.gateway_core.specs.Past.{marked}
 use Rattle.gateway_core.specs.Queue.{queued}
 use Rattle.gateway_core.specs.Starts.{jobs}
-use Rattle.gateway_core.proofs.CutLemmas.{any_cut}
 use Rattle.gateway_run.proofs.Shifts.{is_shifted}
 use Rattle.gateway_run.proofs.laws.any_cut_law.Goals as goal
 
 pub returns-clause-same : goal.returns-clause-same
-returns-clause-same c = any_cut
+returns-clause-same c = c.pieces_law.ensures
 
 pub returns-clause-queued : goal.returns-clause-queued
 returns-clause-queued c = λ a b conn e. ap (λ os. queued conn (marked os)) e

@@ -1,15 +1,14 @@
-use Rattle.std.specs.Prelude.{◌==◌, OnOk}
-use Rattle.std.proofs.Common.{ap, ◌∙◌, ◌≡◌, true, false, refl, ◌∷◌, length, ◌<◌, sym, subst}
+use Rattle.std.specs.Prelude.{◌==◌}
+use Rattle.std.proofs.Common.{ap, ◌∙◌, ◌≡◌, true, false, refl, [], ◌∷◌, length, ◌<◌, sym, subst}
 use Rattle.gateway_core.specs.Events.{is_closing_of, BranchResult, Closing, Drain, HangUp, Moment, Opening, Piece, most_open, open_connections}
-use Rattle.gateway_core.specs.Gateway.{is_broken_conn}
 use Rattle.gateway_core.specs.Served.{Served}
-use Rattle.gateway_core.specs.Serving.{BreaksBy, KeepsBut}
+use Rattle.gateway_core.specs.Serving.{BreaksBy, KeepsBut, TellsStep}
 use Rattle.gateway_core.specs.Occurrence as occurs
 use Rattle.gateway_core.specs.Past.{call_id}
 use Rattle.gateway_run.specs.Run.{gateway_event}
-use Rattle.gateway_run.specs.Stepping.{BreaksAt, Tells, TellsBreaks, TellsConn, opened_by}
+use Rattle.gateway_run.specs.Stepping.{BreaksAt, Tells, TellsBreaks, TellsConn, opened_by, seen_in}
 use Rattle.gateway_run.specs.declared.stepping.Stepped.TheVariants.{Done, Saw}
-use Rattle.gateway_run.proofs.Starting.{breaks_told, by_done, by_opening, by_taken, conn_told, few_told, keeps_closing, keeps_for}
+use Rattle.gateway_run.proofs.Starting.{breaks_told, by_done, by_opening, by_taken, conn_told, few_told, keeps_closing, keeps_for, none_done, none_opening, none_taken}
 use Rattle.gateway_run.proofs.stepping.step.Goals as goal
 
 pub returns-in-Some-clause-stands : goal.returns-in-Some-clause-stands
@@ -57,11 +56,11 @@ returns-in-Closing-clause-stands g c = λ opened es taken handed h.
 
 pub returns-in-Piece-clause-tells : goal.returns-in-Piece-clause-tells
 returns-in-Piece-clause-tells g c = subst (λ e. Tells (gateway_event e) c.done.result c.args.core.now c.deliver.new.core) (sym c.in-Piece.is)
-    (subst (λ s. TellsConn c.in-Piece.conn s c.deliver.new.core) (sym c.done.ensures) (conn_told _ c.in-Piece.conn c.deliver.result c.deliver.new.core (λ e. subst (λ n. is_broken_conn n c.deliver.new.core ≡ true) c.of.ensures (c.deliver.ensures.memory e)) (subst (λ n. OnOk c.deliver.result (is_broken_conn n c.deliver.new.core ≡ false)) c.of.ensures c.deliver.ensures.unbroken)))
+    (subst (λ s. TellsConn c.in-Piece.conn s c.deliver.new.core) (sym c.done.ensures) (conn_told _ c.in-Piece.conn c.deliver.result c.deliver.new.core c.args.core.now (subst (λ n. TellsStep n c.args.core.now c.deliver.new.core c.deliver.result) c.of.ensures c.deliver.ensures.tells)))
 
 pub returns-in-HangUp-clause-tells : goal.returns-in-HangUp-clause-tells
 returns-in-HangUp-clause-tells g c = subst (λ e. Tells (gateway_event e) c.done-in-HangUp.result c.args.core.now c.hang_up.new.self) (sym c.in-HangUp.is)
-    (subst (λ s. TellsConn c.in-HangUp.conn s c.hang_up.new.self) (sym c.done-in-HangUp.ensures) (conn_told _ c.in-HangUp.conn c.hang_up.result c.hang_up.new.self (λ e. subst (λ n. is_broken_conn n c.hang_up.new.self ≡ true) c.of-in-HangUp.ensures (c.hang_up.ensures.memory e)) (subst (λ n. OnOk c.hang_up.result (is_broken_conn n c.hang_up.new.self ≡ false)) c.of-in-HangUp.ensures c.hang_up.ensures.unbroken)))
+    (subst (λ s. TellsConn c.in-HangUp.conn s c.hang_up.new.self) (sym c.done-in-HangUp.ensures) (conn_told _ c.in-HangUp.conn c.hang_up.result c.hang_up.new.self c.args.core.now (subst (λ n. TellsStep n c.args.core.now c.hang_up.new.self c.hang_up.result) c.of-in-HangUp.ensures c.hang_up.ensures.tells)))
 
 pub returns-in-Moment-clause-tells : goal.returns-in-Moment-clause-tells
 returns-in-Moment-clause-tells g c = subst (λ e. Tells (gateway_event e) c.taken.result c.args.core.now c.moment.new.self) (sym c.in-Moment.is)
@@ -84,53 +83,58 @@ returns-in-Some-clause-concerned g c = subst (λ e. BreaksAt (gateway_event e) c
     (λ opened es taken handed occurred h o n now before. c.open_conn.ensures.keeps.broken_are n now before)
 
 pub returns-in-Some-clause-keeps : goal.returns-in-Some-clause-keeps
-returns-in-Some-clause-keeps g c = subst (λ e. KeepsBut (λ n. is_closing_of n (gateway_event e)) (λ n. true) c.args.core.now c.open_conn.new.self) (sym c.in-Opening.is)
-    (keeps_for (λ n. is_closing_of n (Opening)) (λ n. false) c.args.core.now c.open_conn.new.self c.open_conn.ensures.keeps)
+returns-in-Some-clause-keeps g c = subst (λ e. KeepsBut (λ n. is_closing_of n (gateway_event e)) (λ n. true) (seen_in c.opened.result) c.args.core.now c.open_conn.new.self) (sym c.in-Opening.is)
+    (subst (λ seen. KeepsBut (λ n. is_closing_of n (Opening)) (λ n. true) seen c.args.core.now c.open_conn.new.self) (sym (none_opening c.open_conn.result c.opened.result c.opened.ensures))
+    (keeps_for (λ n. is_closing_of n (Opening)) (λ n. false) [] c.args.core.now c.open_conn.new.self c.open_conn.ensures.keeps))
 
 pub returns-in-Piece-clause-concerned : goal.returns-in-Piece-clause-concerned
 returns-in-Piece-clause-concerned g c = subst (λ e. BreaksAt (gateway_event e) c.args.core.now c.deliver.new.core) (sym c.in-Piece.is)
     (λ opened es taken handed occurred h o n now before. ap (λ m. n == m) (sym c.of.ensures) ∙ c.deliver.ensures.keeps.broken_are n now before)
 
 pub returns-in-Piece-clause-keeps : goal.returns-in-Piece-clause-keeps
-returns-in-Piece-clause-keeps g c = subst (λ e. KeepsBut (λ n. is_closing_of n (gateway_event e)) (λ n. true) c.args.core.now c.deliver.new.core) (sym c.in-Piece.is)
-    (keeps_for (λ n. is_closing_of n (Piece c.in-Piece.conn c.in-Piece.bytes)) (λ n. n == c.of.result) c.args.core.now c.deliver.new.core c.deliver.ensures.keeps)
+returns-in-Piece-clause-keeps g c = subst (λ e. KeepsBut (λ n. is_closing_of n (gateway_event e)) (λ n. true) (seen_in c.done.result) c.args.core.now c.deliver.new.core) (sym c.in-Piece.is)
+    (subst (λ seen. KeepsBut (λ n. is_closing_of n (Piece c.in-Piece.conn c.in-Piece.bytes)) (λ n. true) seen c.args.core.now c.deliver.new.core) (sym (none_done c.deliver.result c.done.result c.done.ensures))
+    (keeps_for (λ n. is_closing_of n (Piece c.in-Piece.conn c.in-Piece.bytes)) (λ n. n == c.of.result) [] c.args.core.now c.deliver.new.core c.deliver.ensures.keeps))
 
 pub returns-in-HangUp-clause-concerned : goal.returns-in-HangUp-clause-concerned
 returns-in-HangUp-clause-concerned g c = subst (λ e. BreaksAt (gateway_event e) c.args.core.now c.hang_up.new.self) (sym c.in-HangUp.is)
     (λ opened es taken handed occurred h o n now before. ap (λ m. n == m) (sym c.of-in-HangUp.ensures) ∙ c.hang_up.ensures.keeps.broken_are n now before)
 
 pub returns-in-HangUp-clause-keeps : goal.returns-in-HangUp-clause-keeps
-returns-in-HangUp-clause-keeps g c = subst (λ e. KeepsBut (λ n. is_closing_of n (gateway_event e)) (λ n. true) c.args.core.now c.hang_up.new.self) (sym c.in-HangUp.is)
-    (keeps_for (λ n. is_closing_of n (HangUp c.in-HangUp.conn)) (λ n. n == c.of-in-HangUp.result) c.args.core.now c.hang_up.new.self c.hang_up.ensures.keeps)
+returns-in-HangUp-clause-keeps g c = subst (λ e. KeepsBut (λ n. is_closing_of n (gateway_event e)) (λ n. true) (seen_in c.done-in-HangUp.result) c.args.core.now c.hang_up.new.self) (sym c.in-HangUp.is)
+    (subst (λ seen. KeepsBut (λ n. is_closing_of n (HangUp c.in-HangUp.conn)) (λ n. true) seen c.args.core.now c.hang_up.new.self) (sym (none_done c.hang_up.result c.done-in-HangUp.result c.done-in-HangUp.ensures))
+    (keeps_for (λ n. is_closing_of n (HangUp c.in-HangUp.conn)) (λ n. n == c.of-in-HangUp.result) [] c.args.core.now c.hang_up.new.self c.hang_up.ensures.keeps))
 
 pub returns-in-Moment-clause-concerned : goal.returns-in-Moment-clause-concerned
 returns-in-Moment-clause-concerned g c = subst (λ e. BreaksAt (gateway_event e) c.args.core.now c.moment.new.self) (sym c.in-Moment.is)
     (c.moment.ensures.concerned)
 
 pub returns-in-Moment-clause-keeps : goal.returns-in-Moment-clause-keeps
-returns-in-Moment-clause-keeps g c = subst (λ e. KeepsBut (λ n. is_closing_of n (gateway_event e)) (λ n. true) c.args.core.now c.moment.new.self) (sym c.in-Moment.is)
-    (keeps_for (λ n. is_closing_of n (Moment c.in-Moment.moment)) (λ n. true) c.args.core.now c.moment.new.self c.moment.ensures.keeps)
+returns-in-Moment-clause-keeps g c = subst (λ e. KeepsBut (λ n. is_closing_of n (gateway_event e)) (λ n. true) (seen_in c.taken.result) c.args.core.now c.moment.new.self) (sym c.in-Moment.is)
+    (subst (λ seen. KeepsBut (λ n. is_closing_of n (Moment c.in-Moment.moment)) (λ n. true) seen c.args.core.now c.moment.new.self) (sym (none_taken c.moment.result c.taken.result c.taken.ensures))
+    (keeps_for (λ n. is_closing_of n (Moment c.in-Moment.moment)) (λ n. true) [] c.args.core.now c.moment.new.self c.moment.ensures.keeps))
 
 pub returns-in-BranchResult-clause-concerned : goal.returns-in-BranchResult-clause-concerned
 returns-in-BranchResult-clause-concerned g c = subst (λ e. BreaksAt (gateway_event e) c.args.core.now c.result.new.self) (sym c.in-BranchResult.is)
     (subst (λ m. BreaksBy (occurs.Result (call_id m c.in-BranchResult.request) c.in-BranchResult.branch c.in-BranchResult.outcome) c.args.core.now c.result.new.self) c.of-in-BranchResult.ensures c.result.ensures.concerned)
 
 pub returns-in-BranchResult-clause-keeps : goal.returns-in-BranchResult-clause-keeps
-returns-in-BranchResult-clause-keeps g c = subst (λ e. KeepsBut (λ n. is_closing_of n (gateway_event e)) (λ n. true) c.args.core.now c.result.new.self) (sym c.in-BranchResult.is)
-    (keeps_for (λ n. is_closing_of n (BranchResult c.in-BranchResult.conn c.in-BranchResult.request c.in-BranchResult.branch c.in-BranchResult.outcome)) (λ n. n == c.of-in-BranchResult.result) c.args.core.now c.result.new.self c.result.ensures.keeps)
+returns-in-BranchResult-clause-keeps g c = subst (λ e. KeepsBut (λ n. is_closing_of n (gateway_event e)) (λ n. true) (c.result.result.seen ∷ []) c.args.core.now c.result.new.self) (sym c.in-BranchResult.is)
+    (keeps_for (λ n. is_closing_of n (BranchResult c.in-BranchResult.conn c.in-BranchResult.request c.in-BranchResult.branch c.in-BranchResult.outcome)) (λ n. n == c.of-in-BranchResult.result) (c.result.result.seen ∷ []) c.args.core.now c.result.new.self c.result.ensures.keeps)
 
 pub returns-in-Drain-clause-concerned : goal.returns-in-Drain-clause-concerned
 returns-in-Drain-clause-concerned g c = subst (λ e. BreaksAt (gateway_event e) c.args.core.now c.drain.new.self) (sym c.in-Drain.is)
     (c.drain.ensures.concerned)
 
 pub returns-in-Drain-clause-keeps : goal.returns-in-Drain-clause-keeps
-returns-in-Drain-clause-keeps g c = subst (λ e. KeepsBut (λ n. is_closing_of n (gateway_event e)) (λ n. true) c.args.core.now c.drain.new.self) (sym c.in-Drain.is)
-    (keeps_for (λ n. is_closing_of n (Drain)) (λ n. true) c.args.core.now c.drain.new.self c.drain.ensures.keeps)
+returns-in-Drain-clause-keeps g c = subst (λ e. KeepsBut (λ n. is_closing_of n (gateway_event e)) (λ n. true) (seen_in c.taken-in-Drain.result) c.args.core.now c.drain.new.self) (sym c.in-Drain.is)
+    (subst (λ seen. KeepsBut (λ n. is_closing_of n (Drain)) (λ n. true) seen c.args.core.now c.drain.new.self) (sym (none_taken c.drain.result c.taken-in-Drain.result c.taken-in-Drain.ensures))
+    (keeps_for (λ n. is_closing_of n (Drain)) (λ n. true) [] c.args.core.now c.drain.new.self c.drain.ensures.keeps))
 
 pub returns-in-Closing-clause-concerned : goal.returns-in-Closing-clause-concerned
 returns-in-Closing-clause-concerned g c = subst (λ e. BreaksAt (gateway_event e) c.args.core.now c.close.new.self) (sym c.in-Closing.is)
     (λ opened es taken handed occurred h o n now before. c.close.ensures.keeps.broken_are n now before)
 
 pub returns-in-Closing-clause-keeps : goal.returns-in-Closing-clause-keeps
-returns-in-Closing-clause-keeps g c = subst (λ e. KeepsBut (λ n. is_closing_of n (gateway_event e)) (λ n. true) c.args.core.now c.close.new.self) (sym c.in-Closing.is)
-    (keeps_closing c.in-Closing.conn c.args.core.now c.close.new.self (subst (λ m. KeepsBut (λ n. n == m) (λ n. false) c.args.core.now c.close.new.self) c.of-in-Closing.ensures c.close.ensures.keeps))
+returns-in-Closing-clause-keeps g c = subst (λ e. KeepsBut (λ n. is_closing_of n (gateway_event e)) (λ n. true) [] c.args.core.now c.close.new.self) (sym c.in-Closing.is)
+    (keeps_closing c.in-Closing.conn c.args.core.now c.close.new.self (subst (λ m. KeepsBut (λ n. n == m) (λ n. false) [] c.args.core.now c.close.new.self) c.of-in-Closing.ensures c.close.ensures.keeps))

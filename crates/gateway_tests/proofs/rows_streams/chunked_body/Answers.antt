@@ -18,7 +18,7 @@ cut = cut_by_head 0 (head_text (ping_adding (codes "Transfer-Encoding") (codes "
 
 pub returns-clause-ends : goal.returns-clause-ends
 unfolding replies_on_literals
-returns-clause-ends c = refused_stream (text_of (ping_adding (codes "Transfer-Encoding") (codes "chunked"))) LengthRequired cut
+returns-clause-ends c = refused_stream c.requests_law.ensures.refused_stays (text_of (ping_adding (codes "Transfer-Encoding") (codes "chunked"))) LengthRequired cut
 
 pub returns-clause-replies : goal.returns-clause-replies
 unfolding replies_on_literals

@@ -1,10 +1,9 @@
 use Rattle.std.proofs.Common.{[], codes, lit≤, refl, ◌++◌}
-use Rattle.http_pieces.proofs.RequestsLemmas.{requests_one}
 use Rattle.http_pieces.specs.Cut.{Complete, IsCut}
 use Rattle.http_pieces.specs.Head.{request_kind}
 use Rattle.httparse.proofs.OnLiterals.{httparse_on_literals}
 use Rattle.gateway_tests.proofs.OnLiterals.{replies_on_literals}
-use Rattle.gateway_tests.proofs.StreamLemmas.{BeginsWith, cut_by_head, one_request}
+use Rattle.gateway_tests.proofs.StreamLemmas.{BeginsWith, cut_by_head, one_request, request_at}
 use Rattle.gateway_tests.specs.Rows.{head_text, ping, request_for, text_of}
 use Rattle.gateway_tests.proofs.rows_streams.first_request.Goals as goal
 
@@ -46,4 +45,4 @@ returns-clause-behind_lines c = one_request (codes "\r\n\r\n" ++ text_of (reques
 
 pub returns-clause-pair : goal.returns-clause-pair
 unfolding replies_on_literals httparse_on_literals
-returns-clause-pair c = (text_of (request_for ping.path 1), cut_first, requests_one 1 (text_of (request_for ping.path 1)) (request_for ping.path 1) cut_second)
+returns-clause-pair c = (text_of (request_for ping.path 1), cut_first, request_at 1 (text_of (request_for ping.path 1)) (request_for ping.path 1) cut_second refl)

@@ -1,14 +1,13 @@
 use Rattle.std.proofs.Common.{List, [], ap, ap₂, arith, codes, drop, length, lit≤, refl, subst, sym, take, ℕ, ◌∙◌, ◌≡◌, ◌≤◌}
 use Rattle.std.proofs.Math.Seq.{drop-length}
 use Rattle.std.proofs.lemmas.List.{take_all}
-use Rattle.http_pieces.proofs.CutLemmas.{after_complete_intro}
 use Rattle.http_pieces.specs.Cut.{Body, Complete, IsCut, Refused, cut_after}
 use Rattle.http_pieces.specs.Head.{request_kind}
 use Rattle.http_pieces.specs.declared.refusal.Refusal.{Refusal}
 use Rattle.http_pieces.specs.declared.refusal.Refusal.TheVariants.{BodyTooLarge}
 use Rattle.httparse.proofs.OnLiterals.{httparse_on_literals}
 use Rattle.gateway_tests.proofs.OnLiterals.{replies_on_literals}
-use Rattle.gateway_tests.proofs.StreamLemmas.{BeginsWith, cut_by_head, one_request, refused_stream}
+use Rattle.gateway_tests.proofs.StreamLemmas.{BeginsWith, body_taken, cut_by_head, one_request, refused_stream}
 use Rattle.gateway_tests.specs.Rows.{head_text, ping_of_length, text_of}
 use Rattle.gateway_tests.proofs.rows_streams.large_body.Goals as goal
 
@@ -30,7 +29,7 @@ after body size =
     let enough : 65536 ≤ length body = omega (arith, size) in
     let all : take 65536 body ≡ body = take_all 65536 body (omega (arith, size)) in
     let none : drop 65536 body ≡ [] = ap (λ n. drop n body) (sym size) ∙ drop-length body in
-    after_complete_intro 65536 (λ body. (ping_of_length (codes "65536") body)) body enough ∙ ap₂ (λ text rest. Complete (ping_of_length (codes "65536") text) rest) all none
+    body_taken 65536 (λ body. (ping_of_length (codes "65536") body)) body enough ∙ ap₂ (λ text rest. Complete (ping_of_length (codes "65536") text) rest) all none
 
 cut_full : (body : List ℕ) → length body ≡ 65536 → IsCut (request_kind 0) (text_of (ping_of_length (codes "65536") body)) (Complete (ping_of_length (codes "65536") body) [])
 unfolding replies_on_literals httparse_on_literals
@@ -40,7 +39,7 @@ cut_full body size =
 
 pub returns-clause-ends : goal.returns-clause-ends
 unfolding replies_on_literals
-returns-clause-ends c = refused_stream (text_of (ping_of_length (codes "65537") [])) BodyTooLarge cut
+returns-clause-ends c = refused_stream c.requests_law.ensures.refused_stays (text_of (ping_of_length (codes "65537") [])) BodyTooLarge cut
 
 pub returns-clause-within : goal.returns-clause-within
 unfolding replies_on_literals

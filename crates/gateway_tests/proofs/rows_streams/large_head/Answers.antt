@@ -34,7 +34,7 @@ returns-clause-ends_length c = refl
 
 pub returns-clause-ends : goal.returns-clause-ends
 unfolding replies_on_literals
-returns-clause-ends c = refused_stream (codes "GET / HTTP/1.1\r\nX-A: " ++ replicate 8171 97) HeadTooLarge cut_endless
+returns-clause-ends c = refused_stream c.requests_law.ensures.refused_stays (codes "GET / HTTP/1.1\r\nX-A: " ++ replicate 8171 97) HeadTooLarge cut_endless
 
 pub returns-clause-replies : goal.returns-clause-replies
 unfolding replies_on_literals

@@ -30,7 +30,7 @@ returns-clause-within c = one_request (text_of (ping_crowded 61)) (ping_crowded 
 
 pub returns-clause-ends : goal.returns-clause-ends
 unfolding replies_on_literals
-returns-clause-ends c = refused_stream (text_of (ping_crowded 62)) NotAHead cut_many
+returns-clause-ends c = refused_stream c.requests_law.ensures.refused_stays (text_of (ping_crowded 62)) NotAHead cut_many
 
 pub returns-clause-replies : goal.returns-clause-replies
 unfolding replies_on_literals

@@ -23,7 +23,7 @@ returns-clause-text c = refl
 
 pub returns-clause-requests : goal.returns-clause-requests
 unfolding replies_on_literals
-returns-clause-requests c = last_request (text_of ping_old) ping_old cut refl
+returns-clause-requests c = last_request c.requests_law.ensures.closed_stays (text_of ping_old) ping_old cut refl
 
 pub returns-clause-arrival : goal.returns-clause-arrival
 unfolding verdicts_on_literals

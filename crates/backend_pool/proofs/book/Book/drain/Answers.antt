@@ -1,4 +1,4 @@
-use Rattle.std.proofs.Common.{arith, subst}
+use Rattle.std.proofs.Common.{[], refl, arith, subst}
 use Rattle.gateway_core.specs.Events.{Drain}
 use Rattle.gateway_core.specs.Occurrence as concerning
 use Rattle.gateway_core.specs.Serving.{BreaksBy}
@@ -9,12 +9,12 @@ use Rattle.backend_pool.proofs.book.Book.drain.Goals as goal
 pub invariant_of-self : goal.invariant_of-self
 invariant_of-self g c =
     let book = c.self.inside in
-    reached_by Drain book.core c.drain.new.self book.bytes book.jobs book.results book.bytes book.results c.drain.ensures.stands (omega arith) (omega arith) c.self.invariant
+    reached_by Drain book.core c.drain.new.self book.bytes book.jobs book.results book.bytes book.results c.drain.ensures.stands ([], refl, c.drain.ensures.keeps.tally_is) (omega arith) (omega arith) c.self.invariant
 
 pub returns-clause-stands : goal.returns-clause-stands
 returns-clause-stands g c =
     let book = c.self.inside in
-    takes_event Drain c.args.self.now book.core c.drain.new.self book.bytes book.jobs book.results book.bytes book.results c.self.view_is c.drain.ensures.stands (omega arith)
+    takes_event Drain c.args.self.now book.core c.drain.new.self book.bytes book.jobs book.results book.bytes book.results c.self.view_is c.drain.ensures.stands ([], refl, c.drain.ensures.keeps.tally_is) (omega arith)
     (omega arith)
 
 pub returns-clause-concerned : goal.returns-clause-concerned

@@ -1,4 +1,4 @@
-use Rattle.std.proofs.Common.{arith}
+use Rattle.std.proofs.Common.{[], refl, arith}
 use Rattle.gateway_core.specs.Events.{HangUp}
 use Rattle.backend_pool.proofs.BookLemmas.{reached_by, takes_event}
 use Rattle.backend_pool.proofs.book.Book.hang_up.Goals as goal
@@ -6,10 +6,10 @@ use Rattle.backend_pool.proofs.book.Book.hang_up.Goals as goal
 pub invariant_of-self : goal.invariant_of-self
 invariant_of-self g c =
     let book = c.self.inside in
-    reached_by (HangUp c.args.conn) book.core c.hang_up.new.self book.bytes book.jobs book.results book.bytes book.results c.hang_up.ensures.stands (omega arith) (omega arith) c.self.invariant
+    reached_by (HangUp c.args.conn) book.core c.hang_up.new.self book.bytes book.jobs book.results book.bytes book.results c.hang_up.ensures.stands ([], refl, c.hang_up.ensures.keeps.tally_is) (omega arith) (omega arith) c.self.invariant
 
 pub returns-clause-stands : goal.returns-clause-stands
 returns-clause-stands g c =
     let book = c.self.inside in
-    takes_event (HangUp c.args.conn) c.args.self.now book.core c.hang_up.new.self book.bytes book.jobs book.results book.bytes book.results c.self.view_is c.hang_up.ensures.stands (omega arith)
+    takes_event (HangUp c.args.conn) c.args.self.now book.core c.hang_up.new.self book.bytes book.jobs book.results book.bytes book.results c.self.view_is c.hang_up.ensures.stands ([], refl, c.hang_up.ensures.keeps.tally_is) (omega arith)
     (omega arith)

@@ -1,4 +1,4 @@
-use Rattle.std.proofs.Common.{arith, subst}
+use Rattle.std.proofs.Common.{[], refl, arith, subst}
 use Rattle.gateway_core.specs.Events.{Moment}
 use Rattle.gateway_core.specs.Occurrence as concerning
 use Rattle.gateway_core.specs.Serving.{BreaksBy}
@@ -9,12 +9,12 @@ use Rattle.backend_pool.proofs.book.Book.moment.Goals as goal
 pub invariant_of-self : goal.invariant_of-self
 invariant_of-self g c =
     let book = c.self.inside in
-    reached_by (Moment c.args.moment) book.core c.moment.new.self book.bytes book.jobs book.results book.bytes book.results c.moment.ensures.stands (omega arith) (omega arith) c.self.invariant
+    reached_by (Moment c.args.moment) book.core c.moment.new.self book.bytes book.jobs book.results book.bytes book.results c.moment.ensures.stands ([], refl, c.moment.ensures.keeps.tally_is) (omega arith) (omega arith) c.self.invariant
 
 pub returns-clause-stands : goal.returns-clause-stands
 returns-clause-stands g c =
     let book = c.self.inside in
-    takes_event (Moment c.args.moment) c.args.self.now book.core c.moment.new.self book.bytes book.jobs book.results book.bytes book.results c.self.view_is c.moment.ensures.stands (omega arith)
+    takes_event (Moment c.args.moment) c.args.self.now book.core c.moment.new.self book.bytes book.jobs book.results book.bytes book.results c.self.view_is c.moment.ensures.stands ([], refl, c.moment.ensures.keeps.tally_is) (omega arith)
     (omega arith)
 
 pub returns-clause-concerned : goal.returns-clause-concerned

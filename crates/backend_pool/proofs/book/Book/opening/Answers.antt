@@ -1,15 +1,16 @@
+use Rattle.std.proofs.Common.{[], refl}
 use Rattle.backend_pool.proofs.BookLemmas.{book_opens, reached_by_opening, served_in}
 use Rattle.backend_pool.proofs.book.Book.opening.Goals as goal
 
 pub invariant_of-self : goal.invariant_of-self
 invariant_of-self g c =
     let book = c.self.inside in
-    reached_by_opening c.open_conn.result book.core c.open_conn.new.self book.bytes book.jobs book.results c.open_conn.ensures.stands c.self.invariant
+    reached_by_opening c.open_conn.result book.core c.open_conn.new.self book.bytes book.jobs book.results c.open_conn.ensures.stands ([], refl, c.open_conn.ensures.keeps.tally_is) c.self.invariant
 
 pub returns-clause-stands : goal.returns-clause-stands
 returns-clause-stands g c =
     let book = c.self.inside in
-    book_opens c.open_conn.result c.args.self.now book.core c.open_conn.new.self book.bytes book.jobs book.results c.self.view_is c.open_conn.ensures.stands
+    book_opens c.open_conn.result c.args.self.now book.core c.open_conn.new.self book.bytes book.jobs book.results c.self.view_is c.open_conn.ensures.stands ([], refl, c.open_conn.ensures.keeps.tally_is)
 
 pub returns-clause-few : goal.returns-clause-few
 returns-clause-few g c = λ opened es taken handed h.

@@ -1,4 +1,4 @@
-use Rattle.std.proofs.Common.{arith}
+use Rattle.std.proofs.Common.{[], refl, arith}
 use Rattle.gateway_core.specs.Events.{Piece}
 use Rattle.backend_pool.proofs.BookLemmas.{reached_by, takes_event}
 use Rattle.backend_pool.proofs.book.Book.piece.Goals as goal
@@ -6,11 +6,11 @@ use Rattle.backend_pool.proofs.book.Book.piece.Goals as goal
 pub invariant_of-self : goal.invariant_of-self
 invariant_of-self g c =
     let book = c.self.inside in
-    reached_by (Piece c.args.conn c.args.bytes.now) book.core c.deliver.new.core book.bytes book.jobs book.results c.add.new.self book.results c.deliver.ensures.stands
+    reached_by (Piece c.args.conn c.args.bytes.now) book.core c.deliver.new.core book.bytes book.jobs book.results c.add.new.self book.results c.deliver.ensures.stands ([], refl, c.deliver.ensures.keeps.tally_is)
     (omega arith) (omega arith) c.self.invariant
 
 pub returns-clause-stands : goal.returns-clause-stands
 returns-clause-stands g c =
     let book = c.self.inside in
     takes_event (Piece c.args.conn c.args.bytes.now) c.args.self.now book.core c.deliver.new.core book.bytes book.jobs book.results c.add.new.self book.results c.self.view_is
-    c.deliver.ensures.stands (omega arith) (omega arith)
+    c.deliver.ensures.stands ([], refl, c.deliver.ensures.keeps.tally_is) (omega arith) (omega arith)

@@ -1,4 +1,4 @@
-use Rattle.std.proofs.Common.{arith, subst}
+use Rattle.std.proofs.Common.{[], ◌∷◌, refl, arith, subst}
 use Rattle.gateway_core.specs.Events.{BranchResult}
 use Rattle.gateway_core.specs.Occurrence.{Result}
 use Rattle.backend_pool.specs.Book.{BookValue, TellsTook}
@@ -9,13 +9,13 @@ pub invariant_of-self : goal.invariant_of-self
 invariant_of-self g c =
     let book = c.self.inside in
     reached_by (BranchResult c.args.call.now.conn c.args.call.now.request c.args.branch c.args.outcome) book.core c.result.new.self book.bytes book.jobs book.results book.bytes c.add.new.self
-    c.result.ensures.stands (omega arith) (omega arith) c.self.invariant
+    c.result.ensures.stands (c.result.result.seen ∷ [], refl, c.result.ensures.keeps.tally_is) (omega arith) (omega arith) c.self.invariant
 
 pub returns-clause-stands : goal.returns-clause-stands
 returns-clause-stands g c =
     let book = c.self.inside in
     takes_event (BranchResult c.args.call.now.conn c.args.call.now.request c.args.branch c.args.outcome) c.args.self.now book.core c.result.new.self book.bytes book.jobs book.results book.bytes c.add.new.self
-    c.self.view_is c.result.ensures.stands (omega arith) (omega arith)
+    c.self.view_is c.result.ensures.stands (c.result.result.seen ∷ [], refl, c.result.ensures.keeps.tally_is) (omega arith) (omega arith)
 
 pub returns-clause-seen : goal.returns-clause-seen
 returns-clause-seen g c =

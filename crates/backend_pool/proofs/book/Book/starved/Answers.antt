@@ -1,4 +1,4 @@
-use Rattle.std.proofs.Common.{arith, subst, []}
+use Rattle.std.proofs.Common.{◌∷◌, refl, arith, subst, []}
 use Rattle.connect_codec.specs.declared.answer.Outcome.TheVariants.{Answer}
 use Rattle.gateway_core.specs.Events.{BranchResult}
 use Rattle.gateway_core.specs.Occurrence.{Result}
@@ -10,13 +10,13 @@ pub invariant_of-self : goal.invariant_of-self
 invariant_of-self g c =
     let book = c.self.inside in
     reached_by (BranchResult c.args.call.now.conn c.args.call.now.request c.args.branch (Answer [])) book.core c.starved.new.self book.bytes book.jobs book.results book.bytes c.add.new.self
-    (c.starved.ensures.stands (Answer [])) (omega arith) (omega arith) c.self.invariant
+    (c.starved.ensures.stands (Answer [])) (c.starved.result.seen ∷ [], refl, c.starved.ensures.keeps.tally_is) (omega arith) (omega arith) c.self.invariant
 
 pub returns-clause-stands : goal.returns-clause-stands
 returns-clause-stands g c = λ outcome.
     let book = c.self.inside in
     takes_event (BranchResult c.args.call.now.conn c.args.call.now.request c.args.branch outcome) c.args.self.now book.core c.starved.new.self book.bytes book.jobs book.results book.bytes c.add.new.self
-    c.self.view_is (c.starved.ensures.stands outcome) (omega arith) (omega arith)
+    c.self.view_is (c.starved.ensures.stands outcome) (c.starved.result.seen ∷ [], refl, c.starved.ensures.keeps.tally_is) (omega arith) (omega arith)
 
 pub returns-clause-seen : goal.returns-clause-seen
 returns-clause-seen g c =

@@ -1,9 +1,9 @@
 use Rattle.std.proofs.Common.{◌∙◌, ap, sym, ◌≡◌, None, Some}
+use Rattle.std.proofs.lemmas.Option.{same_Some}
 use Rattle.std.specs.Option.{option_copied}
 use Rattle.context_tree.specs.Context.{held, line, nearest}
 use Rattle.call_contexts.specs.Standing.{WithHooks, request_for}
 use Rattle.call_contexts.specs.Sound.{life_at}
-use Rattle.call_contexts.proofs.Trees.{some_same}
 use Rattle.call_contexts.proofs.Lists.{none_found}
 use Rattle.call_contexts.proofs.Leaving.{call_known, request_told, no_request, asked_held, none_is_some}
 use Rattle.call_contexts.proofs.call_contexts.CallContexts.request_id.Goals as goal
@@ -23,6 +23,6 @@ pub returns : goal.returns
 returns g c =
     let s = c.self.invariant in
     let at : life_at c.args.ctx c.self.inside.calls.items ≡ Some c.in-Some.field-0 = ap (life_at c.args.ctx) (sym c.deref.ensures.value) ∙ sym c.find.ensures ∙ c.in-Some.is in
-    some_same (option_copied c.in-Ok.request_id) (nearest 0 (line c.args.ctx s.past))
+    same_Some (option_copied c.in-Ok.request_id) (nearest 0 (line c.args.ctx s.past))
     (c.in-Ok.ensures s.past s.tree_is ∙ asked_held (held c.args.ctx s.past) (nearest 0 (line c.args.ctx s.past)) (call_known c.tree_laws.ensures s c.args.ctx c.in-Some.field-0 at))
     ∙ request_told c.tree_laws.ensures s c.args.ctx c.in-Some.field-0 at ∙ ap (λ (v : WithHooks _ _). request_for c.args.ctx v.standing.calls) c.self.view_is

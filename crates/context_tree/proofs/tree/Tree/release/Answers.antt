@@ -2,7 +2,8 @@ use Rattle.std.proofs.Common.{◌∙◌, ◌∷◌, ap, subst, sym, refl, not}
 use Rattle.context_tree.specs.Context.{Releases}
 use Rattle.context_tree.specs.Tree.{StandsFor}
 use Rattle.context_tree.proofs.Family.{first_derives, key_there, none_derives, places_of}
-use Rattle.context_tree.proofs.Whole.{copied_some, none_popped, release_stands, room_without}
+use Rattle.context_tree.proofs.Tests.{none_from_not_some}
+use Rattle.context_tree.proofs.Whole.{copied_some, release_stands, room_without}
 use Rattle.context_tree.proofs.tree.Tree.release.Goals as goal
 
 pub has_children-requires : goal.has_children-requires
@@ -19,7 +20,7 @@ remove-requires g c =
       there = key_there c.self.inside.nodes.slots c.args.id (c.id.inside.number, c.id.inside.slot) node.0 c.id.view_is (sym c.node.ensures ∙ node.1);
       linked = c.self.invariant.linked;
       parent_there = λ k is. (places_of _ past s.contexts).parents _ k is;
-      childless = none_popped _ (sym c.has_children.ensures ∙ c.if-has_children.false);
+      childless = none_from_not_some _ (sym c.has_children.ensures ∙ c.if-has_children.false);
     }
 
 pub returns-then-has_children-clause-has_children : goal.returns-then-has_children-clause-has_children
@@ -36,7 +37,7 @@ invariant_of-self g c =
       reached = (
         Releases c.args.id ∷ past,
         release_stands _ _ past c.args.id node.0 c.self.invariant.reached.1 (sym c.node.ensures ∙ node.1)
-            (none_derives c.self.inside.nodes.slots c.args.id c.self.invariant.linked (rw (← c.id.view_is) (none_popped _ (sym c.has_children.ensures ∙ c.if-has_children.false))))
+            (none_derives c.self.inside.nodes.slots c.args.id c.self.invariant.linked (rw (← c.id.view_is) (none_from_not_some _ (sym c.has_children.ensures ∙ c.if-has_children.false))))
             (rw (← c.id.view_is) c.remove.ensures.gone) (rw (← c.id.view_is) c.remove.ensures.others)
             c.remove-2.ensures.items
             (rw (← c.id.view_is) c.stop.ensures.left) refl refl,
@@ -50,7 +51,7 @@ pub returns-clause-gone : goal.returns-clause-gone
 returns-clause-gone g c = λ yes' past stood.
     let node = copied_some c.node.result (c.is_none.ensures ∙ ap not c.if-is_none.false) in
     release_stands _ _ past c.args.id node.0 (subst (λ t. StandsFor t past) (sym c.self.view_is) stood) (sym c.node.ensures ∙ node.1)
-    (none_derives c.self.inside.nodes.slots c.args.id c.self.invariant.linked (rw (← c.id.view_is) (none_popped _ (sym c.has_children.ensures ∙ c.if-has_children.false))))
+    (none_derives c.self.inside.nodes.slots c.args.id c.self.invariant.linked (rw (← c.id.view_is) (none_from_not_some _ (sym c.has_children.ensures ∙ c.if-has_children.false))))
     (rw (← c.id.view_is) c.remove.ensures.gone) (rw (← c.id.view_is) c.remove.ensures.others)
     c.remove-2.ensures.items
     (rw (← c.id.view_is) c.stop.ensures.left) refl refl

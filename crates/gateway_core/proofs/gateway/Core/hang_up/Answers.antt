@@ -1,20 +1,17 @@
-use Rattle.std.specs.Prelude.{◌==◌, ◌↔◌}
-use Rattle.std.proofs.Common.{◌≡◌, Err, sym, subst, []}
+use Rattle.std.specs.Prelude.{◌==◌}
+use Rattle.std.proofs.Common.{sym, subst, []}
 use Rattle.gateway_core.specs.Gateway.{GatewayValue}
 use Rattle.gateway_core.specs.Served.{Served}
-use Rattle.gateway_core.specs.Serving.{IsDeaf, Keeps, HangsUp}
-use Rattle.gateway_core.specs.declared.fault.StepFault.TheVariants.{Gone}
+use Rattle.gateway_core.specs.Serving.{Keeps, HangsUp, TellsStep}
 use Rattle.gateway_core.proofs.ServedMore.{hang_up_served}
-use Rattle.gateway_core.proofs.Keeping.{hung_deaf, hung_fine, hung_gone, hung_keeps, hung_memory}
+use Rattle.gateway_core.proofs.Keeping.{hung_exhausted, hung_keeps, hung_tells}
 use Rattle.gateway_core.proofs.gateway.Core.hang_up.Goals as goal
 
 pub returns : goal.returns
 returns g c = record {
   stands = λ opened es taken handed h. hang_up_served c.args.conn c.self.inside.streams c.hang_up.new.self c.hang_up.result opened es taken handed c.serving_law.ensures (subst (λ (x : GatewayValue). Served x opened es taken handed) (sym c.self.view_is) h)
       (subst (λ n. HangsUp n c.self.inside.streams c.hang_up.new.self c.hang_up.result) c.number.ensures c.hang_up.ensures);
-  gone = subst (λ (x : GatewayValue). (c.hang_up.result ≡ Err Gone) ↔ IsDeaf c.args.conn x) c.self.view_is (hung_deaf c.args.conn c.self.inside.streams c.serving_law.ensures c.hang_up.new.self c.hang_up.result (subst (λ n. HangsUp n c.self.inside.streams c.hang_up.new.self c.hang_up.result) c.number.ensures c.hang_up.ensures));
-  unbroken = hung_fine c.args.conn c.self.inside.streams c.serving_law.ensures c.hang_up.new.self c.hang_up.result (subst (λ n. HangsUp n c.self.inside.streams c.hang_up.new.self c.hang_up.result) c.number.ensures c.hang_up.ensures);
-  unchanged = subst (λ (x : GatewayValue). c.hang_up.result ≡ Err Gone → c.hang_up.new.self ≡ x) c.self.view_is (hung_gone c.args.conn [] c.self.inside.streams c.hang_up.new.self c.serving_law.ensures c.hang_up.result (subst (λ n. HangsUp n c.self.inside.streams c.hang_up.new.self c.hang_up.result) c.number.ensures c.hang_up.ensures));
-  memory = hung_memory c.args.conn [] c.self.inside.streams c.hang_up.new.self c.serving_law.ensures c.hang_up.result (subst (λ n. HangsUp n c.self.inside.streams c.hang_up.new.self c.hang_up.result) c.number.ensures c.hang_up.ensures);
+  tells = subst (λ (x : GatewayValue). TellsStep c.args.conn x c.hang_up.new.self c.hang_up.result) c.self.view_is (hung_tells c.args.conn c.self.inside.streams c.hang_up.new.self c.serving_law.ensures c.hang_up.result (subst (λ n. HangsUp n c.self.inside.streams c.hang_up.new.self c.hang_up.result) c.number.ensures c.hang_up.ensures));
+  begins = hung_exhausted c.args.conn [] c.self.inside.streams c.hang_up.new.self c.serving_law.ensures c.hang_up.result (subst (λ n. HangsUp n c.self.inside.streams c.hang_up.new.self c.hang_up.result) c.number.ensures c.hang_up.ensures);
   keeps = subst (λ (x : GatewayValue). Keeps (λ n. n == c.args.conn) x c.hang_up.new.self) c.self.view_is (hung_keeps c.args.conn [] c.self.inside.streams c.hang_up.new.self c.serving_law.ensures c.hang_up.result (subst (λ n. HangsUp n c.self.inside.streams c.hang_up.new.self c.hang_up.result) c.number.ensures c.hang_up.ensures));
 }

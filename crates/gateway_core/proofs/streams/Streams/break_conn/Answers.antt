@@ -6,5 +6,5 @@ use Rattle.gateway_core.proofs.streams.Streams.break_conn.Goals as goal
 
 pub invariant_of-self : goal.invariant_of-self
 invariant_of-self g c =
-    let v : GatewayValue = gateway_value c.self.inside.plans c.self.inside.machine c.self.inside.streams.items c.self.inside.opened in
+    let v : GatewayValue = gateway_value c.self.inside.plans c.self.inside.machine c.self.inside.streams.items c.self.inside.opened c.self.inside.begun c.self.inside.tally in
     machine_kept v c.break_conn.new.self (subst (Keeps v.machine) (sym c.break_conn.ensures) (keeps_broken c.args.number v.machine)) c.self.invariant

@@ -14,14 +14,14 @@ returns-then-is_none g c = (
 
 pub invariant_of-self : goal.invariant_of-self
 invariant_of-self g c =
-    let v : GatewayValue = gateway_value c.self.inside.plans c.self.inside.machine c.self.inside.streams.items c.self.inside.opened in
-    closed_serving c.args.number v (gateway_value v.plans c.close.new.self c.close_in.new.streams.items v.opened) c.close.ensures
+    let v : GatewayValue = gateway_value c.self.inside.plans c.self.inside.machine c.self.inside.streams.items c.self.inside.opened c.self.inside.begun c.self.inside.tally in
+    closed_serving c.args.number v (gateway_value v.plans c.close.new.self c.close_in.new.streams.items v.opened v.begun v.tally) c.close.ensures
     c.close_in.ensures refl c.self.invariant
 
 pub returns : goal.returns
 returns g c =
-    let v : GatewayValue = gateway_value c.self.inside.plans c.self.inside.machine c.self.inside.streams.items c.self.inside.opened in
-    subst (λ (x : GatewayValue). Closes c.args.number x (gateway_value v.plans c.close.new.self c.close_in.new.streams.items v.opened) true) c.self.view_is (
+    let v : GatewayValue = gateway_value c.self.inside.plans c.self.inside.machine c.self.inside.streams.items c.self.inside.opened c.self.inside.begun c.self.inside.tally in
+    subst (λ (x : GatewayValue). Closes c.args.number x (gateway_value v.plans c.close.new.self c.close_in.new.streams.items v.opened v.begun v.tally) true) c.self.view_is (
       was_placed c.args.number v c.place.result c.is_none.result c.self.invariant (subst (λ (x : GatewayValue). IsPlaced c.args.number x.streams c.place.result) (sym c.self.view_is) c.place.ensures)
           c.is_none.ensures c.if-is_none.false,
       closed_value c.args.number v c.close.new.self c.close_in.new.streams.items c.close.ensures c.close_in.ensures,

@@ -7,5 +7,5 @@ use Rattle.gateway_core.proofs.streams.Streams.drain.Goals as goal
 
 pub invariant_of-self : goal.invariant_of-self
 invariant_of-self g c =
-    let v : GatewayValue = gateway_value c.self.inside.plans c.self.inside.machine c.self.inside.streams.items c.self.inside.opened in
+    let v : GatewayValue = gateway_value c.self.inside.plans c.self.inside.machine c.self.inside.streams.items c.self.inside.opened c.self.inside.begun c.self.inside.tally in
     machine_kept v c.drain.new.self (keeps_same v.machine c.drain.new.self (ap (λ (m : MachineValue). m.conns) c.drain.ensures) (ap (λ (m : MachineValue). m.calls) c.drain.ensures)) c.self.invariant

@@ -10,13 +10,13 @@ use Rattle.gateway_core.proofs.streams.Streams.end_calls.Goals as goal
 
 pub invariant_of-self : goal.invariant_of-self
 invariant_of-self g c =
-    let v : GatewayValue = gateway_value c.self.inside.plans c.self.inside.machine c.self.inside.streams.items c.self.inside.opened in
+    let v : GatewayValue = gateway_value c.self.inside.plans c.self.inside.machine c.self.inside.streams.items c.self.inside.opened c.self.inside.begun c.self.inside.tally in
     machine_kept v c.end_calls.new.self (keeps_ended c.args.cause.now v.machine c.end_calls.new.self c.end_calls.ensures) c.self.invariant
 
 pub returns-clause-broke : goal.returns-clause-broke
 returns-clause-broke g c =
-    let v : GatewayValue = gateway_value c.self.inside.plans c.self.inside.machine c.self.inside.streams.items c.self.inside.opened in
-    subst (λ (x : GatewayValue). Breaks x (gateway_value v.plans c.end_calls.new.self v.streams v.opened) (nat_lt c.broken-before.result c.broken.result)) c.self.view_is
-    (ends_breaks c.args.cause.now v (gateway_value v.plans c.end_calls.new.self v.streams v.opened) (nat_lt c.broken-before.result c.broken.result) c.self.invariant.orderly.conns_apart
+    let v : GatewayValue = gateway_value c.self.inside.plans c.self.inside.machine c.self.inside.streams.items c.self.inside.opened c.self.inside.begun c.self.inside.tally in
+    subst (λ (x : GatewayValue). Breaks x (gateway_value v.plans c.end_calls.new.self v.streams v.opened v.begun v.tally) (nat_lt c.broken-before.result c.broken.result)) c.self.view_is
+    (ends_breaks c.args.cause.now v (gateway_value v.plans c.end_calls.new.self v.streams v.opened v.begun v.tally) (nat_lt c.broken-before.result c.broken.result) c.self.invariant.orderly.conns_apart
     (ends_order c.args.cause.now v.machine c.end_calls.new.self c.end_calls.ensures c.self.invariant.orderly).conns_apart c.end_calls.ensures
     (ap (λ n. nat_lt n c.broken.result) c.broken-before.ensures ∙ ap (λ n. nat_lt (broken_count v.machine.conns) n) c.broken.ensures))

@@ -1,12 +1,14 @@
-use Rattle.std.proofs.Common.{◌≡◌, Ok, Err, true, false, refl, sym, ap, ◌∙◌, ℕ, subst, slice_index_or}
+use Rattle.std.proofs.lemmas.Result.{err_from_is_err_and}
+use Rattle.std.proofs.Common.{◌≡◌, Ok, Err, true, false, inl, refl, sym, ap, ◌∙◌, ℕ, subst, slice_index_or}
 use Rattle.std.specs.Prelude.{if◌then◌else◌}
 use Rattle.http_pieces.specs.Reader.{is_over}
 use Rattle.gateway_core.specs.declared.fault.StepFault.TheVariants.{Memory}
 use Rattle.gateway_core.specs.Ends.{is_stopped_in}
 use Rattle.gateway_core.specs.Gateway.{GatewayValue, StreamValue, stream_at}
 use Rattle.gateway_core.specs.Serving.{came, dropped, unread, IsServing}
-use Rattle.gateway_core.specs.Store.{broken_at}
+use Rattle.gateway_core.specs.Store.{broken_at, conn_at}
 use Rattle.gateway_core.proofs.BringLemmas.{fed}
+use Rattle.gateway_core.proofs.Bringing.{counts_read}
 use Rattle.gateway_core.proofs.ServingLemmas.{read_at, stream_is_at}
 use Rattle.gateway_core.proofs.streams.Streams.feed.Goals as goal
 
@@ -27,30 +29,35 @@ returns-in_default-read g c =
     unread i c.in-Some.ensures (ap (λ (x : StreamValue). is_over x.reader.reading) (sym x_is) ∙ sym c.is_over.ensures ∙ c.if-is_over.false) refl
     (c.break_conn.ensures ∙ ap (λ (v : GatewayValue). record v { machine = broken_at c.args.number v.machine }) c.in_default-read.ensures.err)
 
-pub returns-then-is_stopped : goal.returns-then-is_stopped
-returns-then-is_stopped g c =
-    let s : GatewayValue = c.args.self.now in
-    let i : ℕ = c.in-Some.index in
-    let x_is : c.index.result.now ≡ stream_at i s.streams = stream_is_at i c.index.result.now s.streams c.in-Some.ensures.stream_there
-    (subst (λ (v : GatewayValue). c.index.result.now ≡ slice_index_or v.streams i c.index.result.now) c.self.view_is c.index.ensures) in
-    let stopped : is_stopped_in c.args.number c.bring.new.self.machine.conns ≡ true =
-    ap (λ (v : GatewayValue). is_stopped_in c.args.number v.machine.conns) (sym c.self-2.view_is) ∙ sym c.is_stopped.ensures ∙ c.if-is_stopped.true in
-    came i c.in-Ok.taken c.in-Some.ensures (ap (λ (x : StreamValue). is_over x.reader.reading) (sym x_is) ∙ sym c.is_over.ensures ∙ c.if-is_over.false)
-    (fed i c.in-Ok.taken c.in-Ok.request c.args.bytes.now s c.read.new.self c.bring.new.self c.in-Some.ensures.stream_there c.in-Ok.ensures.ok c.bring.ensures)
-    c.in-Ok.ensures.ok.reads.reads.within
-    (λ some. c.in-Ok.ensures.ok.reads.reads.moves some (read_at i s c.in-Some.ensures.stream_there (subst IsServing c.self.view_is c.self.invariant)))
-    (sym (ap (λ b. if b then Err Memory else Ok c.in-Ok.taken) stopped))
-
 pub returns : goal.returns
 returns g c =
     let s : GatewayValue = c.args.self.now in
     let i : ℕ = c.in-Some.index in
     let x_is : c.index.result.now ≡ stream_at i s.streams = stream_is_at i c.index.result.now s.streams c.in-Some.ensures.stream_there
     (subst (λ (v : GatewayValue). c.index.result.now ≡ slice_index_or v.streams i c.index.result.now) c.self.view_is c.index.ensures) in
-    let on : is_stopped_in c.args.number c.bring.new.self.machine.conns ≡ false =
-    ap (λ (v : GatewayValue). is_stopped_in c.args.number v.machine.conns) (sym c.self-2.view_is) ∙ sym c.is_stopped.ensures ∙ c.if-is_stopped.false in
+    let number_is : (conn_at i c.read.new.self.machine.conns).number ≡ c.args.number = ap (λ (v : GatewayValue). (conn_at i v.machine.conns).number) c.in-Ok.ensures.ok.rest ∙ c.in-Some.ensures.conn_is in
+    let on : is_stopped_in c.args.number c.bring.new.self.machine.conns ≡ false = ap (λ n. is_stopped_in n c.bring.new.self.machine.conns) (sym number_is) ∙ c.in_ok-bring.ensures.fine in
     came i c.in-Ok.taken c.in-Some.ensures (ap (λ (x : StreamValue). is_over x.reader.reading) (sym x_is) ∙ sym c.is_over.ensures ∙ c.if-is_over.false)
-    (fed i c.in-Ok.taken c.in-Ok.request c.args.bytes.now s c.read.new.self c.bring.new.self c.in-Some.ensures.stream_there c.in-Ok.ensures.ok c.bring.ensures)
+    (fed i c.in-Ok.taken c.in-Ok.request c.args.bytes.now s c.read.new.self c.bring.new.self c.bring.result c.in-Some.ensures.stream_there c.in-Ok.ensures.ok c.bring.ensures)
     c.in-Ok.ensures.ok.reads.reads.within
     (λ some. c.in-Ok.ensures.ok.reads.reads.moves some (read_at i s c.in-Some.ensures.stream_there (subst IsServing c.self.view_is c.self.invariant)))
+    Memory (inl refl)
+    (counts_read i c.in-Ok.taken c.in-Ok.request c.args.bytes.now s c.read.new.self c.bring.new.self c.in-Ok.ensures.ok c.bring.ensures.counts)
     (sym (ap (λ b. if b then Err Memory else Ok c.in-Ok.taken) on))
+
+pub returns-in_err-bring : goal.returns-in_err-bring
+returns-in_err-bring g c =
+    let given = err_from_is_err_and c.from_residual.result c.from_residual.ensures.1 in
+    let s : GatewayValue = c.args.self.now in
+    let i : ℕ = c.in-Some.index in
+    let x_is : c.index.result.now ≡ stream_at i s.streams = stream_is_at i c.index.result.now s.streams c.in-Some.ensures.stream_there
+    (subst (λ (v : GatewayValue). c.index.result.now ≡ slice_index_or v.streams i c.index.result.now) c.self.view_is c.index.ensures) in
+    let number_is : (conn_at i c.read.new.self.machine.conns).number ≡ c.args.number = ap (λ (v : GatewayValue). (conn_at i v.machine.conns).number) c.in-Ok.ensures.ok.rest ∙ c.in-Some.ensures.conn_is in
+    let on : is_stopped_in c.args.number c.bring.new.self.machine.conns ≡ true = ap (λ n. is_stopped_in n c.bring.new.self.machine.conns) (sym number_is) ∙ c.in_err-bring.ensures.stopped in
+    came i c.in-Ok.taken c.in-Some.ensures (ap (λ (x : StreamValue). is_over x.reader.reading) (sym x_is) ∙ sym c.is_over.ensures ∙ c.if-is_over.false)
+    (fed i c.in-Ok.taken c.in-Ok.request c.args.bytes.now s c.read.new.self c.bring.new.self c.bring.result c.in-Some.ensures.stream_there c.in-Ok.ensures.ok c.bring.ensures)
+    c.in-Ok.ensures.ok.reads.reads.within
+    (λ some. c.in-Ok.ensures.ok.reads.reads.moves some (read_at i s c.in-Some.ensures.stream_there (subst IsServing c.self.view_is c.self.invariant)))
+    c.in_err-bring.field-0.0 c.in_err-bring.ensures.fault
+    (counts_read i c.in-Ok.taken c.in-Ok.request c.args.bytes.now s c.read.new.self c.bring.new.self c.in-Ok.ensures.ok c.bring.ensures.counts)
+    (given.1 ∙ ap Err given.2 ∙ sym (ap (λ b. if b then Err c.in_err-bring.field-0.0 else Ok c.in-Ok.taken) on))

@@ -7,6 +7,6 @@ use Rattle.gateway_core.proofs.streams.Streams.moment.Goals as goal
 
 pub invariant_of-self : goal.invariant_of-self
 invariant_of-self g c =
-    let v : GatewayValue = gateway_value c.self.inside.plans c.self.inside.machine c.self.inside.streams.items c.self.inside.opened in
+    let v : GatewayValue = gateway_value c.self.inside.plans c.self.inside.machine c.self.inside.streams.items c.self.inside.opened c.self.inside.begun c.self.inside.tally in
     machine_kept v c.tell-moment.new.self
     (keeps_same v.machine c.tell-moment.new.self (ap (λ (m : MachineValue). m.conns) c.tell-moment.ensures.told) (ap (λ (m : MachineValue). m.calls) c.tell-moment.ensures.told)) c.self.invariant

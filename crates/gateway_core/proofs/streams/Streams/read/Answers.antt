@@ -8,7 +8,7 @@ use Rattle.gateway_core.proofs.streams.Streams.read.Goals as goal
 
 pub invariant_of-self : goal.invariant_of-self
 invariant_of-self g c =
-    let v : GatewayValue = gateway_value c.self.inside.plans c.self.inside.machine c.self.inside.streams.items c.self.inside.opened in
+    let v : GatewayValue = gateway_value c.self.inside.plans c.self.inside.machine c.self.inside.streams.items c.self.inside.opened c.self.inside.begun c.self.inside.tally in
     let lt : c.args.index < length v.streams = subst (λ (x : GatewayValue). c.args.index < length x.streams) (sym c.self.view_is) c.requires in
     let x_is : c.index_mut.result.now ≡ stream_at c.args.index v.streams = stream_is_at c.args.index c.index_mut.result.now v.streams lt c.index_mut.ensures.value in
     stream_kept c.args.index c.read.new.self v lt
@@ -18,17 +18,17 @@ invariant_of-self g c =
 
 pub returns-clause-ok : goal.returns-clause-ok
 returns-clause-ok g c =
-    let v : GatewayValue = gateway_value c.self.inside.plans c.self.inside.machine c.self.inside.streams.items c.self.inside.opened in
+    let v : GatewayValue = gateway_value c.self.inside.plans c.self.inside.machine c.self.inside.streams.items c.self.inside.opened c.self.inside.begun c.self.inside.tally in
     let lt : c.args.index < length v.streams = subst (λ (x : GatewayValue). c.args.index < length x.streams) (sym c.self.view_is) c.requires in
     let x_is : c.index_mut.result.now ≡ stream_at c.args.index v.streams = stream_is_at c.args.index c.index_mut.result.now v.streams lt c.index_mut.ensures.value in
-    subst (λ (x : GatewayValue). IfOk c.read.result (λ r. ReadsAt c.args.index r.0 r.1 c.args.bytes.now x (gateway_value v.plans v.machine (slice_set v.streams c.args.index c.read.new.self) v.opened)))
+    subst (λ (x : GatewayValue). IfOk c.read.result (λ r. ReadsAt c.args.index r.0 r.1 c.args.bytes.now x (gateway_value v.plans v.machine (slice_set v.streams c.args.index c.read.new.self) v.opened v.begun v.tally)))
     c.self.view_is
     (reads_at c.read.result c.args.index c.args.bytes.now c.read.new.self v (subst (λ (s : StreamValue). IfOk c.read.result (λ r. ReadsOn r.0 r.1 c.args.bytes.now s c.read.new.self)) x_is c.read.ensures.ok))
 
 pub returns-clause-err : goal.returns-clause-err
 returns-clause-err g c =
-    let v : GatewayValue = gateway_value c.self.inside.plans c.self.inside.machine c.self.inside.streams.items c.self.inside.opened in
+    let v : GatewayValue = gateway_value c.self.inside.plans c.self.inside.machine c.self.inside.streams.items c.self.inside.opened c.self.inside.begun c.self.inside.tally in
     let lt : c.args.index < length v.streams = subst (λ (x : GatewayValue). c.args.index < length x.streams) (sym c.self.view_is) c.requires in
     let x_is : c.index_mut.result.now ≡ stream_at c.args.index v.streams = stream_is_at c.args.index c.index_mut.result.now v.streams lt c.index_mut.ensures.value in
-    subst (λ (x : GatewayValue). OnErr c.read.result (gateway_value v.plans v.machine (slice_set v.streams c.args.index c.read.new.self) v.opened ≡ x)) c.self.view_is
+    subst (λ (x : GatewayValue). OnErr c.read.result (gateway_value v.plans v.machine (slice_set v.streams c.args.index c.read.new.self) v.opened v.begun v.tally ≡ x)) c.self.view_is
     (unread_at c.read.result c.args.index c.read.new.self v (subst (λ (s : StreamValue). OnErr c.read.result (c.read.new.self ≡ s)) x_is c.read.ensures.err))

@@ -5,5 +5,5 @@ use Rattle.gateway_core.proofs.streams.Streams.take_job.Goals as goal
 
 pub invariant_of-self : goal.invariant_of-self
 invariant_of-self g c =
-    let v : GatewayValue = gateway_value c.self.inside.plans c.self.inside.machine c.self.inside.streams.items c.self.inside.opened in
+    let v : GatewayValue = gateway_value c.self.inside.plans c.self.inside.machine c.self.inside.streams.items c.self.inside.opened c.self.inside.begun c.self.inside.tally in
     machine_kept v c.take_job.new.self (keeps_job v.machine c.take_job.new.self c.take_job.result c.take_job.ensures) c.self.invariant

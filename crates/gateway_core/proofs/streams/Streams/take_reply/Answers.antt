@@ -9,7 +9,7 @@ returns-in_default g c = absent (none_placed c.args.number c.args.self.now (subs
 
 pub invariant_of-self : goal.invariant_of-self
 invariant_of-self g c =
-    let v : GatewayValue = gateway_value c.self.inside.plans c.self.inside.machine c.self.inside.streams.items c.self.inside.opened in
+    let v : GatewayValue = gateway_value c.self.inside.plans c.self.inside.machine c.self.inside.streams.items c.self.inside.opened c.self.inside.begun c.self.inside.tally in
     let p : IsPlaced c.args.number v.streams (Some c.in-Some.index) =
     subst (λ (x : GatewayValue). IsPlaced c.args.number x.streams (Some c.in-Some.index)) (sym c.self.view_is) c.in-Some.ensures in
     machine_kept v c.take_reply.new.self
@@ -17,8 +17,8 @@ invariant_of-self g c =
 
 pub returns : goal.returns
 returns g c =
-    let v : GatewayValue = gateway_value c.self.inside.plans c.self.inside.machine c.self.inside.streams.items c.self.inside.opened in
+    let v : GatewayValue = gateway_value c.self.inside.plans c.self.inside.machine c.self.inside.streams.items c.self.inside.opened c.self.inside.begun c.self.inside.tally in
     let p : IsPlaced c.args.number v.streams (Some c.in-Some.index) =
     subst (λ (x : GatewayValue). IsPlaced c.args.number x.streams (Some c.in-Some.index)) (sym c.self.view_is) c.in-Some.ensures in
-    subst (λ (x : GatewayValue). TakesReply c.args.number x (gateway_value v.plans c.take_reply.new.self v.streams v.opened) c.take_reply.result) c.self.view_is
+    subst (λ (x : GatewayValue). TakesReply c.args.number x (gateway_value v.plans c.take_reply.new.self v.streams v.opened v.begun v.tally) c.take_reply.result) c.self.view_is
     (taken c.in-Some.index (conn_there c.args.number c.in-Some.index v c.self.invariant p) (conn_numbered c.args.number c.in-Some.index v c.self.invariant p) c.take_reply.ensures refl)
