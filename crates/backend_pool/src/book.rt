@@ -1,16 +1,20 @@
 ghost use Rattle.std.specs.Prelude.{◌≡◌, ◌==◌, ◌+◌, ◌<◌, ◌≤◌, ◌^◌, ◌∷◌, ◌++◌, [], Err, IfErr, IfOk, IfSome, IsTrue, List, MatchResult, None, OnErr, OnOk, Some, false, true, is_some, length, option_map, option_to_list, ℕ, ◌↔◌, ◌⊎◌};
+ghost use Rattle.gateway_core.specs.declared.id.CallId.{CallId};
 ghost use Rattle.connect_codec.specs.declared.answer.Outcome.{Outcome as Outcomes};
 ghost use Rattle.gateway_core.specs.declared.entry.ReplyEntry.{ReplyEntry};
 ghost use Rattle.gateway_core.specs.Conn.{ConnValue};
-ghost use Rattle.gateway_core.specs.Events.{Before, BranchResult, Closing, Drain, HangUp, Moment, Occurs, Opening, Piece, most_open, open_connections};
-ghost use Rattle.gateway_core.specs.Gateway.{is_ended, next_reply, untaken_of};
+ghost use Rattle.gateway_core.specs.Events.{Before, GatewayEvent, BranchResult, Closing, Drain, HangUp, Moment, Occurs, Opening, Piece, most_open, open_connections};
+ghost use Rattle.gateway_core.specs.Gateway.{is_ended, next_reply, outs_of, untaken_of};
 ghost use Rattle.gateway_core.specs.Job.{JobValue};
-ghost use Rattle.gateway_core.specs.Past.{judged, marked};
+ghost use Rattle.gateway_core.specs.Past.{Asked, call, judged, marked};
+ghost use Rattle.gateway_core.specs.Queue.{record_of};
+ghost use Rattle.gateway_core.specs.Record.{is_decided, is_lawful};
 ghost use Rattle.gateway_core.specs.Served.{Served, with_reply};
 ghost use Rattle.gateway_core.specs.Occurrence as concerning;
-ghost use Rattle.gateway_core.specs.Serving.{Breaks, BreaksBy, TakesOnly, TellsStep};
+ghost use Rattle.gateway_core.specs.Serving.{Breaks, BreaksBy, FewCalls, TakesOnly, TellsStep};
 ghost use Rattle.gateway_core.specs.Starts.{Placed, occurrences};
-ghost use Rattle.gateway_core.specs.Store.{conn_of};
+ghost use Rattle.gateway_core.specs.Step.{Live};
+ghost use Rattle.gateway_core.specs.Store.{call_at, conn_of};
 ghost use Rattle.backend_pool.specs.declared.next_reply.NextReply.{NextReply};
 ghost use Rattle.backend_pool.specs.Book.{BookStands, GivesJob, TakesEvent, TellsTook, book_value, job_list, most_total, reply_given, totals_of};
 
@@ -20,6 +24,7 @@ use crate::next_reply::NextReply;
 use crate::shares::{Blanks, Shares, Totals};
 use call_plan::Plans;
 use connect_codec::Outcome;
+use gateway_core::served_laws::calls_law;
 use gateway_core::{
     CallId, ConnId, Core, Job, OpenError, ReplyHook, StepFault, Stock, Tally, Took,
 };
@@ -293,6 +298,27 @@ impl<H: ReplyHook + Drop, L: Ledger, J: Ledger, K: Ledger> Book<H, L, J, K> {
         NextReply::of(reply, self.core.ended(conn))
     }
 
+    /// What holds of the core whenever its lock is free. At most 64 connections are open, and no more than 8 requests of one that
+    /// is not broken wait for their replies. Of whatever events it stands for: a call that can be decided, of a connection that is
+    /// not broken, has a lawful record, which is not decided; and no call has more branches out than its plan's limit. It does
+    /// nothing.
+    pub fn bounds_law(&self)
+        ensures few { length self.now.core.streams ≤ most_open }
+        ensures calls { FewCalls self.now.core.machine.conns }
+        ensures records { (id : CallId) (k : ConnValue) (l : Live) (opened : List ℕ) (es : List GatewayEvent) (taken : ℕ → List ReplyEntry)
+            (handed : List JobValue) (occurred : List Placed)
+            → Served self.now.core opened es taken handed → Occurs self.now.core.plans opened es occurred
+            → conn_of id.conn self.now.core.machine.conns ≡ Some k → k.broken ≡ false → (call_at id self.now.core.machine.calls).live ≡ Some l
+            → (is_lawful (record_of l.asked l.events) ≡ true) × (is_decided (record_of l.asked l.events) ≡ false) }
+        ensures limit { (id : CallId) (a : Asked) (opened : List ℕ) (es : List GatewayEvent) (taken : ℕ → List ReplyEntry)
+            (handed : List JobValue) (occurred : List Placed)
+            → Served self.now.core opened es taken handed → Occurs self.now.core.plans opened es occurred
+            → call id (marked (occurrences occurred)) ≡ Some a → outs_of id self.now.core ≤ a.plan.limit }
+    {
+        self.core.bounds_law();
+        calls_law();
+    }
+
     /// Whether some branch may be asked or is: a job waits to be taken, or one that was taken has no result yet.
     pub fn is_asking(&self) -> bool
         ensures { IsTrue result ↔ ((self.now.results < self.now.jobs) ⊎ (0 < length self.now.core.machine.jobs)) }
@@ -305,6 +331,7 @@ impl<H: ReplyHook + Drop, L: Ledger, J: Ledger, K: Ledger> Book<H, L, J, K> {
         ensures tally { result ≡ self.now.core.tally }
         ensures total { result.counted + result.late + result.unknown ≡ self.now.results }
     {
+        // the total is within its ledger's bound, so no number of the tally stood still
         let _ = self.results.total();
         self.core.tally()
     }

@@ -3,4 +3,3 @@ pub mod Lawful
 pub mod Inserting
 pub mod Joining
 pub mod Shapes
-pub mod Texts

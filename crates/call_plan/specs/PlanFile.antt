@@ -1,10 +1,9 @@
 -- A plan file: a JSON array of plans, as `serde_json` reads it.
 use Rattle.std.specs.Prelude.{◌≡◌, ◌≢◌, ℕ, MatchResult, List, [], ◌∷◌, ◌++◌, codes, nat_le, if◌then◌else◌, Option, Some, None, option_map, option_and_then, Result, Ok, Err}
 use Rattle.std.specs.Option.{option_map_or, option_or}
-use Rattle.std.specs.Str.{is_utf8}
 use Rattle.serde_json.specs.Data.{Data, Items, no_items, item}
-use Rattle.serde_json.specs.Find.{get, as_str, as_number, as_u64, as_array}
-use Rattle.serde_json.specs.Read.{read}
+use Rattle.serde_json.specs.Find.{get, as_number, as_u64, as_array}
+use Rattle.json_values.specs.Json.{json_of, text_at}
 use Rattle.http_pieces.specs.declared.largest.TheConstants.{MAX_DECIMAL}
 use Rattle.call_plan.specs.declared.branch.Branch.{Branch}
 use Rattle.call_plan.specs.declared.error.PlanError.{PlanError}
@@ -13,10 +12,6 @@ use Rattle.call_plan.specs.Plan.{PlanRecord, plan_fault}
 use Rattle.call_plan.specs.Plans.{insert_fault}
 
 -- ---- the shape: each key there, each value of its kind, each number in its range
-
--- the text at a key of an object
-unfoldable pub text_at : List ℕ → Data → Option (List ℕ)
-text_at key d = option_and_then as_str (get key d)
 
 -- the entries of the array at a key of an object
 unfoldable pub array_at : List ℕ → Data → Option Items
@@ -87,10 +82,6 @@ take_plans taken (p ∷ ps) = fault_or (option_or (plan_fault p) (insert_fault t
 -- The plans of a JSON value: its whole shape is judged before any plan is taken.
 unfoldable pub plans_of : Data → Result (List PlanRecord) PlanError
 plans_of d = option_map_or (take_plans []) (entries_of d) (Err NotAPlan)
-
--- the value of a JSON text, which is UTF-8
-abbrev pub json_of : List ℕ → Option Data
-json_of text = if is_utf8 text then read text else None
 
 -- The plans of a plan file.
 unfoldable pub plans_in : List ℕ → Result (List PlanRecord) PlanError

@@ -3,12 +3,14 @@ ghost use Rattle.std.specs.Prelude.{◌≡◌, ◌≤◌, IfOk, IfSome, option_m
 ghost use Rattle.std.specs.Result.{result_err};
 ghost use Rattle.serde_json.specs.View.{view, items_view};
 ghost use Rattle.call_plan.specs.Plan.{plan_fault};
-ghost use Rattle.call_plan.specs.PlanFile.{text_at, array_at, whole_number, limit_of, timeout_of, branch_of, branches_of, plan_of, entries_of, Reads};
+ghost use Rattle.json_values.specs.Json.{text_at};
+ghost use Rattle.call_plan.specs.PlanFile.{array_at, whole_number, limit_of, timeout_of, branch_of, branches_of, plan_of, entries_of, Reads};
 
 use crate::branch::Branch;
 use crate::error::PlanError;
 use crate::plan::Plan;
 use http_pieces::{MAX_DECIMAL, Text};
+use json_values::text_at;
 use serde_json::Value;
 use std::alloc::Global;
 use std::marker::Model;
@@ -105,13 +107,6 @@ fn read_text(alloc: Global, entry: &Value, key: &str) -> Result<Text, PlanError>
 {
     let text = text_at(entry, key).ok_or(PlanError::NotAPlan)?;
     Ok(Text::from_str(alloc, text)?)
-}
-
-#[tactic(auto, unfolding(crate::specs::PlanFile::text_at))]
-fn text_at<'v>(entry: &'v Value, key: &str) -> Option<&'v str>
-    ensures { option_map (λ s. s.now) result ≡ text_at key.now (view entry.now) }
-{
-    entry.get(key).and_then(Value::as_str)
 }
 
 #[tactic(auto, unfolding(crate::specs::PlanFile::array_at))]

@@ -6,6 +6,7 @@ ghost use Rattle.call_plan.specs.declared.error.PlanError.TheVariants.{Memory};
 use crate::draft::read_drafts;
 use crate::error::PlanError;
 use crate::plans::Plans;
+use json_values::json_value;
 use serde_json::Value;
 use std::alloc::Global;
 
@@ -29,16 +30,13 @@ pub fn plans_of(alloc: Global, value: &Value) -> Result<Plans, PlanError>
 /// arrays and objects at most 127 deep).
 ///
 /// `NotAPlan` for a text that is no UTF-8 or no JSON.
+#[tactic(auto, unfolding(crate::specs::PlanFile::plans_in))]
 pub fn read_plans(alloc: Global, text: &[u8]) -> Result<Plans, PlanError>
     ensures taken { IfOk result (λ plans. plans_in text.now ≡ Ok plans) }
     ensures refused { IfErr result (λ e. e ≢ Memory → plans_in text.now ≡ Err e) }
 {
-    match Value::from_slice(alloc, text) {
-        Ok(value) => plans_of(alloc, &value),
-        Err(error) => if error.is_memory() {
-            Err(PlanError::Memory)
-        } else {
-            Err(PlanError::NotAPlan)
-        },
+    match json_value(alloc, text)? {
+        Some(value) => plans_of(alloc, &value),
+        None => Err(PlanError::NotAPlan),
     }
 }

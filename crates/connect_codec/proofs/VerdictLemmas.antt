@@ -3,7 +3,7 @@ use Rattle.std.proofs.Common.{◌≡◌, ℕ, Bool, true, false, Option, Ok, Err
 use Rattle.std.specs.Prelude.{is_some}
 use Rattle.http_pieces.specs.Request.{HttpRequest}
 use Rattle.timeout_header.specs.declared.error.BadTimeout.{BadTimeout}
-use Rattle.error_document.specs.Documents.{json_of}
+use Rattle.json_values.specs.Json.{json_of}
 use Rattle.error_document.specs.declared.code.Code.TheVariants.{InvalidArgument, Unimplemented}
 use Rattle.connect_codec.specs.Headers.{is_absent_or_one, is_identity, is_version_1, request_id_of}
 use Rattle.connect_codec.specs.Verdict.{said, asked_timeout, failure, protocol_verdict}

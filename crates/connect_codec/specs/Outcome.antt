@@ -2,7 +2,8 @@
 use Rattle.std.specs.Prelude.{ℕ, List, ◌==◌, if◌then◌else◌, false, Option, None, Some, is_some, codes}
 use Rattle.std.specs.Option.{option_map_or}
 use Rattle.http_pieces.specs.declared.reply.HttpReply.{HttpReply}
-use Rattle.error_document.specs.Documents.{json_of, plain_error, read_error}
+use Rattle.json_values.specs.Json.{json_of}
+use Rattle.error_document.specs.Documents.{plain_error, read_error}
 use Rattle.error_document.specs.declared.code.Code.{Code}
 use Rattle.error_document.specs.declared.code.Code.TheVariants.{Internal, Unavailable}
 use Rattle.connect_codec.specs.Headers.{is_json_type}

@@ -7,7 +7,8 @@ use Rattle.http_pieces.specs.Fields.{values_of}
 use Rattle.http_pieces.specs.Request.{HttpRequest}
 use Rattle.timeout_header.specs.Timeout.{timeout_of}
 use Rattle.timeout_header.specs.declared.error.BadTimeout.{BadTimeout}
-use Rattle.error_document.specs.Documents.{json_of, plain_error}
+use Rattle.json_values.specs.Json.{json_of}
+use Rattle.error_document.specs.Documents.{plain_error}
 use Rattle.error_document.specs.declared.code.Code.{Code}
 use Rattle.error_document.specs.declared.code.Code.TheVariants.{InvalidArgument, Unimplemented}
 use Rattle.connect_codec.specs.Headers.{is_one, is_absent_or_one, is_json_type, is_identity, is_version_1, request_id_of}

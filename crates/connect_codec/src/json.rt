@@ -1,7 +1,7 @@
 ghost use Rattle.std.specs.Prelude.{◌≡◌, IfOk, is_some};
-ghost use Rattle.error_document.specs.Documents.{json_of};
+ghost use Rattle.json_values.specs.Json.{json_of};
 
-use error_document::json_value;
+use json_values::json_value;
 use std::alloc::{AllocError, Global};
 
 /// Whether the bytes are JSON.

@@ -1,11 +1,12 @@
 -- What is read of a reply.
-use Rattle.std.proofs.Common.{◌≡◌, ℕ, List, [], Bool, true, false, None, Some, option_and_then, cond, codes, refl, sym}
-use Rattle.std.proofs.lemmas.Str.{is_utf8-from_IsUtf8, IsUtf8-from_is_utf8}
-use Rattle.std.specs.Str.{IsUtf8, is_utf8}
+use Rattle.std.proofs.Common.{◌≡◌, ℕ, List, [], None, Some, option_and_then, codes, refl}
+use Rattle.std.proofs.lemmas.Str.{is_utf8-from_IsUtf8}
+use Rattle.std.specs.Str.{IsUtf8}
 use Rattle.serde_json.specs.Data.{Data}
 use Rattle.serde_json.specs.Read.{read}
+use Rattle.json_values.specs.Json.{json_of, text_at}
 use Rattle.error_document.specs.Codes.{code_named}
-use Rattle.error_document.specs.Documents.{text_at, details_in, json_of, error_from, read_error}
+use Rattle.error_document.specs.Documents.{details_in, error_from, read_error}
 
 -- the error of a body that is this document
 pub read_error-of_document : (status : ℕ) (body : List ℕ) (document : Data) → Some document ≡ json_of body
@@ -24,11 +25,3 @@ read_error-of_none status body e = rw (← e) refl
 pub json_of-read : (body : List ℕ) (value : Data) → IsUtf8 body → read body ≡ Some value → Some value ≡ json_of body
 unfolding json_of
 json_of-read body value text e = rw (is_utf8-from_IsUtf8 body text, e)
-
-pub json_of-not_read : (body : List ℕ) → (IsUtf8 body → read body ≡ None) → None ≡ json_of body
-unfolding json_of
-json_of-not_read body refused = at_test (is_utf8 body) refl
-  where
-    at_test : (b : Bool) → is_utf8 body ≡ b → None ≡ cond b (read body) None
-    at_test true text = sym (refused (IsUtf8-from_is_utf8 body text))
-    at_test false text = refl

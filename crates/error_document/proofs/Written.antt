@@ -4,8 +4,9 @@ use Rattle.serde_json.specs.Data.{Members, no_members, member, put, string, arra
 use Rattle.serde_json.specs.Read.{max_depth}
 use Rattle.serde_json.specs.View.{items_of}
 use Rattle.serde_json.specs.Written.{has_float, items_have_float}
+use Rattle.json_values.specs.Json.{json_of, text_at}
 use Rattle.error_document.specs.Codes.{code_name, code_named}
-use Rattle.error_document.specs.Documents.{detail_document, details_member, message_member, document_of, text_at, details_among, details_in, error_from, json_of, read_error}
+use Rattle.error_document.specs.Documents.{detail_document, details_member, message_member, document_of, details_among, details_in, error_from, read_error}
 use Rattle.error_document.specs.declared.detail.Detail.{Detail}
 use Rattle.error_document.specs.declared.document.RpcError.{RpcError}
 use Rattle.error_document.proofs.Names.{code_named-code_name}

@@ -9,6 +9,7 @@ use Rattle.serde_json.specs.Read.{read}
 use Rattle.serde_json.specs.Find.{get, as_str, as_array}
 use Rattle.serde_json.specs.View.{items_of}
 use Rattle.serde_json.specs.Written.{compact_text}
+use Rattle.json_values.specs.Json.{json_of, text_at}
 use Rattle.error_document.specs.Codes.{code_name, code_named, inferred_code}
 use Rattle.error_document.specs.declared.code.Code.{Code}
 use Rattle.error_document.specs.declared.detail.Detail.{Detail}
@@ -45,15 +46,6 @@ unfoldable pub error_text : RpcError → List ℕ
 error_text error = compact_text (document_of error)
 
 -- ---- read
-
--- The value that bytes are as JSON (RFC 8259): none where they are not UTF-8, or where `serde_json` does not read them, as where
--- they nest deeper than 127.
-unfoldable pub json_of : List ℕ → Option Data
-json_of bytes = if is_utf8 bytes then read bytes else None
-
--- The text that an object has under a key: none where the value there is no text, and none in what is no object.
-abbrev pub text_at : List ℕ → Data → Option (List ℕ)
-text_at key value = option_and_then as_str (get key value)
 
 -- The detail that an entry is: an object with texts under `type` and `value`, whatever else it has, as `debug`.
 abbrev pub detail_of : Data → Option Detail

@@ -8,7 +8,6 @@ mod code;
 mod detail;
 mod details;
 mod document;
-mod json;
 pub mod laws;
 mod reply;
 
@@ -16,5 +15,4 @@ pub use code::Code;
 pub use detail::Detail;
 pub use details::Details;
 pub use document::{RpcError, write};
-pub use json::{json_value, text_at};
 pub use reply::read;

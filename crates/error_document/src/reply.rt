@@ -2,15 +2,16 @@
 ghost use Rattle.std.specs.Prelude.{◌≡◌, ◌≢◌, [], IfOk, None, codes, string_bytes, option_map, option_and_then};
 ghost use Rattle.serde_json.specs.View.{view, items_view};
 ghost use Rattle.error_document.specs.Codes.{code_named};
-ghost use Rattle.error_document.specs.Documents.{text_at, detail_of, detail_entries, details_in, status_message, error_from, read_error};
+ghost use Rattle.json_values.specs.Json.{text_at};
+ghost use Rattle.error_document.specs.Documents.{detail_of, detail_entries, details_in, status_message, error_from, read_error};
 
 use crate::code::Code;
 use crate::detail::Detail;
 use crate::details::Details;
 use crate::document::RpcError;
-use crate::json::{json_value, text_at};
 use http::StatusCode;
 use http_pieces::Text;
+use json_values::{json_value, text_at};
 use serde_json::Value;
 use std::alloc::{AllocError, Global};
 

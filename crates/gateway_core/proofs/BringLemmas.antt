@@ -9,9 +9,9 @@ use Rattle.http_pieces.specs.Reader.{Reading, Partial, Waiting, Stopped, Done, a
 use Rattle.http_pieces.specs.Request.{HttpRequest, closes}
 use Rattle.gateway_core.specs.declared.fault.StepFault.{StepFault}
 use Rattle.gateway_core.specs.Enters.{Enters}
-use Rattle.gateway_core.specs.Gateway.{Brings, Feeds, GatewayValue, StreamValue, calls_brought, is_waiting, stream_at}
+use Rattle.gateway_core.specs.Gateway.{Brings, Feeds, GatewayValue, StreamValue, calls_brought, calls_with, is_waiting, stream_at}
 use Rattle.gateway_core.specs.Occurrence.{Refused}
-use Rattle.gateway_core.specs.Serving.{gateway_value, BringsAt, ComesBy, MayTake, ReadsAt, ReadsOn, StopsBy, calls_with}
+use Rattle.gateway_core.specs.Serving.{gateway_value, BringsAt, ComesBy, MayTake, ReadsAt, ReadsOn, StopsBy}
 use Rattle.gateway_core.specs.Store.{MachineValue}
 use Rattle.gateway_core.proofs.ServingLemmas.{IsRead}
 

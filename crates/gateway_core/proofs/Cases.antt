@@ -1,5 +1,6 @@
--- Truth values, and facts that hang on one.
-use Rattle.std.proofs.Common.{◌≡◌, Bool, true, false, refl}
+-- Truth values and options, and facts that hang on one.
+use Rattle.std.proofs.Common.{◌≡◌, Bool, true, false, Option, None, Some, refl}
+use Rattle.std.specs.Option.{option_or}
 use Rattle.std.specs.Prelude.{◌&&◌, ◌||◌, not}
 
 pub or_true : (b : Bool) → (b || true) ≡ true
@@ -17,6 +18,10 @@ and_true false = refl
 pub and_false : (b : Bool) → (b && false) ≡ false
 and_false true = refl
 and_false false = refl
+
+pub or_none : {A : Type 0} (x : Option A) → option_or x None ≡ x
+or_none None = refl
+or_none (Some a) = refl
 
 pub not_so : (b : Bool) → not b ≡ true → b ≡ false
 not_so true e = absurd (cc)

@@ -17,8 +17,8 @@ use Rattle.gateway_core.specs.Conn.{ConnValue, fill_at, filled}
 use Rattle.gateway_core.specs.Reply.{ReplyValue, reply_with}
 use Rattle.gateway_core.specs.Store.{MachineValue, call_at, conn_of, kept_at, no_call, given_up, given_up_if, broken_conn, broken_if, broken_at, fill_first, filled_in, numbers}
 use Rattle.gateway_core.specs.Ends.{caused, ended_if, ended_call, ended_kept, EndedAt, without_reply, settled_at, is_stopped_in, ended_below, MayBreak, EndsOn, EndedBelow, IsSettled, AreApart, reply_in, MayTakeIn, SettledBelow, MayEnd, CallsEnd}
+use Rattle.gateway_core.proofs.Cases.{or_none}
 use Rattle.gateway_core.proofs.LimitLemmas.{same_call}
-use Rattle.gateway_core.proofs.Frame.{or_none}
 use Rattle.gateway_core.proofs.StoreLemmas.{conn_broken, conn_filled, Fills, untouched, filled_fills}
 
 -- ---- one call

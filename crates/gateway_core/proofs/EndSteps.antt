@@ -16,9 +16,8 @@ use Rattle.gateway_core.specs.Occurrence.{Occurrence}
 use Rattle.gateway_core.specs.Past.{call_id, is_call, is_closing_of, is_drain, is_result_of, moment_of}
 use Rattle.gateway_core.specs.Step.{CallState, Step, call_state, gone, has_out, step}
 use Rattle.gateway_core.specs.Store.{MachineValue, machine_value, machine, call_at, conn_of, HasFates}
-use Rattle.gateway_core.proofs.Cases.{and_true}
+use Rattle.gateway_core.proofs.Cases.{and_true, or_none}
 use Rattle.gateway_core.proofs.EndLemmas.{id_below, out_same, open_number}
-use Rattle.gateway_core.proofs.Frame.{or_none}
 use Rattle.gateway_core.proofs.LimitLemmas.{same_call}
 
 -- ---- the calls

@@ -12,7 +12,7 @@ use Rattle.gateway_core.specs.declared.entry.ReplyEntry.{ReplyEntry}
 use Rattle.gateway_core.specs.Queue.{entry}
 use Rattle.gateway_core.specs.Starts.{jobs_by, jobs_started}
 use Rattle.gateway_core.proofs.LimitLemmas.{same_call}
-use Rattle.gateway_core.proofs.Cases.{and_false}
+use Rattle.gateway_core.proofs.Cases.{and_false, or_none}
 use Rattle.gateway_core.specs.Step.{CallState, kept}
 use Rattle.gateway_core.specs.LiveStands.{CallStands, Stepped}
 use Rattle.gateway_core.specs.Begins.{arrive}
@@ -20,7 +20,7 @@ use Rattle.gateway_core.specs.Machine.{ConnState, MachineState, is_full, next_id
 use Rattle.gateway_core.specs.Standing.{SlotsStand, ConnStands}
 use Rattle.gateway_core.proofs.BeginsLemmas.{arrives}
 use Rattle.gateway_core.proofs.SlotLemmas.{undecided_count}
-use Rattle.gateway_core.proofs.MachineLemmas.{no_entry_yet, crowd_is, other_call, kept_by_entry, or_none, more_slots}
+use Rattle.gateway_core.proofs.MachineLemmas.{no_entry_yet, crowd_is, other_call, kept_by_entry, more_slots}
 use Rattle.gateway_core.specs.Fate.{Fate, Unbroken, BrokenAt, is_broken, fate_after, fates_after, jobs_fated}
 use Rattle.gateway_core.specs.Fated.{CallFated, ConnFated, FatedStands}
 use Rattle.gateway_core.specs.Breaks.{is_stopped, ConnBy, AreConcerned, EntryBreaks}

@@ -14,12 +14,8 @@ use Rattle.gateway_core.specs.Past.{Mark, Past, Asked, call, entering_now, asked
 use Rattle.gateway_core.specs.Queue.{came, own_events, entry_by, entry, call_entry}
 use Rattle.gateway_core.specs.Starts.{jobs_started, branches_started}
 use Rattle.gateway_core.proofs.LimitLemmas.{out_started}
-use Rattle.gateway_core.proofs.Cases.{or_false, and_true}
+use Rattle.gateway_core.proofs.Cases.{or_false, and_true, or_none}
 use Rattle.gateway_core.specs.LiveStands.{is_live}
-
-pub or_none : {A : Type 0} (x : Option A) → option_or x None ≡ x
-or_none None = refl
-or_none (Some a) = refl
 
 -- the request of that call does not come at this occurrence
 abbrev pub Past_it : CallId → Mark → Past → Type 0

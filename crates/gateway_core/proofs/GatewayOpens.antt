@@ -18,6 +18,7 @@ use Rattle.gateway_core.specs.Opens.{opened_as, JobTaken, ReplyTaken}
 use Rattle.gateway_core.specs.Orderly.{FatesAre, IsOrderly}
 use Rattle.gateway_core.specs.Reply.{ReplyValue}
 use Rattle.gateway_core.specs.Store.{MachineValue, machine, conn_at, conn_of, broken_at, broken_conn}
+use Rattle.gateway_core.proofs.Cases.{or_none}
 use Rattle.gateway_core.proofs.Concerned.{not_stopped, open_unclosed}
 use Rattle.gateway_core.proofs.FateLemmas.{fated_after}
 use Rattle.gateway_core.proofs.GatewaySteps.{Goes, goes_broken, streams_go, still_off}
@@ -88,10 +89,6 @@ module _ (v w : GatewayValue) (texts : ℕ → List ℕ) (taken : ℕ → List R
           by_it false x = absurd (
               let none : conn_of c w.machine.conns ≡ None = conn_is c ∙ ap (λ o. option_or o (if n == c then Some (conn_value n 0 [] false) else None)) e ∙ ap (λ b. if b then Some (conn_value n 0 [] false) else None) x in
               let clash : None ≡ Some l = sym none ∙ l_is in cc)
-
-      or_none : {A : Type 0} (o : Option A) → option_or o None ≡ o
-      or_none None = refl
-      or_none (Some a) = refl
 
       by_number : (c : ℕ) (l : ConnValue) (t : StreamValue) → conn_of c w.machine.conns ≡ Some l → stream_of c w.streams ≡ Some t → goes_on l t ≡ true → (b : Bool) → (n == c) ≡ b
           → HasCome l t.reader (texts c)

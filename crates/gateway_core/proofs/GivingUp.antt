@@ -9,9 +9,9 @@ use Rattle.gateway_core.specs.Occurrence.{Occurrence, Opening, Entry, HangUp, Mo
 use Rattle.gateway_core.specs.Past.{call_id, is_result_of, moment_of, is_drain}
 use Rattle.gateway_core.specs.Step.{CallState, Step, call_state, has_out, step}
 use Rattle.gateway_core.specs.Machine.{ConnState, MachineState, ConnAfter, After, slot_at, step_of, starting, is_entry}
-use Rattle.gateway_core.proofs.MachineLemmas.{or_none}
 use Rattle.gateway_core.specs.Fate.{Fate, is_broken, starting_conn}
 use Rattle.gateway_core.specs.Breaks.{is_stopped, ConnStays, CallAfter, ConnOn, AfterBreaks, GivenUp, NoneLive}
+use Rattle.gateway_core.proofs.Cases.{or_none}
 use Rattle.gateway_core.proofs.Readings.{quiet}
 use Rattle.gateway_core.proofs.Unconcerned.{still_none}
 

@@ -27,8 +27,8 @@ use Rattle.gateway_core.specs.Reply.{reply_with}
 use Rattle.gateway_core.specs.Results.{Forgets, ResultTaken, Starved, StepsAt, back_at, result_at}
 use Rattle.gateway_core.specs.Step.{Live, Step, result_on}
 use Rattle.gateway_core.specs.Store.{MachineValue, broken_at, broken_conn, broken_if, conn_at, conn_of, filled_in, kept_at, no_call}
+use Rattle.gateway_core.proofs.Cases.{or_none}
 use Rattle.gateway_core.proofs.EndLemmas.{open_number}
-use Rattle.gateway_core.proofs.Frame.{or_none}
 use Rattle.gateway_core.proofs.PastLemmas.{prefix-refl, prefix-trans}
 use Rattle.gateway_core.proofs.StoreLemmas.{Fills, conn_broken, conn_filled, filled_fills}
 use Rattle.gateway_core.proofs.StoreMore.{conn_found, conn_set}

@@ -39,10 +39,10 @@ use Rattle.gateway_core.specs.Starts.{occurrences}
 use Rattle.gateway_core.specs.Step.{CallState, Live, ended_by, has_out}
 use Rattle.gateway_core.specs.Store.{MachineValue, broken_at, conn_at, conn_of, given_up_if, kept_at, numbers}
 use Rattle.gateway_core.specs.Tally.{tally_of}
+use Rattle.gateway_core.proofs.Cases.{or_none}
 use Rattle.gateway_core.proofs.Concerned.{ends_concern, result_concern, starved_concern}
 use Rattle.gateway_core.proofs.EndLemmas.{fills_in, stopped_now, stopped_then}
 use Rattle.gateway_core.proofs.FeedLemmas.{other_conn, stream_found, stream_set}
-use Rattle.gateway_core.proofs.Frame.{or_none}
 use Rattle.gateway_core.proofs.Growing.{Grew, MayGrow, grew_broken, grew_ended, grew_entered, grew_forgotten, grew_result, grew_same, grew_starved, grew_then, is_off, off_then}
 use Rattle.gateway_core.proofs.LimitLemmas.{same_call}
 use Rattle.gateway_core.proofs.OrderLemmas.{some_same}

@@ -19,6 +19,7 @@ pub mod SeenLemmas
 pub mod Taking
 pub mod Tallies
 pub mod Bringing
+pub mod FewCalls
 pub mod Unconcerned
 pub mod GivingUp
 pub mod Readings
@@ -64,6 +65,8 @@ pub mod Keeping
 pub mod ServedFirst
 pub mod EventStarts
 pub mod Standings
+pub mod KeptCalls
+pub mod Forgetting
 pub mod Breaking
 pub mod SeenResults
 pub mod OpenCount

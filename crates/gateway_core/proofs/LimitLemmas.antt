@@ -11,7 +11,7 @@ use Rattle.gateway_core.proofs.PastLemmas.{call_stays}
 
 -- ---- counting
 
-count_less : (n : ℕ) (p q : ℕ → Bool) → ((i : ℕ) → i < n → p i ≡ true → q i ≡ true) → count_below n p ≤ count_below n q
+pub count_less : (n : ℕ) (p q : ℕ → Bool) → ((i : ℕ) → i < n → p i ≡ true → q i ≡ true) → count_below n p ≤ count_below n q
 count_less zero p q h = omega arith
 count_less (suc n) p q h =
     let rest : count_below n p ≤ count_below n q = count_less n p q (λ i lt. h i (omega (arith, lt))) in

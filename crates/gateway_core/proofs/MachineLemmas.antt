@@ -94,10 +94,6 @@ pub kept_by_entry : (moment : ℕ) (id : CallId) (c : ℕ) (x : Entering) (out :
 kept_by_entry moment id c x out None = refl
 kept_by_entry moment id c x out (Some l) = refl
 
-pub or_none : {A : Type 0} (x : Option A) → option_or x None ≡ x
-or_none None = refl
-or_none (Some a) = refl
-
 pub more_slots : (c : ℕ) (x : Entering) (old : List (Option ReplyEntry)) (reply : Option ReplyEntry) (past : Past) → SlotsStand c old past
     → ((k : ℕ) → (k ≡ length old → ⊥) → entry (call_id c k) past ≡ entry (call_id c k) (mark_of past (Entry c x) ∷ past))
     → reply ≡ entry (call_id c (length old)) (mark_of past (Entry c x) ∷ past)

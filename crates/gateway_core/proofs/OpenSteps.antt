@@ -19,7 +19,7 @@ use Rattle.gateway_core.specs.Past.{call_id, is_closing_of}
 use Rattle.gateway_core.specs.Reply.{ReplyValue}
 use Rattle.gateway_core.specs.Step.{CallState, Live, Step, call_state, ended_live, has_out, kept, step}
 use Rattle.gateway_core.specs.Store.{MachineValue, machine, call_at, conn_at, conn_of, conn_state, broken_at, broken_conn, HasFates}
-use Rattle.gateway_core.proofs.Frame.{or_none}
+use Rattle.gateway_core.proofs.Cases.{or_none}
 use Rattle.gateway_core.proofs.GivingUp.{given_up}
 use Rattle.gateway_core.proofs.ResultSteps.{given, eta_none, stop_none, none_broken}
 use Rattle.gateway_core.proofs.StoreLemmas.{call_given_up, conn_broken}

@@ -61,7 +61,7 @@ on_more r before (x ∷ es) e g d =
     (subst (λ xs. decides (answers_among xs) (length r.plan.branches) e ≡ false) (sym (append_assoc before (x ∷ []) es)) d))
 
 -- the events of a record are not looked at for what may follow
-same_follow : (a : Asked) (events before es : List CallEvent) → may_follow (record_of a events) before es ≡ may_follow (record_of a []) before es
+pub same_follow : (a : Asked) (events before es : List CallEvent) → may_follow (record_of a events) before es ≡ may_follow (record_of a []) before es
 same_follow a events before [] = refl
 same_follow a events before (Answered i body ∷ es) =
     ap (λ b. (is_out_after (record_of a []) before i) && (is_last es || not (answers_among before + 1 == length a.plan.branches)) && b) (same_follow a events (before ++ Answered i body ∷ []) es)
@@ -72,7 +72,7 @@ same_follow a events before (Expired t ∷ es) =
 same_follow a events before (HungUp ∷ es) = ap (λ b. true && (is_last es || not true) && b) (same_follow a events (before ++ HungUp ∷ []) es)
 same_follow a events before (Drained ∷ es) = ap (λ b. true && (is_last es || not true) && b) (same_follow a events (before ++ Drained ∷ []) es)
 
-among_more : (es : List CallEvent) (e : CallEvent) → answers_among (es ++ e ∷ []) ≡ answers_among es + answers_among (e ∷ [])
+pub among_more : (es : List CallEvent) (e : CallEvent) → answers_among (es ++ e ∷ []) ≡ answers_among es + answers_among (e ∷ [])
 among_more [] e = omega arith
 among_more (Answered i body ∷ es) e = omega (arith, among_more es e)
 among_more (Failed i error ∷ es) e = among_more es e

@@ -20,8 +20,8 @@ use Rattle.gateway_core.specs.Reply.{reply_with}
 use Rattle.gateway_core.specs.Results.{result_at, stepped_kept, stepped_at, settled_by, ResultTaken}
 use Rattle.gateway_core.specs.Step.{CallState, Live, Step, call_state, kept, has_out, result_on, first_of, next_out}
 use Rattle.gateway_core.specs.Store.{MachineValue, machine, call_at, conn_of, conn_state, kept_at, broken_at, broken_if, filled_in, IsFound, HasFates}
+use Rattle.gateway_core.proofs.Cases.{or_none}
 use Rattle.gateway_core.proofs.EndLemmas.{open_number, MayFill, fills_in, break_one, stopped_then, stopped_now}
-use Rattle.gateway_core.proofs.Frame.{or_none}
 use Rattle.gateway_core.proofs.GivingUp.{given_up}
 use Rattle.gateway_core.proofs.LimitLemmas.{same_call}
 use Rattle.gateway_core.proofs.Readings.{quiet}

@@ -23,10 +23,9 @@ use Rattle.gateway_core.specs.Served.{HasConns, Served, StandsBy}
 use Rattle.gateway_core.specs.Serving.{HangsUp, hung, silent, IsDeaf, IsServing, ListensAt, without_more}
 use Rattle.gateway_core.specs.Step.{CallState, Live, call_state}
 use Rattle.gateway_core.specs.Store.{MachineValue, call_at, conn_at, conn_of}
-use Rattle.gateway_core.proofs.Cases.{or_true}
+use Rattle.gateway_core.proofs.Cases.{or_true, or_none}
 use Rattle.gateway_core.proofs.EndingSteps.{hang_up_ends}
 use Rattle.gateway_core.proofs.FeedLemmas.{stream_found, stream_set}
-use Rattle.gateway_core.proofs.Frame.{or_none}
 use Rattle.gateway_core.proofs.GatewayEnds.{ended_stands}
 use Rattle.gateway_core.proofs.OrderLemmas.{some_same}
 use Rattle.gateway_core.proofs.ServedLemmas.{goes_ended, going_parts, hung_still, open_same, open_still, stands_none, stands_one, text_still}

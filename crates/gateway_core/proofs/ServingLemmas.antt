@@ -4,7 +4,8 @@ use Rattle.std.specs.Prelude.{◌⊎◌, if◌then◌else◌, ◌&&◌, ◌||◌
 use Rattle.std.specs.List.{list_any}
 use Rattle.std.specs.Option.{option_map_or}
 use Rattle.std.proofs.lemmas.Bool.{cases_Bool, cond_both, eq-eqb, eqb-true, ne_eqb}
-use Rattle.std.proofs.lemmas.List.{length-map}
+use Rattle.std.proofs.lemmas.List.{length-append, length-map}
+use Rattle.std.proofs.lemmas.List.Sums.{count_by-le-length, length-filter}
 use Rattle.std.proofs.lemmas.List.Elements.{All-append, All-map, All-filter, All-set}
 use Rattle.connect_codec.specs.declared.answer.Outcome.{Outcome}
 use Rattle.gateway_core.specs.declared.entry.ReplyEntry.{ReplyEntry}
@@ -17,7 +18,8 @@ use Rattle.gateway_core.specs.Ends.{CallsEnd, ended_below, is_stopped_in, withou
 use Rattle.gateway_core.specs.Enters.{Enters, arriving_at}
 use Rattle.gateway_core.specs.Queue.{front}
 use Rattle.gateway_core.specs.Gateway.{GatewayValue, StreamValue, StreamsApart, has_ended, is_ended, is_waiting, untaken_of, new_stream, no_stream, stream_at, stream_of}
-use Rattle.gateway_core.specs.Serving.{gateway_value, IsDeaf, IsPlaced, IsServing, ListensAt, NoCallOf}
+use Rattle.gateway_core.specs.Events.{most_open}
+use Rattle.gateway_core.specs.Serving.{FewCalls, gateway_value, IsDeaf, IsPlaced, IsServing, ListensAt, NoCallOf}
 use Rattle.gateway_core.specs.Kept.{KeptValue}
 use Rattle.gateway_core.specs.Occurrence.{Entering}
 use Rattle.gateway_core.specs.Opens.{closed_at, opened_as, JobTaken, ReplyTaken}
@@ -30,9 +32,11 @@ use Rattle.gateway_core.specs.Results.{Forgets, result_at, ResultTaken, Starved,
 use Rattle.gateway_core.specs.Store.{MachineValue, broken_at, conn_at, conn_of, given_up_if, kept_at, numbers}
 use Rattle.gateway_core.proofs.EndLemmas.{id_below, numbers_broken, numbers_filled}
 use Rattle.gateway_core.proofs.FeedLemmas.{calls_kept, stream_found}
+use Rattle.gateway_core.proofs.FewCalls.{few_broken, few_closed, few_ended, few_entered, few_forgotten, few_opened, few_result, few_same, few_starved, few_taken}
 use Rattle.gateway_core.proofs.GatewaySteps.{goes_broken, goes_forgotten, goes_result, goes_starved}
 use Rattle.gateway_core.proofs.OrderLemmas.{broken_order, closed_order, entered_order, opened_order, same_given, some_same, taken_order}
 use Rattle.gateway_core.proofs.OrderSteps.{ends_order, forget_order, result_order, starved_order}
+use Rattle.gateway_core.proofs.StoreLemmas.{conn_broken}
 use Rattle.gateway_core.proofs.StoreMore.{conn_found}
 
 -- ---- numbers
@@ -114,11 +118,12 @@ same_size streams conns same = sym (length-map streams (λ s. s.number)) ∙ ap 
 
 -- ---- what steps keep
 
--- the machine is orderly and has the same connections, and calls of these alone are new
+-- the machine is orderly and has the same connections, calls of these alone are new, and no more than may be are undecided
 pub record Keeps (v w : MachineValue) : Type 0 where
   pub orderly : IsOrderly v → IsOrderly w
   pub numbers_are : numbers w.conns ≡ numbers v.conns
   pub no_call : IsOrderly v → (c : ℕ) → conn_of c v.conns ≡ None → NoCallOf c v.calls → NoCallOf c w.calls
+  pub few : IsOrderly v → FewCalls v.conns → FewCalls w.conns
 
 pub keeps_same : (v w : MachineValue) → w.conns ≡ v.conns → w.calls ≡ v.calls → Keeps v w
 keeps_same v w conns_are calls_are = record {
@@ -129,6 +134,7 @@ keeps_same v w conns_are calls_are = record {
   };
   numbers_are = ap numbers conns_are;
   no_call = λ h c none all. subst (NoCallOf c) (sym calls_are) all;
+  few = λ h. few_same v.conns w.conns conns_are;
 }
 
 pub keeps_broken : (n : ℕ) (v : MachineValue) → Keeps v (broken_at n v)
@@ -136,6 +142,7 @@ keeps_broken n v = record {
   orderly = broken_order n v (broken_at n v) refl;
   numbers_are = numbers_broken n v.conns;
   no_call = λ h c none all. (goes_broken n v).no_call c all;
+  few = λ h. few_broken n v.conns (broken_at n v).conns (λ c. conn_broken c n v.conns);
 }
 
 pub keeps_entered : (i : ℕ) (x : Entering) (v w : MachineValue) → i < length v.conns → (conn_at i v.conns).broken ≡ false → Enters i x v w → Keeps v w
@@ -143,6 +150,7 @@ keeps_entered i x v w lt on enters = record {
   orderly = λ h. by_way enters h;
   numbers_are = same enters;
   no_call = λ h c none all. calls_kept i x v w lt h on enters c (other h c none) all;
+  few = λ h. few_entered i x v w lt h on enters;
 }
   where
     by_way : Enters i x v w → IsOrderly v → IsOrderly w
@@ -166,6 +174,7 @@ keeps_ended cause v w e = record {
   no_call = λ h c none all. subst (NoCallOf c) (sym e.calls_are)
       (All-map (λ (k : KeptValue). (k.id.conn == c) ≡ false) (λ k. without_reply (ended_below cause (is_stopped_in k.id.conn w.conns) true k)) v.calls
       (λ j d lt. ap (λ (x : CallId). x.conn == c) (id_below cause (is_stopped_in (slice_index_or v.calls j d).id.conn w.conns) true (slice_index_or v.calls j d)) ∙ all j d lt));
+  few = λ h. few_ended cause v w e;
 }
 
 forgotten_numbers : (id : CallId) (v w : MachineValue) → Forgets id v w → numbers w.conns ≡ numbers v.conns
@@ -194,6 +203,7 @@ keeps_result id branch outcome v u w took r forgets = record {
   orderly = λ h. forget_order id u w forgets (result_order id branch outcome v u took r h);
   numbers_are = forgotten_numbers id u w forgets ∙ result_numbers id branch outcome v u took r;
   no_call = λ h c none all. (goes_forgotten id u w forgets).no_call c ((goes_result id branch outcome v u took r).no_call c all);
+  few = λ h few. few_forgotten id u w forgets (few_result id branch outcome v u took r few);
 }
 
 pub keeps_starved : (id : CallId) (branch : ℕ) (v u w : MachineValue) (took : Took) → Starved id branch v u took → Forgets id u w → Keeps v w
@@ -201,6 +211,7 @@ keeps_starved id branch v u w took r forgets = record {
   orderly = λ h. forget_order id u w forgets (starved_order id branch v u took r h);
   numbers_are = forgotten_numbers id u w forgets ∙ starved_numbers id branch v u took r;
   no_call = λ h c none all. (goes_forgotten id u w forgets).no_call c ((goes_starved id branch v u took r).no_call c all);
+  few = λ h few. few_forgotten id u w forgets (few_starved id branch v u took r few);
 }
 
 pub keeps_job : (v w : MachineValue) (job : Option HandedJob) → JobTaken v w job → Keeps v w
@@ -212,6 +223,7 @@ keeps_reply i v w (Some r) lt t = record {
   orderly = λ h. taken_order i v w lt (some_slot (conn_at i v.conns) t.0) t.2 h;
   numbers_are = ap (λ (m : MachineValue). numbers m.conns) t.2 ∙ set_numbers i (without_first (conn_at i v.conns)) v.conns lt refl;
   no_call = λ h c none all. subst (λ (m : MachineValue). NoCallOf c m.calls) (sym t.2) all;
+  few = λ h. few_taken i v w lt h (ap (λ (m : MachineValue). m.conns) t.2);
 }
   where
     some_slot : (k : ConnValue) → slot_at 0 k.slots ≡ Some r.entry → 0 < length k.slots
@@ -234,6 +246,8 @@ serving_kept v w k same read opened_is h = record {
   settled = read;
   no_conn = λ c le. still_none c w.machine.conns v.machine.conns k.numbers_are (h.no_conn c (subst (λ n. n ≤ c) opened_is le));
   no_call = λ c le. k.no_call h.orderly c (h.no_conn c (subst (λ n. n ≤ c) opened_is le)) (h.no_call c (subst (λ n. n ≤ c) opened_is le));
+  few_streams = (let before = h.few_streams in omega (arith, before, length-map w.streams (λ s. s.number), ap (λ (ns : List ℕ). length ns) same, length-map v.streams (λ s. s.number)));
+  few_calls = k.few h.orderly h.few_calls;
 }
 
 -- the machine alone changes
@@ -279,9 +293,9 @@ no_number c n (m ∷ ns) none ne = by_it (m == c) none (λ rest. no_number c n n
     by_it true e rest = absurd (cc)
     by_it false e rest = rest e
 
-pub opened_serving : (v : GatewayValue) (m : MachineValue) (streams : List StreamValue) → IsServing v → m ≡ opened_as v.opened v.machine → streams ≡ v.streams ++ new_stream v.opened ∷ []
+pub opened_serving : (v : GatewayValue) (m : MachineValue) (streams : List StreamValue) → IsServing v → length v.streams < most_open → m ≡ opened_as v.opened v.machine → streams ≡ v.streams ++ new_stream v.opened ∷ []
     → IsServing (gateway_value v.plans m streams (v.opened + 1) v.begun v.tally)
-opened_serving v m streams h m_is streams_are =
+opened_serving v m streams h room m_is streams_are =
     subst (λ x. IsServing (gateway_value v.plans x streams (v.opened + 1) v.begun v.tally)) (sym m_is) (subst (λ ss. IsServing (gateway_value v.plans (opened_as v.opened v.machine) ss (v.opened + 1) v.begun v.tally)) (sym streams_are) (record {
       orderly = opened_order v.opened v.machine (opened_as v.opened v.machine) (h.no_conn v.opened (omega arith)) (h.no_call v.opened (omega arith)) refl h.orderly;
       settled = read_more (new_stream v.opened) v.streams refl h.settled;
@@ -290,6 +304,8 @@ opened_serving v m streams h m_is streams_are =
           ∙ ap (has_number c) (numbers_more (conn_value v.opened 0 [] false) v.machine.conns)
           ∙ no_number c v.opened (numbers v.machine.conns) (sym (conn_by_number c v.machine.conns) ∙ ap (λ o. is_some o) (h.no_conn c (omega (arith, le)))) (ne_eqb v.opened c (λ same. absurd (omega (arith, le, same)))));
       no_call = λ c le. h.no_call c (omega (arith, le));
+      few_streams = omega (arith, room, length-append v.streams (new_stream v.opened ∷ []));
+      few_calls = few_opened v.opened v.machine.conns h.few_calls;
     }))
 
 -- ---- a closing
@@ -338,6 +354,8 @@ closed_serving n v w w_is streams_are opened_is h = record {
   no_call = λ c le. subst (λ (m : MachineValue). NoCallOf c m.calls) (sym w_is)
       (All-map (λ (y : KeptValue). (y.id.conn == c) ≡ false) (given_up_if n) v.machine.calls
       (λ j d lt. ap (λ (y : CallId). y.conn == c) (same_given n (slice_index_or v.machine.calls j d)) ∙ h.no_call c (subst (λ m. m ≤ c) opened_is le) j d lt));
+  few_streams = (let before = h.few_streams in omega (arith, before, ap (λ (ss : List StreamValue). length ss) streams_are, length-filter (λ s. not (s.number == n)) v.streams, count_by-le-length (λ s. not (s.number == n)) v.streams));
+  few_calls = subst FewCalls (sym (ap (λ (m : MachineValue). m.conns) w_is)) (few_closed n v.machine.conns h.few_calls);
 }
   where
     now : numbers w.machine.conns ≡ filter (λ m. not (m == n)) (numbers v.machine.conns)

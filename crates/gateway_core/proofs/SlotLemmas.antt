@@ -141,7 +141,7 @@ undecided_is id past lt = by_came (came id past) refl (has_come id past lt)
 
 -- ---- counting
 
-count_take : {A : Type 0} (p : A → Bool) (d : A) (xs : List A) (n : ℕ) → n ≤ length xs → count_by p (take n xs) ≡ count_below n (λ k. p (slice_index_or xs k d))
+pub count_take : {A : Type 0} (p : A → Bool) (d : A) (xs : List A) (n : ℕ) → n ≤ length xs → count_by p (take n xs) ≡ count_below n (λ k. p (slice_index_or xs k d))
 count_take p d xs zero le = refl
 count_take p d xs (suc n) le =
     let next : n + 1 ≡ suc n = omega arith in

@@ -13,13 +13,9 @@ use Rattle.gateway_core.specs.declared.event.CallEvent.{CallEvent}
 use Rattle.gateway_core.specs.Past.{Mark, Past, Asked, call, entries, entering_on, entering_now, asked_now, asked_by, began, answers, started, is_answer_to, is_call, is_closed, event_by, own_event, ends_at_arrival, decided, now}
 use Rattle.gateway_core.specs.CallRecord.{answer_in, answer_of_branch, last_event}
 use Rattle.gateway_core.specs.Queue.{came, own_events, entry_by, entry}
-use Rattle.gateway_core.proofs.Cases.{or_false, and_false}
+use Rattle.gateway_core.proofs.Cases.{or_false, and_false, or_none}
 
 -- ---- an occurrence that does not concern a call
-
-pub or_none : {A : Type 0} (x : Option A) → option_or x None ≡ x
-or_none None = refl
-or_none (Some a) = refl
 
 pub record Quiet (id : CallId) (m : Mark) (past : Past) : Type 0 where
   pub no_entry : entering_on id.conn m.what ≡ None

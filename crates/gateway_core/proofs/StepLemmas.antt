@@ -21,10 +21,10 @@ use Rattle.gateway_core.specs.Queue.{came, own_events, record_of, entry_by, entr
 use Rattle.gateway_core.specs.Starts.{jobs_started, branches_started}
 use Rattle.gateway_core.proofs.LimitLemmas.{out_started, same_call}
 use Rattle.gateway_core.proofs.Unborn.{unborn}
-use Rattle.gateway_core.proofs.Cases.{and_true, and_false}
+use Rattle.gateway_core.proofs.Cases.{and_true, and_false, or_none}
 use Rattle.gateway_core.specs.Step.{Live, call_state, kept, ended, ended_by, ended_live, ending, entry_with, first_of, rest_of, next_out, is_last_answer, counted, result_on, step, moment_after}
 use Rattle.gateway_core.specs.LiveStands.{is_live, tasks_from, LiveStands, MayLive, CallStands, Stepped}
-use Rattle.gateway_core.proofs.Frame.{or_none, Past_it, unasked, call_same, began_same, came_same, answers_same, started_same, decided_same, own_same, own_before, shut_decided, shut_stays, not_started, out_after, out_same, none_start, entry_same}
+use Rattle.gateway_core.proofs.Frame.{Past_it, unasked, call_same, began_same, came_same, answers_same, started_same, decided_same, own_same, own_before, shut_decided, shut_stays, not_started, out_after, out_same, none_start, entry_same}
 
 -- ---- what came for a call
 

@@ -16,8 +16,7 @@ use Rattle.gateway_core.specs.Reply.{ReplyValue}
 use Rattle.gateway_core.specs.Ends.{is_stopped_in, unanswered}
 use Rattle.gateway_core.specs.Store.{MachineValue, machine_value, broken_at, call_at, conn_at, conn_of, kept_at, no_call, no_conn, IsFound, given_up, given_up_if, broken_conn, broken_if, fill_first, waiting_in, waiting}
 use Rattle.gateway_core.proofs.LimitLemmas.{same_call}
-use Rattle.gateway_core.proofs.Cases.{and_false}
-use Rattle.gateway_core.proofs.Frame.{or_none}
+use Rattle.gateway_core.proofs.Cases.{and_false, or_none}
 
 pub call_itself : (id : CallId) → is_call id id ≡ true
 call_itself id = rw (eq-eqb id.conn id.conn refl, eq-eqb id.request id.request refl) refl

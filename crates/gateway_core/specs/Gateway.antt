@@ -69,10 +69,15 @@ Brings plans i (Waiting q) pushed new v w =
 Brings plans i (Stopped r) pushed new v w = (new ≡ pushed) × Enters i (Refused r) v w
 Brings plans i Done pushed new v w = (new ≡ pushed) × (w ≡ v)
 
+-- how many calls come with a request, if one comes
+abbrev pub calls_with : List PlanRecord → Option HttpRequest → ℕ
+calls_with plans None = 0
+calls_with plans (Some q) = calls_in (Request q (arrival_of plans q))
+
 -- how many calls come where a reader is so after a push
 abbrev pub calls_brought : List PlanRecord → Reading → ℕ
 calls_brought plans (Partial left) = 0
-calls_brought plans (Waiting q) = calls_in (Request q (arrival_of plans q))
+calls_brought plans (Waiting q) = calls_with plans (Some q)
 calls_brought plans (Stopped r) = 0
 calls_brought plans Done = 0
 

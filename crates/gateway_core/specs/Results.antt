@@ -1,5 +1,5 @@
 -- A result of a branch, as the machine takes it.
-use Rattle.std.specs.Prelude.{◌≡◌, ◌⊎◌, ℕ, Bool, true, false, ◌&&◌, not, if◌then◌else◌, All, [], ◌++◌, filter, Option, Some, None, is_some, is_none, option_map, slice_set}
+use Rattle.std.specs.Prelude.{◌≡◌, ◌⊎◌, ℕ, Bool, true, false, ◌&&◌, not, if◌then◌else◌, All, [], ◌++◌, filter, Option, Some, None, is_some, is_none, option_map, slice_set, List}
 use Rattle.std.specs.List.{list_any}
 use Rattle.connect_codec.specs.declared.answer.Outcome.{Outcome}
 use Rattle.gateway_core.specs.declared.entry.ReplyEntry.TheVariants.{Call as Calling}
@@ -59,6 +59,10 @@ without_call id v = record v { calls = filter (λ k. not (is_call k.id id)) v.ca
 -- the call is forgotten, if nothing is left of it
 abbrev pub Forgets : CallId → MachineValue → MachineValue → Type 0
 Forgets id v w = (w ≡ v) ⊎ ((is_spent (call_at id v.calls) ≡ true) × (w ≡ without_call id v))
+
+-- no call of that id is kept of which nothing is left
+abbrev pub NoneSpent : CallId → List KeptValue → Type 0
+NoneSpent id calls = (i : ℕ) → IsFound id calls (Some i) → is_spent (kept_at i calls).call ≡ false
 
 -- a branch of a call that can't be decided any more comes back
 abbrev pub back_kept : ℕ → KeptValue → KeptValue

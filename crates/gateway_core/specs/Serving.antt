@@ -1,6 +1,7 @@
 -- What the calls of the open connections and their streams make of them.
+use Rattle.std.specs.List.{count_by}
 use Rattle.std.specs.Option.{option_map_or}
-use Rattle.std.specs.Prelude.{◌≡◌, ◌↔◌, ◌⊎◌, ⊤, ℕ, ◌+◌, ◌^◌, ◌<◌, ◌≤◌, IfErr, OnErr, OnOk, Bool, true, false, ◌&&◌, not, nat_lt, if◌then◌else◌, ◌==◌, All, List, [], ◌∷◌, ◌++◌, take, map, filter, length, Option, None, Some, is_some, Result, Ok, Err, slice_set}
+use Rattle.std.specs.Prelude.{◌≡◌, ◌↔◌, ◌⊎◌, ⊤, ℕ, ◌+◌, ◌^◌, ◌<◌, ◌≤◌, IfErr, OnErr, OnOk, Bool, true, false, ◌&&◌, not, nat_lt, if◌then◌else◌, ◌==◌, All, List, [], ◌∷◌, ◌++◌, take, map, filter, length, Option, None, Some, is_none, is_some, Result, Ok, Err, slice_set}
 use Rattle.http_pieces.specs.Reader.{Reading, HasRead, Stopped, Waiting, after_request, is_over}
 use Rattle.http_pieces.specs.Request.{HttpRequest}
 use Rattle.call_plan.specs.Plan.{PlanRecord}
@@ -15,15 +16,15 @@ use Rattle.gateway_core.specs.Arrival.{arrival_of}
 use Rattle.gateway_core.specs.Breaks.{is_of}
 use Rattle.gateway_core.specs.declared.entry.ReplyEntry.{ReplyEntry}
 use Rattle.gateway_core.specs.Enters.{Enters, arriving_at, entered_at}
-use Rattle.gateway_core.specs.Events.{Before, Occurs}
+use Rattle.gateway_core.specs.Events.{Before, Occurs, most_open}
 use Rattle.gateway_core.specs.Fate.{concerns}
 use Rattle.gateway_core.specs.Occurrence.{Entering, Occurrence, Request, Refused, calls_in}
-use Rattle.gateway_core.specs.Gateway.{Feeds, GatewayValue, StreamValue, goes_on, is_broken_conn, is_waiting, new_stream, stream_at, stream_of, untaken_of}
+use Rattle.gateway_core.specs.Gateway.{Feeds, GatewayValue, StreamValue, calls_with, goes_on, is_broken_conn, is_waiting, new_stream, stream_at, stream_of, untaken_of}
 use Rattle.gateway_core.specs.Job.{JobValue}
 use Rattle.gateway_core.specs.Kept.{KeptValue}
 use Rattle.gateway_core.specs.Opens.{closed_at, opened_as, ReplyTaken}
 use Rattle.gateway_core.specs.Orderly.{IsOrderly}
-use Rattle.gateway_core.specs.Past.{marked}
+use Rattle.gateway_core.specs.Past.{marked, most_calls}
 use Rattle.gateway_core.specs.Queue.{IsPrefixOf}
 use Rattle.gateway_core.specs.Reply.{ReplyValue}
 use Rattle.gateway_core.specs.Served.{Served}
@@ -43,14 +44,24 @@ most_begun = 2 ^ 56
 abbrev pub NoCallOf : ℕ → List KeptValue → Type 0
 NoCallOf c calls = All (λ (k : KeptValue). (k.id.conn == c) ≡ false) calls
 
+-- how many requests of the connection wait for their replies
+abbrev pub undecided : ConnValue → ℕ
+undecided k = count_by is_none k.slots
+
+-- no connection that goes on has more of them than may be
+abbrev pub FewCalls : List ConnValue → Type 0
+FewCalls conns = (c : ℕ) (k : ConnValue) → conn_of c conns ≡ Some k → k.broken ≡ false → undecided k ≤ most_calls
+
 -- the machine is orderly, has a stream for each connection, in the same order, of which no request waits, and nothing of connections
--- that were not opened yet
+-- that were not opened yet; no more connections are open, and no more requests of one are undecided, than may be
 pub record IsServing (v : GatewayValue) : Type 0 where
   pub orderly : IsOrderly v.machine
   pub numbers_are : map (λ s. s.number) v.streams ≡ numbers v.machine.conns
   pub settled : All (λ (s : StreamValue). is_waiting s.reader.reading ≡ false) v.streams
   pub no_conn : (c : ℕ) → v.opened ≤ c → conn_of c v.machine.conns ≡ None
   pub no_call : (c : ℕ) → v.opened ≤ c → NoCallOf c v.machine.calls
+  pub few_streams : length v.streams ≤ most_open
+  pub few_calls : FewCalls v.machine.conns
 
 -- the connection of that number opened
 pub record Opens (v w : GatewayValue) (number : ℕ) : Type 0 where
@@ -129,11 +140,6 @@ StopsBy i _ v w = w ≡ v
 abbrev pub ComesBy : List PlanRecord → ℕ → Option HttpRequest → Reading → MachineValue → MachineValue → Type 0
 ComesBy plans i (Some q) reading v w = Enters i (Request q (arrival_of plans q)) v w
 ComesBy plans i None reading v w = StopsBy i reading v w
-
--- how many calls come with a request, if one comes
-abbrev pub calls_with : List PlanRecord → Option HttpRequest → ℕ
-calls_with plans None = 0
-calls_with plans (Some q) = calls_in (Request q (arrival_of plans q))
 
 -- why a connection breaks as something comes on it: memory was refused, or as many calls were begun as may be
 abbrev pub IsFault : StepFault → ℕ → Type 0

@@ -4,7 +4,8 @@ ghost use Rattle.gateway_core.specs.declared.entry.ReplyEntry.{ReplyEntry};
 ghost use Rattle.gateway_core.specs.Gateway.{is_broken_conn, is_ended, next_reply, outs_of, untaken_of};
 ghost use Rattle.gateway_core.specs.declared.fault.Seen.{Seen};
 ghost use Rattle.gateway_core.specs.Occurrence as concerning;
-ghost use Rattle.gateway_core.specs.Serving.{Breaks, BreaksBy, CountsCalls, IsDeaf, Keeps, KeepsBut, TakesOnly, TellsStep};
+ghost use Rattle.gateway_core.specs.Serving.{Breaks, BreaksBy, CountsCalls, FewCalls, IsDeaf, Keeps, KeepsBut, TakesOnly, TellsStep};
+ghost use Rattle.gateway_core.specs.Results.{NoneSpent};
 ghost use Rattle.gateway_core.specs.Tally.{tally_of};
 ghost use Rattle.gateway_core.specs.Conn.{ConnValue};
 ghost use Rattle.gateway_core.specs.Past.{judged, marked};
@@ -154,6 +155,7 @@ impl<H: ReplyHook + Drop> Core<H> {
         ensures counted { result.broke ≡ true → result.seen ≡ Seen.Counted }
         ensures broke { Breaks self.old self.new result.broke }
         ensures unknown { result.seen ≡ Seen.Unknown → self.new ≡ record self.old { tally = self.new.tally } }
+        ensures none_spent { (result.seen ≡ Seen.Unknown → ⊥) → NoneSpent call.now self.new.machine.calls }
         ensures concerned { BreaksBy (concerning.Result call.now branch outcome) self.old self.new }
         ensures keeps { KeepsBut (λ c. false) (λ c. c == call.now.conn) (result.seen ∷ []) self.old self.new }
     {
@@ -173,6 +175,7 @@ impl<H: ReplyHook + Drop> Core<H> {
         ensures counted { result.broke ≡ true → result.seen ≡ Seen.Counted }
         ensures broke { Breaks self.old self.new result.broke }
         ensures unknown { result.seen ≡ Seen.Unknown → self.new ≡ record self.old { tally = self.new.tally } }
+        ensures none_spent { (result.seen ≡ Seen.Unknown → ⊥) → NoneSpent call.now self.new.machine.calls }
         ensures concerned { (outcome : Outcomes) → BreaksBy (concerning.Result call.now branch outcome) self.old self.new }
         ensures keeps { KeepsBut (λ c. false) (λ c. c == call.now.conn) (result.seen ∷ []) self.old self.new }
     {
@@ -205,6 +208,15 @@ impl<H: ReplyHook + Drop> Core<H> {
     {
         self.streams.serving_law();
         self.streams.take_reply(conn.number())
+    }
+
+    /// At most 64 connections are open, and no more than 8 requests of one that is not broken wait for their replies. It does
+    /// nothing.
+    pub fn bounds_law(&self)
+        ensures few { length self.now.streams ≤ most_open }
+        ensures calls { FewCalls self.now.machine.conns }
+    {
+        self.streams.serving_law();
     }
 
     /// Whether a job waits to be taken.

@@ -1,5 +1,5 @@
 //! What the gateway stands for after each event, by what a call makes of its value. The functions do nothing.
-ghost use Rattle.std.specs.Prelude.{◌≡◌, ℕ, List, ◌++◌, ◌∷◌, [], ◌<◌, length, Bool, false, Option, option_map, option_to_list, take, Result, Ok, Err, Some, true, ⊤};
+ghost use Rattle.std.specs.Prelude.{◌≡◌, ℕ, List, ◌++◌, ◌∷◌, [], ◌<◌, ◌≤◌, length, Bool, false, Option, option_map, option_to_list, take, Result, Ok, Err, Some, true, ⊤};
 ghost use Rattle.connect_codec.specs.declared.answer.Outcome.{Outcome};
 ghost use Rattle.http_pieces.specs.Request.{HttpRequest};
 ghost use Rattle.http_pieces.specs.Requests.{Ending, Requests};
@@ -10,19 +10,21 @@ ghost use Rattle.gateway_core.specs.declared.fault.Took.{Took};
 ghost use Rattle.gateway_core.specs.declared.id.CallId.{CallId};
 ghost use Rattle.gateway_core.specs.declared.machine.cause.Cause.TheVariants.{Reached, Drained};
 ghost use Rattle.gateway_core.specs.Events.{BranchResult, Closing, Drain, Gains, GatewayEvent, HangUp, Moment, Occurs, Opening, Piece, onto, stream, succeeds};
-ghost use Rattle.gateway_core.specs.Gateway.{GatewayValue, untaken_of};
+ghost use Rattle.gateway_core.specs.Gateway.{GatewayValue, outs_of, untaken_of};
 ghost use Rattle.gateway_core.specs.Job.{HandedJob, JobValue};
 ghost use Rattle.gateway_core.specs.Opens.{JobTaken};
 ghost use Rattle.gateway_core.specs.Reply.{ReplyValue};
 ghost use Rattle.gateway_core.specs.Results.{Forgets, ResultTaken, Starved};
 ghost use Rattle.gateway_core.specs.Conn.{ConnValue};
 ghost use Rattle.gateway_core.specs.Breaking.{BrokeNow};
-ghost use Rattle.gateway_core.specs.Queue.{IsPrefixOf, front};
+ghost use Rattle.gateway_core.specs.Past.{Asked, call, marked};
+ghost use Rattle.gateway_core.specs.Queue.{IsPrefixOf, front, record_of};
+ghost use Rattle.gateway_core.specs.Record.{is_decided, is_lawful};
 ghost use Rattle.gateway_core.specs.Served.{JobsAre, QueueIs, Served, ServedFed, ServedUpTo, with_reply};
-ghost use Rattle.gateway_core.specs.Starts.{Placed};
+ghost use Rattle.gateway_core.specs.Starts.{Placed, occurrences};
 ghost use Rattle.gateway_core.specs.Serving.{Closes, Ends, FedTo, HangsUp, IsServing, Opens, TakesReply};
-ghost use Rattle.gateway_core.specs.Step.{moment_after};
-ghost use Rattle.gateway_core.specs.Store.{MachineValue, conn_of};
+ghost use Rattle.gateway_core.specs.Step.{Live, moment_after};
+ghost use Rattle.gateway_core.specs.Store.{MachineValue, call_at, conn_of};
 
 use crate::request_laws::request_laws;
 use http_pieces::laws::fresh_law;
@@ -136,6 +138,20 @@ pub fn standing_law()
     ensures jobs { (v : GatewayValue) (opened : List ℕ) (es : List GatewayEvent) (taken : ℕ → List ReplyEntry)
         (handed : List JobValue) (occurred : List Placed) → Served v opened es taken handed → Occurs v.plans opened es occurred
         → JobsAre v (handed ++ v.machine.jobs) occurred }
+{}
+
+/// What is kept of a call is what has occurred of it: one that can be decided, of a connection that is not broken, has a lawful
+/// record, which is not decided; and no call has more branches out than its plan's limit.
+pub fn calls_law()
+    ensures records { (id : CallId) (k : ConnValue) (l : Live) (v : GatewayValue) (opened : List ℕ) (es : List GatewayEvent)
+        (taken : ℕ → List ReplyEntry) (handed : List JobValue) (occurred : List Placed)
+        → Served v opened es taken handed → Occurs v.plans opened es occurred
+        → conn_of id.conn v.machine.conns ≡ Some k → k.broken ≡ false → (call_at id v.machine.calls).live ≡ Some l
+        → (is_lawful (record_of l.asked l.events) ≡ true) × (is_decided (record_of l.asked l.events) ≡ false) }
+    ensures limit { (id : CallId) (a : Asked) (v : GatewayValue) (opened : List ℕ) (es : List GatewayEvent)
+        (taken : ℕ → List ReplyEntry) (handed : List JobValue) (occurred : List Placed)
+        → Served v opened es taken handed → Occurs v.plans opened es occurred → call id (marked (occurrences occurred)) ≡ Some a
+        → outs_of id v ≤ a.plan.limit }
 {}
 
 /// A connection that breaks at an event, whose jobs that started at it are these: what is queued for it, and what has started, is by

@@ -2,7 +2,7 @@ ghost use Rattle.std.specs.Prelude.{◌≡◌, ◌==◌, ◌<◌, ◌≤◌, ◌
 ghost use Rattle.gateway_core.specs.Ends.{is_stopped_in};
 ghost use Rattle.gateway_core.specs.Gateway.{is_broken_conn, is_ended, outs_of, untaken_of};
 ghost use Rattle.gateway_core.specs.Step.{moment_after};
-ghost use Rattle.gateway_core.specs.Results.{Forgets, ResultTaken, Starved};
+ghost use Rattle.gateway_core.specs.Results.{Forgets, NoneSpent, ResultTaken, Starved};
 ghost use Rattle.gateway_core.specs.declared.fault.Seen.{Seen};
 ghost use Rattle.gateway_core.specs.Opens.{JobTaken};
 ghost use Rattle.gateway_core.specs.Serving.{Breaks, BringsAt, Closes, Ends, FedTo, gateway_value, HangsUp, IsListening, IsPlaced, IsServing, ListensAt, Opens, ReadsAt, TakesReply, without_more};
@@ -178,6 +178,7 @@ impl<H: ReplyHook + Drop> Streams<H> {
         ensures taken { (between : MachineValue) × ResultTaken id.now branch outcome self.old.machine between result
             × Forgets id.now between self.new.machine }
         ensures unknown { result.seen ≡ Seen.Unknown → self.new.machine ≡ self.old.machine }
+        ensures none_spent { (result.seen ≡ Seen.Unknown → ⊥) → NoneSpent id.now self.new.machine.calls }
         ensures tally { (before : List Seen) → self.old.tally ≡ tally_of before → self.new.tally ≡ tally_of (result.seen ∷ before) }
         ensures rest { self.new ≡ record self.old { machine = self.new.machine; tally = self.new.tally } }
     {
@@ -193,6 +194,7 @@ impl<H: ReplyHook + Drop> Streams<H> {
         ensures starved { (between : MachineValue) × Starved id.now branch self.old.machine between result
             × Forgets id.now between self.new.machine }
         ensures unknown { result.seen ≡ Seen.Unknown → self.new.machine ≡ self.old.machine }
+        ensures none_spent { (result.seen ≡ Seen.Unknown → ⊥) → NoneSpent id.now self.new.machine.calls }
         ensures tally { (before : List Seen) → self.old.tally ≡ tally_of before → self.new.tally ≡ tally_of (result.seen ∷ before) }
         ensures rest { self.new ≡ record self.old { machine = self.new.machine; tally = self.new.tally } }
     {

@@ -21,6 +21,7 @@ use Rattle.gateway_core.specs.Queue.{answer_of, call_entry, came, entry, entry_b
 use Rattle.gateway_core.specs.Record.{answers_among, is_decided, is_ending, is_last, is_lawful, may_come, may_follow, started_after}
 use Rattle.gateway_core.specs.Reply.{reply_of}
 use Rattle.gateway_run.specs.Headline.{AllAnswered, AnswersCall, failed, joined, HasAnswered, IsAnswered}
+use Rattle.gateway_run.proofs.Flags.{or_none}
 
 -- ---- counts
 
@@ -69,10 +70,6 @@ count_more (suc n) i p q lt p_is q_is h =
     by_other false false a_is b_is le = le
 
 -- ---- the answers among events
-
-or_none : {A : Type 0} (x : Option A) → option_or x None ≡ x
-or_none None = refl
-or_none (Some a) = refl
 
 or_assoc : {A : Type 0} (x y z : Option A) → option_or (option_or x y) z ≡ option_or x (option_or y z)
 or_assoc None y z = refl

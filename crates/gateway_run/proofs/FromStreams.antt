@@ -16,6 +16,7 @@ use Rattle.gateway_core.specs.Past.{call_id, crowds, entering_now, entering_on, 
 use Rattle.gateway_core.specs.Queue.{came}
 use Rattle.gateway_core.specs.Starts.{Placed, occurrences}
 use Rattle.gateway_run.specs.Headline.{brought_by, came_on}
+use Rattle.gateway_run.proofs.Flags.{or_none}
 
 -- what is known of requests
 pub record StreamLaws : Type 0 where
@@ -222,10 +223,6 @@ came_at conn k (o ∷ os) =
     at_some : (b c : Bool) (x : Entering) → entering_of (option_map {U = Entering × Bool} (λ (e : Entering). (e, c)) (if b then Some x else None)) ≡ (if b then Some x else None)
     at_some true c x = refl
     at_some false c x = refl
-
-    or_none : (x : Option Entering) → option_or x None ≡ x
-    or_none None = refl
-    or_none (Some x) = refl
 
     by_what : (x : Option Entering) → entering_of (came (call_id conn k) (marked os)) ≡ slice_get (came_on conn os) k
         → option_or (entering_of (came (call_id conn k) (marked os)))

@@ -12,6 +12,7 @@ use Rattle.gateway_core.specs.Arrival.{Asks, Judged}
 use Rattle.gateway_core.specs.Occurrence.{Entering, Refused, Request}
 use Rattle.gateway_core.specs.Past.{Asked, Mark, Past, asked_by, call, call_id, decided, entering_now, entering_on, entries, is_undecided, now}
 use Rattle.gateway_core.specs.Queue.{came, entry, entry_by, front, own_events, queued_entries, record_of}
+use Rattle.gateway_run.proofs.Flags.{or_none}
 
 -- number k of the first ones that are there
 front_at : {A : Type 0} (f : ℕ → Option A) (a n k : ℕ) (x : A) → slice_get (front (map f (range_with_len a n))) k ≡ Some x → f (a + k) ≡ Some x
@@ -109,10 +110,6 @@ call_is id (m ∷ past) = by_came (came id past) refl (call_is id past)
     nothing : (b : Bool) → (if b then None else option_and_then (asked_by (now past)) None) ≡ None
     nothing true = refl
     nothing false = refl
-
-    or_none : {A : Type 0} (x : Option A) → option_or x None ≡ x
-    or_none None = refl
-    or_none (Some a) = refl
 
     none_of : (x : Option Asked) → is_some x ≡ false → x ≡ None
     none_of None e = refl

@@ -1,10 +1,6 @@
--- A script's text, its shape and its parts.
-use Rattle.std.proofs.Common.{◌≡◌, ◌≢◌, ℕ, List, Bool, true, false, cond, Some, None, Result, Ok, Err, IsUtf8, refl}
-use Rattle.std.specs.Option.{option_map_or}
-use Rattle.std.specs.Str.{is_utf8}
-use Rattle.std.proofs.lemmas.Str.{IsUtf8-from_is_utf8, is_utf8-from_IsUtf8}
+-- A script's shape and its parts.
+use Rattle.std.proofs.Common.{◌≡◌, ◌≢◌, List, Some, None, Ok, Err}
 use Rattle.serde_json.specs.Data.{Data, Items}
-use Rattle.serde_json.specs.Read.{read}
 use Rattle.call_plan.specs.Plan.{PlanRecord}
 use Rattle.call_plan.specs.PlanFile.{plans_of}
 use Rattle.call_plan.specs.declared.error.PlanError.{PlanError}
@@ -12,25 +8,7 @@ use Rattle.call_plan.specs.declared.error.PlanError.TheVariants as plan
 use Rattle.gateway_run.specs.declared.event.Event.{Event}
 use Rattle.gateway_run.specs.declared.fault.ScriptError.{ScriptError}
 use Rattle.gateway_run.specs.declared.fault.ScriptError.TheVariants.{Memory, NotAScript, Plans}
-use Rattle.gateway_run.specs.Script.{IsOfPlans, script_of, script_in, plan_list_of, entries_of, events_from}
-
--- ---- the text
-
-pub script_in-json : (text : List ℕ) (d : Data) → IsUtf8 text → read text ≡ Some d → script_in text ≡ script_of d
-unfolding script_in
-script_in-json text d utf8 is = rw (is_utf8-from_IsUtf8 text utf8, is)
-
-abbrev not_a_script : Result (List PlanRecord × List Event) ScriptError
-not_a_script = Err NotAScript
-
-none_read : (text : List ℕ) (b : Bool) → is_utf8 text ≡ b → (IsUtf8 text → read text ≡ None)
-    → option_map_or script_of (cond b (read text) None) not_a_script ≡ not_a_script
-none_read text true is none = rw (none (IsUtf8-from_is_utf8 text is))
-none_read text false is none = refl
-
-pub script_in-none : (text : List ℕ) → (IsUtf8 text → read text ≡ None) → script_in text ≡ Err NotAScript
-unfolding script_in
-script_in-none text none = none_read text (is_utf8 text) refl none
+use Rattle.gateway_run.specs.Script.{IsOfPlans, script_of, plan_list_of, entries_of, events_from}
 
 -- ---- the shape and the parts
 

@@ -1,15 +1,16 @@
 -- Jobs that are taken one by one.
 use Rattle.std.proofs.Common.{◌≡◌, ℕ, Bool, true, false, List, [], ◌∷◌, ◌++◌, refl, sym, ap, ◌∙◌, subst, append-nil, append_assoc}
 use Rattle.std.proofs.lemmas.Bool.{eq-eqb, ne_eqb}
-use Rattle.std.specs.Prelude.{◌==◌, ⊤, OnOk, IfOk, MatchResult, Option, Result, Ok, Err, option_map, option_to_list}
+use Rattle.std.specs.Prelude.{◌==◌, ◌^◌, ◌≤◌, ⊤, OnOk, IfOk, IfErr, OnErr, length, MatchResult, Option, Result, Ok, Err, option_map, option_to_list}
 use Rattle.gateway_core.specs.declared.fault.OpenError.{OpenError}
 use Rattle.gateway_core.specs.declared.fault.Seen.{Seen}
 use Rattle.gateway_core.specs.declared.fault.StepFault.{StepFault}
-use Rattle.gateway_run.specs.Stepping.{TellsBreaks, TellsConn, done_of, opened_by, opening_of, seen_in, taken_of}
+use Rattle.gateway_run.specs.Stepping.{TellsBreaks, TellsConn, TellsOpening, done_of, opened_by, opening_of, seen_in, taken_of}
 use Rattle.gateway_run.specs.declared.stepping.Stepped.{Stepped}
 use Rattle.gateway_run.specs.declared.stepping.Stepped.TheVariants.{NotOpened, Opened}
 use Rattle.gateway_core.specs.declared.entry.ReplyEntry.{ReplyEntry}
-use Rattle.gateway_core.specs.Events.{Before}
+use Rattle.gateway_core.specs.Events.{Before, most_open}
+use Rattle.gateway_core.specs.declared.fault.OpenError.TheVariants as refusal
 use Rattle.gateway_core.specs.Gateway.{GatewayValue, is_broken_conn}
 use Rattle.gateway_core.specs.Serving.{Breaks, KeepsBut, TellsStep}
 use Rattle.gateway_core.specs.declared.fault.StepFault.TheVariants.{Exhausted, Gone, Memory}
@@ -85,11 +86,19 @@ module _ {H : Type 0} where
 
 -- ---- what is told
 
-pub conn_told : (H : Type 0) (n : ℕ) (answer : Result ⊤ StepFault) (w : GatewayValue) → (v : GatewayValue) → TellsStep n v w answer → TellsConn n (done_of {H = H} answer) w
-conn_told H n (Ok all) w v tells = tells.unbroken
-conn_told H n (Err Gone) w v tells = tt
-conn_told H n (Err Exhausted) w v tells = tells.exhausted refl
-conn_told H n (Err Memory) w v tells = tells.broke refl
+pub conn_told : (H : Type 0) (n : ℕ) (answer : Result ⊤ StepFault) (w : GatewayValue) → (v : GatewayValue) → TellsStep n v w answer → TellsConn n (done_of {H = H} answer) v w
+conn_told H n (Ok all) w v tells = (tells.unbroken, λ deaf. let clash : Ok all ≡ Err Gone = tells.gone.1 deaf in absurd (cc))
+conn_told H n (Err Gone) w v tells = (tells.gone.0 refl, tells.unchanged refl)
+conn_told H n (Err Exhausted) w v tells =
+    let told = tells.exhausted refl in
+    (told.0, told.1, λ deaf. let clash : Err Exhausted ≡ Err Gone = tells.gone.1 deaf in absurd (cc))
+conn_told H n (Err Memory) w v tells = (tells.broke refl, λ deaf. let clash : Err Memory ≡ Err Gone = tells.gone.1 deaf in absurd (cc))
+
+pub opening_told : (H : Type 0) (answer : Result ℕ (List H × OpenError)) (v w : GatewayValue) → IfOk answer (λ conn. conn ≡ v.opened)
+    → IfErr answer (λ e. e.1 ≡ refusal.Full → most_open ≤ length v.streams) → IfErr answer (λ e. e.1 ≡ refusal.Exhausted → 2 ^ 56 ≤ v.opened) → OnErr answer (w ≡ v)
+    → TellsOpening (opening_of answer) v w
+opening_told H (Ok conn) v w number full exhausted same = number
+opening_told H (Err refused) v w number full exhausted same = (same, full, exhausted)
 
 pub breaks_told : (H : Type 0) (broke : Bool) (v w : GatewayValue) → Breaks v w broke → TellsBreaks (taken_of {H = H} broke) v w
 breaks_told H true v w h = h

@@ -8,7 +8,8 @@ use Rattle.serde_json.specs.Find.{get, at, as_null, as_str, as_array}
 use Rattle.http_pieces.specs.declared.reply.HttpReply.{HttpReply}
 use Rattle.connect_codec.specs.Outcome.{outcome_of}
 use Rattle.call_plan.specs.Plan.{PlanRecord}
-use Rattle.call_plan.specs.PlanFile.{whole_number, json_of, plans_of}
+use Rattle.json_values.specs.Json.{json_of}
+use Rattle.call_plan.specs.PlanFile.{whole_number, plans_of}
 use Rattle.call_plan.specs.declared.error.PlanError.{PlanError}
 use Rattle.call_plan.specs.declared.error.PlanError.TheVariants as plan
 use Rattle.gateway_run.specs.declared.event.Event.{Event}

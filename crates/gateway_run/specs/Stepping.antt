@@ -1,19 +1,20 @@
 -- What a step answers, and what a run takes down of it.
-use Rattle.std.specs.Prelude.{◌≡◌, ◌≤◌, ⊤, ℕ, Bool, true, false, List, [], ◌∷◌, ◌++◌, Result, Ok, Err}
+use Rattle.std.specs.Prelude.{◌≡◌, ◌≤◌, ◌^◌, ⊤, ℕ, Bool, true, false, List, [], ◌∷◌, ◌++◌, length, Result, Ok, Err}
 use Rattle.gateway_core.specs.declared.entry.ReplyEntry.{ReplyEntry}
 use Rattle.gateway_core.specs.Breaking.{can_break}
 use Rattle.gateway_core.specs.Job.{JobValue}
 use Rattle.gateway_core.specs.Past.{marked}
 use Rattle.gateway_core.specs.Served.{Served}
 use Rattle.gateway_core.specs.Starts.{Placed, occurrences}
-use Rattle.gateway_core.specs.Events.{Before, GatewayEvent, Occurs, Opening, Piece, HangUp, Moment, BranchResult, Drain, Closing}
+use Rattle.gateway_core.specs.Events.{Before, GatewayEvent, Occurs, most_open, Opening, Piece, HangUp, Moment, BranchResult, Drain, Closing}
 use Rattle.gateway_core.specs.declared.fault.Seen.{Seen}
 use Rattle.gateway_core.specs.declared.fault.Seen.TheVariants.{Counted}
 use Rattle.gateway_core.specs.declared.fault.OpenError.{OpenError}
+use Rattle.gateway_core.specs.declared.fault.OpenError.TheVariants as refusal
 use Rattle.gateway_core.specs.declared.fault.StepFault.{StepFault}
 use Rattle.gateway_core.specs.declared.fault.StepFault.TheVariants.{Exhausted, Gone, Memory}
 use Rattle.gateway_core.specs.Gateway.{GatewayValue, is_broken_conn}
-use Rattle.gateway_core.specs.Serving.{Breaks, most_begun}
+use Rattle.gateway_core.specs.Serving.{Breaks, IsDeaf, most_begun}
 use Rattle.gateway_run.specs.Log.{Collects, LogValue, log_value}
 use Rattle.gateway_run.specs.declared.stepping.Stepped.{Stepped}
 use Rattle.gateway_run.specs.declared.stepping.Stepped.TheVariants.{Broke, Done, Fault, NotOpened, Opened, Saw}
@@ -57,19 +58,20 @@ taken_of false = Done
 
 -- ---- what a step tells
 
--- a connection was opened, or none was and nothing changed
+-- a connection was opened, or none was and nothing changed: as many were open, or had been opened, as may be, or memory was refused
 abbrev pub TellsOpening : {H : Type 0} → Stepped H → GatewayValue → GatewayValue → Type 0
-TellsOpening (Opened conn) v w = ⊤
-TellsOpening (NotOpened hooks error) v w = w ≡ v
+TellsOpening (Opened conn) v w = conn ≡ v.opened
+TellsOpening (NotOpened hooks error) v w = (w ≡ v) × (error ≡ refusal.Full → most_open ≤ length v.streams) × (error ≡ refusal.Exhausted → 2 ^ 56 ≤ v.opened)
 TellsOpening _ v w = ⊥
 
--- want of memory, and of numbers for calls, is told exactly where the connection broke
-abbrev pub TellsConn : {H : Type 0} → ℕ → Stepped H → GatewayValue → Type 0
-TellsConn conn Done w = is_broken_conn conn w ≡ false
-TellsConn conn (Fault Gone) w = ⊤
-TellsConn conn (Fault Exhausted) w = (is_broken_conn conn w ≡ true) × (most_begun ≤ w.begun)
-TellsConn conn (Fault Memory) w = is_broken_conn conn w ≡ true
-TellsConn conn _ w = ⊥
+-- a step of a connection of which nothing is taken any more changes nothing, and is told so exactly there; want of memory, and of numbers
+-- for calls, is told exactly where the connection broke
+abbrev pub TellsConn : {H : Type 0} → ℕ → Stepped H → GatewayValue → GatewayValue → Type 0
+TellsConn conn Done v w = (is_broken_conn conn w ≡ false) × (IsDeaf conn v → ⊥)
+TellsConn conn (Fault Gone) v w = IsDeaf conn v × (w ≡ v)
+TellsConn conn (Fault Exhausted) v w = (is_broken_conn conn w ≡ true) × (most_begun ≤ w.begun) × (IsDeaf conn v → ⊥)
+TellsConn conn (Fault Memory) v w = (is_broken_conn conn w ≡ true) × (IsDeaf conn v → ⊥)
+TellsConn conn _ v w = ⊥
 
 -- that a connection broke is told exactly where one did
 abbrev pub TellsBreaks : {H : Type 0} → Stepped H → GatewayValue → GatewayValue → Type 0
@@ -84,8 +86,8 @@ TellsResult _ v w = ⊥
 
 abbrev pub Tells : {H : Type 0} → GatewayEvent → Stepped H → GatewayValue → GatewayValue → Type 0
 Tells Opening stepped v w = TellsOpening stepped v w
-Tells (Piece conn bytes) stepped v w = TellsConn conn stepped w
-Tells (HangUp conn) stepped v w = TellsConn conn stepped w
+Tells (Piece conn bytes) stepped v w = TellsConn conn stepped v w
+Tells (HangUp conn) stepped v w = TellsConn conn stepped v w
 Tells (Moment m) stepped v w = TellsBreaks stepped v w
 Tells (BranchResult conn request branch outcome) stepped v w = TellsResult stepped v w
 Tells Drain stepped v w = TellsBreaks stepped v w

@@ -9,6 +9,7 @@ use call_plan::{Plans, plans_of};
 use connect_codec::outcome;
 use http::StatusCode;
 use http_pieces::{Bytes, HttpReply};
+use json_values::json_value;
 use serde_json::Value;
 use std::alloc::{AllocError, Global};
 
@@ -25,17 +26,14 @@ const MAX_BRANCH: u64 = 4_294_967_295;
 ///
 /// `NotAScript` for a text that is no UTF-8, no JSON or no such object; then the fault of the plans, as `plans_of`
 /// finds it; then `BadEvent` with the place of the first entry that is no event. `Memory` may stand in place of any.
+#[tactic(auto, unfolding(crate::specs::Script::script_in))]
 pub fn read_script(alloc: Global, text: &[u8]) -> Result<(Plans, Vec<Event>), ScriptError>
     ensures read { IfOk result (λ s. script_in text.now ≡ Ok (s.0, s.1.items)) }
     ensures refused { IfErr result (λ e. e ≢ Memory → script_in text.now ≡ Err e) }
 {
-    match Value::from_slice(alloc, text) {
-        Ok(script) => script_of(alloc, &script),
-        Err(error) => if error.is_memory() {
-            Err(ScriptError::Memory)
-        } else {
-            Err(ScriptError::NotAScript)
-        },
+    match json_value(alloc, text)? {
+        Some(script) => script_of(alloc, &script),
+        None => Err(ScriptError::NotAScript),
     }
 }
 

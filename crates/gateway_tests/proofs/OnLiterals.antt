@@ -6,7 +6,8 @@ use Rattle.httparse.specs.Grammar.{trim_ows}
 use Rattle.serde_json.proofs.OnLiterals.{serde_json_on_literals}
 use Rattle.http_pieces.specs.Fields.{same_without_case, has_close, decimal}
 use Rattle.error_document.specs.Codes.{code_named}
-use Rattle.error_document.specs.Documents.{error_text, json_of, read_error}
+use Rattle.json_values.specs.Json.{json_of}
+use Rattle.error_document.specs.Documents.{error_text, read_error}
 use Rattle.connect_codec.specs.Headers.{is_json_type, is_request_id}
 use Rattle.connect_codec.specs.Message.{message_bytes}
 use Rattle.connect_codec.specs.Outcome.{outcome_of}

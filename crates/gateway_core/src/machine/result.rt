@@ -2,7 +2,7 @@ ghost use Rattle.std.specs.Prelude.{◌≡◌, ◌+◌, ◌<◌, ◌≤◌, ◌+
 ghost use Rattle.gateway_core.specs.Past.{is_call};
 ghost use Rattle.std.specs.VecDeque.{deque_capacity};
 ghost use Rattle.gateway_core.specs.Job.{job_at};
-ghost use Rattle.gateway_core.specs.Results.{back_at, DecidedBy, Forgets, ResultTaken, Starved};
+ghost use Rattle.gateway_core.specs.Results.{back_at, DecidedBy, Forgets, NoneSpent, ResultTaken, Starved};
 ghost use Rattle.gateway_core.specs.Step.{has_out};
 ghost use Rattle.gateway_core.specs.Store.{MachineValue, broken_at, kept_at};
 ghost use Rattle.gateway_core.specs.declared.fault.Seen.{Seen};
@@ -57,6 +57,7 @@ impl Machine {
     ) -> Took
         ensures taken { (between : MachineValue) × ResultTaken id.now branch outcome self.old between result × Forgets id.now between self.new }
         ensures unknown { result.seen ≡ Seen.Unknown → self.new ≡ self.old }
+        ensures none_spent { (result.seen ≡ Seen.Unknown → ⊥) → NoneSpent id.now self.new.calls }
     {
         let took = self.result(alloc, contexts, id, branch, outcome);
         self.forget_unless(took.seen, id);
@@ -72,6 +73,7 @@ impl Machine {
     ) -> Took
         ensures taken { (between : MachineValue) × Starved id.now branch self.old between result × Forgets id.now between self.new }
         ensures unknown { result.seen ≡ Seen.Unknown → self.new ≡ self.old }
+        ensures none_spent { (result.seen ≡ Seen.Unknown → ⊥) → NoneSpent id.now self.new.calls }
     {
         let took = self.come_back(contexts, id, branch);
         self.forget_unless(took.seen, id);
@@ -128,6 +130,7 @@ impl Machine {
     fn forget_unless(&mut self, seen: Seen, id: &CallId)
         ensures forgets { Forgets id.now self.old self.new }
         ensures kept { seen ≡ Seen.Unknown → self.new ≡ self.old }
+        ensures none_spent { (seen ≡ Seen.Unknown → ⊥) → NoneSpent id.now self.new.calls }
     {
         match seen {
             Seen::Unknown => {}
@@ -137,7 +140,8 @@ impl Machine {
 
     /// Forgets the call, if it can't be decided any more and no branch of it is out.
     fn forget(&mut self, id: &CallId)
-        ensures { Forgets id.now self.old self.new }
+        ensures forgets { Forgets id.now self.old self.new }
+        ensures none_spent { NoneSpent id.now self.new.calls }
     {
         let Some(index) = self.find(id) else {
             return;

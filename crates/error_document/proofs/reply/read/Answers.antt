@@ -1,8 +1,8 @@
 use Rattle.std.proofs.Common.{◌≡◌, List, ℕ, None, Some, Option, option_and_then, option_map, unwrap_or, codes, Bor, ◌∙◌, ap, sym, refl}
 use Rattle.std.proofs.lemmas.Result.{IfOk-weaker}
 use Rattle.serde_json.specs.View.{view}
+use Rattle.json_values.specs.Json.{json_of, text_at}
 use Rattle.error_document.specs.Codes.{code_named}
-use Rattle.error_document.specs.Documents.{text_at, json_of}
 use Rattle.error_document.proofs.Reading.{read_error-of_document, read_error-of_none}
 use Rattle.error_document.proofs.reply.read.Goals as goal
 

@@ -6,15 +6,20 @@ use Rattle.gateway_core.specs.Serving.{BreaksBy, KeepsBut, TellsStep}
 use Rattle.gateway_core.specs.Occurrence as occurs
 use Rattle.gateway_core.specs.Past.{call_id}
 use Rattle.gateway_run.specs.Run.{gateway_event}
-use Rattle.gateway_run.specs.Stepping.{BreaksAt, Tells, TellsBreaks, TellsConn, opened_by, seen_in}
+use Rattle.gateway_run.specs.Stepping.{BreaksAt, Tells, TellsBreaks, TellsConn, TellsOpening, opened_by, seen_in}
 use Rattle.gateway_run.specs.declared.stepping.Stepped.TheVariants.{Done, Saw}
-use Rattle.gateway_run.proofs.Starting.{breaks_told, by_done, by_opening, by_taken, conn_told, few_told, keeps_closing, keeps_for, none_done, none_opening, none_taken}
+use Rattle.gateway_run.proofs.Starting.{breaks_told, by_done, by_opening, by_taken, conn_told, few_told, keeps_closing, keeps_for, none_done, none_opening, none_taken, opening_told}
 use Rattle.gateway_run.proofs.stepping.step.Goals as goal
 
 pub returns-in-Some-clause-stands : goal.returns-in-Some-clause-stands
 returns-in-Some-clause-stands g c = λ opened es taken handed h.
     subst (λ e. Served c.open_conn.new.self (opened_by c.opened.result (length es) opened) (gateway_event e ∷ es) taken handed) (sym c.in-Opening.is)
     (by_opening (λ o. Served c.open_conn.new.self o (Opening ∷ es) taken handed) c.open_conn.result c.opened.result (length es) opened c.opened.ensures (c.open_conn.ensures.stands opened es taken handed h))
+
+pub returns-in-Some-clause-tells : goal.returns-in-Some-clause-tells
+returns-in-Some-clause-tells g c = subst (λ e. Tells (gateway_event e) c.opened.result c.args.core.now c.open_conn.new.self) (sym c.in-Opening.is)
+    (subst (λ s. TellsOpening s c.args.core.now c.open_conn.new.self) (sym c.opened.ensures)
+    (opening_told _ c.open_conn.result c.args.core.now c.open_conn.new.self c.open_conn.ensures.number c.open_conn.ensures.full c.open_conn.ensures.exhausted c.open_conn.ensures.unchanged))
 
 pub returns-in-Some-clause-few : goal.returns-in-Some-clause-few
 returns-in-Some-clause-few g c = λ conn opened es taken handed told h.
@@ -56,11 +61,11 @@ returns-in-Closing-clause-stands g c = λ opened es taken handed h.
 
 pub returns-in-Piece-clause-tells : goal.returns-in-Piece-clause-tells
 returns-in-Piece-clause-tells g c = subst (λ e. Tells (gateway_event e) c.done.result c.args.core.now c.deliver.new.core) (sym c.in-Piece.is)
-    (subst (λ s. TellsConn c.in-Piece.conn s c.deliver.new.core) (sym c.done.ensures) (conn_told _ c.in-Piece.conn c.deliver.result c.deliver.new.core c.args.core.now (subst (λ n. TellsStep n c.args.core.now c.deliver.new.core c.deliver.result) c.of.ensures c.deliver.ensures.tells)))
+    (subst (λ s. TellsConn c.in-Piece.conn s c.args.core.now c.deliver.new.core) (sym c.done.ensures) (conn_told _ c.in-Piece.conn c.deliver.result c.deliver.new.core c.args.core.now (subst (λ n. TellsStep n c.args.core.now c.deliver.new.core c.deliver.result) c.of.ensures c.deliver.ensures.tells)))
 
 pub returns-in-HangUp-clause-tells : goal.returns-in-HangUp-clause-tells
 returns-in-HangUp-clause-tells g c = subst (λ e. Tells (gateway_event e) c.done-in-HangUp.result c.args.core.now c.hang_up.new.self) (sym c.in-HangUp.is)
-    (subst (λ s. TellsConn c.in-HangUp.conn s c.hang_up.new.self) (sym c.done-in-HangUp.ensures) (conn_told _ c.in-HangUp.conn c.hang_up.result c.hang_up.new.self c.args.core.now (subst (λ n. TellsStep n c.args.core.now c.hang_up.new.self c.hang_up.result) c.of-in-HangUp.ensures c.hang_up.ensures.tells)))
+    (subst (λ s. TellsConn c.in-HangUp.conn s c.args.core.now c.hang_up.new.self) (sym c.done-in-HangUp.ensures) (conn_told _ c.in-HangUp.conn c.hang_up.result c.hang_up.new.self c.args.core.now (subst (λ n. TellsStep n c.args.core.now c.hang_up.new.self c.hang_up.result) c.of-in-HangUp.ensures c.hang_up.ensures.tells)))
 
 pub returns-in-Moment-clause-tells : goal.returns-in-Moment-clause-tells
 returns-in-Moment-clause-tells g c = subst (λ e. Tells (gateway_event e) c.taken.result c.args.core.now c.moment.new.self) (sym c.in-Moment.is)

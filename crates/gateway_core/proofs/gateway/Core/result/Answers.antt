@@ -24,6 +24,7 @@ returns g c = record {
   broke = subst (λ (x : GatewayValue). Breaks x c.result.new.self c.result.result.broke) c.self.view_is (breaks_of c.self.inside.streams c.result.new.self c.result.result.broke
       (result_breaks_are c.args.call.now c.args.branch c.self.inside.streams.machine c.result.ensures.taken.0 c.result.new.self.machine c.result.result c.serving_law.ensures.orderly c.result.ensures.taken.2 c.args.outcome c.result.ensures.taken.1));
   unknown = λ e. unknown_kept c.self.inside.streams c.result.new.self c.result.ensures.rest (c.result.ensures.unknown e) ∙ ap (λ (x : GatewayValue). record x { tally = c.result.new.self.tally }) c.self.view_is;
+  none_spent = c.result.ensures.none_spent;
   concerned = subst (λ (x : GatewayValue). BreaksBy (Result c.args.call.now c.args.branch c.args.outcome) x c.result.new.self) c.self.view_is
       (result_concerns c.args.call.now c.args.branch c.args.outcome c.result.ensures.taken.0 c.result.result c.self.inside.streams c.result.new.self c.serving_law.ensures.orderly c.result.ensures.taken.2 c.result.ensures.taken.1);
   keeps = subst (λ (x : GatewayValue). KeepsBut (λ n. false) (λ n. n == c.args.call.now.conn) (c.result.result.seen ∷ []) x c.result.new.self) c.self.view_is (result_keeps c.args.call.now c.args.branch c.result.ensures.taken.0 c.result.result c.self.inside.streams c.result.new.self c.serving_law.ensures.orderly c.result.ensures.rest c.result.ensures.taken.2 c.result.ensures.tally c.args.outcome c.result.ensures.taken.1);

@@ -24,6 +24,7 @@ returns g c = record {
   broke = subst (λ (x : GatewayValue). Breaks x c.starve.new.self c.starve.result.broke) c.self.view_is (breaks_of c.self.inside.streams c.starve.new.self c.starve.result.broke
       (starved_breaks_are c.args.call.now c.args.branch c.self.inside.streams.machine c.starve.ensures.starved.0 c.starve.new.self.machine c.starve.result c.serving_law.ensures.orderly c.starve.ensures.starved.2 c.starve.ensures.starved.1));
   unknown = λ e. unknown_kept c.self.inside.streams c.starve.new.self c.starve.ensures.rest (c.starve.ensures.unknown e) ∙ ap (λ (x : GatewayValue). record x { tally = c.starve.new.self.tally }) c.self.view_is;
+  none_spent = c.starve.ensures.none_spent;
   concerned = λ outcome. subst (λ (x : GatewayValue). BreaksBy (Result c.args.call.now c.args.branch outcome) x c.starve.new.self) c.self.view_is
       (starved_concerns c.args.call.now c.args.branch outcome c.starve.ensures.starved.0 c.starve.result c.self.inside.streams c.starve.new.self c.serving_law.ensures.orderly c.starve.ensures.starved.2 c.starve.ensures.starved.1);
   keeps = subst (λ (x : GatewayValue). KeepsBut (λ n. false) (λ n. n == c.args.call.now.conn) (c.starve.result.seen ∷ []) x c.starve.new.self) c.self.view_is (starved_keeps c.args.call.now c.args.branch c.starve.ensures.starved.0 c.starve.result c.self.inside.streams c.starve.new.self c.serving_law.ensures.orderly c.starve.ensures.rest c.starve.ensures.starved.2 c.starve.ensures.tally c.starve.ensures.starved.1);

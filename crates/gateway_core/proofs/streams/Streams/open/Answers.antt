@@ -1,4 +1,4 @@
-use Rattle.std.proofs.Common.{sym, ap, ◌++◌, ◌∷◌, [], ◌∙◌}
+use Rattle.std.proofs.Common.{arith, sym, ap, ◌++◌, ◌∷◌, [], ◌∙◌}
 use Rattle.gateway_core.specs.Serving.{gateway_value}
 use Rattle.gateway_core.proofs.ServingLemmas.{opened_serving}
 use Rattle.gateway_core.proofs.streams.Streams.open.Goals as goal
@@ -7,5 +7,6 @@ pub invariant_of-self-2 : goal.invariant_of-self-2
 invariant_of-self-2 g c =
     opened_serving (gateway_value c.self.inside.plans c.self.inside.machine c.self.inside.streams.items c.self.inside.opened c.self.inside.begun c.self.inside.tally) c.open.new.self c.push_reserved.new.self.items
     (c.self.invariant)
+    (omega (arith, c.if-len-ge-MOST_OPEN.false, c.len.ensures))
     c.in-Ok-open.ensures.ok
     (c.push_reserved.ensures.items ∙ ap (λ ss. ss ++ c.new.result ∷ []) c.reserve.ensures.items ∙ ap (λ s. c.self.inside.streams.items ++ s ∷ []) c.new.ensures)

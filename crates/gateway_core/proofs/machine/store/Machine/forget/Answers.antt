@@ -1,10 +1,11 @@
-use Rattle.std.proofs.Common.{◌≡◌, sym, ap, ◌∙◌, arith, inr, map}
+use Rattle.std.proofs.Common.{◌≡◌, sym, ap, ◌∙◌, arith, inr, map, subst}
 use Rattle.std.specs.Prelude.{not}
 use Rattle.gateway_core.specs.Kept.{KeptValue}
 use Rattle.gateway_core.specs.Past.{is_call}
 use Rattle.gateway_core.specs.Job.{HandedJob}
-use Rattle.gateway_core.specs.Results.{is_spent, without_call}
+use Rattle.gateway_core.specs.Results.{NoneSpent, is_spent, without_call}
 use Rattle.gateway_core.specs.Store.{MachineValue, machine_value, kept_at, waiting}
+use Rattle.gateway_core.proofs.Forgetting.{none_left}
 use Rattle.gateway_core.proofs.StoreLemmas.{call_found, item_is}
 use Rattle.gateway_core.proofs.StoreMore.{waiting_filtered}
 use Rattle.gateway_core.proofs.machine.store.Machine.forget.Goals as goal
@@ -22,8 +23,11 @@ returns-then-is_spent c =
     let items : c.self.inside.calls.items ≡ s.calls = ap (λ (m : MachineValue). m.calls) c.self.view_is in
     let was : c.index.result.now ≡ kept_at c.in-Some.index s.calls =
     item_is c.self.inside.calls.items s.calls c.in-Some.index c.index.result.now items c.in-Some.ensures.0 c.index.ensures in
-    inr (
-      ap is_spent (call_found c.args.id.now s.calls c.in-Some.index c.in-Some.ensures) ∙ ap (λ (k : KeptValue). is_spent k.call) (sym was) ∙ sym c.is_spent.ensures ∙ c.if-is_spent.true,
-      ap (λ ks. machine_value c.self.inside.moment c.self.inside.drained c.self.inside.conns.items ks (map (λ (j : HandedJob). j.job) c.self.inside.jobs.items)) c.forget_in.ensures
-          ∙ ap (without_call c.args.id.now) c.self.view_is,
-    )
+    record {
+      forgets = inr (
+        ap is_spent (call_found c.args.id.now s.calls c.in-Some.index c.in-Some.ensures) ∙ ap (λ (k : KeptValue). is_spent k.call) (sym was) ∙ sym c.is_spent.ensures ∙ c.if-is_spent.true,
+        ap (λ ks. machine_value c.self.inside.moment c.self.inside.drained c.self.inside.conns.items ks (map (λ (j : HandedJob). j.job) c.self.inside.jobs.items)) c.forget_in.ensures
+            ∙ ap (without_call c.args.id.now) c.self.view_is,
+      );
+      none_spent = subst (NoneSpent c.args.id.now) (sym c.forget_in.ensures) (none_left c.args.id.now c.self.inside.calls.items);
+    }

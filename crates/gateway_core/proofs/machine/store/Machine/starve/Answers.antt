@@ -6,4 +6,5 @@ pub returns : goal.returns
 returns g c = record {
   taken = (c.come_back-took.new.self, c.come_back-took.ensures, c.forget_unless.ensures.forgets);
   unknown = λ e. c.forget_unless.ensures.kept e ∙ unknown_starved c.args.id.now c.args.branch c.args.self.now c.come_back-took.new.self c.come_back-took.result c.come_back-took.ensures e;
+  none_spent = c.forget_unless.ensures.none_spent;
 }

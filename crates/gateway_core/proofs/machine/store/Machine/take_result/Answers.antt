@@ -6,4 +6,5 @@ pub returns : goal.returns
 returns g c = record {
   taken = (c.result-took.new.self, c.result-took.ensures, c.forget_unless.ensures.forgets);
   unknown = λ e. c.forget_unless.ensures.kept e ∙ unknown_result c.args.id.now c.args.branch c.args.outcome c.args.self.now c.result-took.new.self c.result-took.result c.result-took.ensures e;
+  none_spent = c.forget_unless.ensures.none_spent;
 }

@@ -1,13 +1,11 @@
-//! What is looked for in JSON, as `serde_json` reads it.
 ghost use Rattle.std.specs.Prelude.{◌≡◌, IfOk, option_map};
 ghost use Rattle.serde_json.specs.View.{view};
-ghost use Rattle.error_document.specs.Documents.{json_of, text_at};
+ghost use Rattle.json_values.specs.Json.{json_of, text_at};
 
 use serde_json::Value;
 use std::alloc::{AllocError, Global};
 
-/// The value that bytes are as JSON: None where they are not UTF-8 or no JSON, and where they nest
-/// deeper than 127.
+/// The value that bytes are as JSON: None where they are not UTF-8 or no JSON, and where they nest deeper than 127.
 pub fn json_value(alloc: Global, bytes: &[u8]) -> Result<Option<Value>, AllocError>
     ensures { IfOk result (λ value. option_map view value ≡ json_of bytes.now) }
 {
@@ -18,8 +16,7 @@ pub fn json_value(alloc: Global, bytes: &[u8]) -> Result<Option<Value>, AllocErr
     }
 }
 
-/// The text under a key of an object: None where the value there is no text, and in what is no
-/// object.
+/// The text under a key of an object: None where the value there is no text, and in what is no object.
 pub fn text_at<'v>(value: &'v Value, key: &str) -> Option<&'v str>
     ensures { option_map (λ text. text.now) result ≡ text_at key.now (view value.now) }
 {
