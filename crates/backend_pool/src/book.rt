@@ -9,6 +9,7 @@ ghost use Rattle.gateway_core.specs.Job.{JobValue};
 ghost use Rattle.gateway_core.specs.Past.{Asked, call, judged, marked};
 ghost use Rattle.gateway_core.specs.Queue.{record_of};
 ghost use Rattle.gateway_core.specs.Record.{is_decided, is_lawful};
+ghost use Rattle.gateway_core.specs.Refused.{RefusesOpening};
 ghost use Rattle.gateway_core.specs.Served.{Served, with_reply};
 ghost use Rattle.gateway_core.specs.Occurrence as concerning;
 ghost use Rattle.gateway_core.specs.Serving.{Breaks, BreaksBy, FewCalls, TakesOnly, TellsStep};
@@ -106,8 +107,7 @@ impl<H: ReplyHook + Drop, L: Ledger, J: Ledger, K: Ledger> Book<H, L, J, K> {
             → BookStands self.old opened es taken handed
             → IfOk result (λ _. open_connections opened es < most_open) }
         ensures number { IfOk result (λ conn. conn ≡ self.old.core.opened) }
-        ensures full { IfErr result (λ e. e.1 ≡ OpenError.Full → most_open ≤ length self.old.core.streams) }
-        ensures exhausted { IfErr result (λ e. e.1 ≡ OpenError.Exhausted → 2 ^ 56 ≤ self.old.core.opened) }
+        ensures refused { IfErr result (λ e. RefusesOpening e.1 self.old.core) }
         ensures back { IfErr result (λ e. e.0 ≡ stock) }
         ensures unchanged { OnErr result (self.new ≡ self.old) }
         ensures counts { self.new ≡ record self.old { core = self.new.core } }

@@ -1,4 +1,6 @@
 pub mod Cases
+pub mod ContextLemmas
+pub mod LinkedLemmas
 pub mod ArrivalLemmas
 pub mod LimitLemmas
 pub mod PastLemmas

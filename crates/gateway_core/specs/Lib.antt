@@ -23,6 +23,9 @@ pub mod Conn
 pub mod Store
 pub mod Tally
 pub mod Ends
+pub mod Contexts
+pub mod Ties
+pub mod Linked
 pub mod Results
 pub mod Duty
 pub mod Enters
@@ -30,6 +33,7 @@ pub mod Opens
 pub mod Orderly
 pub mod Events
 pub mod Gateway
+pub mod Refused
 pub mod Serving
 pub mod Served
 pub mod EventAdds

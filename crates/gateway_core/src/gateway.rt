@@ -5,6 +5,7 @@ ghost use Rattle.gateway_core.specs.Gateway.{is_broken_conn, is_ended, next_repl
 ghost use Rattle.gateway_core.specs.declared.fault.Seen.{Seen};
 ghost use Rattle.gateway_core.specs.Occurrence as concerning;
 ghost use Rattle.gateway_core.specs.Serving.{Breaks, BreaksBy, CountsCalls, FewCalls, IsDeaf, Keeps, KeepsBut, TakesOnly, TellsStep};
+ghost use Rattle.gateway_core.specs.Refused.{RefusesOpening};
 ghost use Rattle.gateway_core.specs.Results.{NoneSpent};
 ghost use Rattle.gateway_core.specs.Tally.{tally_of};
 ghost use Rattle.gateway_core.specs.Conn.{ConnValue};
@@ -65,8 +66,7 @@ impl<H: ReplyHook + Drop> Core<H> {
         ensures few { (opened : List ℕ) (es : List GatewayEvent) (taken : ℕ → List ReplyEntry) (handed : List JobValue)
             → Served self.old opened es taken handed → IfOk result (λ _. open_connections opened es < most_open) }
         ensures number { IfOk result (λ conn. conn ≡ self.old.opened) }
-        ensures full { IfErr result (λ e. e.1 ≡ OpenError.Full → most_open ≤ length self.old.streams) }
-        ensures exhausted { IfErr result (λ e. e.1 ≡ OpenError.Exhausted → 2 ^ 56 ≤ self.old.opened) }
+        ensures refused { IfErr result (λ e. RefusesOpening e.1 self.old) }
         ensures back { IfErr result (λ e. e.0 ≡ stock) }
         ensures unchanged { OnErr result (self.new ≡ self.old) }
         ensures keeps { Keeps (λ c. false) self.old self.new }

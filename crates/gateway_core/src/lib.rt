@@ -16,6 +16,7 @@ mod id;
 mod job;
 mod joined;
 pub mod laws;
+mod linked;
 mod machine;
 pub mod machine_laws;
 mod record;

@@ -2,6 +2,7 @@ ghost use Rattle.std.specs.Prelude.{◌≡◌, ◌==◌, ◌<◌, ◌≤◌, ◌
 ghost use Rattle.gateway_core.specs.Ends.{is_stopped_in};
 ghost use Rattle.gateway_core.specs.Gateway.{is_broken_conn, is_ended, outs_of, untaken_of};
 ghost use Rattle.gateway_core.specs.Step.{moment_after};
+ghost use Rattle.gateway_core.specs.Refused.{RefusesOpening};
 ghost use Rattle.gateway_core.specs.Results.{Forgets, NoneSpent, ResultTaken, Starved};
 ghost use Rattle.gateway_core.specs.declared.fault.Seen.{Seen};
 ghost use Rattle.gateway_core.specs.Opens.{JobTaken};
@@ -9,13 +10,12 @@ ghost use Rattle.gateway_core.specs.Serving.{Breaks, BringsAt, Closes, Ends, Fed
 ghost use Rattle.gateway_core.specs.Store.{MachineValue, broken_at, conn_at, machine_value};
 ghost use Rattle.gateway_core.specs.Tally.{tally_of};
 
-use crate::contexts::Contexts;
 use crate::fault::{OpenError, StepFault, Took};
 use crate::hook::ReplyHook;
 use crate::id::{CallId, ConnId};
 use crate::job::Job;
+use crate::linked::LinkedMachine;
 use crate::machine::cause::Cause;
-use crate::machine::store::Machine;
 use crate::machine::stream::Stream;
 use crate::reply::Reply;
 use crate::stock::Stock;
@@ -37,8 +37,7 @@ const MOST_OPENINGS: u64 = 1 << 56;
 pub(crate) struct Streams<H> {
     alloc: Global,
     plans: Plans,
-    machine: Machine,
-    contexts: Contexts<H>,
+    machine: LinkedMachine<H>,
     /// One of each connection that is open.
     streams: Vec<Stream>,
     /// How many connections were opened: the number of the next.
@@ -67,8 +66,7 @@ impl<H: ReplyHook + Drop> Streams<H> {
         Ok(Streams {
             alloc,
             plans,
-            machine: Machine::new(alloc),
-            contexts: Contexts::new(alloc)?,
+            machine: LinkedMachine::new(alloc)?,
             streams: Vec::new(alloc),
             opened: 0,
             begun: 0,
@@ -80,8 +78,7 @@ impl<H: ReplyHook + Drop> Streams<H> {
     /// and `Memory`; it changes nothing, and the hooks come back.
     pub(crate) fn open(&mut self, stock: Stock<H>) -> Result<ConnId, (Stock<H>, OpenError)>
         ensures opens { IfOk result (Opens self.old self.new) }
-        ensures full { IfErr result (λ e. e.1 ≡ OpenError.Full → 64 ≤ length self.old.streams) }
-        ensures exhausted { IfErr result (λ e. e.1 ≡ OpenError.Exhausted → 2 ^ 56 ≤ self.old.opened) }
+        ensures refused { IfErr result (λ e. RefusesOpening e.1 self.old) }
         ensures back { IfErr result (λ e. e.0 ≡ stock) }
         ensures err { OnErr result (self.new ≡ self.old) }
     {
@@ -95,14 +92,9 @@ impl<H: ReplyHook + Drop> Streams<H> {
         let Ok(()) = self.streams.reserve(1) else {
             return Err((stock, OpenError::Memory));
         };
-        let Ok(ctx) = self.contexts.prepare() else {
+        if let Err(stock) = self.machine.open(self.alloc, number, stock) {
             return Err((stock, OpenError::Memory));
-        };
-        let Ok(()) = self.machine.open(self.alloc, number) else {
-            self.contexts.release(ctx);
-            return Err((stock, OpenError::Memory));
-        };
-        self.contexts.open(number, ctx, stock);
+        }
         self.streams.push_reserved(Stream::new(self.alloc, number));
         self.opened += 1;
         Ok(ConnId::of(number))
@@ -168,7 +160,6 @@ impl<H: ReplyHook + Drop> Streams<H> {
             return false;
         }
         self.machine.close(number);
-        self.contexts.close(number);
         close_in(&mut self.streams, number);
         true
     }
@@ -182,9 +173,7 @@ impl<H: ReplyHook + Drop> Streams<H> {
         ensures tally { (before : List Seen) → self.old.tally ≡ tally_of before → self.new.tally ≡ tally_of (result.seen ∷ before) }
         ensures rest { self.new ≡ record self.old { machine = self.new.machine; tally = self.new.tally } }
     {
-        let took = self
-            .machine
-            .take_result(self.alloc, &mut self.contexts, id, branch, outcome);
+        let took = self.machine.take_result(self.alloc, id, branch, outcome);
         self.tally.add(took.seen);
         took
     }
@@ -198,7 +187,7 @@ impl<H: ReplyHook + Drop> Streams<H> {
         ensures tally { (before : List Seen) → self.old.tally ≡ tally_of before → self.new.tally ≡ tally_of (result.seen ∷ before) }
         ensures rest { self.new ≡ record self.old { machine = self.new.machine; tally = self.new.tally } }
     {
-        let took = self.machine.starve(&mut self.contexts, id, branch);
+        let took = self.machine.starve(id, branch);
         self.tally.add(took.seen);
         took
     }
@@ -327,7 +316,7 @@ impl<H: ReplyHook + Drop> Streams<H> {
     fn break_conn(&mut self, number: u64)
         ensures { self.new ≡ record self.old { machine = broken_at number self.old.machine } }
     {
-        self.machine.break_conn(&mut self.contexts, number);
+        self.machine.break_conn(number);
     }
 
     /// The request comes on the connection at that place, or the refusal that its stream has come to; or the connection breaks.
@@ -337,19 +326,12 @@ impl<H: ReplyHook + Drop> Streams<H> {
         ensures { BringsAt index request self.old self.new result }
     {
         if let Some(request) = request {
-            return self.machine.come(
-                self.alloc,
-                &mut self.contexts,
-                &self.plans,
-                index,
-                request,
-                &mut self.begun,
-            );
-        }
-        if let State::Refused(refusal) = self.streams[index].state() {
             return self
                 .machine
-                .stop(self.alloc, &mut self.contexts, index, refusal);
+                .come(self.alloc, &self.plans, index, request, &mut self.begun);
+        }
+        if let State::Refused(refusal) = self.streams[index].state() {
+            return self.machine.stop(self.alloc, index, refusal);
         }
         Ok(())
     }
@@ -360,9 +342,7 @@ impl<H: ReplyHook + Drop> Streams<H> {
         ensures broke { Breaks self.old self.new result }
     {
         let before = self.machine.broken();
-        self.contexts.tell(cause);
-        self.machine
-            .end_calls(self.alloc, &mut self.contexts, cause);
+        self.machine.end_calls(self.alloc, cause);
         self.machine.broken() > before
     }
 }

@@ -10,7 +10,7 @@ use Rattle.gateway_run.specs.declared.stepping.Stepped.{Stepped}
 use Rattle.gateway_run.specs.declared.stepping.Stepped.TheVariants.{NotOpened, Opened}
 use Rattle.gateway_core.specs.declared.entry.ReplyEntry.{ReplyEntry}
 use Rattle.gateway_core.specs.Events.{Before, most_open}
-use Rattle.gateway_core.specs.declared.fault.OpenError.TheVariants as refusal
+use Rattle.gateway_core.specs.Refused.{RefusesOpening}
 use Rattle.gateway_core.specs.Gateway.{GatewayValue, is_broken_conn}
 use Rattle.gateway_core.specs.Serving.{Breaks, KeepsBut, TellsStep}
 use Rattle.gateway_core.specs.declared.fault.StepFault.TheVariants.{Exhausted, Gone, Memory}
@@ -95,10 +95,10 @@ conn_told H n (Err Exhausted) w v tells =
 conn_told H n (Err Memory) w v tells = (tells.broke refl, λ deaf. let clash : Err Memory ≡ Err Gone = tells.gone.1 deaf in absurd (cc))
 
 pub opening_told : (H : Type 0) (answer : Result ℕ (List H × OpenError)) (v w : GatewayValue) → IfOk answer (λ conn. conn ≡ v.opened)
-    → IfErr answer (λ e. e.1 ≡ refusal.Full → most_open ≤ length v.streams) → IfErr answer (λ e. e.1 ≡ refusal.Exhausted → 2 ^ 56 ≤ v.opened) → OnErr answer (w ≡ v)
+    → IfErr answer (λ e. RefusesOpening e.1 v) → OnErr answer (w ≡ v)
     → TellsOpening (opening_of answer) v w
-opening_told H (Ok conn) v w number full exhausted same = number
-opening_told H (Err refused) v w number full exhausted same = (same, full, exhausted)
+opening_told H (Ok conn) v w number why same = number
+opening_told H (Err refused) v w number why same = (same, why)
 
 pub breaks_told : (H : Type 0) (broke : Bool) (v w : GatewayValue) → Breaks v w broke → TellsBreaks (taken_of {H = H} broke) v w
 breaks_told H true v w h = h

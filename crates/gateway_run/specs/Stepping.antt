@@ -10,7 +10,7 @@ use Rattle.gateway_core.specs.Events.{Before, GatewayEvent, Occurs, most_open, O
 use Rattle.gateway_core.specs.declared.fault.Seen.{Seen}
 use Rattle.gateway_core.specs.declared.fault.Seen.TheVariants.{Counted}
 use Rattle.gateway_core.specs.declared.fault.OpenError.{OpenError}
-use Rattle.gateway_core.specs.declared.fault.OpenError.TheVariants as refusal
+use Rattle.gateway_core.specs.Refused.{RefusesOpening}
 use Rattle.gateway_core.specs.declared.fault.StepFault.{StepFault}
 use Rattle.gateway_core.specs.declared.fault.StepFault.TheVariants.{Exhausted, Gone, Memory}
 use Rattle.gateway_core.specs.Gateway.{GatewayValue, is_broken_conn}
@@ -58,10 +58,10 @@ taken_of false = Done
 
 -- ---- what a step tells
 
--- a connection was opened, or none was and nothing changed: as many were open, or had been opened, as may be, or memory was refused
+-- a connection was opened, or none was and nothing changed, for the first reason that applies
 abbrev pub TellsOpening : {H : Type 0} → Stepped H → GatewayValue → GatewayValue → Type 0
 TellsOpening (Opened conn) v w = conn ≡ v.opened
-TellsOpening (NotOpened hooks error) v w = (w ≡ v) × (error ≡ refusal.Full → most_open ≤ length v.streams) × (error ≡ refusal.Exhausted → 2 ^ 56 ≤ v.opened)
+TellsOpening (NotOpened hooks error) v w = (w ≡ v) × RefusesOpening error v
 TellsOpening _ v w = ⊥
 
 -- a step of a connection of which nothing is taken any more changes nothing, and is told so exactly there; want of memory, and of numbers

@@ -1,4 +1,5 @@
 ghost use Rattle.std.specs.Prelude.{◌≡◌, ◌<◌, length};
+ghost use Rattle.gateway_core.specs.Linked.{linked};
 ghost use Rattle.gateway_core.specs.Ends.{AreApart, CallsEnd, caused, EndedAt, IsSettled, settled_at, SettledBelow};
 
 use crate::contexts::Contexts;
@@ -33,9 +34,12 @@ impl Machine {
         index: usize,
         cause: &Cause,
     )
-        requires { index < length self.old.calls }
-        ensures { EndedAt cause.now index self.old self.new }
+        requires there { index < length self.old.calls }
+        requires linked { contexts.old ≡ linked self.old }
+        ensures ended { EndedAt cause.now index self.old self.new }
+        ensures linked { contexts.new ≡ linked self.new }
     {
+        contexts.apart_law();
         if self.calls[index].end_by(alloc, contexts, cause).is_err() {
             let id = self.calls[index].id();
             self.break_conn(contexts, id.conn.number());
@@ -45,7 +49,8 @@ impl Machine {
     /// Puts the reply of the call at that place into its slot.
     pub(crate) fn settle(&mut self, index: usize)
         requires { index < length self.old.calls }
-        ensures { self.new ≡ settled_at index self.old }
+        ensures settled { self.new ≡ settled_at index self.old }
+        ensures linked { linked self.new ≡ linked self.old }
     {
         let reply = self.calls[index].take_reply();
         self.fill(reply);
@@ -60,7 +65,9 @@ impl Machine {
     )
         requires settled { IsSettled self.old }
         requires apart { AreApart self.old.calls }
-        ensures { CallsEnd cause.now self.old self.new }
+        requires linked { contexts.old ≡ linked self.old }
+        ensures ended { CallsEnd cause.now self.old self.new }
+        ensures linked { contexts.new ≡ linked self.new }
     {
         for index in 0..self.calls.len() {
             self.end_call(alloc, contexts, index, cause);
@@ -70,7 +77,8 @@ impl Machine {
 
     /// Puts the replies that were made into their slots.
     fn settle_all(&mut self)
-        ensures { SettledBelow (length self.old.calls) self.old self.new }
+        ensures settled { SettledBelow (length self.old.calls) self.old self.new }
+        ensures linked { linked self.new ≡ linked self.old }
     {
         for index in 0..self.calls.len() {
             self.settle(index);

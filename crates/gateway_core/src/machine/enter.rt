@@ -1,10 +1,12 @@
-ghost use Rattle.std.specs.Prelude.{[], ◌≡◌, ◌+◌, ◌<◌, ◌≤◌, ◌++◌, Some, None as Nothing, IfErr, IfOk, OnOk, OnErr, length, map};
+ghost use Rattle.std.specs.Prelude.{[], ◌≡◌, ◌+◌, ◌<◌, ◌≤◌, ◌++◌, Some, None as Nothing, IfErr, IfOk, OnOk, OnErr, false, length, map};
 ghost use Rattle.std.specs.VecDeque.{deque_capacity};
 ghost use Rattle.gateway_core.specs.Arrival.{arrival_of};
 ghost use Rattle.gateway_core.specs.Begins.{begins};
 ghost use Rattle.gateway_core.specs.Conn.{next_of};
+ghost use Rattle.gateway_core.specs.Contexts.{KeepsOthers, is_life};
 ghost use Rattle.gateway_core.specs.Enters.{arriving_at, asking_at, entered_at, ComesTo, Enters};
 ghost use Rattle.gateway_core.specs.Job.{job_at};
+ghost use Rattle.gateway_core.specs.Linked.{ComesWith, IsLinkedBut, linked};
 ghost use Rattle.gateway_core.specs.Occurrence.{Entering, calls_in};
 ghost use Rattle.gateway_core.specs.Serving.{IsFault, IsMade, most_begun};
 ghost use Rattle.gateway_core.specs.Step.{gone, step_to};
@@ -45,8 +47,12 @@ impl Machine {
         request: Request,
         begun: &mut u64,
     ) -> Result<(), StepFault>
-        requires { index < length self.old.conns }
-        ensures { IsMade index (Entering.Request request (arrival_of plans.now request)) begun.old self.old begun.new self.new result }
+        requires there { index < length self.old.conns }
+        requires on { (conn_at index self.old.conns).broken ≡ false }
+        requires fresh { is_life (next_of (conn_at index self.old.conns)) contexts.old.calls ≡ false }
+        requires linked { contexts.old ≡ linked self.old }
+        ensures made { IsMade index (Entering.Request request (arrival_of plans.now request)) begun.old self.old begun.new self.new result }
+        ensures linked { contexts.new ≡ linked self.new }
     {
         let came = self.take_in(alloc, contexts, plans, index, request, begun);
         if came.is_err() {
@@ -64,10 +70,12 @@ impl Machine {
         index: usize,
         refusal: Refusal,
     ) -> Result<(), StepFault>
-        requires { index < length self.old.conns }
+        requires there { index < length self.old.conns }
+        requires linked { contexts.old ≡ linked self.old }
         ensures ok { OnOk result (self.new ≡ entered_at index (arriving_at index (Entering.Refused refusal) self.old) self.old) }
         ensures err { OnErr result (self.new ≡ broken_at (conn_at index self.old.conns).number self.old) }
         ensures fault { IfErr result (λ f. f ≡ fault.Memory) }
+        ensures linked { contexts.new ≡ linked self.new }
     {
         let stopped = self.refuse(alloc, index, refusal);
         if stopped.is_err() {
@@ -87,10 +95,15 @@ impl Machine {
         request: Request,
         begun: &mut u64,
     ) -> Result<(), StepFault>
-        requires { index < length self.old.conns }
+        requires there { index < length self.old.conns }
+        requires on { (conn_at index self.old.conns).broken ≡ false }
+        requires fresh { is_life (next_of (conn_at index self.old.conns)) contexts.old.calls ≡ false }
+        requires linked { contexts.old ≡ linked self.old }
         ensures ok { OnOk result (self.new
             ≡ entered_at index (arriving_at index (Entering.Request request (arrival_of plans.now request)) self.old) self.old) }
+        ensures linked { OnOk result (contexts.new ≡ linked self.new) }
         ensures err { OnErr result (self.new ≡ self.old) }
+        ensures others { OnErr result (IsLinkedBut (conn_at index self.old.conns).number contexts.new self.new) }
         ensures fault { IfErr result (λ f. IsFault f begun.new) }
         ensures grows { begun.old ≤ begun.new }
         ensures counts { begun.new + length self.old.calls ≡ begun.old + length self.new.calls }
@@ -137,9 +150,14 @@ impl Machine {
         index: usize,
         request: Request,
     ) -> Result<Arriving, AllocError>
-        requires { index < length self.now.conns }
-        ensures { IfOk result (λ arriving. ComesTo arriving (next_of (conn_at index self.now.conns)) self.now.moment
+        requires there { index < length self.now.conns }
+        requires on { (conn_at index self.now.conns).broken ≡ false }
+        requires fresh { is_life (next_of (conn_at index self.now.conns)) contexts.old.calls ≡ false }
+        requires linked { contexts.old ≡ linked self.now }
+        ensures ok { IfOk result (λ arriving. ComesTo arriving (next_of (conn_at index self.now.conns)) self.now.moment
             (arriving_at index (Entering.Request request (arrival_of plans.now request)) self.now)) }
+        ensures contexts { IfOk result (λ arriving. ComesWith arriving (next_of (conn_at index self.now.conns)) contexts.old contexts.new) }
+        ensures others { OnErr result (KeepsOthers (conn_at index self.now.conns).number contexts.old contexts.new) }
     {
         timeout_law();
         let plan = match target_path(&request) {
@@ -173,8 +191,13 @@ impl Machine {
         index: usize,
         asked: Asked,
     ) -> Result<Arriving, AllocError>
-        requires { index < length self.now.conns }
-        ensures { IfOk result (λ arriving. ComesTo arriving (next_of (conn_at index self.now.conns)) self.now.moment (asking_at index asked self.now)) }
+        requires there { index < length self.now.conns }
+        requires on { (conn_at index self.now.conns).broken ≡ false }
+        requires fresh { is_life (next_of (conn_at index self.now.conns)) contexts.old.calls ≡ false }
+        requires linked { contexts.old ≡ linked self.now }
+        ensures ok { IfOk result (λ arriving. ComesTo arriving (next_of (conn_at index self.now.conns)) self.now.moment (asking_at index asked self.now)) }
+        ensures contexts { IfOk result (λ arriving. ComesWith arriving (next_of (conn_at index self.now.conns)) contexts.old contexts.new) }
+        ensures others { OnErr result (KeepsOthers (conn_at index self.now.conns).number contexts.old contexts.new) }
     {
         let conn = &self.conns[index];
         if conn.is_full() {

@@ -1,5 +1,6 @@
 ghost use Rattle.std.specs.Prelude.{◌≡◌, ℕ, OnOk, OnErr, true, false, if◌then◌else◌, is_some, None as Nothing, Some, option_map, option_to_list, slice_set};
 ghost use Rattle.std.specs.List.{count_by, list_any};
+ghost use Rattle.gateway_core.specs.Contexts.{KeepsOthers, is_life, without};
 ghost use Rattle.gateway_core.specs.Kept.{IsStep};
 ghost use Rattle.gateway_core.specs.Ends.{ended_call, ended_kept, unanswered, without_reply};
 ghost use Rattle.gateway_core.specs.Reply.{reply_with};
@@ -178,7 +179,11 @@ impl Kept {
         contexts: &mut Contexts<H>,
         cause: &Cause,
     ) -> Result<(), AllocError>
+        requires { is_some self.old.call.live ≡ true → is_life self.old.id contexts.old.calls ≡ true }
         ensures ended { OnOk result (self.new ≡ ended_kept cause.now self.old) }
+        ensures gone { OnOk result (contexts.new
+            ≡ (if is_some (ended_call cause.now self.old.id self.old.call).reply then without self.old.id contexts.old else contexts.old)) }
+        ensures others { OnErr result (KeepsOthers self.old.id.conn contexts.old contexts.new) }
         ensures refused { OnErr result ((is_some (ended_call cause.now self.old.id self.old.call).reply ≡ true) × (self.new ≡ unanswered self.old)) }
     {
         let Some(live) = self.live.take() else {

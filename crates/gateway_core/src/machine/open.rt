@@ -1,28 +1,49 @@
-ghost use Rattle.std.specs.Prelude.{◌≡◌, ◌<◌, ◌==◌, IsTrue, OnOk, OnErr, length, map, filter, not, is_some};
+ghost use Rattle.std.specs.Prelude.{◌≡◌, ◌<◌, ◌==◌, IfErr, IsTrue, None as Nothing, OnOk, OnErr, length, map, filter, not, is_some};
 ghost use Rattle.gateway_core.specs.Opens.{closed_at, opened_as, JobTaken, ReplyTaken};
-ghost use Rattle.gateway_core.specs.Store.{call_at};
+ghost use Rattle.gateway_core.specs.Linked.{linked};
+ghost use Rattle.gateway_core.specs.Store.{call_at, conn_of};
 
+use crate::contexts::Contexts;
+use crate::hook::ReplyHook;
 use crate::id::CallId;
 use crate::job::Job;
 use crate::machine::conn::Conn;
 use crate::machine::store::{Machine, give_up};
 use crate::reply::Reply;
-use std::alloc::{AllocError, Global};
+use crate::stock::Stock;
+use std::alloc::Global;
 
 impl Machine {
-    /// Opens a connection of that number.
-    pub(crate) fn open(&mut self, alloc: Global, number: u64) -> Result<(), AllocError>
+    /// Opens a connection of that number, with its context and these hooks. Where memory is refused they come back.
+    pub(crate) fn open<H: ReplyHook + Drop>(
+        &mut self,
+        alloc: Global,
+        contexts: &mut Contexts<H>,
+        number: u64,
+        stock: Stock<H>,
+    ) -> Result<(), Stock<H>>
+        requires new { conn_of number self.old.conns ≡ Nothing }
+        requires linked { contexts.old ≡ linked self.old }
         ensures ok { OnOk result (self.new ≡ opened_as number self.old) }
+        ensures back { IfErr result (λ back. back ≡ stock) }
         ensures err { OnErr result (self.new ≡ self.old) }
+        ensures linked { contexts.new ≡ linked self.new }
     {
-        self.conns.push(Conn::new(alloc, number))?;
+        if self.conns.reserve(1).is_err() {
+            return Err(stock);
+        }
+        contexts.open(number, stock)?;
+        self.conns.push_reserved(Conn::new(alloc, number));
         Ok(())
     }
 
     /// Closes the connection of that number: its calls are given up, and what it had not handed out is dropped.
-    pub(crate) fn close(&mut self, number: u64)
-        ensures { self.new ≡ closed_at number self.old }
+    pub(crate) fn close<H: ReplyHook + Drop>(&mut self, contexts: &mut Contexts<H>, number: u64)
+        requires { contexts.old ≡ linked self.old }
+        ensures closed { self.new ≡ closed_at number self.old }
+        ensures linked { contexts.new ≡ linked self.new }
     {
+        contexts.close(number);
         give_up(&mut self.calls, number);
         close_in(&mut self.conns, number);
     }

@@ -1,5 +1,6 @@
-ghost use Rattle.std.specs.Prelude.{◌≡◌, IfOk, option_and_then, option_map};
+ghost use Rattle.std.specs.Prelude.{◌≡◌, IfOk, OnErr, OnOk, option_and_then, option_map, true};
 ghost use Rattle.gateway_core.specs.CallRecord.{last_event};
+ghost use Rattle.gateway_core.specs.Contexts.{KeepsOthers, is_life, without};
 ghost use Rattle.gateway_core.specs.Errors.{cause_of, ending_with};
 ghost use Rattle.gateway_core.specs.Queue.{call_reply};
 ghost use Rattle.gateway_core.specs.Reply.{reply_with};
@@ -22,7 +23,10 @@ pub(crate) fn reply_to<H: ReplyHook + Drop>(
     id: CallId,
     call: CallRecord,
 ) -> Result<Reply, AllocError>
-    ensures { IfOk result (λ reply. reply ≡ reply_with id (ReplyEntry.Call call)) }
+    requires { is_life id contexts.old.calls ≡ true }
+    ensures reply { IfOk result (λ reply. reply ≡ reply_with id (ReplyEntry.Call call)) }
+    ensures gone { OnOk result (contexts.new ≡ without id contexts.old) }
+    ensures others { OnErr result (KeepsOthers id.conn contexts.old contexts.new) }
 {
     let bytes = bytes_of(alloc, contexts, &id, &call)?;
     Ok(Reply::of_call(id, call, bytes))
@@ -35,7 +39,10 @@ fn bytes_of<H: ReplyHook + Drop>(
     id: &CallId,
     call: &CallRecord,
 ) -> Result<Bytes, AllocError>
-    ensures { IfOk result (λ bytes. bytes ≡ (call_reply call.now).bytes) }
+    requires { is_life id.now contexts.old.calls ≡ true }
+    ensures bytes { IfOk result (λ bytes. bytes ≡ (call_reply call.now).bytes) }
+    ensures gone { OnOk result (contexts.new ≡ without id.now contexts.old) }
+    ensures others { OnErr result (KeepsOthers id.now.conn contexts.old contexts.new) }
 {
     match last_ending(alloc, call)? {
         Some(ending) => contexts.end(id, ending),

@@ -1,7 +1,10 @@
 ghost use Rattle.std.specs.Prelude.{◌≡◌, ◌+◌, ◌<◌, ◌≤◌, ◌++◌, None as Nothing, false, true, if◌then◌else◌, filter, length, map, not, option_to_list};
 ghost use Rattle.gateway_core.specs.Past.{is_call};
 ghost use Rattle.std.specs.VecDeque.{deque_capacity};
+ghost use Rattle.gateway_core.specs.Ends.{AreApart};
 ghost use Rattle.gateway_core.specs.Job.{job_at};
+ghost use Rattle.gateway_core.specs.Linked.{IsLinkedWith, linked};
+ghost use Rattle.gateway_core.specs.Orderly.{IsOrderly};
 ghost use Rattle.gateway_core.specs.Results.{back_at, DecidedBy, Forgets, NoneSpent, ResultTaken, Starved};
 ghost use Rattle.gateway_core.specs.Step.{has_out};
 ghost use Rattle.gateway_core.specs.Store.{MachineValue, broken_at, kept_at};
@@ -31,7 +34,9 @@ impl Machine {
         branch: u32,
         outcome: Outcome,
     ) -> Took
-        ensures { ResultTaken id.now branch outcome self.old self.new result }
+        requires { contexts.old ≡ linked self.old }
+        ensures taken { ResultTaken id.now branch outcome self.old self.new result }
+        ensures linked { contexts.new ≡ linked self.new }
     {
         let Some(index) = self.find(id) else {
             return Took::unknown();
@@ -39,6 +44,7 @@ impl Machine {
         if !self.calls[index].is_out(branch) {
             return Took::unknown();
         }
+        contexts.apart_law();
         let seen = self.calls[index].seen();
         let taken = self.calls[index].take_result(branch, outcome);
         start(&mut self.jobs, taken.next, self.moment);
@@ -55,9 +61,12 @@ impl Machine {
         branch: u32,
         outcome: Outcome,
     ) -> Took
+        requires linked { contexts.old ≡ linked self.old }
+        requires orderly { IsOrderly self.old }
         ensures taken { (between : MachineValue) × ResultTaken id.now branch outcome self.old between result × Forgets id.now between self.new }
         ensures unknown { result.seen ≡ Seen.Unknown → self.new ≡ self.old }
         ensures none_spent { (result.seen ≡ Seen.Unknown → ⊥) → NoneSpent id.now self.new.calls }
+        ensures linked { contexts.new ≡ linked self.new }
     {
         let took = self.result(alloc, contexts, id, branch, outcome);
         self.forget_unless(took.seen, id);
@@ -71,9 +80,12 @@ impl Machine {
         id: &CallId,
         branch: u32,
     ) -> Took
+        requires linked { contexts.old ≡ linked self.old }
+        requires orderly { IsOrderly self.old }
         ensures taken { (between : MachineValue) × Starved id.now branch self.old between result × Forgets id.now between self.new }
         ensures unknown { result.seen ≡ Seen.Unknown → self.new ≡ self.old }
         ensures none_spent { (result.seen ≡ Seen.Unknown → ⊥) → NoneSpent id.now self.new.calls }
+        ensures linked { contexts.new ≡ linked self.new }
     {
         let took = self.come_back(contexts, id, branch);
         self.forget_unless(took.seen, id);
@@ -87,7 +99,9 @@ impl Machine {
         id: &CallId,
         branch: u32,
     ) -> Took
-        ensures { Starved id.now branch self.old self.new result }
+        requires { contexts.old ≡ linked self.old }
+        ensures taken { Starved id.now branch self.old self.new result }
+        ensures linked { contexts.new ≡ linked self.new }
     {
         let Some(index) = self.find(id) else {
             return Took::unknown();
@@ -109,7 +123,9 @@ impl Machine {
         broke: bool,
         number: u64,
     )
-        ensures { self.new ≡ (if broke then broken_at number self.old else self.old) }
+        requires { contexts.old ≡ linked self.old }
+        ensures broken { self.new ≡ (if broke then broken_at number self.old else self.old) }
+        ensures linked { contexts.new ≡ linked self.new }
     {
         if broke {
             self.break_conn(contexts, number);
@@ -121,14 +137,17 @@ impl Machine {
         requires kept { index < length self.old.calls }
         requires out { has_out (kept_at index self.old.calls).call branch ≡ true }
         requires over { (kept_at index self.old.calls).call.live ≡ Nothing }
-        ensures { self.new ≡ back_at index branch self.old }
+        ensures back { self.new ≡ back_at index branch self.old }
+        ensures linked { linked self.new ≡ linked self.old }
     {
         self.calls[index].come_back(branch);
     }
 
     /// Forgets the call as `forget` does, unless the result was of no branch that was out.
     fn forget_unless(&mut self, seen: Seen, id: &CallId)
+        requires { AreApart self.old.calls }
         ensures forgets { Forgets id.now self.old self.new }
+        ensures linked { linked self.new ≡ linked self.old }
         ensures kept { seen ≡ Seen.Unknown → self.new ≡ self.old }
         ensures none_spent { (seen ≡ Seen.Unknown → ⊥) → NoneSpent id.now self.new.calls }
     {
@@ -140,7 +159,9 @@ impl Machine {
 
     /// Forgets the call, if it can't be decided any more and no branch of it is out.
     fn forget(&mut self, id: &CallId)
+        requires { AreApart self.old.calls }
         ensures forgets { Forgets id.now self.old self.new }
+        ensures linked { linked self.new ≡ linked self.old }
         ensures none_spent { NoneSpent id.now self.new.calls }
     {
         let Some(index) = self.find(id) else {
@@ -159,7 +180,9 @@ impl Machine {
         id: &CallId,
         decided: Option<CallRecord>,
     ) -> bool
-        ensures { DecidedBy id.now decided self.old self.new result }
+        requires { IsLinkedWith id.now decided contexts.old self.old }
+        ensures decided { DecidedBy id.now decided self.old self.new result }
+        ensures linked { contexts.new ≡ linked self.new }
     {
         let Some(decided) = decided else {
             return false;

@@ -3,6 +3,7 @@ ghost use Rattle.std.specs.List.{count_by};
 ghost use Rattle.gateway_core.specs.Gateway.{are_all_there};
 ghost use Rattle.gateway_core.specs.Queue.{front};
 ghost use Rattle.gateway_core.specs.Ends.{is_stopped_in};
+ghost use Rattle.gateway_core.specs.Linked.{IsLinkedBut, linked};
 ghost use Rattle.gateway_core.specs.Step.{moment_after};
 ghost use Rattle.gateway_core.specs.Store.{IsFound, call_at, conn_at, broken_at, broken_count, broken_if, given_up_if, fill_first, filled_in, machine_value};
 
@@ -146,7 +147,9 @@ impl Machine {
         contexts: &mut Contexts<H>,
         number: u64,
     )
-        ensures { self.new ≡ broken_at number self.old }
+        requires { IsLinkedBut number contexts.old self.old }
+        ensures broken { self.new ≡ broken_at number self.old }
+        ensures linked { contexts.new ≡ linked self.new }
     {
         contexts.close(number);
         give_up(&mut self.calls, number);

@@ -19,7 +19,7 @@ returns-in-Some-clause-stands g c = λ opened es taken handed h.
 pub returns-in-Some-clause-tells : goal.returns-in-Some-clause-tells
 returns-in-Some-clause-tells g c = subst (λ e. Tells (gateway_event e) c.opened.result c.args.core.now c.open_conn.new.self) (sym c.in-Opening.is)
     (subst (λ s. TellsOpening s c.args.core.now c.open_conn.new.self) (sym c.opened.ensures)
-    (opening_told _ c.open_conn.result c.args.core.now c.open_conn.new.self c.open_conn.ensures.number c.open_conn.ensures.full c.open_conn.ensures.exhausted c.open_conn.ensures.unchanged))
+    (opening_told _ c.open_conn.result c.args.core.now c.open_conn.new.self c.open_conn.ensures.number c.open_conn.ensures.refused c.open_conn.ensures.unchanged))
 
 pub returns-in-Some-clause-few : goal.returns-in-Some-clause-few
 returns-in-Some-clause-few g c = λ conn opened es taken handed told h.

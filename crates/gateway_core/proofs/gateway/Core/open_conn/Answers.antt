@@ -1,9 +1,9 @@
-use Rattle.std.proofs.Common.{◌≡◌, false, sym, subst, length, ◌≤◌}
+use Rattle.std.proofs.Common.{◌≡◌, false, sym, subst}
 use Rattle.gateway_core.specs.Gateway.{GatewayValue}
 use Rattle.gateway_core.specs.Served.{Served, HasConns}
 use Rattle.gateway_core.specs.Serving.{Keeps}
-use Rattle.std.specs.Prelude.{IfOk, IfErr, ◌^◌, OnErr}
-use Rattle.gateway_core.specs.declared.fault.OpenError.{OpenError}
+use Rattle.std.specs.Prelude.{IfOk, IfErr, OnErr}
+use Rattle.gateway_core.specs.Refused.{RefusesOpening}
 use Rattle.gateway_core.proofs.ServedOpens.{opening_stands}
 use Rattle.gateway_core.proofs.OpenCount.{few_open}
 use Rattle.gateway_core.proofs.Keeping.{opened_number, opening_keeps}
@@ -15,10 +15,9 @@ returns g c = record {
       opening_stands c.self.inside.streams c.open.new.self c.open.result opened es taken handed (subst (λ (x : GatewayValue). Served x opened es taken handed) (sym c.self.view_is) h) (λ number o. c.opening_law.ensures.opened number c.self.inside.streams c.open.new.self opened es taken handed c.serving_law.ensures (subst (λ (x : GatewayValue). Served x opened es taken handed) (sym c.self.view_is) h) o)
       c.serving_law.ensures c.open.ensures.opens c.open.ensures.err;
   few = λ opened es taken handed h. few_open c.self.inside.streams c.open.new.self c.open.result opened es c.serving_law.ensures c.open.ensures.opens (subst (λ (x : GatewayValue). HasConns x opened es) (sym c.self.view_is) h.conns);
-  full = subst (λ (x : GatewayValue). IfErr c.open.result (λ e. e.1 ≡ OpenError.Full → 64 ≤ length x.streams)) c.self.view_is c.open.ensures.full;
+  refused = subst (λ (x : GatewayValue). IfErr c.open.result (λ e. RefusesOpening e.1 x)) c.self.view_is c.open.ensures.refused;
   back = c.open.ensures.back;
   number = subst (λ (x : GatewayValue). IfOk c.open.result (λ conn. conn ≡ x.opened)) c.self.view_is (opened_number c.self.inside.streams c.open.new.self c.open.result c.open.ensures.opens);
-  exhausted = subst (λ (x : GatewayValue). IfErr c.open.result (λ e. e.1 ≡ OpenError.Exhausted → 2 ^ 56 ≤ x.opened)) c.self.view_is c.open.ensures.exhausted;
   unchanged = subst (λ (x : GatewayValue). OnErr c.open.result (c.open.new.self ≡ x)) c.self.view_is c.open.ensures.err;
   keeps = subst (λ (x : GatewayValue). Keeps (λ n. false) x c.open.new.self) c.self.view_is (opening_keeps c.self.inside.streams c.open.new.self c.open.result c.open.ensures.opens c.open.ensures.err);
 }

@@ -8,5 +8,5 @@ invariant_of-self-2 g c =
     opened_serving (gateway_value c.self.inside.plans c.self.inside.machine c.self.inside.streams.items c.self.inside.opened c.self.inside.begun c.self.inside.tally) c.open.new.self c.push_reserved.new.self.items
     (c.self.invariant)
     (omega (arith, c.if-len-ge-MOST_OPEN.false, c.len.ensures))
-    c.in-Ok-open.ensures.ok
+    c.in_default-open.ensures.ok
     (c.push_reserved.ensures.items ∙ ap (λ ss. ss ++ c.new.result ∷ []) c.reserve.ensures.items ∙ ap (λ s. c.self.inside.streams.items ++ s ∷ []) c.new.ensures)

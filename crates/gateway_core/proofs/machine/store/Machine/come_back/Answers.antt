@@ -10,11 +10,11 @@ use Rattle.gateway_core.proofs.ResultLemmas.{found_out}
 use Rattle.gateway_core.proofs.StarveSteps.{back_ready}
 use Rattle.gateway_core.proofs.machine.store.Machine.come_back.Goals as goal
 
-pub returns-in_default : goal.returns-in_default
-returns-in_default g c = inl (ap (λ x. has_out x c.args.branch) (call_missing c.args.id.now c.args.self.now.calls c.in_default.ensures), c.unknown.ensures, refl)
+pub returns-in_default-clause-taken : goal.returns-in_default-clause-taken
+returns-in_default-clause-taken g c = inl (ap (λ x. has_out x c.args.branch) (call_missing c.args.id.now c.args.self.now.calls c.in_default.ensures), c.unknown.ensures, refl)
 
-pub returns-then-not-is_out : goal.returns-then-not-is_out
-returns-then-not-is_out g c =
+pub returns-then-not-is_out-clause-taken : goal.returns-then-not-is_out-clause-taken
+returns-then-not-is_out-clause-taken g c =
     let s : MachineValue = c.args.self.now in
     let items : c.self.inside.calls.items ≡ s.calls = ap (λ (m : MachineValue). m.calls) c.self.view_is in
     inl (
@@ -35,7 +35,7 @@ give_back-requires-clause-kept g c =
     let out : has_out c.index-3.result.now.call c.args.branch ≡ true =
     ap (λ (k : KeptValue). has_out k.call c.args.branch) (was_3 ∙ sym was) ∙ sym c.is_out.ensures ∙ c.if-not-is_out.false in
     (back_ready s c.break_if.new.self i c.number.result c.args.branch c.args.id.now c.index-3.result.now c.is_live-broke.result c.in-Some.ensures was_3 c.is_live-broke.ensures c.number.ensures
-    c.break_if.ensures out).0
+    c.break_if.ensures.broken out).0
 
 pub give_back-requires-clause-out : goal.give_back-requires-clause-out
 give_back-requires-clause-out g c =
@@ -47,7 +47,7 @@ give_back-requires-clause-out g c =
     let out : has_out c.index-3.result.now.call c.args.branch ≡ true =
     ap (λ (k : KeptValue). has_out k.call c.args.branch) (was_3 ∙ sym was) ∙ sym c.is_out.ensures ∙ c.if-not-is_out.false in
     (back_ready s c.break_if.new.self i c.number.result c.args.branch c.args.id.now c.index-3.result.now c.is_live-broke.result c.in-Some.ensures was_3 c.is_live-broke.ensures c.number.ensures
-    c.break_if.ensures out).1
+    c.break_if.ensures.broken out).1
 
 pub give_back-requires-clause-over : goal.give_back-requires-clause-over
 give_back-requires-clause-over g c =
@@ -59,10 +59,10 @@ give_back-requires-clause-over g c =
     let out : has_out c.index-3.result.now.call c.args.branch ≡ true =
     ap (λ (k : KeptValue). has_out k.call c.args.branch) (was_3 ∙ sym was) ∙ sym c.is_out.ensures ∙ c.if-not-is_out.false in
     (back_ready s c.break_if.new.self i c.number.result c.args.branch c.args.id.now c.index-3.result.now c.is_live-broke.result c.in-Some.ensures was_3 c.is_live-broke.ensures c.number.ensures
-    c.break_if.ensures out).2
+    c.break_if.ensures.broken out).2
 
-pub returns : goal.returns
-returns g c =
+pub returns-clause-taken : goal.returns-clause-taken
+returns-clause-taken g c =
     let s : MachineValue = c.args.self.now in
     let i : ℕ = c.in-Some.index in
     let items : c.self.inside.calls.items ≡ s.calls = ap (λ (m : MachineValue). m.calls) c.self.view_is in
@@ -79,7 +79,10 @@ returns g c =
       c.seen-seen.ensures ∙ ap (λ (k : KeptValue). if is_some k.call.live then Counted else Late) was_2
           ∙ sym (ap (λ b. if b then (if is_some (kept_at i s.calls).call.live then Counted else Late) else Unknown) out),
       live,
-      c.give_back.ensures ∙ ap (λ m. back_at i c.args.branch m) (c.break_if.ensures
+      c.give_back.ensures.back ∙ ap (λ m. back_at i c.args.branch m) (c.break_if.ensures.broken
           ∙ ap (λ b. if b then broken_at c.number.result s else s) live
           ∙ ap (λ n. if is_some (kept_at i s.calls).call.live then broken_at n s else s) c.number.ensures),
     )
+
+pub returns-clause-linked : goal.returns-clause-linked
+returns-clause-linked g c = c.break_if.ensures.linked ∙ sym c.give_back.ensures.linked

@@ -1,18 +1,23 @@
-use Rattle.std.proofs.Common.{ap, arith, length}
+use Rattle.std.proofs.Common.{ap, sym, ◌∙◌, arith, length}
 use Rattle.gateway_core.specs.Store.{MachineValue}
 use Rattle.gateway_core.proofs.EndLemmas.{ends_start, ends_next, ends_all}
 use Rattle.gateway_core.proofs.machine.store.Machine.end_calls.Goals as goal
 
 pub loop-index-init : goal.loop-index-init
-loop-index-init g c = ends_start c.args.cause.now c.args.self.now c.requires.settled
+loop-index-init g c = (ends_start c.args.cause.now c.args.self.now c.requires.settled, c.requires.linked)
 
 pub loop-index-preserved : goal.loop-index-preserved
-loop-index-preserved g c =
-    ends_next c.args.cause.now c.loop-index.index c.args.self.now c.loop-index.self c.end_call.new.self c.loop-index.invariant c.requires.settled
-    (omega (arith, c.loop-index-test.true, c.len-index-end.ensures, c.loop-index.invariant.size_is, ap (λ (m : MachineValue). length m.calls) c.self.view_is)) c.end_call.ensures
+loop-index-preserved g c = (
+  ends_next c.args.cause.now c.loop-index.index c.args.self.now c.loop-index.self c.end_call.new.self c.loop-index.invariant.0 c.requires.settled
+      (omega (arith, c.loop-index-test.true, c.len-index-end.ensures, c.loop-index.invariant.0.size_is, ap (λ (m : MachineValue). length m.calls) c.self.view_is)) c.end_call.ensures.ended,
+  c.end_call.ensures.linked,
+)
 
-pub returns : goal.returns
-returns g c =
-    ends_all c.args.cause.now c.loop-index.index (length c.loop-index.self.calls) c.args.self.now c.loop-index.self c.settle_all.new.self c.requires.settled c.requires.apart c.loop-index.invariant
-    (omega (arith, c.loop-index-test.false, c.len-index-end.ensures, c.loop-index.invariant.size_is, ap (λ (m : MachineValue). length m.calls) c.self.view_is))
-    c.settle_all.ensures (omega (arith, c.settle_all.ensures.size_is))
+pub returns-clause-ended : goal.returns-clause-ended
+returns-clause-ended g c =
+    ends_all c.args.cause.now c.loop-index.index (length c.loop-index.self.calls) c.args.self.now c.loop-index.self c.settle_all.new.self c.requires.settled c.requires.apart c.loop-index.invariant.0
+    (omega (arith, c.loop-index-test.false, c.len-index-end.ensures, c.loop-index.invariant.0.size_is, ap (λ (m : MachineValue). length m.calls) c.self.view_is))
+    c.settle_all.ensures.settled (omega (arith, c.settle_all.ensures.settled.size_is))
+
+pub returns-clause-linked : goal.returns-clause-linked
+returns-clause-linked g c = c.loop-index.invariant.1 ∙ sym c.settle_all.ensures.linked

@@ -1,4 +1,4 @@
-use Rattle.std.proofs.Common.{◌≡◌, ℕ, ◌<◌, ◌++◌, true, refl, sym, ap, ◌∙◌, arith, inl, inr, length, map, subst, slice_set}
+use Rattle.std.proofs.Common.{◌≡◌, ℕ, ◌<◌, ◌++◌, false, true, refl, sym, ap, ◌∙◌, arith, inl, inr, length, map, subst, slice_set}
 use Rattle.std.specs.Prelude.{if◌then◌else◌, is_some, option_to_list}
 use Rattle.gateway_core.specs.declared.fault.Seen.TheVariants.{Counted, Late, Unknown}
 use Rattle.gateway_core.specs.Kept.{KeptValue}
@@ -6,15 +6,16 @@ use Rattle.gateway_core.specs.Job.{job_at}
 use Rattle.gateway_core.specs.Step.{has_out}
 use Rattle.gateway_core.specs.Store.{MachineValue, machine_value, kept_at}
 use Rattle.gateway_core.proofs.LimitLemmas.{same_call}
+use Rattle.gateway_core.proofs.LinkedLemmas.{stepped_linked}
 use Rattle.gateway_core.proofs.StoreLemmas.{call_missing, item_is}
 use Rattle.gateway_core.proofs.ResultLemmas.{found_out, its_at, next_waits, waits_then, steps_at}
 use Rattle.gateway_core.proofs.machine.store.Machine.result.Goals as goal
 
-pub returns-in_default : goal.returns-in_default
-returns-in_default g c = inl (ap (λ x. has_out x c.args.branch) (call_missing c.args.id.now c.args.self.now.calls c.in_default.ensures), c.unknown.ensures, refl)
+pub returns-in_default-clause-taken : goal.returns-in_default-clause-taken
+returns-in_default-clause-taken g c = inl (ap (λ x. has_out x c.args.branch) (call_missing c.args.id.now c.args.self.now.calls c.in_default.ensures), c.unknown.ensures, refl)
 
-pub returns-then-not-is_out : goal.returns-then-not-is_out
-returns-then-not-is_out g c =
+pub returns-then-not-is_out-clause-taken : goal.returns-then-not-is_out-clause-taken
+returns-then-not-is_out-clause-taken g c =
     let s : MachineValue = c.args.self.now in
     let items : c.self.inside.calls.items ≡ s.calls = ap (λ (m : MachineValue). m.calls) c.self.view_is in
     inl (
@@ -57,8 +58,8 @@ invariant_of-self g c =
       c.self.invariant.1,
     )
 
-pub returns : goal.returns
-returns g c =
+pub returns-clause-taken : goal.returns-clause-taken
+returns-clause-taken g c =
     let s : MachineValue = c.args.self.now in
     let i : ℕ = c.in-Some.index in
     let items : c.self.inside.calls.items ≡ s.calls = ap (λ (m : MachineValue). m.calls) c.self.view_is in
@@ -82,5 +83,16 @@ returns g c =
           (ap (λ js. machine_value c.self.inside.moment c.self.inside.drained c.self.inside.conns.items (slice_set c.self.inside.calls.items i c.take_result-taken.new.self) js) c.start.ensures.jobs_are
           ∙ ap (λ (m : MachineValue). machine_value m.moment m.drained m.conns (slice_set m.calls i c.take_result-taken.new.self)
           (m.jobs ++ map (job_at m.moment) (option_to_list c.take_result-taken.result.next))) c.self.view_is)
-          c.decide-broke.ensures,
+          c.decide-broke.ensures.decided,
     )
+
+pub decide-broke-requires : goal.decide-broke-requires
+decide-broke-requires g c =
+    let s : MachineValue = c.args.self.now in
+    let i : ℕ = c.in-Some.index in
+    let items : c.self.inside.calls.items ≡ s.calls = ap (λ (m : MachineValue). m.calls) c.self.view_is in
+    let at : c.index_mut.result.now ≡ kept_at i s.calls = item_is c.self.inside.calls.items s.calls i c.index_mut.result.now items c.in-Some.ensures.0 c.index_mut.ensures.value in
+    stepped_linked s.moment c.args.branch c.args.outcome s _ i (slice_set c.index_mut.result.now.call.out c.args.branch false) c.index_mut.result.now c.take_result-taken.new.self
+    c.take_result-taken.result.decided c.take_result-taken.result.next c.args.id.now c.args.contexts.now c.in-Some.ensures.0 at (c.take_result-taken.ensures s.moment)
+    (same_call (kept_at i s.calls).id c.args.id.now c.in-Some.ensures.1) c.apart_law.ensures c.requires (ap (λ (m : MachineValue). m.conns) c.self.view_is)
+    (ap (λ (m : MachineValue). slice_set m.calls i c.take_result-taken.new.self) c.self.view_is)

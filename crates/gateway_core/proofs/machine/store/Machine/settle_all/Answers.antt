@@ -1,17 +1,22 @@
-use Rattle.std.proofs.Common.{ap, arith, length}
+use Rattle.std.proofs.Common.{ap, refl, ◌∙◌, arith, length}
 use Rattle.gateway_core.specs.Store.{MachineValue}
 use Rattle.gateway_core.proofs.EndLemmas.{settles_start, settles_next, settles_end}
 use Rattle.gateway_core.proofs.machine.store.Machine.settle_all.Goals as goal
 
 pub loop-index-init : goal.loop-index-init
-loop-index-init c = settles_start c.args.self.now
+loop-index-init c = (settles_start c.args.self.now, refl)
 
 pub loop-index-preserved : goal.loop-index-preserved
-loop-index-preserved c =
-    settles_next c.loop-index.index c.args.self.now c.loop-index.self c.settle.new.self c.loop-index.invariant
-    (omega (arith, c.loop-index-test.true, c.len-index-end.ensures, c.loop-index.invariant.size_is, ap (λ (m : MachineValue). length m.calls) c.self.view_is)) c.settle.ensures
+loop-index-preserved c = (
+  settles_next c.loop-index.index c.args.self.now c.loop-index.self c.settle.new.self c.loop-index.invariant.0
+      (omega (arith, c.loop-index-test.true, c.len-index-end.ensures, c.loop-index.invariant.0.size_is, ap (λ (m : MachineValue). length m.calls) c.self.view_is)) c.settle.ensures.settled,
+  c.settle.ensures.linked ∙ c.loop-index.invariant.1,
+)
 
-pub returns : goal.returns
-returns c =
-    settles_end c.loop-index.index c.args.self.now c.loop-index.self c.loop-index.invariant
+pub returns-clause-settled : goal.returns-clause-settled
+returns-clause-settled c =
+    settles_end c.loop-index.index c.args.self.now c.loop-index.self c.loop-index.invariant.0
     (omega (arith, c.loop-index-test.false, c.len-index-end.ensures, ap (λ (m : MachineValue). length m.calls) c.self.view_is))
+
+pub returns-clause-linked : goal.returns-clause-linked
+returns-clause-linked c = c.loop-index.invariant.1

@@ -1,10 +1,15 @@
-use Rattle.std.proofs.Common.{◌∙◌}
+use Rattle.std.proofs.Common.{sym, ◌∙◌}
+use Rattle.gateway_core.proofs.OrderSteps.{starved_order}
 use Rattle.gateway_core.proofs.Keeping.{unknown_starved}
 use Rattle.gateway_core.proofs.machine.store.Machine.starve.Goals as goal
 
 pub returns : goal.returns
 returns g c = record {
-  taken = (c.come_back-took.new.self, c.come_back-took.ensures, c.forget_unless.ensures.forgets);
-  unknown = λ e. c.forget_unless.ensures.kept e ∙ unknown_starved c.args.id.now c.args.branch c.args.self.now c.come_back-took.new.self c.come_back-took.result c.come_back-took.ensures e;
+  taken = (c.come_back-took.new.self, c.come_back-took.ensures.taken, c.forget_unless.ensures.forgets);
+  unknown = λ e. c.forget_unless.ensures.kept e ∙ unknown_starved c.args.id.now c.args.branch c.args.self.now c.come_back-took.new.self c.come_back-took.result c.come_back-took.ensures.taken e;
   none_spent = c.forget_unless.ensures.none_spent;
+  linked = c.come_back-took.ensures.linked ∙ sym c.forget_unless.ensures.linked;
 }
+
+pub forget_unless-requires : goal.forget_unless-requires
+forget_unless-requires g c = (starved_order c.args.id.now c.args.branch c.args.self.now c.come_back-took.new.self c.come_back-took.result c.come_back-took.ensures.taken c.requires.orderly).apart

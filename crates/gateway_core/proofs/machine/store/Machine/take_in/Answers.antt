@@ -1,6 +1,9 @@
-use Rattle.std.proofs.Common.{◌≡◌, subst, arith}
+use Rattle.std.proofs.Common.{◌≡◌, ap, sym, ◌∙◌, subst, arith}
 use Rattle.gateway_core.specs.Arrival.{arrival_of}
 use Rattle.gateway_core.specs.Conn.{next_of}
+use Rattle.gateway_core.specs.Contexts.{begun}
+use Rattle.gateway_core.specs.Linked.{ComesWith, linked}
+use Rattle.gateway_core.proofs.LinkedLemmas.{answered_linked, begun_linked}
 use Rattle.gateway_core.specs.Enters.{ComesTo, arriving_at}
 use Rattle.gateway_core.specs.Machine.{is_full}
 use Rattle.gateway_core.specs.Occurrence.{Request, calls_in}
@@ -12,9 +15,24 @@ pub returns-in_ok-begin_counted-in-Begins-clause-bound : goal.returns-in_ok-begi
 returns-in_ok-begin_counted-in-Begins-clause-bound g c =
     let s : MachineValue = c.args.self.now in
     let comes : ComesTo c.in_ok-reply.field-0 (next_of (conn_at c.args.index s.conns)) s.moment (arriving_at c.args.index (Request c.args.request (arrival_of c.args.plans.now c.args.request)) s) =
-    c.in_ok-reply.ensures in
+    c.in_ok-reply.ensures.ok in
     let one : calls_in (Request c.args.request (arrival_of c.args.plans.now c.args.request)) ≡ 1 =
     asks_one s.moment s.drained (is_full (conn_at c.args.index s.conns).slots) (next_of (conn_at c.args.index s.conns)) (next_of (conn_at c.args.index s.conns)) c.args.request
     (arrival_of c.args.plans.now c.args.request) s.moment c.in-Begins.asked
     (subst (λ a. ComesTo a (next_of (conn_at c.args.index s.conns)) s.moment (arriving_at c.args.index (Request c.args.request (arrival_of c.args.plans.now c.args.request)) s)) c.in-Begins.is comes) in
     omega (arith, one, c.in_ok-begin_counted-in-Begins.ensures.counted.0)
+
+pub returns-in_ok-answer-in-Answered-clause-linked : goal.returns-in_ok-answer-in-Answered-clause-linked
+returns-in_ok-answer-in-Answered-clause-linked g c =
+    let s : MachineValue = c.args.self.now in
+    let same : c.arriving.new.contexts ≡ c.args.contexts.now =
+    subst (λ a. ComesWith a (next_of (conn_at c.args.index s.conns)) c.args.contexts.now c.arriving.new.contexts) c.in-Answered.is c.in_ok-reply.ensures.contexts in
+    same ∙ c.requires.linked ∙ sym (ap linked c.in_ok-answer-in-Answered.ensures.ok ∙ answered_linked c.args.index c.in-Answered.reply.entry s c.requires.there)
+
+pub returns-in_ok-begin_counted-in-Begins-clause-linked : goal.returns-in_ok-begin_counted-in-Begins-clause-linked
+returns-in_ok-begin_counted-in-Begins-clause-linked g c =
+    let s : MachineValue = c.args.self.now in
+    let more : c.arriving.new.contexts ≡ begun (next_of (conn_at c.args.index s.conns)) c.in-Begins.asked c.args.contexts.now =
+    subst (λ a. ComesWith a (next_of (conn_at c.args.index s.conns)) c.args.contexts.now c.arriving.new.contexts) c.in-Begins.is c.in_ok-reply.ensures.contexts in
+    more ∙ ap (begun (next_of (conn_at c.args.index s.conns)) c.in-Begins.asked) c.requires.linked ∙ begun_linked c.args.index c.in-Begins.asked s c.requires.there
+    ∙ sym (ap linked c.in_ok-begin_counted-in-Begins.ensures.ok)

@@ -1,0 +1,545 @@
+-- The contexts of connections and calls, beside those of the tree.
+use Rattle.std.proofs.Common.{◌≡◌, ℕ, ◌+◌, ◌≤◌, ◌<◌, zero, suc, refl, sym, ap, ◌∙◌, List, [], ◌∷◌, ◌++◌, Option, Some, None, Bool, true, false, inl, inr, ⊎_elim, subst, map, length, arith, rules}
+use Rattle.std.specs.Prelude.{◌⊎◌, ◌||◌, ◌==◌, not, if◌then◌else◌, filter, option_map, slice_set, slice_index_or}
+use Rattle.std.specs.List.{list_any}
+use Rattle.std.proofs.lemmas.Bool.{cases_Bool, or_parts, eqb-true, eq-eqb, ne_eqb}
+use Rattle.std.proofs.lemmas.List.{map_push}
+use Rattle.std.proofs.lemmas.List.Folds.{list_any-append}
+use Rattle.std.proofs.lemmas.Option.{same_Some}
+use Rattle.context_tree.specs.Context.{Id, same}
+use Rattle.call_contexts.specs.Standing.{AreApart, Call, Conn, Standing, ends_if, is_conn, is_fresh, opened as standing_opened, begun as standing_begun, without as standing_without, closed as standing_closed, is_call as is_standing}
+use Rattle.gateway_core.specs.declared.id.CallId.{CallId}
+use Rattle.gateway_core.specs.Past.{Asked, is_call}
+use Rattle.gateway_core.specs.declared.contexts.life.Life.{Life}
+use Rattle.gateway_core.specs.declared.contexts.peer.Peer.{Peer}
+use Rattle.gateway_core.specs.Ties.{life_tie, life_ties, peer_tie, peer_ties}
+use Rattle.gateway_core.specs.Contexts.{AreTied, LivesApart, begun, contexts_of, life_of, ContextsValue, IsTied, LifeValue, Lives, NoTwo, Peers, closed, contexts_value, ctx_for, ctx_of, first_life, first_of, is_life, is_peer, life_with, lives_of, opened, others, same_call as one_call, same_context, same_number, without, without_calls, without_first}
+use Rattle.gateway_core.proofs.Cases.{or_true}
+use Rattle.gateway_core.proofs.LimitLemmas.{same_call}
+use Rattle.gateway_core.proofs.StoreLemmas.{call_itself}
+
+-- ---- lists
+
+pub all_stay : {A : Type 0} (p : A → Bool) (xs : List A) → list_any p xs ≡ false → filter (λ x. not (p x)) xs ≡ xs
+all_stay p [] is = refl
+all_stay p (x ∷ xs) is = let two = or_parts (p x) (list_any p xs) is in rw two.0 (ap (λ l. x ∷ l) (all_stay p xs two.1))
+
+any_kept : {A : Type 0} (p q : A → Bool) (xs : List A) → list_any p xs ≡ false → list_any p (filter q xs) ≡ false
+any_kept p q [] is = refl
+any_kept p q (x ∷ xs) is =
+    let two = or_parts (p x) (list_any p xs) is in
+    ⊎_elim
+    (λ (y : q x ≡ true). rw (y, two.0) (any_kept p q xs two.1))
+    (λ (n : q x ≡ false). rw n (any_kept p q xs two.1))
+    (cases_Bool (q x))
+
+pub any_map : {A B : Type 0} (p : B → Bool) (f : A → B) (xs : List A) → list_any p (map f xs) ≡ list_any (λ x. p (f x)) xs
+any_map p f [] = refl
+any_map p f (x ∷ xs) = ap (λ b. p (f x) || b) (any_map p f xs)
+
+pub filter_map_both : {A B : Type 0} (p : B → Bool) (f : A → B) (xs : List A) → map f (filter (λ x. p (f x)) xs) ≡ filter p (map f xs)
+filter_map_both p f [] = refl
+filter_map_both p f (x ∷ xs) = ⊎_elim
+    (λ (y : p (f x) ≡ true). rw y (ap (λ l. f x ∷ l) (filter_map_both p f xs)))
+    (λ (n : p (f x) ≡ false). rw n (filter_map_both p f xs))
+    (cases_Bool (p (f x)))
+
+no_two_kept : {A : Type 0} (r : A → A → Bool) (q : A → Bool) (xs : List A) → NoTwo r xs → NoTwo r (filter q xs)
+no_two_kept r q [] all = tt
+no_two_kept r q (x ∷ xs) all = ⊎_elim
+    (λ (y : q x ≡ true). rw y (any_kept (r x) q xs all.0, no_two_kept r q xs all.1))
+    (λ (n : q x ≡ false). rw n (no_two_kept r q xs all.1))
+    (cases_Bool (q x))
+
+no_two_pushed : {A : Type 0} (r : A → A → Bool) → ((x y : A) → r x y ≡ r y x) → (xs : List A) (x : A) → NoTwo r xs → list_any (r x) xs ≡ false → NoTwo r (xs ++ x ∷ [])
+no_two_pushed r turned [] x all none = (refl, tt)
+no_two_pushed r turned (y ∷ ys) x all none =
+    let two = or_parts (r x y) (list_any (r x) ys) none in
+    (list_any-append (r y) ys (x ∷ []) ∙ rw (all.0, turned y x, two.0) refl, no_two_pushed r turned ys x all.1 two.1)
+
+sym_eqb : (a b : ℕ) → (a == b) ≡ (b == a)
+sym_eqb a b = grind (arith, rules)
+
+number_turned : (p q : ℕ × Id) → same_number p q ≡ same_number q p
+number_turned p q = sym_eqb q.0 p.0
+
+context_turned : (p q : ℕ × Id) → same_context p q ≡ same_context q p
+context_turned p q = grind (arith, rules)
+
+call_turned : (l m : CallId × Id) → one_call l m ≡ one_call m l
+call_turned l m = rw (sym_eqb m.0.conn l.0.conn, sym_eqb m.0.request l.0.request) refl
+
+same_true : (x y : Id) → same x y ≡ true → x ≡ y
+same_true x y is = grind (arith, rules)
+
+same_itself : (x : Id) → same x x ≡ true
+same_itself x = grind (arith, rules)
+
+same_turned : (x y : Id) → same x y ≡ same y x
+same_turned x y = grind (arith, rules)
+
+-- ---- connections
+
+ctx_more : (m : ℕ) (ps : Peers) (p : ℕ × Id) (x : Id) → ctx_of m ps ≡ Some x → ctx_of m (ps ++ p ∷ []) ≡ Some x
+ctx_more m [] p x is = cc
+ctx_more m (q ∷ qs) p x is = ⊎_elim
+    (λ (y : (q.0 == m) ≡ true). rw y (rw y at is))
+    (λ (n : (q.0 == m) ≡ false). rw n (ctx_more m qs p x (rw n at is)))
+    (cases_Bool (q.0 == m))
+
+-- the context of one of them is not one that none has
+ctx_apart : (m : ℕ) (ps : Peers) (x z : Id) → ctx_of m ps ≡ Some x → list_any (λ q. same q.1 z) ps ≡ false → same x z ≡ false
+ctx_apart m [] x z is none = cc
+ctx_apart m (q ∷ qs) x z is none =
+    let two = or_parts (same q.1 z) (list_any (λ p. same p.1 z) qs) none in
+    ⊎_elim
+    (λ (y : (q.0 == m) ≡ true). subst (λ w. same w z ≡ false) (same_Some q.1 x (rw y at is)) two.0)
+    (λ (n : (q.0 == m) ≡ false). ctx_apart m qs x z (rw n at is) two.1)
+    (cases_Bool (q.0 == m))
+
+-- connections of two numbers have two contexts
+two_apart : (m n : ℕ) (ps : Peers) (x y : Id) → NoTwo same_context ps → ctx_of m ps ≡ Some x → ctx_of n ps ≡ Some y → (m == n) ≡ false → same x y ≡ false
+two_apart m n [] x y apart mx ny ne = cc
+two_apart m n (q ∷ qs) x y apart mx ny ne = ⊎_elim
+    (λ (here : (q.0 == m) ≡ true).
+    let x_is : q.1 ≡ x = same_Some q.1 x (rw here at mx) in
+    let not_n : (q.0 == n) ≡ false = ap (λ k. k == n) (eqb-true q.0 m here) ∙ ne in
+    let there : ctx_of n qs ≡ Some y = rw not_n at ny in
+    same_turned x y ∙ ctx_apart n qs y x there (subst (λ z. list_any (λ p. same p.1 z) qs ≡ false) x_is apart.0))
+    (λ (far : (q.0 == m) ≡ false). ⊎_elim
+    (λ (here : (q.0 == n) ≡ true).
+    let y_is : q.1 ≡ y = same_Some q.1 y (rw here at ny) in
+    ctx_apart m qs x y (rw far at mx) (subst (λ z. list_any (λ p. same p.1 z) qs ≡ false) y_is apart.0))
+    (λ (off : (q.0 == n) ≡ false). two_apart m n qs x y apart.1 (rw far at mx) (rw off at ny) ne)
+    (cases_Bool (q.0 == n)))
+    (cases_Bool (q.0 == m))
+
+pub ctx_some : (number : ℕ) (ps : Peers) → ctx_of number ps ≡ None → is_peer number (map (λ p. p.0) ps) ≡ false
+ctx_some number [] is = refl
+ctx_some number (p ∷ ps) is = ⊎_elim
+    (λ (y : (p.0 == number) ≡ true). let bad : Some p.1 ≡ None = rw y at is in cc)
+    (λ (n : (p.0 == number) ≡ false). rw n (ctx_some number ps (rw n at is)))
+    (cases_Bool (p.0 == number))
+
+known_in : (number : ℕ) (ps : Peers) (x : Id) → ctx_of number ps ≡ Some x → list_any (λ y. same y x) (map (λ p. p.1) ps) ≡ true
+known_in number [] x is = cc
+known_in number (p ∷ ps) x is = ⊎_elim
+    (λ (y : (p.0 == number) ≡ true). rw (same_Some p.1 x (rw y at is), same_itself x) refl)
+    (λ (n : (p.0 == number) ≡ false). ap (λ b. same p.1 x || b) (known_in number ps x (rw n at is)) ∙ or_true (same p.1 x))
+    (cases_Bool (p.0 == number))
+
+-- without the connection of that number
+less_ctx : (m number : ℕ) (ps : Peers) → (m == number) ≡ false → ctx_of m (filter (λ p. not (p.0 == number)) ps) ≡ ctx_of m ps
+less_ctx m number [] ne = refl
+less_ctx m number (p ∷ ps) ne = ⊎_elim
+    (λ (y : (p.0 == number) ≡ true).
+    let off : (p.0 == m) ≡ false = sym_eqb p.0 m ∙ ap (λ k. m == k) (eqb-true p.0 number y) ∙ ne in
+    rw (y, off) (less_ctx m number ps ne))
+    (λ (n : (p.0 == number) ≡ false). rw n (ap (λ o. if p.0 == m then Some p.1 else o) (less_ctx m number ps ne)))
+    (cases_Bool (p.0 == number))
+
+less_contexts : (number : ℕ) (ps : Peers) (x : Id) → ctx_of number ps ≡ Some x → NoTwo same_number ps → NoTwo same_context ps
+    → filter (λ y. not (same y x)) (map (λ p. p.1) ps) ≡ map (λ p. p.1) (filter (λ p. not (p.0 == number)) ps)
+less_contexts number [] x is numbers contexts = cc
+less_contexts number (p ∷ ps) x is numbers contexts = ⊎_elim
+    (λ (y : (p.0 == number) ≡ true).
+    let x_is : p.1 ≡ x = same_Some p.1 x (rw y at is) in
+    let its : same p.1 x ≡ true = ap (λ z. same z x) x_is ∙ same_itself x in
+    let none : list_any (λ z. same z x) (map (λ q. q.1) ps) ≡ false = any_map (λ z. same z x) (λ (q : ℕ × Id). q.1) ps
+    ∙ subst (λ z. list_any (λ (q : ℕ × Id). same q.1 z) ps ≡ false) x_is contexts.0 in
+    let no_number : list_any (λ (q : ℕ × Id). q.0 == number) ps ≡ false = subst (λ k. list_any (λ (q : ℕ × Id). q.0 == k) ps ≡ false) (eqb-true p.0 number y) numbers.0 in
+    rw (y, its) (all_stay (λ z. same z x) (map (λ (q : ℕ × Id). q.1) ps) none ∙ ap (map (λ (q : ℕ × Id). q.1)) (sym (all_stay (λ (q : ℕ × Id). q.0 == number) ps no_number))))
+    (λ (n : (p.0 == number) ≡ false).
+    let there : ctx_of number ps ≡ Some x = rw n at is in
+    let far : same p.1 x ≡ false = same_turned p.1 x ∙ ctx_apart number ps x p.1 there contexts.0 in
+    rw (n, far) (ap (λ l. p.1 ∷ l) (less_contexts number ps x there numbers.1 contexts.1)))
+    (cases_Bool (p.0 == number))
+
+-- ---- calls
+
+module _ {V : Type 0} where
+  tied_more : (ps : Peers) (p : ℕ × Id) (ls : Lives) (cs : List (Call V)) → AreTied ps ls cs → AreTied (ps ++ p ∷ []) ls cs
+  tied_more ps p [] [] tied = tt
+  tied_more ps p [] (c ∷ cs) tied = absurd tied
+  tied_more ps p (l ∷ ls) [] tied = absurd tied
+  tied_more ps p (l ∷ ls) (c ∷ cs) tied = (tied.0, ctx_more l.0.conn ps p c.conn tied.1, tied_more ps p ls cs tied.2)
+
+  tied_pushed : (ps : Peers) (ls : Lives) (cs : List (Call V)) (l : CallId × Id) (c : Call V) → AreTied ps ls cs → c.id ≡ l.1 → ctx_of l.0.conn ps ≡ Some c.conn
+      → AreTied ps (ls ++ l ∷ []) (cs ++ c ∷ [])
+  tied_pushed ps [] [] l c tied its conn = (its, conn, tt)
+  tied_pushed ps [] (d ∷ ds) l c tied its conn = absurd tied
+  tied_pushed ps (m ∷ ms) [] l c tied its conn = absurd tied
+  tied_pushed ps (m ∷ ms) (d ∷ ds) l c tied its conn = (tied.0, tied.1, tied_pushed ps ms ds l c tied.2 its conn)
+
+  pub lives_pushed : (text : V → List ℕ) (ps : Peers) (ls : Lives) (cs : List (Call V)) (l : CallId × Id) (c : Call V) → AreTied ps ls cs
+      → lives_of text (ls ++ l ∷ []) (cs ++ c ∷ []) ≡ lives_of text ls cs ++ life_with text l.0 c ∷ []
+  lives_pushed text ps [] [] l c tied = refl
+  lives_pushed text ps [] (d ∷ ds) l c tied = absurd tied
+  lives_pushed text ps (m ∷ ms) [] l c tied = absurd tied
+  lives_pushed text ps (m ∷ ms) (d ∷ ds) l c tied = ap (λ xs. life_with text m.0 d ∷ xs) (lives_pushed text ps ms ds l c tied.2)
+
+  pub life_in : (text : V → List ℕ) (ps : Peers) (ls : Lives) (cs : List (Call V)) (id : CallId) → AreTied ps ls cs
+      → is_life id (lives_of text ls cs) ≡ list_any (λ l. is_call l.0 id) ls
+  life_in text ps [] cs id tied = refl
+  life_in text ps (l ∷ ls) [] id tied = absurd tied
+  life_in text ps (l ∷ ls) (c ∷ cs) id tied = ap (λ b. is_call l.0 id || b) (life_in text ps ls cs id tied.2)
+
+  -- no call has two contexts
+  pub lives_apart : (text : V → List ℕ) (ps : Peers) (ls : Lives) (cs : List (Call V)) → AreTied ps ls cs → NoTwo one_call ls → LivesApart (lives_of text ls cs)
+  lives_apart text ps [] cs tied apart = tt
+  lives_apart text ps (l ∷ ls) [] tied apart = absurd tied
+  lives_apart text ps (l ∷ ls) (c ∷ cs) tied apart = (life_in text ps ls cs l.0 tied.2 ∙ apart.0, lives_apart text ps ls cs tied.2 apart.1)
+
+  pub first_in : (text : V → List ℕ) (ps : Peers) (ls : Lives) (cs : List (Call V)) (number : ℕ) → AreTied ps ls cs
+      → first_life number (lives_of text ls cs) ≡ first_of number ls
+  first_in text ps [] cs number tied = refl
+  first_in text ps (l ∷ ls) [] number tied = absurd tied
+  first_in text ps (l ∷ ls) (c ∷ cs) number tied = ap (λ o. if l.0.conn == number then Some l.0 else o) (first_in text ps ls cs number tied.2)
+
+  pub as_many : (text : V → List ℕ) (ps : Peers) (ls : Lives) (cs : List (Call V)) → AreTied ps ls cs → length (lives_of text ls cs) ≡ length ls
+  as_many text ps [] cs tied = refl
+  as_many text ps (l ∷ ls) [] tied = absurd tied
+  as_many text ps (l ∷ ls) (c ∷ cs) tied = ap suc (as_many text ps ls cs tied.2)
+
+  -- the context of a call is that of one that stands
+  pub stands_in : (ps : Peers) (ls : Lives) (cs : List (Call V)) (id : CallId) (x : Id) → AreTied ps ls cs → ctx_for id ls ≡ Some x → is_standing x cs ≡ true
+  stands_in ps [] cs id x tied is = cc
+  stands_in ps (l ∷ ls) [] id x tied is = absurd tied
+  stands_in ps (l ∷ ls) (c ∷ cs) id x tied is = ⊎_elim
+      (λ (y : is_call l.0 id ≡ true). let its : c.id ≡ x = tied.0 ∙ same_Some l.1 x (rw y at is) in rw (its, same_itself x) refl)
+      (λ (n : is_call l.0 id ≡ false). ap (λ b. same c.id x || b) (stands_in ps ls cs id x tied.2 (rw n at is)) ∙ or_true (same c.id x))
+      (cases_Bool (is_call l.0 id))
+
+  -- without the call
+  pub tied_less : (text : V → List ℕ) (ps : Peers) (ls : Lives) (cs : List (Call V)) (id : CallId) (x : Id) → AreTied ps ls cs → AreApart cs → NoTwo one_call ls
+      → ctx_for id ls ≡ Some x
+      → AreTied ps (filter (λ l. not (is_call l.0 id)) ls) (filter (λ c. not (same c.id x)) cs)
+      × (lives_of text (filter (λ l. not (is_call l.0 id)) ls) (filter (λ c. not (same c.id x)) cs) ≡ filter (λ l. not (is_call l.id id)) (lives_of text ls cs))
+  tied_less text ps [] cs id x tied apart calls is = cc
+  tied_less text ps (l ∷ ls) [] id x tied apart calls is = absurd tied
+  tied_less text ps (l ∷ ls) (c ∷ cs) id x tied apart calls is = ⊎_elim
+      (λ (y : is_call l.0 id ≡ true).
+      let id_is : l.0 ≡ id = same_call l.0 id y in
+      let x_is : c.id ≡ x = tied.0 ∙ same_Some l.1 x (rw y at is) in
+      let its : same c.id x ≡ true = ap (λ z. same z x) x_is ∙ same_itself x in
+      let no_call : list_any (λ (m : CallId × Id). is_call m.0 id) ls ≡ false = subst (λ k. list_any (λ (m : CallId × Id). is_call m.0 k) ls ≡ false) id_is calls.0 in
+      let no_ctx : list_any (λ (d : Call V). same d.id x) cs ≡ false = subst (λ z. list_any (λ (d : Call V). same d.id z) cs ≡ false) x_is apart.0 in
+      let ls_are : filter (λ (m : CallId × Id). not (is_call m.0 id)) ls ≡ ls = all_stay (λ (m : CallId × Id). is_call m.0 id) ls no_call in
+      let cs_are : filter (λ (d : Call V). not (same d.id x)) cs ≡ cs = all_stay (λ (d : Call V). same d.id x) cs no_ctx in
+      let stays : filter (λ (k : LifeValue). not (is_call k.id id)) (lives_of text ls cs) ≡ lives_of text ls cs =
+      all_stay (λ (k : LifeValue). is_call k.id id) (lives_of text ls cs) (life_in text ps ls cs id tied.2 ∙ no_call) in
+      rw (y, its, ls_are, cs_are, stays) (tied.2, refl))
+      (λ (n : is_call l.0 id ≡ false).
+      let there : ctx_for id ls ≡ Some x = rw n at is in
+      let far : same c.id x ≡ false = ⊎_elim
+      (λ (e : same c.id x ≡ true).
+      let bad : is_standing x cs ≡ false = subst (λ z. is_standing z cs ≡ false) (same_true c.id x e) apart.0 in
+      let clash : true ≡ false = sym (stands_in ps ls cs id x tied.2 there) ∙ bad in cc)
+      (λ (f : same c.id x ≡ false). f)
+      (cases_Bool (same c.id x)) in
+      let rest = tied_less text ps ls cs id x tied.2 apart.1 calls.1 there in
+      rw (n, far) ((tied.0, tied.1, rest.0), ap (λ k. life_with text l.0 c ∷ k) rest.1))
+      (cases_Bool (is_call l.0 id))
+
+  -- no call is of the connection
+  pub none_of_it : (ps : Peers) (ls : Lives) (cs : List (Call V)) (number : ℕ) (x : Id) → AreTied ps ls cs → first_of number ls ≡ None → NoTwo same_context ps
+      → ctx_of number ps ≡ Some x → list_any (λ c. same c.conn x) cs ≡ false
+  none_of_it ps [] [] number x tied none apart is = refl
+  none_of_it ps [] (c ∷ cs) number x tied none apart is = absurd tied
+  none_of_it ps (l ∷ ls) [] number x tied none apart is = absurd tied
+  none_of_it ps (l ∷ ls) (c ∷ cs) number x tied none apart is = ⊎_elim
+      (λ (y : (l.0.conn == number) ≡ true). let bad : Some l.0 ≡ None = rw y at none in cc)
+      (λ (n : (l.0.conn == number) ≡ false).
+      let far : same c.conn x ≡ false = two_apart l.0.conn number ps c.conn x apart tied.1 is n in
+      rw far (none_of_it ps ls cs number x tied.2 (rw n at none) apart is))
+      (cases_Bool (l.0.conn == number))
+
+  tied_without : (ps : Peers) (ls : Lives) (cs : List (Call V)) (number : ℕ) → AreTied ps ls cs → first_of number ls ≡ None
+      → AreTied (filter (λ p. not (p.0 == number)) ps) ls cs
+  tied_without ps [] [] number tied none = tt
+  tied_without ps [] (c ∷ cs) number tied none = absurd tied
+  tied_without ps (l ∷ ls) [] number tied none = absurd tied
+  tied_without ps (l ∷ ls) (c ∷ cs) number tied none = ⊎_elim
+      (λ (y : (l.0.conn == number) ≡ true). let bad : Some l.0 ≡ None = rw y at none in cc)
+      (λ (n : (l.0.conn == number) ≡ false). (tied.0, less_ctx l.0.conn number ps n ∙ tied.1, tied_without ps ls cs number tied.2 (rw n at none)))
+      (cases_Bool (l.0.conn == number))
+
+  -- ---- all of it
+
+  pub tied_opened : (ps : Peers) (ls : Lives) (v : Standing V) (number : ℕ) (x : Id) → IsTied ps ls v → is_fresh x v ≡ true
+      → is_peer number (map (λ p. p.0) ps) ≡ false → IsTied (ps ++ (number, x) ∷ []) ls (standing_opened x v)
+  tied_opened ps ls v number x tied fresh none = record {
+    conns_are = map_push (λ (c : Conn). c.id) v.conns (record { id = x; ended = v.drained }) ∙ ap (λ xs. xs ++ x ∷ []) tied.conns_are ∙ sym (map_push (λ (p : ℕ × Id). p.1) ps (number, x));
+    calls_are = tied_more ps (number, x) ls v.calls tied.calls_are;
+    numbers_apart = no_two_pushed same_number number_turned ps (number, x) tied.numbers_apart (sym (any_map (λ n. n == number) (λ (p : ℕ × Id). p.0) ps) ∙ none);
+    contexts_apart = no_two_pushed same_context context_turned ps (number, x) tied.contexts_apart (sym (any_map (λ z. same z x) (λ (p : ℕ × Id). p.1) ps)
+        ∙ ap (list_any (λ z. same z x)) (sym tied.conns_are) ∙ any_map (λ z. same z x) (λ (c : Conn). c.id) v.conns ∙ unknown (is_conn x v.conns) (is_standing x v.calls) fresh);
+    calls_apart = tied.calls_apart;
+  }
+    where
+      unknown : (a b : Bool) → not (a || b) ≡ true → a ≡ false
+      unknown true b e = cc
+      unknown false b e = refl
+
+  pub tied_begun : (ps : Peers) (ls : Lives) (v : Standing V) (id : CallId) (x conn : Id) (deadline : Option ℕ) (now : ℕ) (request_id : Option V) → IsTied ps ls v
+      → ctx_of id.conn ps ≡ Some conn → list_any (λ l. is_call l.0 id) ls ≡ false → IsTied ps (ls ++ (id, x) ∷ []) (standing_begun x conn deadline now request_id v)
+  tied_begun ps ls v id x conn deadline now request_id tied known none = record {
+    conns_are = tied.conns_are;
+    calls_are = tied_pushed ps ls v.calls (id, x) _ tied.calls_are refl known;
+    numbers_apart = tied.numbers_apart;
+    contexts_apart = tied.contexts_apart;
+    calls_apart = no_two_pushed one_call call_turned ls (id, x) tied.calls_apart none;
+  }
+
+  pub tied_gone : (text : V → List ℕ) (ps : Peers) (ls : Lives) (v : Standing V) (id : CallId) (x : Id) → IsTied ps ls v → AreApart v.calls → ctx_for id ls ≡ Some x
+      → IsTied ps (filter (λ l. not (is_call l.0 id)) ls) (standing_without x v)
+  tied_gone text ps ls v id x tied apart is = record {
+    conns_are = tied.conns_are;
+    calls_are = (tied_less text ps ls v.calls id x tied.calls_are apart tied.calls_apart is).0;
+    numbers_apart = tied.numbers_apart;
+    contexts_apart = tied.contexts_apart;
+    calls_apart = no_two_kept one_call (λ l. not (is_call l.0 id)) ls tied.calls_apart;
+  }
+
+  pub known_conn : (ps : Peers) (ls : Lives) (v : Standing V) (number : ℕ) (x : Id) → IsTied ps ls v → ctx_of number ps ≡ Some x → is_conn x v.conns ≡ true
+  known_conn ps ls v number x tied is =
+      sym (any_map (λ z. same z x) (λ (c : Conn). c.id) v.conns) ∙ ap (list_any (λ z. same z x)) tied.conns_are ∙ known_in number ps x is
+
+  pub tied_closed : (ps : Peers) (ls : Lives) (v : Standing V) (number : ℕ) (x : Id) → IsTied ps ls v → ctx_of number ps ≡ Some x → first_of number ls ≡ None
+      → IsTied (filter (λ p. not (p.0 == number)) ps) ls (standing_closed x v)
+  tied_closed ps ls v number x tied is none = record {
+    conns_are = filter_map_both (λ z. not (same z x)) (λ (c : Conn). c.id) v.conns ∙ ap (filter (λ z. not (same z x))) tied.conns_are
+        ∙ less_contexts number ps x is tied.numbers_apart tied.contexts_apart;
+    calls_are = tied_without ps ls v.calls number tied.calls_are none;
+    numbers_apart = no_two_kept same_number (λ p. not (p.0 == number)) ps tied.numbers_apart;
+    contexts_apart = no_two_kept same_context (λ p. not (p.0 == number)) ps tied.contexts_apart;
+    calls_apart = tied.calls_apart;
+  }
+
+pub no_ctx_for : (id : CallId) (ls : Lives) → ctx_for id ls ≡ None → list_any (λ l. is_call l.0 id) ls ≡ false
+no_ctx_for id [] is = refl
+no_ctx_for id (l ∷ ls) is = ⊎_elim
+    (λ (y : is_call l.0 id ≡ true). let bad : Some l.1 ≡ None = rw y at is in cc)
+    (λ (n : is_call l.0 id ≡ false). rw n (no_ctx_for id ls (rw n at is)))
+    (cases_Bool (is_call l.0 id))
+
+-- ---- the calls of a connection, one after another
+
+pub others_stay : (number : ℕ) (ls : List LifeValue) → first_life number ls ≡ None → others number ls ≡ ls
+others_stay number [] none = refl
+others_stay number (l ∷ ls) none = ⊎_elim
+    (λ (y : (l.id.conn == number) ≡ true). let bad : Some l.id ≡ None = rw y at none in cc)
+    (λ (n : (l.id.conn == number) ≡ false). rw n (ap (λ k. l ∷ k) (others_stay number ls (rw n at none))))
+    (cases_Bool (l.id.conn == number))
+
+shorter : (id : CallId) (ls : List LifeValue) → length (filter (λ (l : LifeValue). not (is_call l.id id)) ls) ≤ length ls
+shorter id [] = omega arith
+shorter id (l ∷ ls) = ⊎_elim
+    (λ (y : is_call l.id id ≡ true). rw y (let less = shorter id ls in omega (arith, less)))
+    (λ (n : is_call l.id id ≡ false). rw n (let less = shorter id ls in omega (arith, less)))
+    (cases_Bool (is_call l.id id))
+
+-- without one of its calls the others are the same
+pub same_others : (number : ℕ) (id : CallId) (ls : List LifeValue) → (id.conn == number) ≡ true → others number (filter (λ (l : LifeValue). not (is_call l.id id)) ls) ≡ others number ls
+same_others number id [] its = refl
+same_others number id (l ∷ ls) its = ⊎_elim
+    (λ (y : is_call l.id id ≡ true).
+    let off : (l.id.conn == number) ≡ true = ap (λ (k : CallId). k.conn == number) (same_call l.id id y) ∙ its in
+    rw (y, off) (same_others number id ls its))
+    (λ (n : is_call l.id id ≡ false). rw n (ap (λ k. if not (l.id.conn == number) then l ∷ k else k) (same_others number id ls its)))
+    (cases_Bool (is_call l.id id))
+
+first_gone : (number : ℕ) (id : CallId) (ls : List LifeValue) → first_life number ls ≡ Some id
+    → ((id.conn == number) ≡ true) × (length (filter (λ (l : LifeValue). not (is_call l.id id)) ls) < length ls)
+first_gone number id [] is = cc
+first_gone number id (l ∷ ls) is = ⊎_elim
+    (λ (y : (l.id.conn == number) ≡ true).
+    let id_is : l.id ≡ id = same_Some l.id id (rw y at is) in
+    let here : is_call l.id id ≡ true = ap (λ k. is_call k id) id_is ∙ call_itself id in (
+      ap (λ (k : CallId). k.conn == number) (sym id_is) ∙ y,
+      rw here (let less = shorter id ls in omega (arith, less)),
+    ))
+    (λ (n : (l.id.conn == number) ≡ false).
+    let rest = first_gone number id ls (rw n at is) in (
+      rest.0,
+      ⊎_elim
+          (λ (y : is_call l.id id ≡ true). rw y (let less = rest.1 in omega (arith, less)))
+          (λ (o : is_call l.id id ≡ false). rw o (let less = rest.1 in omega (arith, less)))
+          (cases_Bool (is_call l.id id)),
+    ))
+    (cases_Bool (l.id.conn == number))
+
+-- so many calls of the connection were dropped, or no more were there
+pub record Sheds (number count : ℕ) (v w : ContextsValue) : Type 0 where
+  pub conns_are : w.conns ≡ v.conns
+  pub others_are : others number w.calls ≡ others number v.calls
+  pub fewer : (first_life number w.calls ≡ None) ⊎ (length w.calls + count ≤ length v.calls)
+
+pub sheds_more : (number count : ℕ) (v w u : ContextsValue) → Sheds number count v w → u ≡ without_first (first_life number w.calls) w → Sheds number (count + 1) v u
+sheds_more number count v w u sheds u_is = subst (Sheds number (count + 1) v) (sym u_is) (by (first_life number w.calls) refl sheds.fewer)
+  where
+    by : (o : Option CallId) → first_life number w.calls ≡ o → (first_life number w.calls ≡ None) ⊎ (length w.calls + count ≤ length v.calls)
+        → Sheds number (count + 1) v (without_first o w)
+    by None is fewer = record { conns_are = sheds.conns_are; others_are = sheds.others_are; fewer = inl is }
+    by (Some id) is (inl none) = absurd (let clash : Some id ≡ None = sym is ∙ none in cc)
+    by (Some id) is (inr less) = record {
+      conns_are = sheds.conns_are;
+      others_are = same_others number id w.calls (first_gone number id w.calls is).0 ∙ sheds.others_are;
+      fewer = inr (let fewer_then = (first_gone number id w.calls is).1 in omega (arith, less, fewer_then));
+    }
+
+pub sheds_all : (number count : ℕ) (v w : ContextsValue) → Sheds number count v w → length v.calls ≤ count
+    → (w ≡ without_calls number v) × (first_life number w.calls ≡ None)
+sheds_all number count v w sheds enough =
+    let none : first_life number w.calls ≡ None = ⊎_elim (λ (n : first_life number w.calls ≡ None). n)
+    (λ (less : length w.calls + count ≤ length v.calls). empty w.calls (omega (arith, less, enough))) sheds.fewer in (
+      ap (λ cs. contexts_value cs w.calls) sheds.conns_are ∙ ap (contexts_value v.conns) (sym (others_stay number w.calls none) ∙ sheds.others_are),
+      none,
+    )
+  where
+    empty : (ls : List LifeValue) → length ls ≤ 0 → first_life number ls ≡ None
+    empty [] less = refl
+    empty (l ∷ ls) less = absurd (omega (arith, less))
+
+-- ---- as the code keeps them
+
+pub without_none : (id : CallId) (v : ContextsValue) → is_life id v.calls ≡ false → v ≡ without id v
+without_none id v none = ap (contexts_value v.conns) (sym (all_stay (λ (l : LifeValue). is_call l.id id) v.calls none))
+
+pub closed_stay : (number : ℕ) (v : ContextsValue) → is_peer number v.conns ≡ false → first_life number v.calls ≡ None → v ≡ closed number v
+closed_stay number v none no_call = ap (λ cs. contexts_value cs v.calls) (sym (all_stay (λ n. n == number) v.conns none)) ∙ ap (contexts_value (filter (λ n. not (n == number)) v.conns)) (sym (others_stay number v.calls no_call))
+
+pub not_known : (number : ℕ) (v : ContextsValue) (ps : Peers) → map (λ p. p.0) ps ≡ v.conns → ctx_of number ps ≡ None → is_peer number v.conns ≡ false
+not_known number v ps is none = ap (is_peer number) (sym is) ∙ ctx_some number ps none
+
+module _ {V : Type 0} where
+  pub no_life : (text : V → List ℕ) (ps : Peers) (ls : Lives) (v : Standing V) (u : ContextsValue) (id : CallId) → IsTied ps ls v → contexts_of text ps ls v ≡ u
+      → ctx_for id ls ≡ None → is_life id u.calls ≡ false
+  no_life text ps ls v u id tied is none = ap (λ (x : ContextsValue). is_life id x.calls) (sym is) ∙ life_in text ps ls v.calls id tied.calls_are ∙ no_ctx_for id ls none
+
+  pub no_such : (text : V → List ℕ) (ps : Peers) (ls : Lives) (v : Standing V) (u : ContextsValue) (id : CallId) → IsTied ps ls v → contexts_of text ps ls v ≡ u
+      → is_life id u.calls ≡ false → list_any (λ l. is_call l.0 id) ls ≡ false
+  no_such text ps ls v u id tied is none = sym (life_in text ps ls v.calls id tied.calls_are) ∙ ap (λ (x : ContextsValue). is_life id x.calls) is ∙ none
+
+  pub left_tied : (ps : Peers) (lives left : List Life) (v w : Standing V) (id : CallId) (x : Id) → left ≡ filter (λ l. not (is_call l.id id)) lives
+      → w ≡ standing_without x v → IsTied ps (life_ties lives) v → AreApart v.calls → ctx_for id (life_ties lives) ≡ Some x → IsTied ps (life_ties left) w
+  left_tied ps lives left v w id x then_is w_is tied apart is =
+      subst (IsTied ps (life_ties left)) (sym w_is)
+      (subst (λ ls. IsTied ps ls (standing_without x v)) (sym (ap life_ties then_is ∙ filter_map_both (λ t. not (is_call t.0 id)) life_tie lives))
+      (tied_gone (λ y. []) ps (life_ties lives) v id x tied apart is))
+
+  pub left_value : (text : V → List ℕ) (ps : Peers) (lives left : List Life) (v w : Standing V) (u : ContextsValue) (id : CallId) (x : Id) → left ≡ filter (λ l. not (is_call l.id id)) lives
+      → w ≡ standing_without x v → IsTied ps (life_ties lives) v → AreApart v.calls → ctx_for id (life_ties lives) ≡ Some x → contexts_of text ps (life_ties lives) v ≡ u
+      → contexts_of text ps (life_ties left) w ≡ without id u
+  left_value text ps lives left v w u id x then_is w_is tied apart is u_is =
+      ap (contexts_of text ps (life_ties left)) w_is
+      ∙ ap (λ ls. contexts_of text ps ls (standing_without x v)) (ap life_ties then_is ∙ filter_map_both (λ t. not (is_call t.0 id)) life_tie lives)
+      ∙ ap (contexts_value (map (λ p. p.0) ps)) (tied_less text ps (life_ties lives) v.calls id x tied.calls_are apart tied.calls_apart is).1
+      ∙ ap (without id) u_is
+
+  pub peer_gone : {H : Type 0} (peers left : List (Peer H)) (ls : Lives) (v w : Standing V) (number : ℕ) (x : Id) → left ≡ filter (λ p. not (p.number == number)) peers
+      → w ≡ standing_closed x v → IsTied (peer_ties peers) ls v → ctx_of number (peer_ties peers) ≡ Some x → first_of number ls ≡ None → IsTied (peer_ties left) ls w
+  peer_gone peers left ls v w number x then_is w_is tied is none =
+      subst (IsTied (peer_ties left) ls) (sym w_is)
+      (subst (λ ps. IsTied ps ls (standing_closed x v)) (sym (ap peer_ties then_is ∙ filter_map_both (λ t. not (t.0 == number)) peer_tie peers))
+      (tied_closed (peer_ties peers) ls v number x tied is none))
+
+  pub peer_gone_value : {H : Type 0} (text : V → List ℕ) (peers left : List (Peer H)) (ls : Lives) (v w : Standing V) (u : ContextsValue) (number : ℕ) (x : Id)
+      → left ≡ filter (λ p. not (p.number == number)) peers → w ≡ standing_closed x v → contexts_of text (peer_ties peers) ls v ≡ u → first_life number u.calls ≡ None
+      → contexts_of text (peer_ties left) ls w ≡ closed number u
+  peer_gone_value text peers left ls v w u number x then_is w_is u_is none =
+      ap (contexts_of text (peer_ties left) ls) w_is
+      ∙ ap (λ ps. contexts_of text ps ls v) (ap peer_ties then_is ∙ filter_map_both (λ t. not (t.0 == number)) peer_tie peers)
+      ∙ ap (λ cs. contexts_value cs (lives_of text ls v.calls)) (filter_map_both (λ n. not (n == number)) (λ (p : ℕ × Id). p.0) (peer_ties peers))
+      ∙ ap (λ (y : ContextsValue). contexts_value (filter (λ n. not (n == number)) y.conns) y.calls) u_is
+      ∙ ap (contexts_value (filter (λ n. not (n == number)) u.conns)) (sym (others_stay number u.calls none))
+
+pub closed_both : (number : ℕ) (v : ContextsValue) → closed number (without_calls number v) ≡ closed number v
+closed_both number v = ap (contexts_value (filter (λ n. not (n == number)) v.conns)) (twice v.calls)
+  where
+    twice : (ls : List LifeValue) → others number (others number ls) ≡ others number ls
+    twice [] = refl
+    twice (l ∷ ls) = ⊎_elim
+        (λ (y : (l.id.conn == number) ≡ true). rw y (twice ls))
+        (λ (n : (l.id.conn == number) ≡ false). rw (n, n) (ap (λ k. l ∷ k) (twice ls)))
+        (cases_Bool (l.id.conn == number))
+
+module _ {H : Type 0} where
+  pub ties_set : (peers : List (Peer H)) (i : ℕ) (x y : Peer H) → peer_tie y ≡ peer_tie x → x ≡ slice_index_or peers i x → peer_ties (slice_set peers i y) ≡ peer_ties peers
+  ties_set [] i x y same is = refl
+  ties_set (p ∷ ps) zero x y same is = ap (λ t. t ∷ peer_ties ps) (same ∙ ap peer_tie is)
+  ties_set (p ∷ ps) (suc i) x y same is = ap (λ ts. peer_tie p ∷ ts) (ties_set ps i x y same is)
+
+module _ {V : Type 0} where
+  pub begun_tied : (ps qs : Peers) (lives more : List Life) (v w : Standing V) (l : Life) (conn : Id) (deadline : Option ℕ) (now : ℕ) (request_id : Option V) → qs ≡ ps
+      → more ≡ lives ++ l ∷ [] → w ≡ standing_begun l.ctx conn deadline now request_id v → IsTied ps (life_ties lives) v → ctx_of l.id.conn ps ≡ Some conn
+      → list_any (λ t. is_call t.0 l.id) (life_ties lives) ≡ false → IsTied qs (life_ties more) w
+  begun_tied ps qs lives more v w l conn deadline now request_id qs_are more_is w_is tied known none =
+      subst (λ xs. IsTied xs (life_ties more) w) (sym qs_are)
+      (subst (IsTied ps (life_ties more)) (sym w_is)
+      (subst (λ ls. IsTied ps ls (standing_begun l.ctx conn deadline now request_id v)) (sym (ap life_ties more_is ∙ map_push life_tie lives l))
+      (tied_begun ps (life_ties lives) v l.id l.ctx conn deadline now request_id tied known none)))
+
+  pub begun_value : (text : V → List ℕ) (ps qs : Peers) (lives more : List Life) (v w : Standing V) (u : ContextsValue) (a : Asked) (l : Life) (conn : Id) (deadline : Option ℕ) (now : ℕ)
+      (request_id : Option V) → qs ≡ ps → more ≡ lives ++ l ∷ [] → w ≡ standing_begun l.ctx conn deadline now request_id v → IsTied ps (life_ties lives) v
+      → contexts_of text ps (life_ties lives) v ≡ u → deadline ≡ a.deadline → option_map text request_id ≡ a.request_id → contexts_of text qs (life_ties more) w ≡ begun l.id a u
+  begun_value text ps qs lives more v w u a l conn deadline now request_id qs_are more_is w_is tied u_is deadline_is id_is =
+      ap (λ xs. contexts_of text xs (life_ties more) w) qs_are
+      ∙ ap (contexts_of text ps (life_ties more)) w_is
+      ∙ ap (λ ls. contexts_of text ps ls (standing_begun l.ctx conn deadline now request_id v)) (ap life_ties more_is ∙ map_push life_tie lives l)
+      ∙ ap (contexts_value (map (λ p. p.0) ps)) (lives_pushed text ps (life_ties lives) v.calls (life_tie l) _ tied.calls_are)
+      ∙ ap (λ (y : ContextsValue). contexts_value y.conns (y.calls ++ record { id = l.id; deadline = deadline; request_id = option_map text request_id } ∷ [])) u_is
+      ∙ ap (λ d. contexts_value u.conns (u.calls ++ record { id = l.id; deadline = d; request_id = option_map text request_id } ∷ [])) deadline_is
+      ∙ ap (λ r. contexts_value u.conns (u.calls ++ record { id = l.id; deadline = a.deadline; request_id = r } ∷ [])) id_is
+
+  pub opened_tied : {H : Type 0} (peers more : List (Peer H)) (lives : Lives) (v w : Standing V) (u : ContextsValue) (text : V → List ℕ) (p : Peer H) → more ≡ peers ++ p ∷ []
+      → w ≡ standing_opened p.ctx v → IsTied (peer_ties peers) lives v → is_fresh p.ctx v ≡ true → contexts_of text (peer_ties peers) lives v ≡ u → is_peer p.number u.conns ≡ false
+      → IsTied (peer_ties more) lives w
+  opened_tied peers more lives v w u text p more_is w_is tied fresh u_is none =
+      subst (IsTied (peer_ties more) lives) (sym w_is)
+      (subst (λ ps. IsTied ps lives (standing_opened p.ctx v)) (sym (ap peer_ties more_is ∙ map_push peer_tie peers p))
+      (tied_opened (peer_ties peers) lives v p.number p.ctx tied fresh (ap (λ (y : ContextsValue). is_peer p.number y.conns) u_is ∙ none)))
+
+  pub opened_value : {H : Type 0} (peers more : List (Peer H)) (lives : Lives) (v w : Standing V) (u : ContextsValue) (text : V → List ℕ) (p : Peer H) → more ≡ peers ++ p ∷ []
+      → w ≡ standing_opened p.ctx v → contexts_of text (peer_ties peers) lives v ≡ u → contexts_of text (peer_ties more) lives w ≡ opened p.number u
+  opened_value peers more lives v w u text p more_is w_is u_is =
+      ap (contexts_of text (peer_ties more) lives) w_is
+      ∙ ap (λ ps. contexts_of text ps lives v) (ap peer_ties more_is ∙ map_push peer_tie peers p)
+      ∙ ap (λ ns. contexts_value ns (lives_of text lives v.calls)) (map_push (λ (t : ℕ × Id). t.0) (peer_ties peers) (peer_tie p))
+      ∙ ap (opened p.number) u_is
+
+-- ---- what ends them leaves them
+
+conns_told : (h : Conn → Bool) (cs : List Conn) → map (λ (c : Conn). c.id) (map (λ (c : Conn). record { id = c.id; ended = h c }) cs) ≡ map (λ (c : Conn). c.id) cs
+conns_told h [] = refl
+conns_told h (c ∷ cs) = ap (λ ids. c.id ∷ ids) (conns_told h cs)
+
+module _ {V : Type 0} where
+  calls_told : (ps : Peers) (ls : Lives) (cs : List (Call V)) (g : Call V → Bool) → AreTied ps ls cs → AreTied ps ls (map (λ c. ends_if (g c) c) cs)
+  calls_told ps [] [] g tied = tt
+  calls_told ps [] (c ∷ cs) g tied = absurd tied
+  calls_told ps (l ∷ ls) [] g tied = absurd tied
+  calls_told ps (l ∷ ls) (c ∷ cs) g tied = (tied.0, tied.1, calls_told ps ls cs g tied.2)
+
+  lives_told : (text : V → List ℕ) (ls : Lives) (cs : List (Call V)) (g : Call V → Bool) → lives_of text ls (map (λ c. ends_if (g c) c) cs) ≡ lives_of text ls cs
+  lives_told text [] cs g = refl
+  lives_told text (l ∷ ls) [] g = refl
+  lives_told text (l ∷ ls) (c ∷ cs) g = ap (λ k. life_with text l.0 c ∷ k) (lives_told text ls cs g)
+
+  pub told_tied : (ps : Peers) (ls : Lives) (v w : Standing V) (g : Call V → Bool) → w.calls ≡ map (λ c. ends_if (g c) c) v.calls
+      → map (λ (c : Conn). c.id) w.conns ≡ map (λ (c : Conn). c.id) v.conns → IsTied ps ls v → IsTied ps ls w
+  told_tied ps ls v w g calls_is conns_is tied = record {
+    conns_are = conns_is ∙ tied.conns_are;
+    calls_are = subst (AreTied ps ls) (sym calls_is) (calls_told ps ls v.calls g tied.calls_are);
+    numbers_apart = tied.numbers_apart;
+    contexts_apart = tied.contexts_apart;
+    calls_apart = tied.calls_apart;
+  }
+
+  pub told_value : (text : V → List ℕ) (ps : Peers) (ls : Lives) (v w : Standing V) (u : ContextsValue) (g : Call V → Bool) → w.calls ≡ map (λ c. ends_if (g c) c) v.calls
+      → contexts_of text ps ls v ≡ u → contexts_of text ps ls w ≡ u
+  told_value text ps ls v w u g calls_is u_is = ap (contexts_value (map (λ p. p.0) ps)) (ap (lives_of text ls) calls_is ∙ lives_told text ls v.calls g) ∙ u_is
+
+  pub conns_ended : (w : Standing V) (h : Conn → Bool) (cs : List Conn) → w.conns ≡ map (λ (c : Conn). record { id = c.id; ended = h c }) cs
+      → map (λ (c : Conn). c.id) w.conns ≡ map (λ (c : Conn). c.id) cs
+  conns_ended w h cs is = ap (map (λ (c : Conn). c.id)) is ∙ conns_told h cs

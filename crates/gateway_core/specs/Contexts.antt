@@ -1,0 +1,147 @@
+-- The contexts of the open connections and of the calls that can be decided, by the connections' numbers and the calls' ids.
+use Rattle.std.specs.Prelude.{◌≡◌, ℕ, Bool, true, false, not, if◌then◌else◌, ◌==◌, List, [], ◌∷◌, ◌++◌, map, filter, Option, None, Some, option_map}
+use Rattle.std.specs.List.{list_any}
+use Rattle.context_tree.specs.Context.{Id, same}
+use Rattle.call_contexts.specs.Standing.{Call, Standing}
+use Rattle.gateway_core.specs.declared.id.CallId.{CallId}
+use Rattle.gateway_core.specs.Past.{Asked, is_call}
+
+-- a call that has a context and a hook: the deadline and the request id that its context has
+pub record LifeValue : Type 0 where
+  pub id : CallId
+  pub deadline : Option ℕ
+  pub request_id : Option (List ℕ)
+
+-- the numbers of the connections, and the calls, by beginning
+pub record ContextsValue : Type 0 where
+  pub conns : List ℕ
+  pub calls : List LifeValue
+
+abbrev pub contexts_value : List ℕ → List LifeValue → ContextsValue
+contexts_value conns calls = record { conns = conns; calls = calls }
+
+abbrev pub no_contexts : ContextsValue
+no_contexts = contexts_value [] []
+
+-- the context that is made for a call
+abbrev pub life_of : CallId → Asked → LifeValue
+life_of id a = record { id = id; deadline = a.deadline; request_id = a.request_id }
+
+-- the connection of that number has a context
+abbrev pub is_peer : ℕ → List ℕ → Bool
+is_peer number conns = list_any (λ n. n == number) conns
+
+-- the call has a context
+abbrev pub is_life : CallId → List LifeValue → Bool
+is_life id calls = list_any (λ l. is_call l.id id) calls
+
+-- the calls of other connections
+abbrev pub others : ℕ → List LifeValue → List LifeValue
+others number calls = filter (λ l. not (l.id.conn == number)) calls
+
+-- ---- what is done to them
+
+abbrev pub opened : ℕ → ContextsValue → ContextsValue
+opened number v = contexts_value (v.conns ++ number ∷ []) v.calls
+
+abbrev pub begun : CallId → Asked → ContextsValue → ContextsValue
+begun id a v = contexts_value v.conns (v.calls ++ life_of id a ∷ [])
+
+-- the context of the call is gone
+abbrev pub without : CallId → ContextsValue → ContextsValue
+without id v = contexts_value v.conns (filter (λ l. not (is_call l.id id)) v.calls)
+
+-- those of all calls of the connection are gone
+abbrev pub without_calls : ℕ → ContextsValue → ContextsValue
+without_calls number v = contexts_value v.conns (others number v.calls)
+
+abbrev pub closed : ℕ → ContextsValue → ContextsValue
+closed number v = contexts_value (filter (λ n. not (n == number)) v.conns) (others number v.calls)
+
+-- the first call of the connection
+abbrev pub first_life : ℕ → List LifeValue → Option CallId
+first_life number [] = None
+first_life number (l ∷ ls) = if l.id.conn == number then Some l.id else first_life number ls
+
+abbrev pub without_first : Option CallId → ContextsValue → ContextsValue
+without_first None v = v
+without_first (Some id) v = without id v
+
+-- all else than the calls of the connection is as it was
+pub record KeepsOthers (number : ℕ) (v w : ContextsValue) : Type 0 where
+  pub conns_are : w.conns ≡ v.conns
+  pub others_are : others number w.calls ≡ others number v.calls
+
+-- ---- how they are kept
+
+-- the connections' numbers and the calls' ids, each with its context
+abbrev pub Peers : Type 0
+Peers = List (ℕ × Id)
+
+abbrev pub Lives : Type 0
+Lives = List (CallId × Id)
+
+-- the context of the connection of that number
+abbrev pub ctx_of : ℕ → Peers → Option Id
+ctx_of number [] = None
+ctx_of number (p ∷ ps) = if p.0 == number then Some p.1 else ctx_of number ps
+
+-- the context of the call
+abbrev pub ctx_for : CallId → Lives → Option Id
+ctx_for id [] = None
+ctx_for id (l ∷ ls) = if is_call l.0 id then Some l.1 else ctx_for id ls
+
+-- the first call of the connection
+abbrev pub first_of : ℕ → Lives → Option CallId
+first_of number [] = None
+first_of number (l ∷ ls) = if l.0.conn == number then Some l.0 else first_of number ls
+
+abbrev pub same_number : ℕ × Id → ℕ × Id → Bool
+same_number p q = q.0 == p.0
+
+abbrev pub same_context : ℕ × Id → ℕ × Id → Bool
+same_context p q = same q.1 p.1
+
+abbrev pub same_call : CallId × Id → CallId × Id → Bool
+same_call l m = is_call m.0 l.0
+
+module _ {A : Type 0} where
+  -- no two of them stand in this relation
+  abbrev pub NoTwo : (A → A → Bool) → List A → Type 0
+  NoTwo r [] = Unit {0}
+  NoTwo r (x ∷ xs) = (list_any (r x) xs ≡ false) × NoTwo r xs
+
+-- no call has two contexts
+abbrev pub same_life : LifeValue → LifeValue → Bool
+same_life l m = is_call m.id l.id
+
+abbrev pub LivesApart : List LifeValue → Type 0
+LivesApart calls = NoTwo same_life calls
+
+module _ {V : Type 0} where
+  -- what a call's context has
+  abbrev pub life_with : (V → List ℕ) → CallId → Call V → LifeValue
+  life_with text id c = record { id = id; deadline = c.deadline; request_id = option_map text c.request_id }
+
+  abbrev pub lives_of : (V → List ℕ) → Lives → List (Call V) → List LifeValue
+  lives_of text [] cs = []
+  lives_of text (l ∷ ls) [] = []
+  lives_of text (l ∷ ls) (c ∷ cs) = life_with text l.0 c ∷ lives_of text ls cs
+
+  abbrev pub contexts_of : (V → List ℕ) → Peers → Lives → Standing V → ContextsValue
+  contexts_of text peers lives v = contexts_value (map (λ p. p.0) peers) (lives_of text lives v.calls)
+
+  -- each call has its context, which derives from that of its connection
+  abbrev pub AreTied : Peers → Lives → List (Call V) → Type 0
+  AreTied peers [] [] = Unit {0}
+  AreTied peers [] (c ∷ cs) = ⊥
+  AreTied peers (l ∷ ls) [] = ⊥
+  AreTied peers (l ∷ ls) (c ∷ cs) = (c.id ≡ l.1) × (ctx_of l.0.conn peers ≡ Some c.conn) × AreTied peers ls cs
+
+  -- there are contexts of these connections and calls, and no others
+  pub record IsTied (peers : Peers) (lives : Lives) (v : Standing V) : Type 0 where
+    pub conns_are : map (λ c. c.id) v.conns ≡ map (λ p. p.1) peers
+    pub calls_are : AreTied peers lives v.calls
+    pub numbers_apart : NoTwo same_number peers
+    pub contexts_apart : NoTwo same_context peers
+    pub calls_apart : NoTwo same_call lives
