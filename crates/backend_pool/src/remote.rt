@@ -11,8 +11,8 @@ use std::net::{Net, OpenStream, TcpStream, ToSocketAddrs};
 use std::time::{Clock, Duration, Instant};
 
 /// Asks each job's backend over a TCP connection of its own, for no longer than the job's call had yet as the branch
-/// started: a wait that lasts longer fails, and the job is lost. A job whose call has no deadline waits as long as its
-/// backend lets it.
+/// started and 50 milliseconds more: a wait that lasts longer fails, and the job is lost. A job whose call has no deadline
+/// waits as long as its backend lets it.
 #[derive(Clone, Copy, Debug)]
 pub struct RemoteBackend {
     alloc: Global,
@@ -46,14 +46,21 @@ impl Backend for RemoteBackend {
     }
 }
 
-/// Both ends of a new connection to the address, for so many milliseconds from now on.
+/// How long a backend is waited for beyond its call's deadline, in milliseconds. The clock's side ends the call meanwhile, so
+/// that a silent backend is not taken for the call's first failure.
+const GRACE: u64 = 50;
+
+/// Both ends of a new connection to the address, for so many milliseconds from now on, and a little longer.
 fn connect<'a, R: Net + Clock>(
     rt: &'a R,
     address: &str,
     remaining: Option<u64>,
 ) -> io::Result<(TimedStream<'a, R, R::Stream>, TimedStream<'a, R, R::Stream>)> {
     let until = match remaining {
-        Some(milliseconds) => Instant::now(rt)?.checked_add(Duration::from_millis(milliseconds)),
+        Some(milliseconds) => {
+            let longer = milliseconds.saturating_add(GRACE);
+            Instant::now(rt)?.checked_add(Duration::from_millis(longer))
+        }
         None => None,
     };
     let stream = open(rt, address, until)?;
