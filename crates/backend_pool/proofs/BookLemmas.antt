@@ -1,21 +1,21 @@
 -- Lemmas on what a book stands for.
 use Rattle.std.specs.Prelude.{◌≡◌, ℕ, ◌+◌, ◌≤◌, filter, false, List, [], ◌∷◌, ◌++◌, length, Option, Some, Result, Ok, Err, MatchResult}
 use Rattle.std.proofs.Common.{arith, refl, subst, sym, ap, ◌∙◌, length-append}
-use Rattle.gateway_core.specs.declared.entry.ReplyEntry.{ReplyEntry}
-use Rattle.gateway_core.specs.declared.fault.Seen.{Seen}
-use Rattle.gateway_core.specs.declared.fault.Seen.TheVariants.{Counted, Late, Unknown}
-use Rattle.gateway_core.specs.declared.tally.Tally.{Tally}
-use Rattle.gateway_core.specs.declared.id.CallId.{CallId}
-use Rattle.gateway_core.specs.Conn.{ConnValue}
-use Rattle.gateway_core.specs.Events.{Before, GatewayEvent, Occurs, Opening}
-use Rattle.gateway_core.specs.Gateway.{GatewayValue}
-use Rattle.gateway_core.specs.Job.{JobValue}
-use Rattle.gateway_core.specs.Past.{judged, marked}
-use Rattle.gateway_core.specs.Reply.{ReplyValue}
-use Rattle.gateway_core.specs.Served.{Served, with_reply}
-use Rattle.gateway_core.specs.Starts.{Placed, occurrences}
-use Rattle.gateway_core.specs.Store.{conn_of}
-use Rattle.gateway_core.specs.Tally.{is_counted, is_late, is_unknown, most_counted, tally_of}
+use Rattle.gateway_model.specs.declared.entry.ReplyEntry.{ReplyEntry}
+use Rattle.gateway_model.specs.declared.fault.Seen.{Seen}
+use Rattle.gateway_model.specs.declared.fault.Seen.TheVariants.{Counted, Late, Unknown}
+use Rattle.gateway_model.specs.declared.tally.Tally.{Tally}
+use Rattle.gateway_model.specs.declared.id.CallId.{CallId}
+use Rattle.gateway_model.specs.Conn.{ConnValue}
+use Rattle.gateway_model.specs.Events.{Before, GatewayEvent, Occurs, Opening}
+use Rattle.gateway_model.specs.Gateway.{GatewayValue}
+use Rattle.gateway_model.specs.Job.{JobValue}
+use Rattle.gateway_model.specs.Past.{judged, marked}
+use Rattle.gateway_model.specs.Reply.{ReplyValue}
+use Rattle.gateway_model.specs.Served.{Served, with_reply}
+use Rattle.gateway_model.specs.Starts.{Placed, occurrences}
+use Rattle.gateway_model.specs.Store.{conn_of}
+use Rattle.gateway_model.specs.Tally.{is_counted, is_late, is_unknown, most_counted, tally_of}
 use Rattle.backend_pool.specs.Book.{BookStands, BookValue, IsReached, IsTallied, TakesEvent, book_value, bytes_in, results_in}
 
 -- ---- how results were seen

@@ -1,18 +1,18 @@
 -- The core with its three totals, and the events that it stands for.
 use Rattle.std.specs.Prelude.{◌≡◌, ℕ, ◌+◌, ◌^◌, true, List, [], ◌∷◌, ◌++◌, length, Option, Some, None, is_some, option_map, option_to_list}
-use Rattle.gateway_core.specs.declared.entry.ReplyEntry.{ReplyEntry}
-use Rattle.gateway_core.specs.declared.fault.Seen.{Seen}
-use Rattle.gateway_core.specs.declared.fault.Seen.TheVariants.{Counted, Unknown}
-use Rattle.gateway_core.specs.declared.fault.Took.{Took}
-use Rattle.gateway_core.specs.Events.{Before, BranchResult, GatewayEvent, Piece}
-use Rattle.gateway_core.specs.Gateway.{GatewayValue}
-use Rattle.gateway_core.specs.Job.{HandedJob, JobValue}
-use Rattle.gateway_core.specs.Occurrence.{Occurrence}
-use Rattle.gateway_core.specs.Reply.{ReplyValue}
-use Rattle.gateway_core.specs.Served.{Served}
-use Rattle.gateway_core.specs.Serving.{Breaks, BreaksBy}
-use Rattle.gateway_core.specs.Store.{call_at}
-use Rattle.gateway_core.specs.Tally.{tally_of}
+use Rattle.gateway_model.specs.declared.entry.ReplyEntry.{ReplyEntry}
+use Rattle.gateway_model.specs.declared.fault.Seen.{Seen}
+use Rattle.gateway_model.specs.declared.fault.Seen.TheVariants.{Counted, Unknown}
+use Rattle.gateway_model.specs.declared.fault.Took.{Took}
+use Rattle.gateway_model.specs.Events.{Before, BranchResult, GatewayEvent, Piece}
+use Rattle.gateway_model.specs.Gateway.{GatewayValue}
+use Rattle.gateway_model.specs.Job.{HandedJob, JobValue}
+use Rattle.gateway_model.specs.Occurrence.{Occurrence}
+use Rattle.gateway_model.specs.Reply.{ReplyValue}
+use Rattle.gateway_model.specs.Served.{Served}
+use Rattle.gateway_model.specs.Serving.{Breaks, BreaksBy}
+use Rattle.gateway_model.specs.Store.{call_at}
+use Rattle.gateway_model.specs.Tally.{tally_of}
 use Rattle.backend_pool.specs.declared.shares.Totals.{Totals}
 use Rattle.backend_pool.specs.declared.next_reply.NextReply.{NextReply}
 use Rattle.backend_pool.specs.declared.next_reply.NextReply.TheVariants.{Ready, Pending, Over}

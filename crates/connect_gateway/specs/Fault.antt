@@ -39,7 +39,7 @@ IsOfPlanInput Memory = ⊤
 IsOfPlanInput Io = ⊤
 IsOfPlanInput _ = ⊥
 
--- and reading any text
+-- and reading or writing any text
 abbrev pub IsOfReading : Fault → Type 0
 IsOfReading Memory = ⊤
 IsOfReading Io = ⊤

@@ -1,6 +1,8 @@
-ghost use Rattle.std.specs.Prelude.{◌≡◌};
+ghost use Rattle.std.specs.Prelude.{◌≡◌, ◌≢◌};
+ghost use Rattle.std.specs.IoError.{error_kind};
+ghost use Rattle.std.specs.declared.io.ErrorKind.TheVariants.{OutOfMemory};
 ghost use Rattle.connect_gateway.specs.Fault.{status_of, line_of};
-ghost use Rattle.connect_gateway.specs.declared.fault.Fault.TheVariants.{Memory};
+ghost use Rattle.connect_gateway.specs.declared.fault.Fault.TheVariants.{Io, Memory};
 
 use std::alloc::{AllocError, AllocFailed};
 use std::io::{self, ErrorKind};
@@ -65,6 +67,9 @@ impl<T: Drop> From<AllocFailed<T>> for Fault {
 }
 
 impl From<io::Error> for Fault {
+    ghost from_gives = { λ error fault. (error_kind error ≡ OutOfMemory → fault ≡ Memory)
+        × (error_kind error ≢ OutOfMemory → fault ≡ Io) };
+
     fn from(error: io::Error) -> Fault {
         match error.kind() {
             ErrorKind::OutOfMemory => Fault::Memory,

@@ -1,5 +1,6 @@
-ghost use Rattle.std.specs.Prelude.{IfErr};
+ghost use Rattle.std.specs.Prelude.{◌≡◌, IfErr, IfOk, IfSome, None};
 ghost use Rattle.connect_gateway.specs.Fault.{IsOfInput, IsOfPlanInput, IsOfReading};
+ghost use Rattle.connect_gateway.specs.Input.{ReadsPlans, ReadsScript, ReadsTooMuch, ReadsWhole};
 
 use crate::fault::Fault;
 use call_plan::{PlanError, Plans, read_plans};
@@ -13,7 +14,8 @@ const MAX_INPUT: usize = 16_777_216;
 /// Reads a script to the end of the input, at most one byte more than a script may have. `Io` at a read
 /// that failed, `Script` for a text that is longer or is no script, `Memory` for want of memory.
 pub fn read_input<R: Read>(alloc: Global, reader: &mut R) -> Result<(Plans, Vec<Event>), Fault>
-    ensures { IfErr result IsOfInput }
+    ensures faults { IfErr result IsOfInput }
+    ensures read { IfOk result (λ script. ReadsScript (R.remaining reader.old) (R.remaining reader.new) script.0 script.1.items) }
 {
     let Some(text) = read_text(alloc, reader)? else {
         return Err(Fault::Script);
@@ -24,7 +26,8 @@ pub fn read_input<R: Read>(alloc: Global, reader: &mut R) -> Result<(Plans, Vec<
 /// Reads a plan file to its end, at most one byte more than it may have. `Io` at a read that failed, `Plans` for a text
 /// that is longer or is refused, `Memory` for want of memory.
 pub fn read_plan_input<R: Read>(alloc: Global, reader: &mut R) -> Result<Plans, Fault>
-    ensures { IfErr result IsOfPlanInput }
+    ensures faults { IfErr result IsOfPlanInput }
+    ensures read { IfOk result (λ plans. ReadsPlans (R.remaining reader.old) (R.remaining reader.new) plans) }
 {
     let Some(text) = read_text(alloc, reader)? else {
         return Err(Fault::Plans);
@@ -50,25 +53,21 @@ fn fault_of_plans(error: PlanError) -> Fault
     }
 }
 
-/// Reads a text to its end. None where it is too long.
+/// Reads a text to its end, at most one byte more than it may have. None where it is too long.
 fn read_text<R: Read>(alloc: Global, reader: &mut R) -> Result<Option<Vec<u8>>, Fault>
-    ensures { IfErr result IsOfReading }
+    ensures faults { IfErr result IsOfReading }
+    ensures whole { IfOk result (λ text. IfSome text (λ bytes. ReadsWhole (R.remaining reader.old) (R.remaining reader.new) bytes.items)) }
+    ensures too_long { IfOk result (λ text. text ≡ None → ReadsTooMuch (R.remaining reader.old) (R.remaining reader.new)) }
 {
     let mut text = Vec::new(alloc);
     let mut buffer = [0u8; 8192];
-    for _ in 0..u64::MAX {
-        let Ok(count) = reader.read(&mut buffer) else {
-            return Err(Fault::Io);
-        };
-        if count == 0 {
-            break;
-        }
-        if text.extend_from_slice(&buffer[..count]).is_err() {
-            return Err(Fault::Memory);
-        }
-        if text.len() > MAX_INPUT {
-            return Ok(None);
+    while text.len() <= MAX_INPUT {
+        let room = buffer.len().min(MAX_INPUT + 1 - text.len());
+        match reader.read(&mut buffer[..room]) {
+            Ok(0) => return Ok(Some(text)),
+            Ok(count) => text.extend_from_slice(&buffer[..count])?,
+            Err(_) => return Err(Fault::Io),
         }
     }
-    Ok(Some(text))
+    Ok(None)
 }

@@ -8,17 +8,15 @@ mod crew;
 mod fault;
 mod input;
 mod plain_hook;
+mod replay;
 mod serve;
 mod task;
 mod words;
 
 pub use fault::Fault;
-use gateway_core::Stock;
-use gateway_run::{RunError, openings, run, write_run};
 pub use input::{read_input, read_plan_input};
-use plain_hook::{PlainHook, stock};
 use std::fs::Files;
-use std::io::{self, BufWriter, Write};
+use std::io;
 use std::net::{Net, TcpListener, TcpStream};
 use std::process::ExitCode;
 use std::rt::Env;
@@ -62,28 +60,10 @@ fn run_words<
         words.push(word.as_str())?;
     }
     match task_of(alloc, words.as_slice())? {
-        Task::Replay => replay(&rt),
+        Task::Replay => {
+            let _written = replay::replay(alloc, &mut rt.reader(), io::writer(&rt))?;
+            Ok(())
+        }
         Task::Serve(service) => serve::serve(rt, &service),
     }
-}
-
-/// Runs the script on standard input.
-fn replay(rt: &(impl Print + Input + AllocGlobal)) -> Result<(), Fault> {
-    let alloc = rt.alloc();
-    let (plans, events) = read_input(alloc, &mut rt.reader())?;
-    let mut stocks: Vec<Stock<PlainHook>> = Vec::new(alloc);
-    for _opening in 0..openings(&events) {
-        stocks.push(stock(alloc)?)?;
-    }
-    let run = match run(alloc, plans, events, stocks) {
-        Ok(run) => run,
-        Err(RunError::Memory) => return Err(Fault::Memory),
-        Err(RunError::Stocks) => unreachable!(),
-    };
-    let mut writer = BufWriter::new(alloc, io::writer(rt))?;
-    if write_run(&run, &mut writer).is_err() {
-        return Err(Fault::Io);
-    }
-    writer.flush()?;
-    Ok(())
 }

@@ -1,4 +1,4 @@
-ghost use Rattle.gateway_core.specs.Duty.{MeetsDuty};
+ghost use Rattle.gateway_model.specs.Duty.{MeetsDuty};
 
 use after_funcs::Hook;
 use gateway_core::{Ending, HOOKS, ReplyHook, Stock, ending_reply};

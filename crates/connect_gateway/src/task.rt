@@ -1,4 +1,5 @@
-ghost use Rattle.std.specs.Prelude.{IfErr, IfOk};
+ghost use Rattle.std.specs.Prelude.{◌≡◌, ◌≢◌, IfErr, IfOk};
+ghost use Rattle.clap.specs.Values.{kind_of};
 ghost use Rattle.connect_gateway.specs.Fault.{IsOfWords};
 ghost use Rattle.connect_gateway.specs.Task.{IsInRange};
 
@@ -71,7 +72,9 @@ fn number<'a>(alloc: Global, name: &'a str) -> Arg<'a> {
 }
 
 fn refusal(error: Error) -> Fault
-    ensures { IsOfWords result }
+    ensures words { IsOfWords result }
+    ensures memory { kind_of error ≡ ErrorKind.OutOfMemory → result ≡ Fault.Memory }
+    ensures others { kind_of error ≢ ErrorKind.OutOfMemory → result ≡ Fault.Words }
 {
     match error.kind() {
         ErrorKind::OutOfMemory => Fault::Memory,

@@ -6,9 +6,9 @@ use Rattle.std.proofs.Math.Seq.{take-add}
 use Rattle.std.proofs.lemmas.List.{take_all, length-drop, map-append}
 use Rattle.std.proofs.lemmas.Grind.{common_steps, flat_map-append}
 use Rattle.std.specs.Io.KnownBytes.{Appends}
-use Rattle.gateway_core.specs.declared.id.CallId.{CallId}
-use Rattle.gateway_core.specs.Past.{call_id}
-use Rattle.gateway_core.specs.Reply.{ReplyValue}
+use Rattle.gateway_model.specs.declared.id.CallId.{CallId}
+use Rattle.gateway_model.specs.Past.{call_id}
+use Rattle.gateway_model.specs.Reply.{ReplyValue}
 use Rattle.connections.specs.declared.queue.Handed.{Handed}
 use Rattle.connections.specs.declared.queue.Handed.TheVariants.{Reply, Over}
 use Rattle.connections.specs.Told.{Tells}

@@ -2,10 +2,10 @@
 use Rattle.std.specs.Prelude.{◌≡◌, ◌<◌, ℕ, Bool, true, false, List, [], ◌∷◌, ◌++◌, length, take, map, flat_map, Option, None, Some, ⊤}
 use Rattle.std.specs.List.{range_with_len}
 use Rattle.std.specs.Io.KnownBytes.{Appends}
-use Rattle.gateway_core.specs.declared.id.CallId.{CallId}
-use Rattle.gateway_core.specs.Past.{call_id}
-use Rattle.gateway_core.specs.Queue.{answer_of}
-use Rattle.gateway_core.specs.Reply.{ReplyValue}
+use Rattle.gateway_model.specs.declared.id.CallId.{CallId}
+use Rattle.gateway_model.specs.Past.{call_id}
+use Rattle.gateway_model.specs.Queue.{answer_of}
+use Rattle.gateway_model.specs.Reply.{ReplyValue}
 use Rattle.connections.specs.declared.queue.Handed.{Handed}
 use Rattle.connections.specs.declared.queue.Handed.TheVariants.{Reply, Over, Closing}
 use Rattle.connections.specs.Told.{Tells}

@@ -4,15 +4,16 @@ use Rattle.std.specs.Prelude.{slice_set, slice_index_or}
 use Rattle.std.specs.List.{range_with_len}
 use Rattle.std.proofs.lemmas.List.{get_or_default}
 use Rattle.std.proofs.lemmas.Simd.{map-map}
-use Rattle.gateway_core.specs.declared.id.CallId.{CallId}
-use Rattle.gateway_core.specs.Begins.{begins, begun_live, first_jobs, first_ones, first_out}
-use Rattle.gateway_core.specs.Conn.{ConnValue, added, next_of}
-use Rattle.gateway_core.specs.Enters.{entered_at}
-use Rattle.gateway_core.specs.Job.{TaskValue, job_at, task_of}
-use Rattle.gateway_core.specs.Kept.{KeptValue, IsBegun}
-use Rattle.gateway_core.specs.Past.{Asked}
-use Rattle.gateway_core.specs.Step.{call_state}
-use Rattle.gateway_core.specs.Store.{MachineValue, machine_value, no_conn, conn_at}
+use Rattle.gateway_model.specs.declared.id.CallId.{CallId}
+use Rattle.gateway_model.specs.Begins.{begins, begun_live, first_jobs, first_ones, first_out}
+use Rattle.gateway_model.specs.Conn.{ConnValue, added, next_of}
+use Rattle.gateway_model.specs.Enters.{entered_at}
+use Rattle.gateway_model.specs.Job.{TaskValue, job_at, task_of}
+use Rattle.gateway_model.specs.Kept.{KeptValue}
+use Rattle.gateway_core.specs.KeptCall.{IsBegun}
+use Rattle.gateway_model.specs.Past.{Asked}
+use Rattle.gateway_model.specs.Step.{call_state}
+use Rattle.gateway_model.specs.Store.{MachineValue, machine_value, no_conn, conn_at}
 
 pub first_queued : (moment : ℕ) (id : CallId) (a : Asked) (first : List TaskValue) → first ≡ map (task_of id a) (range_with_len 0 (first_ones a))
     → map (job_at moment) first ≡ first_jobs moment id a

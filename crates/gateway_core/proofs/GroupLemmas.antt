@@ -7,13 +7,13 @@ use Rattle.std.proofs.lemmas.List.FromFn.{length-map-range_with_len, get_or-map-
 use Rattle.std.proofs.lemmas.List.Sums.{sum_by_push}
 use Rattle.std.proofs.Math.ListN.{get_or-eq_default}
 use Rattle.err_group.specs.GroupState.{GroupState, has_room}
-use Rattle.gateway_core.specs.declared.event.CallEvent.{CallEvent}
-use Rattle.gateway_core.specs.declared.id.CallId.{CallId}
-use Rattle.gateway_core.specs.Begins.{first_ones, first_out}
-use Rattle.gateway_core.specs.Job.{TaskValue, task_of}
-use Rattle.gateway_core.specs.LiveStands.{tasks_from}
-use Rattle.gateway_core.specs.Past.{Asked}
-use Rattle.gateway_core.specs.Kept.{live_value, kept_value, IsKept, IsBegun, HasGone}
+use Rattle.gateway_model.specs.declared.event.CallEvent.{CallEvent}
+use Rattle.gateway_model.specs.declared.id.CallId.{CallId}
+use Rattle.gateway_model.specs.Begins.{first_ones, first_out}
+use Rattle.gateway_model.specs.Job.{TaskValue, task_of}
+use Rattle.gateway_model.specs.LiveStands.{tasks_from}
+use Rattle.gateway_model.specs.Past.{Asked}
+use Rattle.gateway_core.specs.KeptCall.{live_value, kept_value, IsKept, IsBegun, HasGone}
 use Rattle.gateway_core.proofs.KeptLemmas.{outs}
 
 abbrev Tasks : Type 0

@@ -8,20 +8,21 @@ use Rattle.std.proofs.lemmas.List.Sums.{sum_by-set}
 use Rattle.std.proofs.Math.ListN.{get_or-eq_default}
 use Rattle.connect_codec.specs.declared.answer.Outcome.{Outcome}
 use Rattle.connect_codec.specs.declared.answer.Outcome.TheVariants.{Answer}
-use Rattle.gateway_core.specs.declared.entry.ReplyEntry.{ReplyEntry}
+use Rattle.gateway_model.specs.declared.entry.ReplyEntry.{ReplyEntry}
 use Rattle.err_group.specs.GroupState.{GroupState, Finishes, freed_by}
-use Rattle.gateway_core.specs.declared.event.CallEvent.{CallEvent}
-use Rattle.gateway_core.specs.declared.event.CallEvent.TheVariants.{Answer as Answered}
-use Rattle.gateway_core.specs.declared.id.CallId.{CallId}
-use Rattle.gateway_core.specs.CallRecord.{CallRecord}
-use Rattle.gateway_core.specs.Job.{JobValue, TaskValue, task_of, job_at}
-use Rattle.gateway_core.specs.LiveStands.{tasks_from}
-use Rattle.gateway_core.specs.Past.{Asked}
+use Rattle.gateway_model.specs.declared.event.CallEvent.{CallEvent}
+use Rattle.gateway_model.specs.declared.event.CallEvent.TheVariants.{Answer as Answered}
+use Rattle.gateway_model.specs.declared.id.CallId.{CallId}
+use Rattle.gateway_model.specs.CallRecord.{CallRecord}
+use Rattle.gateway_model.specs.Job.{JobValue, TaskValue, task_of, job_at}
+use Rattle.gateway_model.specs.LiveStands.{tasks_from}
+use Rattle.gateway_model.specs.Past.{Asked}
 use Rattle.call_plan.specs.Plan.{IsLawful}
-use Rattle.gateway_core.specs.Queue.{record_of}
-use Rattle.gateway_core.specs.Step.{result_on, next_out, rest_of, first_of}
-use Rattle.gateway_core.specs.Kept.{LiveValue, live_value, KeptValue, kept_value, started_of, IsGoing, IsKept, IsStep}
-use Rattle.gateway_core.proofs.StepLemmas.{tasks_none, tasks_next}
+use Rattle.gateway_model.specs.Queue.{record_of}
+use Rattle.gateway_model.specs.Step.{result_on, next_out, rest_of, first_of}
+use Rattle.gateway_model.specs.Kept.{KeptValue}
+use Rattle.gateway_core.specs.KeptCall.{LiveValue, live_value, kept_value, started_of, IsGoing, IsKept, IsStep}
+use Rattle.gateway_model.specs.lemmas.StepLemmas.{tasks_none, tasks_next}
 
 within : (out : List Bool) (i : ℕ) → slice_index_or out i false ≡ true → i < length out
 within out i it =

@@ -1,35 +1,52 @@
 -- The contexts of the open connections and of the calls that can be decided, by the connections' numbers and the calls' ids.
-use Rattle.std.specs.Prelude.{◌≡◌, ℕ, Bool, true, false, not, if◌then◌else◌, ◌==◌, List, [], ◌∷◌, ◌++◌, map, filter, Option, None, Some, option_map}
+use Rattle.std.specs.Prelude.{◌≡◌, ℕ, Bool, true, false, not, if◌then◌else◌, ◌==◌, ◌||◌, List, [], ◌∷◌, ◌++◌, map, filter, Option, None, Some, option_map}
 use Rattle.std.specs.List.{list_any}
 use Rattle.context_tree.specs.Context.{Id, same}
-use Rattle.call_contexts.specs.Standing.{Call, Standing}
-use Rattle.gateway_core.specs.declared.id.CallId.{CallId}
-use Rattle.gateway_core.specs.Past.{Asked, is_call}
+use Rattle.call_contexts.specs.Standing.{Call, Conn, Standing}
+use Rattle.gateway_model.specs.declared.cause.Cause.{Cause}
+use Rattle.gateway_model.specs.declared.cause.Cause.TheVariants.{Reached, HungUp, Drained}
+use Rattle.gateway_model.specs.declared.id.CallId.{CallId}
+use Rattle.gateway_model.specs.Past.{Asked, is_call, is_due}
 
--- a call that has a context and a hook: the deadline and the request id that its context has
+-- a connection that has a context, and whether that has ended
+pub record PeerValue : Type 0 where
+  pub number : ℕ
+  pub ended : Bool
+
+abbrev pub peer : ℕ → Bool → PeerValue
+peer number ended = record { number = number; ended = ended }
+
+-- a call that has a context and a hook: the deadline and the request id that its context has, and whether that has ended
 pub record LifeValue : Type 0 where
   pub id : CallId
   pub deadline : Option ℕ
   pub request_id : Option (List ℕ)
+  pub ended : Bool
 
--- the numbers of the connections, and the calls, by beginning
+-- whether all were ended, the connections and the calls, by beginning
 pub record ContextsValue : Type 0 where
-  pub conns : List ℕ
+  pub drained : Bool
+  pub conns : List PeerValue
   pub calls : List LifeValue
 
-abbrev pub contexts_value : List ℕ → List LifeValue → ContextsValue
-contexts_value conns calls = record { conns = conns; calls = calls }
+abbrev pub contexts_value : Bool → List PeerValue → List LifeValue → ContextsValue
+contexts_value drained conns calls = record { drained = drained; conns = conns; calls = calls }
 
 abbrev pub no_contexts : ContextsValue
-no_contexts = contexts_value [] []
+no_contexts = contexts_value false [] []
 
 -- the context that is made for a call
-abbrev pub life_of : CallId → Asked → LifeValue
-life_of id a = record { id = id; deadline = a.deadline; request_id = a.request_id }
+abbrev pub life_by : Bool → CallId → Asked → LifeValue
+life_by ended id a = record { id = id; deadline = a.deadline; request_id = a.request_id; ended = ended }
 
 -- the connection of that number has a context
-abbrev pub is_peer : ℕ → List ℕ → Bool
-is_peer number conns = list_any (λ n. n == number) conns
+abbrev pub is_peer : ℕ → List PeerValue → Bool
+is_peer number conns = list_any (λ p. p.number == number) conns
+
+-- it has one that has ended
+abbrev pub is_ended_peer : ℕ → List PeerValue → Bool
+is_ended_peer number [] = false
+is_ended_peer number (p ∷ ps) = if p.number == number then p.ended else is_ended_peer number ps
 
 -- the call has a context
 abbrev pub is_life : CallId → List LifeValue → Bool
@@ -42,21 +59,36 @@ others number calls = filter (λ l. not (l.id.conn == number)) calls
 -- ---- what is done to them
 
 abbrev pub opened : ℕ → ContextsValue → ContextsValue
-opened number v = contexts_value (v.conns ++ number ∷ []) v.calls
+opened number v = contexts_value v.drained (v.conns ++ peer number v.drained ∷ []) v.calls
 
-abbrev pub begun : CallId → Asked → ContextsValue → ContextsValue
-begun id a v = contexts_value v.conns (v.calls ++ life_of id a ∷ [])
+-- a call's context begins; it has ended where that of its connection has, or its deadline is reached
+abbrev pub begun : ℕ → CallId → Asked → ContextsValue → ContextsValue
+begun now id a v = contexts_value v.drained v.conns (v.calls ++ life_by (is_ended_peer id.conn v.conns || is_due now a.deadline) id a ∷ [])
+
+-- the context of the connection, or of the call, ends if the condition holds
+abbrev pub ends_peer : Bool → PeerValue → PeerValue
+ends_peer b p = record { number = p.number; ended = p.ended || b }
+
+abbrev pub ends_life : Bool → LifeValue → LifeValue
+ends_life b l = record { id = l.id; deadline = l.deadline; request_id = l.request_id; ended = l.ended || b }
+
+-- they are told what may end calls
+abbrev pub told : Cause → ContextsValue → ContextsValue
+told (Reached now) v = contexts_value v.drained v.conns (map (λ l. ends_life (is_due now l.deadline) l) v.calls)
+told (HungUp number) v =
+    contexts_value v.drained (map (λ p. ends_peer (p.number == number) p) v.conns) (map (λ l. ends_life (l.id.conn == number) l) v.calls)
+told Drained v = contexts_value true (map (λ p. ends_peer true p) v.conns) (map (λ l. ends_life true l) v.calls)
 
 -- the context of the call is gone
 abbrev pub without : CallId → ContextsValue → ContextsValue
-without id v = contexts_value v.conns (filter (λ l. not (is_call l.id id)) v.calls)
+without id v = contexts_value v.drained v.conns (filter (λ l. not (is_call l.id id)) v.calls)
 
 -- those of all calls of the connection are gone
 abbrev pub without_calls : ℕ → ContextsValue → ContextsValue
-without_calls number v = contexts_value v.conns (others number v.calls)
+without_calls number v = contexts_value v.drained v.conns (others number v.calls)
 
 abbrev pub closed : ℕ → ContextsValue → ContextsValue
-closed number v = contexts_value (filter (λ n. not (n == number)) v.conns) (others number v.calls)
+closed number v = contexts_value v.drained (filter (λ p. not (p.number == number)) v.conns) (others number v.calls)
 
 -- the first call of the connection
 abbrev pub first_life : ℕ → List LifeValue → Option CallId
@@ -69,6 +101,7 @@ without_first (Some id) v = without id v
 
 -- all else than the calls of the connection is as it was
 pub record KeepsOthers (number : ℕ) (v w : ContextsValue) : Type 0 where
+  pub drained_is : w.drained ≡ v.drained
   pub conns_are : w.conns ≡ v.conns
   pub others_are : others number w.calls ≡ others number v.calls
 
@@ -102,8 +135,8 @@ same_number p q = q.0 == p.0
 abbrev pub same_context : ℕ × Id → ℕ × Id → Bool
 same_context p q = same q.1 p.1
 
-abbrev pub same_call : CallId × Id → CallId × Id → Bool
-same_call l m = is_call m.0 l.0
+abbrev pub same_id : CallId × Id → CallId × Id → Bool
+same_id l m = is_call m.0 l.0
 
 module _ {A : Type 0} where
   -- no two of them stand in this relation
@@ -118,10 +151,16 @@ same_life l m = is_call m.id l.id
 abbrev pub LivesApart : List LifeValue → Type 0
 LivesApart calls = NoTwo same_life calls
 
+-- the connections, by their contexts
+abbrev pub peers_of : Peers → List Conn → List PeerValue
+peers_of [] cs = []
+peers_of (p ∷ ps) [] = []
+peers_of (p ∷ ps) (c ∷ cs) = peer p.0 c.ended ∷ peers_of ps cs
+
 module _ {V : Type 0} where
   -- what a call's context has
   abbrev pub life_with : (V → List ℕ) → CallId → Call V → LifeValue
-  life_with text id c = record { id = id; deadline = c.deadline; request_id = option_map text c.request_id }
+  life_with text id c = record { id = id; deadline = c.deadline; request_id = option_map text c.request_id; ended = c.ended }
 
   abbrev pub lives_of : (V → List ℕ) → Lives → List (Call V) → List LifeValue
   lives_of text [] cs = []
@@ -129,7 +168,7 @@ module _ {V : Type 0} where
   lives_of text (l ∷ ls) (c ∷ cs) = life_with text l.0 c ∷ lives_of text ls cs
 
   abbrev pub contexts_of : (V → List ℕ) → Peers → Lives → Standing V → ContextsValue
-  contexts_of text peers lives v = contexts_value (map (λ p. p.0) peers) (lives_of text lives v.calls)
+  contexts_of text peers lives v = contexts_value v.drained (peers_of peers v.conns) (lives_of text lives v.calls)
 
   -- each call has its context, which derives from that of its connection
   abbrev pub AreTied : Peers → Lives → List (Call V) → Type 0
@@ -144,4 +183,4 @@ module _ {V : Type 0} where
     pub calls_are : AreTied peers lives v.calls
     pub numbers_apart : NoTwo same_number peers
     pub contexts_apart : NoTwo same_context peers
-    pub calls_apart : NoTwo same_call lives
+    pub calls_apart : NoTwo same_id lives

@@ -3,7 +3,7 @@ use Rattle.std.specs.Prelude.{ℕ, List, map}
 use Rattle.context_tree.specs.Context.{Id}
 use Rattle.gateway_core.specs.declared.contexts.life.Life.{Life}
 use Rattle.gateway_core.specs.declared.contexts.peer.Peer.{Peer}
-use Rattle.gateway_core.specs.declared.id.CallId.{CallId}
+use Rattle.gateway_model.specs.declared.id.CallId.{CallId}
 use Rattle.gateway_core.specs.Contexts.{Lives, Peers}
 
 -- a call's id, with its context

@@ -2,18 +2,18 @@
 ghost use Rattle.std.specs.Prelude.{◌≡◌, IfOk, IsTrue, true, false};
 ghost use Rattle.connect_codec.specs.Reply.{bare_reply, error_reply, is_bare_status};
 ghost use Rattle.connect_codec.specs.Verdict.{HasBareStatus};
-ghost use Rattle.gateway_core.specs.Arrival.{is_ask, refusal_reply, verdict_reply};
-ghost use Rattle.gateway_core.specs.Errors.{crowded_error};
-ghost use Rattle.gateway_core.specs.Reply.{reply_of};
+ghost use Rattle.gateway_model.specs.Arrival.{is_ask, refusal_reply, verdict_reply};
+ghost use Rattle.gateway_model.specs.Errors.{crowded_error};
+ghost use Rattle.gateway_model.specs.Reply.{reply_of};
 
-use crate::reply_bytes::ReplyBytes;
 use connect_codec::{Verdict, bare_reply, error_reply};
 use error_document::{Code, RpcError};
+use gateway_model::ReplyBytes;
 use http_pieces::Refusal;
 use std::alloc::{AllocError, Global};
 
 /// The reply to a stream that is refused.
-#[tactic(auto, unfolding(crate::specs::Arrival::refusal_reply))]
+#[tactic(auto, unfolding(gateway_model::specs::Arrival::refusal_reply))]
 pub(crate) fn refused(alloc: Global, refusal: Refusal) -> Result<ReplyBytes, AllocError>
     ensures { IfOk result (λ reply. reply ≡ refusal_reply refusal) }
 {
@@ -35,7 +35,7 @@ fn last_bare(alloc: Global, status: u16) -> Result<ReplyBytes, AllocError>
     Ok(ReplyBytes { bytes, last: true })
 }
 
-#[tactic(auto, unfolding(crate::specs::Arrival::refusal_reply))]
+#[tactic(auto, unfolding(gateway_model::specs::Arrival::refusal_reply))]
 fn too_large(alloc: Global) -> Result<ReplyBytes, AllocError>
     ensures { IfOk result (λ reply. reply ≡ refusal_reply Refusal.BodyTooLarge) }
 {

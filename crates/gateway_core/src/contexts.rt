@@ -4,21 +4,19 @@ mod peer;
 
 ghost use Rattle.std.specs.Prelude.{◌≡◌, ◌==◌, IfErr, IfOk, None as Nothing, OnErr, OnOk, filter, false, not, option_map, true};
 ghost use Rattle.std.specs.Arc.{arc_value};
-ghost use Rattle.gateway_core.specs.Contexts.{LivesApart, begun, closed, ctx_for, ctx_of, first_life, first_of, is_life, is_peer, no_contexts, opened, without, without_calls, without_first};
-ghost use Rattle.gateway_core.specs.Duty.{MeetsDuty};
-ghost use Rattle.gateway_core.specs.Past.{is_call};
+ghost use Rattle.gateway_core.specs.Contexts.{LivesApart, begun, closed, ctx_for, ctx_of, first_life, first_of, is_life, is_peer, no_contexts, opened, told, without, without_calls, without_first};
+ghost use Rattle.gateway_model.specs.Duty.{MeetsDuty};
+ghost use Rattle.gateway_model.specs.Past.{is_call};
 ghost use Rattle.gateway_core.specs.Ties.{life_ties, peer_ties};
 
 use crate::contexts::life::Life;
 use crate::contexts::peer::Peer;
-use crate::ending::Ending;
 use crate::hook::ReplyHook;
-use crate::id::CallId;
 use crate::machine::asked::Asked;
-use crate::machine::cause::Cause;
 use crate::stock::Stock;
 use call_contexts::CallContexts;
 use context_tree::CtxId;
+use gateway_model::{CallId, Cause, Ending};
 use http_pieces::Bytes;
 use std::alloc::{AllocError, Global};
 use std::marker::Model;
@@ -79,7 +77,7 @@ impl<H: ReplyHook + Drop> Contexts<H> {
     pub(crate) fn begin(&mut self, id: &CallId, asked: &Asked, now: u64) -> Result<(), AllocError>
         requires known { is_peer id.now.conn self.old.conns ≡ true }
         requires fresh { is_life id.now self.old.calls ≡ false }
-        ensures ok { OnOk result (self.new ≡ begun id.now asked.now self.old) }
+        ensures ok { OnOk result (self.new ≡ begun now id.now asked.now self.old) }
         ensures err { OnErr result (self.new ≡ self.old) }
     {
         self.lives.reserve(1)?;
@@ -100,9 +98,9 @@ impl<H: ReplyHook + Drop> Contexts<H> {
         Ok(())
     }
 
-    /// Tells the contexts what may end calls.
+    /// Tells the contexts what may end calls: those of the calls that this ends have ended.
     pub(crate) fn tell(&mut self, cause: &Cause)
-        ensures { self.new ≡ self.old }
+        ensures { self.new ≡ told cause.now self.old }
     {
         match cause {
             Cause::Reached(moment) => self.contexts.expire(*moment),

@@ -1,35 +1,14 @@
 ghost use Rattle.std.specs.Prelude.{◌≡◌, IfOk, option_map};
 ghost use Rattle.connect_codec.specs.Reply.{error_reply};
-ghost use Rattle.gateway_core.specs.Branch.{branch_at};
-ghost use Rattle.gateway_core.specs.Errors.{branch_error, cause_error, cause_of, ending_error, ending_with};
+ghost use Rattle.gateway_model.specs.Branch.{branch_at};
+ghost use Rattle.gateway_model.specs.Errors.{branch_error, cause_error, cause_of, ending_error, ending_with};
 
-use crate::event::CallEvent;
 use call_plan::Plan;
 use connect_codec::error_reply;
 use error_document::{Code, RpcError};
+use gateway_model::{CallEvent, EndCause, Ending};
 use http_pieces::{Bytes, Text};
 use std::alloc::{AllocError, Global};
-
-/// How a call ends that does not succeed.
-#[derive(Debug, Drop)]
-pub struct Ending {
-    pub cause: EndCause,
-    /// Whether the reply is its connection's last.
-    pub last: bool,
-}
-
-/// Why a call ends.
-#[derive(Debug, Drop)]
-pub enum EndCause {
-    /// The branch of this name failed.
-    Branch { name: Text, error: RpcError },
-    /// The deadline was reached.
-    Deadline,
-    /// The peer of the connection hung up.
-    HangUp,
-    /// The gateway was drained.
-    Drain,
-}
 
 /// The reply to a call that ends so, for its hook to answer.
 pub fn ending_reply(alloc: Global, ending: Ending) -> Result<Bytes, AllocError>

@@ -1,33 +1,31 @@
 ghost use Rattle.std.specs.Prelude.{◌≡◌, ◌==◌, ◌^◌, ◌∷◌, ◌++◌, ◌<◌, ◌≤◌, [], Err, IfOk, IfErr, IfSome, None, OnErr, OnOk, Some, false, is_some, not, ℕ, List, MatchResult, length, option_map, option_to_list, take, true};
 ghost use Rattle.connect_codec.specs.declared.answer.Outcome.{Outcome as Outcomes};
-ghost use Rattle.gateway_core.specs.declared.entry.ReplyEntry.{ReplyEntry};
-ghost use Rattle.gateway_core.specs.Gateway.{is_broken_conn, is_ended, next_reply, outs_of, untaken_of};
-ghost use Rattle.gateway_core.specs.declared.fault.Seen.{Seen};
-ghost use Rattle.gateway_core.specs.Occurrence as concerning;
-ghost use Rattle.gateway_core.specs.Serving.{Breaks, BreaksBy, CountsCalls, FewCalls, IsDeaf, Keeps, KeepsBut, TakesOnly, TellsStep};
-ghost use Rattle.gateway_core.specs.Refused.{RefusesOpening};
-ghost use Rattle.gateway_core.specs.Results.{NoneSpent};
-ghost use Rattle.gateway_core.specs.Tally.{tally_of};
-ghost use Rattle.gateway_core.specs.Conn.{ConnValue};
-ghost use Rattle.gateway_core.specs.Past.{judged, marked};
-ghost use Rattle.gateway_core.specs.Starts.{Placed, occurrences};
-ghost use Rattle.gateway_core.specs.Store.{call_at, conn_of};
-ghost use Rattle.gateway_core.specs.Events.{open_connections, most_open, BranchResult, Closing, Drain, GatewayEvent, HangUp, Moment, Occurs, Opening, Piece};
-ghost use Rattle.gateway_core.specs.Job.{HandedJob, JobValue};
-ghost use Rattle.gateway_core.specs.Served.{Served, ServedUpTo, with_reply};
+ghost use Rattle.gateway_model.specs.declared.entry.ReplyEntry.{ReplyEntry};
+ghost use Rattle.gateway_model.specs.Gateway.{is_broken_conn, is_ended, next_reply, outs_of, untaken_of};
+ghost use Rattle.gateway_model.specs.declared.fault.Seen.{Seen};
+ghost use Rattle.gateway_model.specs.Occurrence as concerning;
+ghost use Rattle.gateway_model.specs.Serving.{Breaks, BreaksBy, CountsCalls, FewCalls, IsDeaf, Keeps, KeepsBut, TakesOnly, TellsStep};
+ghost use Rattle.gateway_model.specs.Refused.{RefusesOpening};
+ghost use Rattle.gateway_model.specs.Results.{NoneSpent};
+ghost use Rattle.gateway_model.specs.Tally.{tally_of};
+ghost use Rattle.gateway_model.specs.Conn.{ConnValue};
+ghost use Rattle.gateway_model.specs.Past.{judged, marked};
+ghost use Rattle.gateway_model.specs.Starts.{Placed, occurrences};
+ghost use Rattle.gateway_model.specs.Store.{call_at, conn_of};
+ghost use Rattle.gateway_model.specs.Events.{open_connections, most_open, BranchResult, Closing, Drain, GatewayEvent, HangUp, Moment, Occurs, Opening, Piece};
+ghost use Rattle.gateway_model.specs.Job.{HandedJob, JobValue};
+ghost use Rattle.gateway_model.specs.Served.{Served, ServedUpTo, with_reply};
 
-use crate::fault::{OpenError, StepFault, Took};
 use crate::hook::ReplyHook;
-use crate::id::{CallId, ConnId};
 use crate::job::Job;
 use crate::reply::Reply;
-use crate::request_laws::request_laws;
-use crate::served_laws::opening_law;
 use crate::stock::Stock;
 use crate::streams::Streams;
-use crate::tally::Tally;
 use call_plan::Plans;
 use connect_codec::Outcome;
+use gateway_model::request_laws::request_laws;
+use gateway_model::served_laws::opening_law;
+use gateway_model::{CallId, ConnId, OpenError, StepFault, Tally, Took};
 use std::alloc::{AllocError, Global};
 use std::marker::Model;
 
@@ -38,7 +36,7 @@ pub struct Core<H> {
 }
 
 impl<H> Model for Core<H> {
-    ghost use Rattle.gateway_core.specs.Gateway.{GatewayValue};
+    ghost use Rattle.gateway_model.specs.Gateway.{GatewayValue};
 
     ghost Value = { GatewayValue };
 

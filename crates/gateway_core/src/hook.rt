@@ -1,9 +1,9 @@
 ghost use Rattle.std.specs.Prelude.{Ok, List, ℕ};
-ghost use Rattle.gateway_core.specs.Duty.{MeetsDuty};
-ghost use Rattle.gateway_core.specs.declared.ending.Ending.{Ending};
+ghost use Rattle.gateway_model.specs.Duty.{MeetsDuty};
+ghost use Rattle.gateway_model.specs.declared.ending.Ending.{Ending};
 
-use crate::ending::Ending;
 use after_funcs::Hook;
+use gateway_model::Ending;
 use http_pieces::Bytes;
 use std::alloc::AllocError;
 

@@ -1,8 +1,8 @@
 ghost use Rattle.std.specs.Prelude.{◌≡◌, option_map, true};
-ghost use Rattle.gateway_core.specs.Job.{job_at};
+ghost use Rattle.gateway_model.specs.Job.{job_at};
 
-use crate::id::CallId;
 use crate::machine::task::Task;
+use gateway_model::CallId;
 use std::marker::Model;
 use std::sync::Arc;
 
@@ -17,7 +17,7 @@ pub struct Job {
 
 impl Model for Job {
     ghost use Rattle.std.specs.Prelude.{◌≡◌};
-    ghost use Rattle.gateway_core.specs.Job.{HandedJob, job_with};
+    ghost use Rattle.gateway_model.specs.Job.{HandedJob, job_with};
 
     ghost Value = { HandedJob };
 

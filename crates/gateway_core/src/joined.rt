@@ -1,11 +1,11 @@
 ghost use Rattle.std.specs.Prelude.{◌≡◌, ℕ, [], IfOk, unwrap_or};
 ghost use Rattle.std.specs.Option.{option_copied};
-ghost use Rattle.gateway_core.specs.CallRecord.{answer_in, answer_of_branch, answers_in};
-ghost use Rattle.gateway_core.specs.Queue.{joined_reply};
+ghost use Rattle.gateway_model.specs.CallRecord.{answer_in, answer_of_branch, answers_in};
+ghost use Rattle.gateway_model.specs.Queue.{joined_reply};
 
-use crate::event::CallEvent;
 use call_plan::Plan;
 use connect_codec::success_reply;
+use gateway_model::CallEvent;
 use http_pieces::Bytes;
 use std::alloc::{AllocError, Global};
 

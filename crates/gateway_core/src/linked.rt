@@ -1,32 +1,31 @@
 //! The machine with its contexts.
 ghost use Rattle.std.specs.Prelude.{◌≡◌, ◌<◌, ◌==◌, IfErr, IfOk, None as Nothing, OnErr, OnOk, [], false, length, not, true};
 ghost use Rattle.std.specs.List.{count_by};
-ghost use Rattle.gateway_core.specs.Arrival.{arrival_of};
-ghost use Rattle.gateway_core.specs.Ends.{AreApart, CallsEnd, IsSettled, is_stopped_in};
-ghost use Rattle.gateway_core.specs.Enters.{arriving_at, entered_at};
-ghost use Rattle.gateway_core.specs.Gateway.{are_all_there};
-ghost use Rattle.gateway_core.specs.Occurrence.{Entering};
-ghost use Rattle.gateway_core.specs.Opens.{JobTaken, ReplyTaken, closed_at, opened_as};
-ghost use Rattle.gateway_core.specs.Orderly.{IsOrderly};
-ghost use Rattle.gateway_core.specs.Queue.{front};
-ghost use Rattle.gateway_core.specs.Results.{Forgets, NoneSpent, ResultTaken, Starved};
-ghost use Rattle.gateway_core.specs.Serving.{IsMade};
-ghost use Rattle.gateway_core.specs.Step.{moment_after};
-ghost use Rattle.gateway_core.specs.Store.{MachineValue, broken_at, broken_count, call_at, conn_at, conn_of, machine_value};
-ghost use Rattle.gateway_core.specs.declared.fault.Seen.{Seen};
-ghost use Rattle.gateway_core.specs.declared.fault.StepFault.TheVariants as fault;
+ghost use Rattle.gateway_model.specs.Arrival.{arrival_of};
+ghost use Rattle.gateway_model.specs.Ends.{AreApart, CallsEnd, IsSettled, is_stopped_in, noted};
+ghost use Rattle.gateway_model.specs.Enters.{arriving_at, entered_at};
+ghost use Rattle.gateway_model.specs.Gateway.{are_all_there};
+ghost use Rattle.gateway_model.specs.Heads.{conn_heads, noted_heads};
+ghost use Rattle.gateway_model.specs.Occurrence.{Entering};
+ghost use Rattle.gateway_model.specs.Opens.{JobTaken, ReplyTaken, closed_at, opened_as};
+ghost use Rattle.gateway_model.specs.Orderly.{IsOrderly};
+ghost use Rattle.gateway_model.specs.Queue.{front};
+ghost use Rattle.gateway_model.specs.Results.{Forgets, NoneSpent, ResultTaken, Starved};
+ghost use Rattle.gateway_model.specs.Serving.{IsMade};
+ghost use Rattle.gateway_model.specs.Step.{moment_after};
+ghost use Rattle.gateway_model.specs.Store.{MachineValue, broken_at, broken_count, call_at, conn_at, conn_of, machine_value};
+ghost use Rattle.gateway_model.specs.declared.fault.Seen.{Seen};
+ghost use Rattle.gateway_model.specs.declared.fault.StepFault.TheVariants as fault;
 
 use crate::contexts::Contexts;
-use crate::fault::{StepFault, Took};
 use crate::hook::ReplyHook;
-use crate::id::CallId;
 use crate::job::Job;
-use crate::machine::cause::Cause;
 use crate::machine::store::Machine;
 use crate::reply::Reply;
 use crate::stock::Stock;
 use call_plan::Plans;
 use connect_codec::Outcome;
+use gateway_model::{CallId, Cause, StepFault, Took};
 use http_pieces::{Refusal, Request};
 use std::alloc::{AllocError, Global};
 use std::marker::Model;
@@ -42,7 +41,7 @@ pub(crate) struct LinkedMachine<H> {
 impl<H> Model for LinkedMachine<H> {
     ghost use Rattle.std.specs.Prelude.{◌≡◌};
     ghost use Rattle.gateway_core.specs.Linked.{linked};
-    ghost use Rattle.gateway_core.specs.Store.{MachineValue};
+    ghost use Rattle.gateway_model.specs.Store.{MachineValue};
 
     ghost Value = { MachineValue };
 
@@ -89,6 +88,7 @@ impl<H: ReplyHook + Drop> LinkedMachine<H> {
     ) -> Result<(), StepFault>
         requires there { index < length self.old.conns }
         requires on { (conn_at index self.old.conns).broken ≡ false }
+        requires heard { (conn_at index self.old.conns).hung_up ≡ false }
         requires orderly { IsOrderly self.old }
         ensures { IsMade index (Entering.Request request (arrival_of plans.now request)) begun.old self.old begun.new self.new result }
     {
@@ -111,13 +111,16 @@ impl<H: ReplyHook + Drop> LinkedMachine<H> {
         self.machine.stop(alloc, &mut self.contexts, index, refusal)
     }
 
-    /// Ends all calls that this ends: their replies go into their slots. Where memory is refused to one of them, its connection breaks.
+    /// Takes note of what may end calls, tells the contexts, and ends all calls that this ends: their replies go into their slots.
+    /// Where memory is refused to one of them, its connection breaks.
     pub(crate) fn end_calls(&mut self, alloc: Global, cause: &Cause)
         requires settled { IsSettled self.old }
         requires apart { AreApart self.old.calls }
-        ensures { CallsEnd cause.now self.old self.new }
+        ensures ended { CallsEnd cause.now (noted cause.now self.old) self.new }
+        ensures heads { conn_heads self.new.conns ≡ noted_heads cause.now (conn_heads self.old.conns) }
     {
         self.contexts.tell(cause);
+        self.machine.note(cause);
         self.machine.end_calls(alloc, &mut self.contexts, cause);
     }
 
@@ -168,13 +171,6 @@ impl<H: ReplyHook + Drop> LinkedMachine<H> {
         ensures told { self.new ≡ record self.old { moment = moment_after self.old.moment moment } }
     {
         self.machine.tell(moment)
-    }
-
-    /// The drain begins.
-    pub(crate) fn drain(&mut self)
-        ensures { self.new ≡ record self.old { drained = true } }
-    {
-        self.machine.drain();
     }
 
     /// Hands out the next job, in order of start.

@@ -2,7 +2,6 @@
 mod arriving;
 pub(crate) mod asked;
 mod begin;
-pub(crate) mod cause;
 mod conn;
 mod ending;
 mod enter;

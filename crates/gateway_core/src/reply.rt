@@ -1,16 +1,13 @@
 ghost use Rattle.std.specs.Prelude.{◌≡◌, IfOk, false};
 ghost use Rattle.connect_codec.specs.Verdict.{HasBareStatus};
-ghost use Rattle.gateway_core.specs.Arrival.{is_ask};
-ghost use Rattle.gateway_core.specs.Queue.{answer_of, call_reply};
-ghost use Rattle.gateway_core.specs.Reply.{reply_with};
-ghost use Rattle.gateway_core.specs.declared.entry.ReplyEntry.{ReplyEntry};
+ghost use Rattle.gateway_model.specs.Arrival.{is_ask};
+ghost use Rattle.gateway_model.specs.Queue.{answer_of, call_reply};
+ghost use Rattle.gateway_model.specs.Reply.{reply_with};
+ghost use Rattle.gateway_model.specs.declared.entry.ReplyEntry.{ReplyEntry};
 
 use crate::answers::{crowded, judged, refused};
-use crate::entry::ReplyEntry;
-use crate::id::CallId;
-use crate::record::CallRecord;
-use crate::reply_bytes::ReplyBytes;
 use connect_codec::Verdict;
+use gateway_model::{CallId, CallRecord, ReplyBytes, ReplyEntry};
 use http_pieces::{Bytes, Refusal};
 use std::alloc::{AllocError, Global};
 use std::marker::Model;
@@ -25,8 +22,8 @@ pub struct Reply {
 
 impl Model for Reply {
     ghost use Rattle.std.specs.Prelude.{◌≡◌};
-    ghost use Rattle.gateway_core.specs.Queue.{answer_of};
-    ghost use Rattle.gateway_core.specs.Reply.{ReplyValue, reply_with};
+    ghost use Rattle.gateway_model.specs.Queue.{answer_of};
+    ghost use Rattle.gateway_model.specs.Reply.{ReplyValue, reply_with};
 
     ghost Value = { ReplyValue };
 

@@ -1,27 +1,25 @@
 ghost use Rattle.std.specs.Prelude.{◌≡◌, ◌==◌, ◌<◌, ◌≤◌, ◌^◌, ◌∷◌, IfOk, IfErr, List, OnErr, false, true, not, filter, length, []};
-ghost use Rattle.gateway_core.specs.Ends.{is_stopped_in};
-ghost use Rattle.gateway_core.specs.Gateway.{is_broken_conn, is_ended, outs_of, untaken_of};
-ghost use Rattle.gateway_core.specs.Step.{moment_after};
-ghost use Rattle.gateway_core.specs.Refused.{RefusesOpening};
-ghost use Rattle.gateway_core.specs.Results.{Forgets, NoneSpent, ResultTaken, Starved};
-ghost use Rattle.gateway_core.specs.declared.fault.Seen.{Seen};
-ghost use Rattle.gateway_core.specs.Opens.{JobTaken};
-ghost use Rattle.gateway_core.specs.Serving.{Breaks, BringsAt, Closes, Ends, FedTo, gateway_value, HangsUp, IsListening, IsPlaced, IsServing, ListensAt, Opens, ReadsAt, TakesReply, without_more};
-ghost use Rattle.gateway_core.specs.Store.{MachineValue, broken_at, conn_at, machine_value};
-ghost use Rattle.gateway_core.specs.Tally.{tally_of};
+ghost use Rattle.gateway_model.specs.Ends.{is_stopped_in, noted};
+ghost use Rattle.gateway_model.specs.Heads.{IsOfAll};
+ghost use Rattle.gateway_model.specs.Gateway.{is_broken_conn, is_ended, outs_of, untaken_of};
+ghost use Rattle.gateway_model.specs.Step.{moment_after};
+ghost use Rattle.gateway_model.specs.Refused.{RefusesOpening};
+ghost use Rattle.gateway_model.specs.Results.{Forgets, NoneSpent, ResultTaken, Starved};
+ghost use Rattle.gateway_model.specs.declared.fault.Seen.{Seen};
+ghost use Rattle.gateway_model.specs.Opens.{JobTaken};
+ghost use Rattle.gateway_model.specs.Serving.{Breaks, BringsAt, Closes, Ends, FedTo, gateway_value, HangsUp, IsListening, IsPlaced, IsServing, ListensAt, Opens, ReadsAt, TakesReply};
+ghost use Rattle.gateway_model.specs.Store.{MachineValue, broken_at, conn_at, machine_value};
+ghost use Rattle.gateway_model.specs.Tally.{tally_of};
 
-use crate::fault::{OpenError, StepFault, Took};
 use crate::hook::ReplyHook;
-use crate::id::{CallId, ConnId};
 use crate::job::Job;
 use crate::linked::LinkedMachine;
-use crate::machine::cause::Cause;
 use crate::machine::stream::Stream;
 use crate::reply::Reply;
 use crate::stock::Stock;
-use crate::tally::Tally;
 use call_plan::Plans;
 use connect_codec::Outcome;
+use gateway_model::{CallId, Cause, ConnId, OpenError, StepFault, Tally, Took};
 use http_pieces::{Request, State};
 use std::alloc::{AllocError, Global};
 use std::marker::Model;
@@ -48,14 +46,16 @@ pub(crate) struct Streams<H> {
 }
 
 impl<H> Model for Streams<H> {
-    ghost use Rattle.gateway_core.specs.Gateway.{GatewayValue};
-    ghost use Rattle.gateway_core.specs.Serving.{gateway_value, IsServing};
+    ghost use Rattle.gateway_model.specs.Gateway.{GatewayValue};
+    ghost use Rattle.gateway_model.specs.Heads.{IsHeard};
+    ghost use Rattle.gateway_model.specs.Serving.{gateway_value, IsServing};
 
     ghost Value = { GatewayValue };
 
     ghost view = { λ s. gateway_value s.plans s.machine s.streams.items s.opened s.begun s.tally };
 
-    ghost invariant = { λ s. IsServing (gateway_value s.plans s.machine s.streams.items s.opened s.begun s.tally) };
+    ghost invariant = { λ s. IsServing (gateway_value s.plans s.machine s.streams.items s.opened s.begun s.tally)
+        × IsHeard (gateway_value s.plans s.machine s.streams.items s.opened s.begun s.tally) };
 }
 
 impl<H: ReplyHook + Drop> Streams<H> {
@@ -125,8 +125,8 @@ impl<H: ReplyHook + Drop> Streams<H> {
         let Some(index) = self.listening(number) else {
             return Err(StepFault::Gone);
         };
-        self.stop_reading(index);
-        self.end_calls(&Cause::HungUp(number));
+        self.streams[index].hang_up();
+        self.machine.end_calls(self.alloc, &Cause::HungUp(number));
         if self.machine.is_stopped(number) {
             return Err(StepFault::Memory);
         }
@@ -148,7 +148,6 @@ impl<H: ReplyHook + Drop> Streams<H> {
         ensures ends { Ends Cause.Drained (record self.old.machine { drained = true }) self.old self.new }
         ensures broke { Breaks self.old self.new result }
     {
-        self.machine.drain();
         self.end_calls(&Cause::Drained)
     }
 
@@ -304,14 +303,6 @@ impl<H: ReplyHook + Drop> Streams<H> {
         self.streams[index].read(bytes)
     }
 
-    /// No more is read of the stream at that place.
-    fn stop_reading(&mut self, index: usize)
-        requires { index < length self.old.streams }
-        ensures { self.new ≡ record self.old { streams = without_more index self.old.streams } }
-    {
-        self.streams[index].hang_up();
-    }
-
     /// The connection of that number breaks.
     fn break_conn(&mut self, number: u64)
         ensures { self.new ≡ record self.old { machine = broken_at number self.old.machine } }
@@ -323,6 +314,7 @@ impl<H: ReplyHook + Drop> Streams<H> {
     fn bring(&mut self, index: usize, request: Option<Request>) -> Result<(), StepFault>
         requires there { index < length self.old.streams }
         requires on { (conn_at index self.old.machine.conns).broken ≡ false }
+        requires heard { (conn_at index self.old.machine.conns).hung_up ≡ false }
         ensures { BringsAt index request self.old self.new result }
     {
         if let Some(request) = request {
@@ -336,9 +328,10 @@ impl<H: ReplyHook + Drop> Streams<H> {
         Ok(())
     }
 
-    /// The calls end that this ends. True where a connection broke.
+    /// What may end calls, other than a hang-up, is noted, and the calls end that it ends. True where a connection broke.
     fn end_calls(&mut self, cause: &Cause) -> bool
-        ensures ends { Ends cause.now self.old.machine self.old self.new }
+        requires { IsOfAll cause.now }
+        ensures ends { Ends cause.now (noted cause.now self.old.machine) self.old self.new }
         ensures broke { Breaks self.old self.new result }
     {
         let before = self.machine.broken();

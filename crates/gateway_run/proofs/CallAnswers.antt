@@ -6,22 +6,23 @@ use Rattle.std.proofs.lemmas.Bool.{and_parts, cases_eq, cond_both, eq-eqb, eqb-t
 use Rattle.std.proofs.lemmas.List.{reverse-reverse}
 use Rattle.connect_codec.specs.Reply.{error_reply}
 use Rattle.connect_codec.specs.declared.answer.Outcome.TheVariants.{Answer, Fail}
-use Rattle.gateway_core.specs.declared.entry.ReplyEntry.TheVariants.{Call as Calling}
-use Rattle.gateway_core.specs.declared.event.CallEvent.{CallEvent}
-use Rattle.gateway_core.specs.declared.event.CallEvent.TheVariants.{Answer as Answered, Failed, Expired, HungUp, Drained}
-use Rattle.gateway_core.specs.declared.id.CallId.{CallId}
-use Rattle.gateway_core.specs.Arrival.{Judged, Asks}
-use Rattle.gateway_core.specs.Branch.{branch_at}
-use Rattle.gateway_core.specs.CallRecord.{CallRecord, answer_in, answer_of_branch, last_event}
-use Rattle.gateway_core.specs.Errors.{branch_error, error_of}
-use Rattle.gateway_core.specs.Finished.{IsDecidedAt}
-use Rattle.gateway_core.specs.Occurrence.{Occurrence, Opening, Entry, HangUp, Moment, Result, Drain, Closing, Entering, Request, Refused}
-use Rattle.gateway_core.specs.Past.{Asked, Mark, Past, answers, asked_now, branches, call, count_below, counts, decided, decides, ends_at_arrival, event_by, is_call, is_closed, is_drained, is_due, mark_of, marked, now, own_event, past_of}
-use Rattle.gateway_core.specs.Queue.{answer_of, call_entry, came, entry, entry_by, joined_reply, own_events, record_of}
-use Rattle.gateway_core.specs.Record.{answers_among, is_decided, is_ending, is_last, is_lawful, may_come, may_follow, started_after}
-use Rattle.gateway_core.specs.Reply.{reply_of}
+use Rattle.gateway_model.specs.declared.entry.ReplyEntry.TheVariants.{Call as Calling}
+use Rattle.gateway_model.specs.declared.event.CallEvent.{CallEvent}
+use Rattle.gateway_model.specs.declared.event.CallEvent.TheVariants.{Answer as Answered, Failed, Expired, HungUp, Drained}
+use Rattle.gateway_model.specs.declared.id.CallId.{CallId}
+use Rattle.gateway_model.specs.Arrival.{Judged, Asks}
+use Rattle.gateway_model.specs.Branch.{branch_at}
+use Rattle.gateway_model.specs.CallRecord.{CallRecord, answer_in, answer_of_branch, last_event}
+use Rattle.gateway_model.specs.Errors.{branch_error, error_of}
+use Rattle.gateway_model.specs.Finished.{IsDecidedAt}
+use Rattle.gateway_model.specs.Occurrence.{Occurrence, Opening, Entry, HangUp, Moment, Result, Drain, Closing, Entering, Request, Refused}
+use Rattle.gateway_model.specs.Past.{Asked, Mark, Past, answers, asked_now, branches, call, count_below, counts, decided, decides, ends_at_arrival, event_by, is_call, is_closed, is_drained, is_due, mark_of, marked, now, own_event, past_of}
+use Rattle.gateway_model.specs.Queue.{answer_of, call_entry, came, entry, entry_by, joined_reply, own_events, record_of}
+use Rattle.gateway_model.specs.Record.{answers_among, is_decided, is_ending, is_last, is_lawful, may_come, may_follow, started_after}
+use Rattle.gateway_model.specs.Reply.{reply_of}
 use Rattle.gateway_run.specs.Headline.{AllAnswered, AnswersCall, failed, joined, HasAnswered, IsAnswered}
-use Rattle.gateway_run.proofs.Flags.{or_none}
+use Rattle.gateway_model.specs.lemmas.Cases.{or_none}
+use Rattle.gateway_model.specs.lemmas.LimitLemmas.{same_call}
 
 -- ---- counts
 
@@ -232,16 +233,6 @@ is_answered laws id os r e =
     }
 
 -- ---- where answers come from
-
-same_call : (a b : CallId) → is_call a b ≡ true → a ≡ b
-same_call a b e =
-    let p = and_parts (a.conn == b.conn) (a.request == b.request) e in
-    let c : a.conn ≡ b.conn = eqb-true a.conn b.conn p.0 in
-    let r : a.request ≡ b.request = eqb-true a.request b.request p.1 in
-    ap (λ x. named x a.request) c ∙ ap (λ x. named b.conn x) r
-  where
-    named : ℕ → ℕ → CallId
-    named conn request = record { conn = conn; request = request }
 
 -- what ends a call as it arrives is no answer
 no_answer : (past : Past) (o : Option Asked) (i : ℕ) (body : List ℕ) → option_and_then (ends_at_arrival past) o ≡ Some (Answered i body) → ⊥

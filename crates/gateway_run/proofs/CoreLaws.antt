@@ -1,19 +1,19 @@
 -- What is known of the core's definitions and of what it stands for: the laws of the crate below that the proofs of a run use.
 use Rattle.std.specs.Prelude.{◌≡◌, ◌↔◌, ℕ, ◌<◌, ◌≤◌, true, false, List, [], ◌∷◌, ◌++◌, length, map, Some}
 use Rattle.call_plan.specs.Plan.{PlanRecord}
-use Rattle.gateway_core.specs.declared.entry.ReplyEntry.{ReplyEntry}
-use Rattle.gateway_core.specs.Breaking.{BrokeNow}
-use Rattle.gateway_core.specs.Conn.{ConnValue}
-use Rattle.gateway_core.specs.EventAdds.{EventAdds}
-use Rattle.gateway_core.specs.Events.{Before, GatewayEvent, Occurs, connections, is_open, onto, open_connections, succeeds}
-use Rattle.gateway_core.specs.Gateway.{GatewayValue, untaken_of}
-use Rattle.gateway_core.specs.Job.{JobValue}
-use Rattle.gateway_core.specs.Occurrence.{Occurrence}
-use Rattle.gateway_core.specs.Past.{marked}
-use Rattle.gateway_core.specs.Queue.{IsPrefixOf, front}
-use Rattle.gateway_core.specs.Served.{JobsAre, QueueIs, Served}
-use Rattle.gateway_core.specs.Starts.{Placed, job_started, jobs, occurrences, starts}
-use Rattle.gateway_core.specs.Store.{conn_of}
+use Rattle.gateway_model.specs.declared.entry.ReplyEntry.{ReplyEntry}
+use Rattle.gateway_model.specs.Breaking.{BrokeNow}
+use Rattle.gateway_model.specs.Conn.{ConnValue}
+use Rattle.gateway_model.specs.EventAdds.{EventAdds}
+use Rattle.gateway_model.specs.Events.{Before, GatewayEvent, Occurs, connections, is_open, onto, open_connections, succeeds}
+use Rattle.gateway_model.specs.Gateway.{GatewayValue, untaken_of}
+use Rattle.gateway_model.specs.Job.{JobValue}
+use Rattle.gateway_model.specs.Occurrence.{Occurrence}
+use Rattle.gateway_model.specs.Past.{marked}
+use Rattle.gateway_model.specs.Queue.{IsPrefixOf, front}
+use Rattle.gateway_model.specs.Served.{JobsAre, QueueIs, Served}
+use Rattle.gateway_model.specs.Starts.{Placed, job_started, jobs, occurrences, starts}
+use Rattle.gateway_model.specs.Store.{conn_of}
 
 -- what one event adds, and whose jobs the starts are
 pub record EventLaws : Type 0 where

@@ -4,15 +4,15 @@ use Rattle.std.specs.Prelude.{if◌then◌else◌, ◌||◌, ◌==◌}
 use Rattle.std.proofs.lemmas.Bool.{cases_Bool, eq-eqb, eqb-true, ne_eqb}
 use Rattle.std.proofs.lemmas.List.{length-append}
 use Rattle.std.proofs.lemmas.List.Recursion.{or_push}
-use Rattle.gateway_core.specs.declared.entry.ReplyEntry.{ReplyEntry}
-use Rattle.gateway_core.specs.Events.{Before, Closing, GatewayEvent, IsOpened, IsRising, Opening, OpensAt, connections, is_closing_of, is_open, most_open, open_connections, succeeds}
-use Rattle.gateway_core.specs.Events as events
-use Rattle.gateway_core.specs.Gateway.{GatewayValue}
-use Rattle.gateway_core.specs.Job.{JobValue}
-use Rattle.gateway_core.specs.Served.{HasConns, Served}
-use Rattle.gateway_core.specs.declared.fault.Seen.{Seen}
-use Rattle.gateway_core.specs.Serving.{KeepsBut}
-use Rattle.gateway_core.specs.Starts.{job_started}
+use Rattle.gateway_model.specs.declared.entry.ReplyEntry.{ReplyEntry}
+use Rattle.gateway_model.specs.Events.{Before, Closing, GatewayEvent, IsOpened, IsRising, Opening, OpensAt, connections, is_closing_of, is_open, most_open, open_connections, succeeds}
+use Rattle.gateway_model.specs.Events as events
+use Rattle.gateway_model.specs.Gateway.{GatewayValue}
+use Rattle.gateway_model.specs.Job.{JobValue}
+use Rattle.gateway_model.specs.Served.{HasConns, Served}
+use Rattle.gateway_model.specs.declared.fault.Seen.{Seen}
+use Rattle.gateway_model.specs.Serving.{KeepsBut}
+use Rattle.gateway_model.specs.Starts.{job_started}
 use Rattle.gateway_run.specs.Log.{HasRun, LogValue, StartsAll}
 use Rattle.gateway_run.specs.Stepping.{BreaksAt, CollectsFor, log_after, opened_by}
 use Rattle.gateway_run.specs.declared.stepping.Stepped.{Stepped}
@@ -21,6 +21,7 @@ use Rattle.gateway_run.proofs.Flags.{more_default}
 use Rattle.gateway_run.proofs.CoreLaws.{BreakingLaw, EventLaws, OpeningsLaws, StandingLaws}
 use Rattle.gateway_run.proofs.Gathering.{collected_run}
 use Rattle.gateway_run.proofs.RunSteps.{Steps, run_on}
+use Rattle.gateway_model.specs.lemmas.ServedOpens.{succeeds_more}
 
 -- the same connections were gathered
 pub same_gathered : (f g : ℕ → Bool) (v : GatewayValue) (log : LogValue) (es : Before) → ((c : ℕ) → f c ≡ g c) → HasRun f v log es → HasRun g v log es
@@ -85,9 +86,6 @@ opens_later opened e es place o = record {
   place_is = o.place_is;
   few = o.few;
 }
-
-succeeds_more : (opened : List ℕ) (place at : ℕ) → succeeds (opened ++ place ∷ []) at ≡ (succeeds opened at || (place == at))
-succeeds_more opened place at = or_push (λ places. succeeds places at) (λ p. p == at) refl (λ p places. refl) opened place
 
 module _ (e : GatewayEvent) (es : Before) (v w : GatewayValue) (opened : List ℕ) where
   -- none succeeded at this event

@@ -5,9 +5,9 @@ use Rattle.http_pieces.specs.declared.refusal.Refusal.{Refusal}
 use Rattle.http_pieces.specs.Request.{HttpRequest}
 use Rattle.http_pieces.specs.Requests.{Ending, Open, Broken, Closed, Requests}
 use Rattle.call_plan.specs.Plan.{PlanRecord}
-use Rattle.gateway_core.specs.Occurrence.{Occurrence, Entering, Entry}
-use Rattle.gateway_core.specs.Starts.{Placed}
-use Rattle.gateway_core.specs.Events.{GatewayEvent, Opening, Piece, HangUp, Moment, BranchResult, Drain, Closing, Before, listens, stream, Gains, requests_gained, refusal_gained, OccursAt, Occurs, onto}
+use Rattle.gateway_model.specs.Occurrence.{Occurrence, Entering, Entry}
+use Rattle.gateway_model.specs.Starts.{Placed}
+use Rattle.gateway_model.specs.Events.{GatewayEvent, Opening, Piece, HangUp, Moment, BranchResult, Drain, Closing, Before, listens, stream, Gains, requests_gained, refusal_gained, OccursAt, Occurs, onto}
 
 -- what is known of requests
 pub record RequestLaws : Type 0 where

@@ -5,22 +5,22 @@ use Rattle.std.specs.List.{range_with_len}
 use Rattle.std.specs.Option.{option_map_or}
 use Rattle.std.proofs.lemmas.Bool.{cases_Bool, eq-eqb, eqb-true, lt-ltb, le-ltb, ltb-true, ltb-false}
 use Rattle.call_plan.specs.Plan.{PlanRecord}
-use Rattle.gateway_core.specs.Conn.{ConnValue}
-use Rattle.gateway_core.specs.Events.{Before, Closing, GatewayEvent, IsRising, Occurs, Opening}
-use Rattle.gateway_core.specs.Events as events
-use Rattle.gateway_core.specs.Gateway.{GatewayValue, is_broken_conn}
-use Rattle.gateway_core.specs.Past.{marked}
-use Rattle.gateway_core.specs.Queue.{queued, queued_entries}
-use Rattle.gateway_core.specs.Served.{QueueIs, Served}
-use Rattle.gateway_core.specs.Starts.{Placed, job_started, occurrences, starts}
-use Rattle.gateway_core.specs.Store.{conn_of}
+use Rattle.gateway_model.specs.Conn.{ConnValue}
+use Rattle.gateway_model.specs.Events.{Before, Closing, GatewayEvent, IsRising, Occurs, Opening}
+use Rattle.gateway_model.specs.Events as events
+use Rattle.gateway_model.specs.Gateway.{GatewayValue, is_broken_conn}
+use Rattle.gateway_model.specs.Past.{marked}
+use Rattle.gateway_model.specs.Queue.{queued, queued_entries}
+use Rattle.gateway_model.specs.Served.{QueueIs, Served}
+use Rattle.gateway_model.specs.Starts.{Placed, job_started, occurrences, starts}
+use Rattle.gateway_model.specs.Store.{conn_of}
 use Rattle.gateway_run.specs.Log.{Collects, absent, gathers, HasRun, LogValue, flag_at, is_flagged, is_open_conn, is_started_on, log_value, queue_at}
 use Rattle.gateway_run.specs.Run.{BrokeAs, IsRun, bytes_of, is_listed, is_start_of, run_start, starts_of}
 use Rattle.gateway_run.specs.Stepping.{CollectsFor}
 use Rattle.gateway_run.proofs.CoreLaws.{StandingLaws}
 use Rattle.gateway_run.proofs.Flags.{beyond, run_starts_on, same_jobs}
-use Rattle.gateway_run.proofs.OpenConns.{open_known}
 use Rattle.gateway_run.proofs.WholeLemmas.{filter_rising, listed_at, listed_below}
+use Rattle.gateway_model.specs.lemmas.CutLemmas.{open_known}
 
 pub on_then : {X E : Type 0} {A B : Type 0} (r : Result X E) → OnOk r A → (A → B) → OnOk r B
 on_then (Ok x) a f = f a

@@ -3,15 +3,12 @@ use Rattle.std.proofs.Common.{◌≡◌, ℕ, zero, suc, ◌<◌, ◌≤◌, Boo
 use Rattle.std.specs.Prelude.{if◌then◌else◌, ◌||◌, filter, slice_index_or, slice_set}
 use Rattle.std.specs.Option.{option_or}
 use Rattle.std.proofs.lemmas.Bool.{cases_Bool, eq-eqb, eqb-true}
-use Rattle.gateway_core.specs.Breaks.{is_of}
-use Rattle.gateway_core.specs.Job.{JobValue}
-use Rattle.gateway_core.specs.Starts.{Start, job_started, start}
+use Rattle.gateway_model.specs.Breaks.{is_of}
+use Rattle.gateway_model.specs.Job.{JobValue}
+use Rattle.gateway_model.specs.Starts.{Start, job_started, start}
 use Rattle.gateway_run.specs.Log.{is_started_on}
 use Rattle.gateway_run.specs.Run.{is_start_of, run_start, start_at}
-
-pub or_none : {A : Type 0} (x : Option A) → option_or x None ≡ x
-or_none None = refl
-or_none (Some a) = refl
+use Rattle.gateway_model.specs.lemmas.Cases.{or_none}
 
 -- ---- places
 

@@ -8,15 +8,15 @@ use Rattle.http_pieces.specs.declared.refusal.Refusal.{Refusal}
 use Rattle.http_pieces.specs.Request.{HttpRequest}
 use Rattle.http_pieces.specs.Requests.{Ending, Open, Broken, Closed, Requests}
 use Rattle.call_plan.specs.Plan.{PlanRecord}
-use Rattle.gateway_core.specs.Arrival.{arrival_of}
-use Rattle.gateway_core.specs.Events.{Before, GatewayEvent, Opening, Piece, HangUp, Moment, BranchResult, Drain, Closing, Gains, Occurs, OccursAt, is_open, listens, once, onto, piece_of, refusal_gained, requests_gained, stream, succeeds}
-use Rattle.gateway_core.specs.Occurrence.{Entering, Entry, Occurrence, Request}
-use Rattle.gateway_core.specs.Occurrence as occurs
-use Rattle.gateway_core.specs.Past.{call_id, crowds, entering_now, entering_on, entries, mark_of, marked}
-use Rattle.gateway_core.specs.Queue.{came}
-use Rattle.gateway_core.specs.Starts.{Placed, occurrences}
+use Rattle.gateway_model.specs.Arrival.{arrival_of}
+use Rattle.gateway_model.specs.Events.{Before, GatewayEvent, Opening, Piece, HangUp, Moment, BranchResult, Drain, Closing, Gains, Occurs, OccursAt, is_open, listens, once, onto, piece_of, refusal_gained, requests_gained, stream, succeeds}
+use Rattle.gateway_model.specs.Occurrence.{Entering, Entry, Occurrence, Request}
+use Rattle.gateway_model.specs.Occurrence as occurs
+use Rattle.gateway_model.specs.Past.{call_id, crowds, entering_now, entering_on, entries, mark_of, marked}
+use Rattle.gateway_model.specs.Queue.{came}
+use Rattle.gateway_model.specs.Starts.{Placed, occurrences}
 use Rattle.gateway_run.specs.Headline.{brought_by, came_on}
-use Rattle.gateway_run.proofs.Flags.{or_none}
+use Rattle.gateway_model.specs.lemmas.Cases.{or_none}
 
 -- what is known of requests
 pub record StreamLaws : Type 0 where

@@ -5,23 +5,23 @@ use Rattle.std.specs.Option.{option_map_or}
 use Rattle.std.proofs.lemmas.Bool.{cases_Bool, eq-eqb, eqb-true, ne_eqb}
 use Rattle.std.proofs.lemmas.Grind.{flat_map-append}
 use Rattle.std.proofs.lemmas.List.{append_cancel_left, length-set, map-append}
-use Rattle.gateway_core.specs.declared.entry.ReplyEntry.{ReplyEntry}
-use Rattle.gateway_core.specs.declared.reply_bytes.ReplyBytes.{ReplyBytes}
-use Rattle.gateway_core.specs.Conn.{ConnValue}
-use Rattle.gateway_core.specs.Events.{Before, Occurs}
-use Rattle.gateway_core.specs.Gateway.{GatewayValue, is_broken_conn, untaken_of}
-use Rattle.gateway_core.specs.Job.{JobValue}
-use Rattle.gateway_core.specs.Queue.{answer_of, front}
-use Rattle.gateway_core.specs.Reply.{ReplyValue}
-use Rattle.gateway_core.specs.Served.{QueueIs, Served, with_reply}
-use Rattle.gateway_core.specs.Serving.{TakesOnly}
-use Rattle.gateway_core.specs.Starts.{Placed, job_started}
-use Rattle.gateway_core.specs.Store.{conn_of}
+use Rattle.gateway_model.specs.declared.entry.ReplyEntry.{ReplyEntry}
+use Rattle.gateway_model.specs.declared.reply_bytes.ReplyBytes.{ReplyBytes}
+use Rattle.gateway_model.specs.Conn.{ConnValue}
+use Rattle.gateway_model.specs.Events.{Before, Occurs}
+use Rattle.gateway_model.specs.Gateway.{GatewayValue, is_broken_conn, untaken_of}
+use Rattle.gateway_model.specs.Job.{JobValue}
+use Rattle.gateway_model.specs.Queue.{answer_of, front}
+use Rattle.gateway_model.specs.Reply.{ReplyValue}
+use Rattle.gateway_model.specs.Served.{QueueIs, Served, with_reply}
+use Rattle.gateway_model.specs.Serving.{TakesOnly}
+use Rattle.gateway_model.specs.Starts.{Placed, job_started}
+use Rattle.gateway_model.specs.Store.{conn_of}
 use Rattle.gateway_run.specs.Log.{BrokeSo, Collects, absent, gathers, HasRun, LogValue, Took, flag_at, is_flagged, is_open_conn, log_with, queue_at}
 use Rattle.gateway_run.specs.Run.{bytes_of}
 use Rattle.gateway_run.proofs.CoreLaws.{StandingLaws}
 use Rattle.gateway_run.proofs.Flags.{or_false_right, set_here, set_other}
-use Rattle.gateway_run.proofs.OpenConns.{open_known}
+use Rattle.gateway_model.specs.lemmas.CutLemmas.{open_known}
 
 only_then : (n : ℕ) (u v w : GatewayValue) → TakesOnly n u v → TakesOnly n v w → TakesOnly n u w
 only_then n u v w a b = record {

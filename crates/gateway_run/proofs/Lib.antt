@@ -15,5 +15,4 @@ pub mod CallAnswers
 pub mod FromStreams
 pub mod Occurring
 pub mod Shifts
-pub mod OpenConns
 pub mod CoreLaws

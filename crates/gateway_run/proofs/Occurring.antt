@@ -5,12 +5,13 @@ use Rattle.std.proofs.lemmas.List.{append_cancel_left, map-append}
 use Rattle.http_pieces.specs.Request.{HttpRequest}
 use Rattle.http_pieces.specs.Requests.{Ending, Requests}
 use Rattle.call_plan.specs.Plan.{PlanRecord}
-use Rattle.gateway_core.specs.Occurrence.{Occurrence, Entering, Entry}
-use Rattle.gateway_core.specs.Occurrence as occurs
-use Rattle.gateway_core.specs.Past.{Past, mark_of, marked}
-use Rattle.gateway_core.specs.Starts.{Placed, occurrences}
-use Rattle.gateway_core.specs.Queue.{queued, IsPrefixOf}
-use Rattle.gateway_core.specs.Events.{GatewayEvent, Opening, Piece, HangUp, Moment, BranchResult, Drain, Closing, Before, Gains, OccursAt, Occurs, has_no_effect, once, onto, is_open, listens, stream, succeeds}
+use Rattle.gateway_model.specs.Occurrence.{Occurrence, Entering, Entry}
+use Rattle.gateway_model.specs.Occurrence as occurs
+use Rattle.gateway_model.specs.Past.{Past, mark_of, marked}
+use Rattle.gateway_model.specs.Starts.{Placed, occurrences}
+use Rattle.gateway_model.specs.Queue.{queued, IsPrefixOf}
+use Rattle.gateway_model.specs.Events.{GatewayEvent, Opening, Piece, HangUp, Moment, BranchResult, Drain, Closing, Before, Gains, OccursAt, Occurs, has_no_effect, once, onto, is_open, listens, stream, succeeds}
+use Rattle.gateway_model.specs.lemmas.EventLemmas.{both_ways, onto_front}
 
 -- what is known of requests: a text has one list of them
 abbrev pub HasOneList : Type 0
@@ -22,11 +23,6 @@ gains_unique one plans text longer a b g h =
     let whole = one 0 longer (g.given ++ g.more) (h.given ++ h.more) g.later h.later g.longer_is h.longer_is in
     let more : g.more ≡ h.more = append_cancel_left h.given g.more h.more (ap (λ xs. xs ++ g.more) (sym front.0) ∙ whole.0) in
     g.gained_is ∙ rw (more, front.1, whole.1) (sym h.gained_is)
-
-both_ways : (b : Bool) (P Q : List Occurrence → Type 0) (x y : List Occurrence)
-    → (P x → P y → x ≡ y) → (Q x → Q y → x ≡ y) → MatchBool b (P x) (Q x) → MatchBool b (P y) (Q y) → x ≡ y
-both_ways true P Q x y p q h g = p h g
-both_ways false P Q x y p q h g = q h g
 
 at_unique : HasOneList → (plans : List PlanRecord) (opened : List ℕ) (e : GatewayEvent) (before : Before) (x y : List Occurrence)
     → OccursAt plans opened e before x → OccursAt plans opened e before y → x ≡ y
@@ -51,10 +47,6 @@ occurs_unique one plans opened (e ∷ before) a b h g =
     let past : h.0 ≡ g.0 = occurs_unique one plans opened before h.0 g.0 h.1 g.1 in
     let os : h.2.0 ≡ g.2.0 = at_unique one plans opened e before h.2.0 g.2.0 h.2.1 g.2.1 in
     h.2.2 ∙ rw (past, os) (sym g.2.2)
-
-onto_front : (place : ℕ) (os : List Occurrence) (more past : List Placed) → onto place os (more ++ past) ≡ onto place os more ++ past
-onto_front place [] more past = refl
-onto_front place (o ∷ os) more past = onto_front place os ((place, o) ∷ more) past
 
 -- ---- later events only add occurrences
 

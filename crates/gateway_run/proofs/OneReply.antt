@@ -4,15 +4,15 @@ use Rattle.std.specs.Prelude.{◌==◌, ◌&&◌, not, if◌then◌else◌, is_n
 use Rattle.std.specs.List.{range_with_len}
 use Rattle.std.specs.Option.{option_or}
 use Rattle.std.proofs.lemmas.Bool.{and_parts, cases_lt, ne_eqb}
-use Rattle.gateway_core.specs.declared.entry.ReplyEntry.{ReplyEntry}
-use Rattle.gateway_core.specs.declared.id.CallId.{CallId}
-use Rattle.gateway_core.specs.declared.entry.ReplyEntry.TheVariants.{Call as Calling}
-use Rattle.gateway_core.specs.declared.event.CallEvent.{CallEvent}
-use Rattle.gateway_core.specs.Arrival.{Asks, Judged}
-use Rattle.gateway_core.specs.Occurrence.{Entering, Refused, Request}
-use Rattle.gateway_core.specs.Past.{Asked, Mark, Past, asked_by, call, call_id, decided, entering_now, entering_on, entries, is_undecided, now}
-use Rattle.gateway_core.specs.Queue.{came, entry, entry_by, front, own_events, queued_entries, record_of}
-use Rattle.gateway_run.proofs.Flags.{or_none}
+use Rattle.gateway_model.specs.declared.entry.ReplyEntry.{ReplyEntry}
+use Rattle.gateway_model.specs.declared.id.CallId.{CallId}
+use Rattle.gateway_model.specs.declared.entry.ReplyEntry.TheVariants.{Call as Calling}
+use Rattle.gateway_model.specs.declared.event.CallEvent.{CallEvent}
+use Rattle.gateway_model.specs.Arrival.{Asks, Judged}
+use Rattle.gateway_model.specs.Occurrence.{Entering, Refused, Request}
+use Rattle.gateway_model.specs.Past.{Asked, Mark, Past, asked_by, call, call_id, decided, entering_now, entering_on, entries, is_undecided, now}
+use Rattle.gateway_model.specs.Queue.{came, entry, entry_by, front, own_events, queued_entries, record_of}
+use Rattle.gateway_model.specs.lemmas.Cases.{or_none}
 
 -- number k of the first ones that are there
 front_at : {A : Type 0} (f : ℕ → Option A) (a n k : ℕ) (x : A) → slice_get (front (map f (range_with_len a n))) k ≡ Some x → f (a + k) ≡ Some x

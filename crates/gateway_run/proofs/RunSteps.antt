@@ -5,27 +5,27 @@ use Rattle.std.specs.Option.{option_map_or}
 use Rattle.std.proofs.lemmas.Bool.{lt-ltb, ltb-true, ltb-false}
 use Rattle.std.proofs.lemmas.List.{append_cancel_left, length-append, map-append}
 use Rattle.std.proofs.lemmas.List.Elements.{filter-append}
-use Rattle.gateway_core.specs.declared.entry.ReplyEntry.{ReplyEntry}
-use Rattle.gateway_core.specs.Breaking.{BrokeNow, can_break}
-use Rattle.gateway_core.specs.Breaks.{is_of}
-use Rattle.gateway_core.specs.Conn.{ConnValue}
-use Rattle.gateway_core.specs.EventAdds.{EventAdds, IsShut}
-use Rattle.gateway_core.specs.Events.{Before, GatewayEvent, Opening, Piece, HangUp, Moment, BranchResult, Drain, Closing, IsOpened, Occurs, connections, is_closing_of, is_open}
-use Rattle.gateway_core.specs.Gateway.{GatewayValue, is_broken_conn, untaken_of}
-use Rattle.gateway_core.specs.Job.{JobValue}
-use Rattle.gateway_core.specs.Past.{Past, marked}
-use Rattle.gateway_core.specs.Queue.{IsPrefixOf, front, queued_entries}
-use Rattle.gateway_core.specs.Served.{HasConns, JobsAre, QueueIs, Served}
-use Rattle.gateway_core.specs.declared.fault.Seen.{Seen}
-use Rattle.gateway_core.specs.Serving.{KeepsBut, is_silent}
-use Rattle.gateway_core.specs.Starts.{Placed, job_started, jobs, occurrences, start, starts}
-use Rattle.gateway_core.specs.Store.{conn_of}
+use Rattle.gateway_model.specs.declared.entry.ReplyEntry.{ReplyEntry}
+use Rattle.gateway_model.specs.Breaking.{BrokeNow, can_break}
+use Rattle.gateway_model.specs.Breaks.{is_of}
+use Rattle.gateway_model.specs.Conn.{ConnValue}
+use Rattle.gateway_model.specs.EventAdds.{EventAdds, IsShut}
+use Rattle.gateway_model.specs.Events.{Before, GatewayEvent, Opening, Piece, HangUp, Moment, BranchResult, Drain, Closing, IsOpened, Occurs, connections, is_closing_of, is_open}
+use Rattle.gateway_model.specs.Gateway.{GatewayValue, is_broken_conn, untaken_of}
+use Rattle.gateway_model.specs.Job.{JobValue}
+use Rattle.gateway_model.specs.Past.{Past, marked}
+use Rattle.gateway_model.specs.Queue.{IsPrefixOf, front, queued_entries}
+use Rattle.gateway_model.specs.Served.{HasConns, JobsAre, QueueIs, Served}
+use Rattle.gateway_model.specs.declared.fault.Seen.{Seen}
+use Rattle.gateway_model.specs.Serving.{KeepsBut, is_silent}
+use Rattle.gateway_model.specs.Starts.{Placed, job_started, jobs, occurrences, start, starts}
+use Rattle.gateway_model.specs.Store.{conn_of}
 use Rattle.gateway_run.specs.Log.{BrokeSo, HasRun, LogValue, StartsAll, flag_at, is_flagged, is_open_conn, is_started_on, queue_at}
 use Rattle.gateway_run.specs.Run.{run_start, start_at}
 use Rattle.gateway_run.specs.Stepping.{BreaksAt}
 use Rattle.gateway_run.proofs.CoreLaws.{BreakingLaw, EventLaws, StandingLaws}
-use Rattle.gateway_run.proofs.OpenConns.{open_known}
 use Rattle.gateway_run.proofs.Flags.{beyond, jobs_again, jobs_on, or_false_left, or_false_right, same_jobs, starts_at, starts_on}
+use Rattle.gateway_model.specs.lemmas.CutLemmas.{open_known}
 
 -- ---- what an event leaves as it was
 

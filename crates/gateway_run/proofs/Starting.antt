@@ -2,20 +2,20 @@
 use Rattle.std.proofs.Common.{◌≡◌, ℕ, Bool, true, false, List, [], ◌∷◌, ◌++◌, refl, sym, ap, ◌∙◌, subst, append-nil, append_assoc}
 use Rattle.std.proofs.lemmas.Bool.{eq-eqb, ne_eqb}
 use Rattle.std.specs.Prelude.{◌==◌, ◌^◌, ◌≤◌, ⊤, OnOk, IfOk, IfErr, OnErr, length, MatchResult, Option, Result, Ok, Err, option_map, option_to_list}
-use Rattle.gateway_core.specs.declared.fault.OpenError.{OpenError}
-use Rattle.gateway_core.specs.declared.fault.Seen.{Seen}
-use Rattle.gateway_core.specs.declared.fault.StepFault.{StepFault}
+use Rattle.gateway_model.specs.declared.fault.OpenError.{OpenError}
+use Rattle.gateway_model.specs.declared.fault.Seen.{Seen}
+use Rattle.gateway_model.specs.declared.fault.StepFault.{StepFault}
 use Rattle.gateway_run.specs.Stepping.{TellsBreaks, TellsConn, TellsOpening, done_of, opened_by, opening_of, seen_in, taken_of}
 use Rattle.gateway_run.specs.declared.stepping.Stepped.{Stepped}
 use Rattle.gateway_run.specs.declared.stepping.Stepped.TheVariants.{NotOpened, Opened}
-use Rattle.gateway_core.specs.declared.entry.ReplyEntry.{ReplyEntry}
-use Rattle.gateway_core.specs.Events.{Before, most_open}
-use Rattle.gateway_core.specs.Refused.{RefusesOpening}
-use Rattle.gateway_core.specs.Gateway.{GatewayValue, is_broken_conn}
-use Rattle.gateway_core.specs.Serving.{Breaks, KeepsBut, TellsStep}
-use Rattle.gateway_core.specs.declared.fault.StepFault.TheVariants.{Exhausted, Gone, Memory}
-use Rattle.gateway_core.specs.Job.{HandedJob, JobValue}
-use Rattle.gateway_core.specs.Served.{Served}
+use Rattle.gateway_model.specs.declared.entry.ReplyEntry.{ReplyEntry}
+use Rattle.gateway_model.specs.Events.{Before, most_open}
+use Rattle.gateway_model.specs.Refused.{RefusesOpening}
+use Rattle.gateway_model.specs.Gateway.{GatewayValue, is_broken_conn}
+use Rattle.gateway_model.specs.Serving.{Breaks, KeepsBut, TellsStep}
+use Rattle.gateway_model.specs.declared.fault.StepFault.TheVariants.{Exhausted, Gone, Memory}
+use Rattle.gateway_model.specs.Job.{HandedJob, JobValue}
+use Rattle.gateway_model.specs.Served.{Served}
 use Rattle.gateway_run.specs.Log.{log_value}
 use Rattle.gateway_run.specs.declared.outcome.Start.{Start}
 

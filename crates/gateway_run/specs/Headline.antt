@@ -6,17 +6,17 @@ use Rattle.connect_codec.specs.Reply.{success_reply, error_reply}
 use Rattle.connect_codec.specs.declared.answer.Outcome.TheVariants.{Answer}
 use Rattle.error_document.specs.declared.document.RpcError.{RpcError}
 use Rattle.call_plan.specs.Plan.{PlanRecord, join_text}
-use Rattle.gateway_core.specs.declared.entry.ReplyEntry.TheVariants as reply_entry
-use Rattle.gateway_core.specs.declared.event.CallEvent.{CallEvent}
-use Rattle.gateway_core.specs.declared.id.CallId.{CallId}
-use Rattle.gateway_core.specs.CallRecord.{CallRecord, answer_of_branch, answers_in, last_event}
-use Rattle.gateway_core.specs.Errors.{error_of}
-use Rattle.gateway_core.specs.Events.{refusal_gained, requests_gained}
-use Rattle.gateway_core.specs.Finished.{IsDecidedAt}
-use Rattle.gateway_core.specs.Occurrence.{Entering, Occurrence, Result}
-use Rattle.gateway_core.specs.Past.{Asked, Past, call, counts, entering_on, marked}
-use Rattle.gateway_core.specs.Queue.{answer_of, own_events, record_of}
-use Rattle.gateway_core.specs.Starts.{Placed, occurrences}
+use Rattle.gateway_model.specs.declared.entry.ReplyEntry.TheVariants as reply_entry
+use Rattle.gateway_model.specs.declared.event.CallEvent.{CallEvent}
+use Rattle.gateway_model.specs.declared.id.CallId.{CallId}
+use Rattle.gateway_model.specs.CallRecord.{CallRecord, answer_of_branch, answers_in, last_event}
+use Rattle.gateway_model.specs.Errors.{error_of}
+use Rattle.gateway_model.specs.Events.{refusal_gained, requests_gained}
+use Rattle.gateway_model.specs.Finished.{IsDecidedAt}
+use Rattle.gateway_model.specs.Occurrence.{Entering, Occurrence, Result}
+use Rattle.gateway_model.specs.Past.{Asked, Past, call, counts, entering_on, marked}
+use Rattle.gateway_model.specs.Queue.{answer_of, own_events, record_of}
+use Rattle.gateway_model.specs.Starts.{Placed, occurrences}
 
 -- the past by what occurred
 abbrev pub past_by : List Placed → Past

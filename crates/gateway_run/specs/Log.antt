@@ -1,18 +1,18 @@
 -- What a run takes down as it goes, and how it stands for the events so far.
 use Rattle.std.specs.Prelude.{◌≡◌, ℕ, ◌<◌, ◌≤◌, Bool, true, false, ◌||◌, if◌then◌else◌, ◌==◌, List, [], ◌++◌, length, map, filter, is_some, slice_index_or, slice_set}
-use Rattle.gateway_core.specs.declared.entry.ReplyEntry.{ReplyEntry}
+use Rattle.gateway_model.specs.declared.entry.ReplyEntry.{ReplyEntry}
 use Rattle.call_plan.specs.Plan.{PlanRecord}
-use Rattle.gateway_core.specs.Breaks.{is_of}
-use Rattle.gateway_core.specs.Events.{Before, IsOpened, Occurs}
-use Rattle.gateway_core.specs.Gateway.{GatewayValue, is_broken_conn, untaken_of}
-use Rattle.gateway_core.specs.Job.{JobValue}
-use Rattle.gateway_core.specs.Past.{marked}
-use Rattle.gateway_core.specs.Queue.{queued_entries}
-use Rattle.gateway_core.specs.Served.{QueueIs, Served}
-use Rattle.gateway_core.specs.Serving.{TakesOnly}
-use Rattle.gateway_core.specs.Starts.{Placed, job_started, occurrences, starts}
-use Rattle.gateway_core.specs.Starts as core
-use Rattle.gateway_core.specs.Store.{conn_of}
+use Rattle.gateway_model.specs.Breaks.{is_of}
+use Rattle.gateway_model.specs.Events.{Before, IsOpened, Occurs}
+use Rattle.gateway_model.specs.Gateway.{GatewayValue, is_broken_conn, untaken_of}
+use Rattle.gateway_model.specs.Job.{JobValue}
+use Rattle.gateway_model.specs.Past.{marked}
+use Rattle.gateway_model.specs.Queue.{queued_entries}
+use Rattle.gateway_model.specs.Served.{QueueIs, Served}
+use Rattle.gateway_model.specs.Serving.{TakesOnly}
+use Rattle.gateway_model.specs.Starts.{Placed, job_started, occurrences, starts}
+use Rattle.gateway_model.specs.Starts as core
+use Rattle.gateway_model.specs.Store.{conn_of}
 use Rattle.gateway_run.specs.declared.outcome.Start.{Start}
 use Rattle.gateway_run.specs.Run.{Broken, bytes_of, run_start, start_at}
 

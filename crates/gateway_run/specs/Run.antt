@@ -2,15 +2,15 @@
 use Rattle.std.specs.Prelude.{◌≡◌, ℕ, ◌<◌, Bool, true, false, if◌then◌else◌, ◌==◌, List, [], ◌∷◌, ◌++◌, filter, length, map, reverse, slice_index_or, Option, option_map, option_to_list}
 use Rattle.std.specs.List.{flat_map, list_any}
 use Rattle.call_plan.specs.Plan.{PlanRecord}
-use Rattle.gateway_core.specs.declared.entry.ReplyEntry.{ReplyEntry}
-use Rattle.gateway_core.specs.Breaking.{can_break}
-use Rattle.gateway_core.specs.Events.{Before, GatewayEvent, IsOpened, IsRising, Occurs, Opening, Piece, HangUp, Moment, BranchResult, Drain, Closing}
-use Rattle.gateway_core.specs.Fate.{breaks_at}
-use Rattle.gateway_core.specs.Job.{JobValue}
-use Rattle.gateway_core.specs.Past.{marked}
-use Rattle.gateway_core.specs.Queue.{answer_of, queued}
-use Rattle.gateway_core.specs.Starts.{Placed, occurrences, starts}
-use Rattle.gateway_core.specs.Starts as core
+use Rattle.gateway_model.specs.declared.entry.ReplyEntry.{ReplyEntry}
+use Rattle.gateway_model.specs.Breaking.{can_break}
+use Rattle.gateway_model.specs.Events.{Before, GatewayEvent, IsOpened, IsRising, Occurs, Opening, Piece, HangUp, Moment, BranchResult, Drain, Closing}
+use Rattle.gateway_model.specs.Fate.{breaks_at}
+use Rattle.gateway_model.specs.Job.{JobValue}
+use Rattle.gateway_model.specs.Past.{marked}
+use Rattle.gateway_model.specs.Queue.{answer_of, queued}
+use Rattle.gateway_model.specs.Starts.{Placed, occurrences, starts}
+use Rattle.gateway_model.specs.Starts as core
 use Rattle.gateway_run.specs.declared.event.Event.{Event}
 use Rattle.gateway_run.specs.declared.event.Event.TheVariants as taken
 use Rattle.gateway_run.specs.declared.outcome.Start.{Start}

@@ -1,20 +1,20 @@
 -- What a step answers, and what a run takes down of it.
 use Rattle.std.specs.Prelude.{◌≡◌, ◌≤◌, ◌^◌, ⊤, ℕ, Bool, true, false, List, [], ◌∷◌, ◌++◌, length, Result, Ok, Err}
-use Rattle.gateway_core.specs.declared.entry.ReplyEntry.{ReplyEntry}
-use Rattle.gateway_core.specs.Breaking.{can_break}
-use Rattle.gateway_core.specs.Job.{JobValue}
-use Rattle.gateway_core.specs.Past.{marked}
-use Rattle.gateway_core.specs.Served.{Served}
-use Rattle.gateway_core.specs.Starts.{Placed, occurrences}
-use Rattle.gateway_core.specs.Events.{Before, GatewayEvent, Occurs, most_open, Opening, Piece, HangUp, Moment, BranchResult, Drain, Closing}
-use Rattle.gateway_core.specs.declared.fault.Seen.{Seen}
-use Rattle.gateway_core.specs.declared.fault.Seen.TheVariants.{Counted}
-use Rattle.gateway_core.specs.declared.fault.OpenError.{OpenError}
-use Rattle.gateway_core.specs.Refused.{RefusesOpening}
-use Rattle.gateway_core.specs.declared.fault.StepFault.{StepFault}
-use Rattle.gateway_core.specs.declared.fault.StepFault.TheVariants.{Exhausted, Gone, Memory}
-use Rattle.gateway_core.specs.Gateway.{GatewayValue, is_broken_conn}
-use Rattle.gateway_core.specs.Serving.{Breaks, IsDeaf, most_begun}
+use Rattle.gateway_model.specs.declared.entry.ReplyEntry.{ReplyEntry}
+use Rattle.gateway_model.specs.Breaking.{can_break}
+use Rattle.gateway_model.specs.Job.{JobValue}
+use Rattle.gateway_model.specs.Past.{marked}
+use Rattle.gateway_model.specs.Served.{Served}
+use Rattle.gateway_model.specs.Starts.{Placed, occurrences}
+use Rattle.gateway_model.specs.Events.{Before, GatewayEvent, Occurs, most_open, Opening, Piece, HangUp, Moment, BranchResult, Drain, Closing}
+use Rattle.gateway_model.specs.declared.fault.Seen.{Seen}
+use Rattle.gateway_model.specs.declared.fault.Seen.TheVariants.{Counted}
+use Rattle.gateway_model.specs.declared.fault.OpenError.{OpenError}
+use Rattle.gateway_model.specs.Refused.{RefusesOpening}
+use Rattle.gateway_model.specs.declared.fault.StepFault.{StepFault}
+use Rattle.gateway_model.specs.declared.fault.StepFault.TheVariants.{Exhausted, Gone, Memory}
+use Rattle.gateway_model.specs.Gateway.{GatewayValue, is_broken_conn}
+use Rattle.gateway_model.specs.Serving.{Breaks, IsDeaf, most_begun}
 use Rattle.gateway_run.specs.Log.{Collects, LogValue, log_value}
 use Rattle.gateway_run.specs.declared.stepping.Stepped.{Stepped}
 use Rattle.gateway_run.specs.declared.stepping.Stepped.TheVariants.{Broke, Done, Fault, NotOpened, Opened, Saw}

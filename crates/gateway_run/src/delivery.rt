@@ -1,12 +1,12 @@
 ghost use Rattle.std.specs.Prelude.{◌==◌, ◌∷◌, ℕ, List};
-ghost use Rattle.gateway_core.specs.declared.entry.ReplyEntry.{ReplyEntry};
-ghost use Rattle.gateway_core.specs.Events.{GatewayEvent, Piece};
-ghost use Rattle.gateway_core.specs.Job.{JobValue};
-ghost use Rattle.gateway_core.specs.Served.{Served};
-ghost use Rattle.gateway_core.specs.Serving.{CountsCalls, Keeps, TellsStep};
+ghost use Rattle.gateway_model.specs.declared.entry.ReplyEntry.{ReplyEntry};
+ghost use Rattle.gateway_model.specs.Events.{GatewayEvent, Piece};
+ghost use Rattle.gateway_model.specs.Job.{JobValue};
+ghost use Rattle.gateway_model.specs.Served.{Served};
+ghost use Rattle.gateway_model.specs.Serving.{CountsCalls, Keeps, TellsStep};
 
-use gateway_core::served_laws::parts_law;
 use gateway_core::{ConnId, Core, ReplyHook, StepFault};
+use gateway_model::served_laws::parts_law;
 
 /// Feeds a whole piece of a connection's stream to the core, request by request.
 ///

@@ -6,20 +6,20 @@ ghost use Rattle.http_pieces.specs.Request.{HttpRequest, closes};
 ghost use Rattle.http_pieces.specs.Requests.{Ending, Requests};
 ghost use Rattle.connect_codec.specs.declared.verdict.Verdict.{Verdict};
 ghost use Rattle.call_plan.specs.Plan.{PlanRecord};
-ghost use Rattle.gateway_core.specs.Arrival.{Asks, Judged};
-ghost use Rattle.gateway_core.specs.Occurrence.{Entering, Refused, Request};
-ghost use Rattle.gateway_core.specs.declared.entry.ReplyEntry.{ReplyEntry};
-ghost use Rattle.gateway_core.specs.declared.id.CallId.{CallId};
-ghost use Rattle.gateway_core.specs.CallRecord.{CallRecord, answer_of_branch};
-ghost use Rattle.gateway_core.specs.Past.{Asked, Past, call, call_id, is_undecided, outs};
-ghost use Rattle.gateway_core.specs.Starts.{Placed, occurrences, job_started, starts};
-ghost use Rattle.gateway_core.specs.Queue.{came, entry, own_events, queued, queued_entries, IsPrefixOf};
-ghost use Rattle.gateway_core.specs.Events.{GatewayEvent, Piece, Occurs, has_no_effect, stream, IsShifted};
+ghost use Rattle.gateway_model.specs.Arrival.{Asks, Judged};
+ghost use Rattle.gateway_model.specs.Occurrence.{Entering, Refused, Request};
+ghost use Rattle.gateway_model.specs.declared.entry.ReplyEntry.{ReplyEntry};
+ghost use Rattle.gateway_model.specs.declared.id.CallId.{CallId};
+ghost use Rattle.gateway_model.specs.CallRecord.{CallRecord, answer_of_branch};
+ghost use Rattle.gateway_model.specs.Past.{Asked, Past, call, call_id, is_undecided, outs};
+ghost use Rattle.gateway_model.specs.Starts.{Placed, occurrences, job_started, starts};
+ghost use Rattle.gateway_model.specs.Queue.{came, entry, own_events, queued, queued_entries, IsPrefixOf};
+ghost use Rattle.gateway_model.specs.Events.{GatewayEvent, Piece, Occurs, has_no_effect, stream, IsShifted};
 ghost use Rattle.gateway_run.specs.Headline.{HasAnswered, IsAnswered, brought_by, came_on, past_by, shifted_by};
 ghost use Rattle.gateway_run.specs.Run.{bytes_of};
 
-use gateway_core::event_laws::pieces_law;
-use gateway_core::laws::{
+use gateway_model::event_laws::pieces_law;
+use gateway_model::laws::{
     decided_law, event_law, limit_law as out_limit_law, queue_law, record_law,
 };
 use http_pieces::laws::{existence_law, fresh_law, requests_law};

@@ -1,5 +1,5 @@
 ghost use Rattle.std.specs.Prelude.{◌≡◌, ◌++◌, ◌∷◌, OnOk, [], false};
-ghost use Rattle.gateway_core.specs.Gateway.{untaken_of};
+ghost use Rattle.gateway_model.specs.Gateway.{untaken_of};
 ghost use Rattle.gateway_run.specs.Log.{Collects, StartsAll, Took, log_value};
 ghost use Rattle.gateway_run.specs.Run.{bytes_of};
 

@@ -1,9 +1,9 @@
 ghost use Rattle.std.specs.Prelude.{◌≡◌, ◌<◌, ◌∷◌, ℕ, List, Some, is_some, length, true};
-ghost use Rattle.gateway_core.specs.declared.entry.ReplyEntry.{ReplyEntry};
-ghost use Rattle.gateway_core.specs.Events.{GatewayEvent, is_closing_of, most_open, open_connections};
-ghost use Rattle.gateway_core.specs.Job.{JobValue};
-ghost use Rattle.gateway_core.specs.Served.{Served};
-ghost use Rattle.gateway_core.specs.Serving.{KeepsBut};
+ghost use Rattle.gateway_model.specs.declared.entry.ReplyEntry.{ReplyEntry};
+ghost use Rattle.gateway_model.specs.Events.{GatewayEvent, is_closing_of, most_open, open_connections};
+ghost use Rattle.gateway_model.specs.Job.{JobValue};
+ghost use Rattle.gateway_model.specs.Served.{Served};
+ghost use Rattle.gateway_model.specs.Serving.{KeepsBut};
 ghost use Rattle.gateway_run.specs.Run.{gateway_event, is_opening};
 ghost use Rattle.gateway_run.specs.Stepping.{BreaksAt, Tells, done_of, opened_by, opening_of, seen_in, taken_of};
 

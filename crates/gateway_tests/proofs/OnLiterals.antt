@@ -15,7 +15,7 @@ use Rattle.connect_codec.specs.Path.{path_of}
 use Rattle.connect_codec.specs.Reply.{phrase_of, success_reply, error_reply, bare_reply}
 use Rattle.connect_codec.specs.Verdict.{verdict_of}
 use Rattle.call_plan.specs.Plan.{join_text}
-use Rattle.gateway_core.specs.Arrival.{refusal_reply}
+use Rattle.gateway_model.specs.Arrival.{refusal_reply}
 
 -- the bytes of replies
 unfoldable pub replies_on_literals : ⊤

@@ -6,13 +6,13 @@ use Rattle.std.proofs.lemmas.List.FromFn.{map-range_with_len_more, length-map-ra
 use Rattle.http_pieces.specs.Request.{closes}
 use Rattle.connect_codec.specs.Reply.{bare_reply}
 use Rattle.connect_codec.specs.declared.verdict.Verdict.TheVariants.{Bare}
-use Rattle.gateway_core.specs.declared.reply_bytes.ReplyBytes.{ReplyBytes}
-use Rattle.gateway_core.specs.Reply.{reply_of}
-use Rattle.gateway_core.specs.Past.{Mark, Past, call_id, entries, mark_of, marked}
-use Rattle.gateway_core.specs.declared.entry.ReplyEntry.{ReplyEntry}
-use Rattle.gateway_core.specs.declared.id.CallId.{CallId}
-use Rattle.gateway_core.specs.declared.entry.ReplyEntry.TheVariants.{Judged as Judging}
-use Rattle.gateway_core.specs.Queue.{answer_of, came, entry, front, queued_entries, replies}
+use Rattle.gateway_model.specs.declared.reply_bytes.ReplyBytes.{ReplyBytes}
+use Rattle.gateway_model.specs.Reply.{reply_of}
+use Rattle.gateway_model.specs.Past.{Mark, Past, call_id, entries, mark_of, marked}
+use Rattle.gateway_model.specs.declared.entry.ReplyEntry.{ReplyEntry}
+use Rattle.gateway_model.specs.declared.id.CallId.{CallId}
+use Rattle.gateway_model.specs.declared.entry.ReplyEntry.TheVariants.{Judged as Judging}
+use Rattle.gateway_model.specs.Queue.{answer_of, came, entry, front, queued_entries, replies}
 use Rattle.gateway_tests.specs.Rows.{get_request, gets, after_gets}
 
 -- one more that is there, where all before are there and stay

@@ -17,20 +17,20 @@ use Rattle.connect_codec.specs.declared.answer.Outcome.{Outcome}
 use Rattle.connect_codec.specs.declared.answer.Outcome.TheVariants.{Answer, Fail}
 use Rattle.connect_codec.specs.declared.verdict.Verdict.TheVariants.{Bare}
 use Rattle.call_plan.specs.Plan.{PlanRecord}
-use Rattle.gateway_core.specs.Arrival.{Arrival, Judged, Asks, arrival_of}
-use Rattle.gateway_core.specs.declared.reply_bytes.ReplyBytes.{ReplyBytes}
-use Rattle.gateway_core.specs.Reply.{reply_of}
-use Rattle.gateway_core.specs.Occurrence.{Occurrence, Opening, Entry, Result, Request, Refused}
-use Rattle.gateway_core.specs.declared.entry.ReplyEntry.{ReplyEntry}
-use Rattle.gateway_core.specs.declared.entry.ReplyEntry.TheVariants.{Call}
-use Rattle.gateway_core.specs.declared.event.CallEvent.{CallEvent}
-use Rattle.gateway_core.specs.CallRecord.{CallRecord}
-use Rattle.gateway_core.specs.Past.{call_id, past_of}
-use Rattle.gateway_core.specs.Queue.{entry, queued}
-use Rattle.gateway_core.specs.Record.{is_lawful, is_decided}
+use Rattle.gateway_model.specs.Arrival.{Arrival, Judged, Asks, arrival_of}
+use Rattle.gateway_model.specs.declared.reply_bytes.ReplyBytes.{ReplyBytes}
+use Rattle.gateway_model.specs.Reply.{reply_of}
+use Rattle.gateway_model.specs.Occurrence.{Occurrence, Opening, Entry, Result, Request, Refused}
+use Rattle.gateway_model.specs.declared.entry.ReplyEntry.{ReplyEntry}
+use Rattle.gateway_model.specs.declared.entry.ReplyEntry.TheVariants.{Call}
+use Rattle.gateway_model.specs.declared.event.CallEvent.{CallEvent}
+use Rattle.gateway_model.specs.CallRecord.{CallRecord}
+use Rattle.gateway_model.specs.Past.{call_id, past_of}
+use Rattle.gateway_model.specs.Queue.{entry, queued}
+use Rattle.gateway_model.specs.Record.{is_lawful, is_decided}
 use Rattle.std.specs.Option.{option_map_or}
-use Rattle.gateway_core.specs.Job.{job_with}
-use Rattle.gateway_core.specs.Starts.{Start, start, starts}
+use Rattle.gateway_model.specs.Job.{job_with}
+use Rattle.gateway_model.specs.Starts.{Start, start, starts}
 
 -- what starts, where each occurrence is an event of its own
 abbrev pub row_starts : List Occurrence → List Start

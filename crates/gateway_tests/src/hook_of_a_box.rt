@@ -1,6 +1,6 @@
 //! A call's hook round a box with a closure in it, whose contract is what the hook asks of its box.
 ghost use Rattle.std.specs.Prelude.{IfOk};
-ghost use Rattle.gateway_core.specs.Duty.{MeetsDuty};
+ghost use Rattle.gateway_model.specs.Duty.{MeetsDuty};
 
 use after_funcs::Hook;
 use gateway_core::{CallHook, Ending, ending_reply};

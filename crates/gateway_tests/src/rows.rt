@@ -2,18 +2,18 @@
 ghost use Rattle.std.specs.Prelude.{◌≡◌, ℕ, ◌∷◌, [], ◌++◌, map, length, replicate, codes, true, false, None, Some};
 ghost use Rattle.std.specs.List.{range_with_len};
 ghost use Rattle.connect_codec.specs.Reply.{bare_reply, success_reply};
-ghost use Rattle.gateway_core.specs.Reply.{reply_of};
+ghost use Rattle.gateway_model.specs.Reply.{reply_of};
 ghost use Rattle.error_document.specs.declared.code.Code.{Code};
-ghost use Rattle.gateway_core.specs.declared.fault.Seen.{Seen};
+ghost use Rattle.gateway_model.specs.declared.fault.Seen.{Seen};
 ghost use Rattle.http_pieces.specs.declared.refusal.Refusal.{Refusal};
-ghost use Rattle.gateway_core.specs.Occurrence.{Opening, HangUp, Moment, Drain, Closing};
-ghost use Rattle.gateway_core.specs.declared.event.CallEvent.TheVariants.{Answer as Answered, Expired, HungUp};
-ghost use Rattle.gateway_core.specs.Past.{call_id, judged, marked, past_of};
-ghost use Rattle.gateway_core.specs.Queue.{replies, queued};
-ghost use Rattle.gateway_core.specs.Record.{is_lawful, is_decided};
+ghost use Rattle.gateway_model.specs.Occurrence.{Opening, HangUp, Moment, Drain, Closing};
+ghost use Rattle.gateway_model.specs.declared.event.CallEvent.TheVariants.{Answer as Answered, Expired, HungUp};
+ghost use Rattle.gateway_model.specs.Past.{call_id, judged, marked, past_of};
+ghost use Rattle.gateway_model.specs.Queue.{replies, queued};
+ghost use Rattle.gateway_model.specs.Record.{is_lawful, is_decided};
 ghost use Rattle.gateway_tests.specs.Rows.{row_starts, starts_then, is_lawful_row, quote_record, ping, quote, asks, gets, after_gets, refuses, answers, fails, succeeded, failed, document, bytes_queued, flooded};
 
-use gateway_core::laws::{entry_law, unknown_law};
+use gateway_model::laws::{entry_law, unknown_law};
 
 /// One call, answered.
 fn ping_answered()

@@ -3,16 +3,16 @@
 ghost use Rattle.std.specs.Prelude.{◌≡◌, ◌^◌, ◌+◌, ◌++◌, ◌∷◌, [], map, codes, false, None, Some};
 ghost use Rattle.std.specs.List.{range_with_len};
 ghost use Rattle.error_document.specs.declared.code.Code.{Code};
-ghost use Rattle.gateway_core.specs.declared.entry.ReplyEntry.{ReplyEntry};
-ghost use Rattle.gateway_core.specs.declared.event.CallEvent.{CallEvent};
-ghost use Rattle.gateway_core.specs.declared.fault.Seen.{Seen};
-ghost use Rattle.gateway_core.specs.Job.{job_with};
-ghost use Rattle.gateway_core.specs.Occurrence.{Opening, HangUp, Moment, Result, Drain, Closing};
-ghost use Rattle.gateway_core.specs.CallRecord.{record_with};
-ghost use Rattle.gateway_core.specs.Past.{call_id, judged, now, past_of};
-ghost use Rattle.gateway_core.specs.Queue.{entry, replies};
-ghost use Rattle.gateway_core.specs.Record.{is_lawful};
-ghost use Rattle.gateway_core.specs.Starts.{start};
+ghost use Rattle.gateway_model.specs.declared.entry.ReplyEntry.{ReplyEntry};
+ghost use Rattle.gateway_model.specs.declared.event.CallEvent.{CallEvent};
+ghost use Rattle.gateway_model.specs.declared.fault.Seen.{Seen};
+ghost use Rattle.gateway_model.specs.Job.{job_with};
+ghost use Rattle.gateway_model.specs.Occurrence.{Opening, HangUp, Moment, Result, Drain, Closing};
+ghost use Rattle.gateway_model.specs.CallRecord.{record_with};
+ghost use Rattle.gateway_model.specs.Past.{call_id, judged, now, past_of};
+ghost use Rattle.gateway_model.specs.Queue.{entry, replies};
+ghost use Rattle.gateway_model.specs.Record.{is_lawful};
+ghost use Rattle.gateway_model.specs.Starts.{start};
 ghost use Rattle.gateway_tests.specs.Rows.{row_starts, quote_record, ping, quote, request_for, asks, asks_on, answers, fails, failed, error, record_in};
 
 /// Moments are cut at 2^62, and not below.
@@ -20,6 +20,8 @@ fn great_moments()
     ensures cut { now (past_of (Moment (2 ^ 62 + 5) ∷ [])) ≡ 2 ^ 62 }
     ensures below { now (past_of (Moment (2 ^ 61 + 5) ∷ [])) ≡ 2 ^ 61 + 5 }
     ensures never { replies 0 (past_of (Opening ∷ Moment (2 ^ 62) ∷ asks ping (Some 1) 0 ∷ Moment (2 ^ 62 + 5) ∷ [])) ≡ [] }
+    ensures expired { record_in (Opening ∷ Moment (2 ^ 61) ∷ asks ping (Some (2 ^ 61)) 0 ∷ Moment (2 ^ 62 + 5) ∷ [])
+        ≡ Some (record_with ping (2 ^ 61) (Some (2 ^ 62)) false (CallEvent.Expired (2 ^ 62) ∷ [])) }
 {}
 
 /// A call that arrives at a later moment begins there, and expires there where its timeout is 0.

@@ -8,11 +8,11 @@ ghost use Rattle.connect_codec.specs.declared.answer.Outcome.{Outcome};
 ghost use Rattle.connect_codec.specs.declared.verdict.Verdict.{Verdict};
 ghost use Rattle.error_document.specs.Documents.{error_text};
 ghost use Rattle.error_document.specs.declared.code.Code.{Code};
-ghost use Rattle.gateway_core.specs.Arrival.{Arrival};
-ghost use Rattle.gateway_core.specs.Reply.{reply_of};
-ghost use Rattle.gateway_core.specs.Occurrence.{Opening};
-ghost use Rattle.gateway_core.specs.Past.{past_of};
-ghost use Rattle.gateway_core.specs.Queue.{replies};
+ghost use Rattle.gateway_model.specs.Arrival.{Arrival};
+ghost use Rattle.gateway_model.specs.Reply.{reply_of};
+ghost use Rattle.gateway_model.specs.Occurrence.{Opening};
+ghost use Rattle.gateway_model.specs.Past.{past_of};
+ghost use Rattle.gateway_model.specs.Queue.{replies};
 ghost use Rattle.gateway_tests.specs.Rows.{ping, quote, request_for, get_request, ping_adding, ping_of_type, ping_empty, text_of, arrives, comes, error, backend_reply, outcome_at, pinged, detailed, failed_with, failed, document, bytes_queued};
 
 /// A request of another method is told which there is.

@@ -1,5 +1,5 @@
-use crate::id::CallId;
 use context_tree::CtxId;
+use gateway_model::CallId;
 
 /// A call and its context.
 #[derive(Clone, Copy, Drop)]

@@ -1,13 +1,12 @@
 ghost use Rattle.std.specs.Prelude.{◌≡◌, ◌≤◌, ◌+◌, ◌^◌, ◌∷◌, [], IfOk, IfSome, option_map};
 ghost use Rattle.http_pieces.specs.declared.largest.TheConstants.{MAX_DECIMAL};
 ghost use Rattle.std.specs.Arc.{arc_value};
-ghost use Rattle.gateway_core.specs.Begins.{ends_first};
-ghost use Rattle.gateway_core.specs.Past.{asked_of, is_due, smaller};
-ghost use Rattle.gateway_core.specs.Queue.{record_of};
+ghost use Rattle.gateway_model.specs.Begins.{ends_first};
+ghost use Rattle.gateway_model.specs.Past.{asked_of, is_due, smaller};
+ghost use Rattle.gateway_model.specs.Queue.{record_of};
 
-use crate::event::CallEvent;
-use crate::record::CallRecord;
 use call_plan::Plan;
+use gateway_model::{CallEvent, CallRecord};
 use http_pieces::{Bytes, Request};
 use std::alloc::{AllocError, Global};
 use std::marker::Model;
@@ -29,7 +28,7 @@ pub struct Asked {
 impl Model for Asked {
     ghost use Rattle.std.specs.Prelude.{option_map};
     ghost use Rattle.std.specs.Arc.{arc_value};
-    ghost use Rattle.gateway_core.specs.Past.{Asked as Asks};
+    ghost use Rattle.gateway_model.specs.Past.{Asked as Asks};
 
     ghost Value = { Asks };
 

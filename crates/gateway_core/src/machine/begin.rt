@@ -1,14 +1,14 @@
 ghost use Rattle.std.specs.Prelude.{◌≡◌, ◌++◌, IfOk, [], map, length, nat_lt, option_to_list};
 ghost use Rattle.std.specs.List.{range_with_len};
 ghost use Rattle.std.specs.Arc.{arc_value};
-ghost use Rattle.gateway_core.specs.Kept.{HasGone, IsBegun};
+ghost use Rattle.gateway_core.specs.KeptCall.{HasGone, IsBegun};
 
-use crate::id::CallId;
 use crate::machine::asked::Asked;
 use crate::machine::kept::Kept;
 use crate::machine::live::Live;
 use crate::machine::task::Task;
 use err_group::Group;
+use gateway_model::CallId;
 use std::alloc::{AllocError, Global};
 use std::collections::VecDeque;
 use std::sync::Arc;

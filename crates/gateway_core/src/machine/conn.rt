@@ -1,13 +1,13 @@
 ghost use Rattle.std.specs.Prelude.{◌≡◌, ◌+◌, ◌<◌, ◌==◌, length, IfOk, IfSome, OnErr, [], false, if◌then◌else◌, option_map, is_some};
-ghost use Rattle.gateway_core.specs.Conn.{added, entry_in, filled, next_of, without_first, conn_value};
-ghost use Rattle.gateway_core.specs.Machine.{is_full, slot_at};
-ghost use Rattle.gateway_core.specs.Gateway.{are_all_there};
-ghost use Rattle.gateway_core.specs.Past.{call_id};
-ghost use Rattle.gateway_core.specs.Queue.{front};
-ghost use Rattle.gateway_core.specs.Store.{broken_if};
+ghost use Rattle.gateway_model.specs.Conn.{added, entry_in, filled, next_of, without_first, conn_value};
+ghost use Rattle.gateway_model.specs.Machine.{is_full, slot_at};
+ghost use Rattle.gateway_model.specs.Gateway.{are_all_there};
+ghost use Rattle.gateway_model.specs.Past.{call_id};
+ghost use Rattle.gateway_model.specs.Queue.{front};
+ghost use Rattle.gateway_model.specs.Store.{broken_if, hung_if};
 
-use crate::id::{CallId, ConnId};
 use crate::reply::Reply;
+use gateway_model::{CallId, ConnId};
 use std::alloc::{AllocError, Global};
 use std::collections::VecDeque;
 use std::marker::Model;
@@ -26,16 +26,18 @@ pub struct Conn {
     pub(crate) slots: VecDeque<Option<Reply>>,
     /// Memory was refused in a step that concerned it.
     pub(crate) broken: bool,
+    /// Its peer hung up.
+    pub(crate) hung_up: bool,
 }
 
 impl Model for Conn {
     ghost use Rattle.std.specs.Prelude.{◌+◌, ◌≤◌, length};
-    ghost use Rattle.gateway_core.specs.Conn.{ConnValue, conn_value, AreInPlace};
+    ghost use Rattle.gateway_model.specs.Conn.{ConnValue, conn_value, AreInPlace};
     ghost use Rattle.http_pieces.specs.Request.{most_requests};
 
     ghost Value = { ConnValue };
 
-    ghost view = { λ c. conn_value c.number c.taken c.slots.items c.broken };
+    ghost view = { λ c. conn_value c.number c.taken c.slots.items c.broken c.hung_up };
 
     ghost invariant = { λ c. AreInPlace c.number c.taken c.slots.items × (c.taken + length c.slots.items ≤ most_requests) };
 }
@@ -43,13 +45,14 @@ impl Model for Conn {
 impl Conn {
     /// A connection that no request has come on.
     pub fn new(alloc: Global, number: u64) -> Conn
-        ensures { result ≡ conn_value number 0 [] false }
+        ensures { result ≡ conn_value number 0 [] false false }
     {
         Conn {
             number,
             taken: 0,
             slots: VecDeque::new(alloc),
             broken: false,
+            hung_up: false,
         }
     }
 
@@ -73,6 +76,15 @@ impl Conn {
     {
         if self.number == number {
             self.broken = true;
+        }
+    }
+
+    /// Its peer hung up, if it is the one of that number.
+    pub(crate) fn hang_up_if(&mut self, number: u64)
+        ensures { self.new ≡ hung_if number self.old }
+    {
+        if self.number == number {
+            self.hung_up = true;
         }
     }
 

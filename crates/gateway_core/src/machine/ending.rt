@@ -1,14 +1,13 @@
 ghost use Rattle.std.specs.Prelude.{◌≡◌, ◌<◌, length};
-ghost use Rattle.gateway_core.specs.Linked.{linked};
-ghost use Rattle.gateway_core.specs.Ends.{AreApart, CallsEnd, caused, EndedAt, IsSettled, settled_at, SettledBelow};
+ghost use Rattle.gateway_core.specs.Linked.{Over, linked, linked_by, over_by};
+ghost use Rattle.gateway_model.specs.Heads.{conn_heads};
+ghost use Rattle.gateway_model.specs.Ends.{AreApart, CallsEnd, caused, EndedAt, IsSettled, settled_at, SettledBelow};
 
 use crate::contexts::Contexts;
-use crate::event::CallEvent;
 use crate::hook::ReplyHook;
-use crate::id::CallId;
 use crate::machine::asked::Asked;
-use crate::machine::cause::Cause;
 use crate::machine::store::Machine;
+use gateway_model::{CallEvent, CallId, Cause};
 use std::alloc::Global;
 
 impl Asked {
@@ -35,9 +34,9 @@ impl Machine {
         cause: &Cause,
     )
         requires there { index < length self.old.calls }
-        requires linked { contexts.old ≡ linked self.old }
+        requires linked { contexts.old ≡ linked_by (over_by cause.now) self.old }
         ensures ended { EndedAt cause.now index self.old self.new }
-        ensures linked { contexts.new ≡ linked self.new }
+        ensures linked { contexts.new ≡ linked_by (over_by cause.now) self.new }
     {
         contexts.apart_law();
         if self.calls[index].end_by(alloc, contexts, cause).is_err() {
@@ -50,7 +49,7 @@ impl Machine {
     pub(crate) fn settle(&mut self, index: usize)
         requires { index < length self.old.calls }
         ensures settled { self.new ≡ settled_at index self.old }
-        ensures linked { linked self.new ≡ linked self.old }
+        ensures linked { (over : Over) → linked_by over self.new ≡ linked_by over self.old }
     {
         let reply = self.calls[index].take_reply();
         self.fill(reply);
@@ -65,9 +64,10 @@ impl Machine {
     )
         requires settled { IsSettled self.old }
         requires apart { AreApart self.old.calls }
-        requires linked { contexts.old ≡ linked self.old }
+        requires linked { contexts.old ≡ linked_by (over_by cause.now) self.old }
         ensures ended { CallsEnd cause.now self.old self.new }
         ensures linked { contexts.new ≡ linked self.new }
+        ensures heads { conn_heads self.new.conns ≡ conn_heads self.old.conns }
     {
         for index in 0..self.calls.len() {
             self.end_call(alloc, contexts, index, cause);
@@ -78,7 +78,8 @@ impl Machine {
     /// Puts the replies that were made into their slots.
     fn settle_all(&mut self)
         ensures settled { SettledBelow (length self.old.calls) self.old self.new }
-        ensures linked { linked self.new ≡ linked self.old }
+        ensures linked { (over : Over) → linked_by over self.new ≡ linked_by over self.old }
+        ensures heads { conn_heads self.new.conns ≡ conn_heads self.old.conns }
     {
         for index in 0..self.calls.len() {
             self.settle(index);

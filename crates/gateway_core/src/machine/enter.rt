@@ -1,20 +1,20 @@
 ghost use Rattle.std.specs.Prelude.{[], ◌≡◌, ◌+◌, ◌<◌, ◌≤◌, ◌++◌, Some, None as Nothing, IfErr, IfOk, OnOk, OnErr, false, length, map};
 ghost use Rattle.std.specs.VecDeque.{deque_capacity};
-ghost use Rattle.gateway_core.specs.Arrival.{arrival_of};
-ghost use Rattle.gateway_core.specs.Begins.{begins};
-ghost use Rattle.gateway_core.specs.Conn.{next_of};
-ghost use Rattle.gateway_core.specs.Contexts.{KeepsOthers, is_life};
-ghost use Rattle.gateway_core.specs.Enters.{arriving_at, asking_at, entered_at, ComesTo, Enters};
-ghost use Rattle.gateway_core.specs.Job.{job_at};
+ghost use Rattle.gateway_model.specs.Arrival.{arrival_of};
+ghost use Rattle.gateway_model.specs.Begins.{begins};
+ghost use Rattle.gateway_model.specs.Conn.{next_of};
+ghost use Rattle.gateway_core.specs.Contexts.{KeepsOthers, is_ended_peer, is_life};
+ghost use Rattle.gateway_model.specs.Enters.{arriving_at, asking_at, entered_at, Enters};
+ghost use Rattle.gateway_core.specs.Comes.{ComesTo};
+ghost use Rattle.gateway_model.specs.Job.{job_at};
 ghost use Rattle.gateway_core.specs.Linked.{ComesWith, IsLinkedBut, linked};
-ghost use Rattle.gateway_core.specs.Occurrence.{Entering, calls_in};
-ghost use Rattle.gateway_core.specs.Serving.{IsFault, IsMade, most_begun};
-ghost use Rattle.gateway_core.specs.Step.{gone, step_to};
-ghost use Rattle.gateway_core.specs.Store.{broken_at, conn_at, waiting};
-ghost use Rattle.gateway_core.specs.declared.fault.StepFault.TheVariants as fault;
+ghost use Rattle.gateway_model.specs.Occurrence.{Entering, calls_in};
+ghost use Rattle.gateway_model.specs.Serving.{IsFault, IsMade, most_begun};
+ghost use Rattle.gateway_model.specs.Step.{gone, step_to};
+ghost use Rattle.gateway_model.specs.Store.{broken_at, conn_at, waiting};
+ghost use Rattle.gateway_model.specs.declared.fault.StepFault.TheVariants as fault;
 
 use crate::contexts::Contexts;
-use crate::fault::StepFault;
 use crate::hook::ReplyHook;
 use crate::job::Job;
 use crate::machine::arriving::Arriving;
@@ -28,6 +28,7 @@ use crate::reply::Reply;
 use call_plan::Plans;
 use connect_codec::laws::timeout_law;
 use connect_codec::{Verdict, judge, target_path};
+use gateway_model::StepFault;
 use http_pieces::{Refusal, Request};
 use std::alloc::{AllocError, Global};
 use std::collections::VecDeque;
@@ -49,6 +50,7 @@ impl Machine {
     ) -> Result<(), StepFault>
         requires there { index < length self.old.conns }
         requires on { (conn_at index self.old.conns).broken ≡ false }
+        requires heard { is_ended_peer (conn_at index self.old.conns).number contexts.old.conns ≡ self.old.drained }
         requires fresh { is_life (next_of (conn_at index self.old.conns)) contexts.old.calls ≡ false }
         requires linked { contexts.old ≡ linked self.old }
         ensures made { IsMade index (Entering.Request request (arrival_of plans.now request)) begun.old self.old begun.new self.new result }
@@ -97,6 +99,7 @@ impl Machine {
     ) -> Result<(), StepFault>
         requires there { index < length self.old.conns }
         requires on { (conn_at index self.old.conns).broken ≡ false }
+        requires heard { is_ended_peer (conn_at index self.old.conns).number contexts.old.conns ≡ self.old.drained }
         requires fresh { is_life (next_of (conn_at index self.old.conns)) contexts.old.calls ≡ false }
         requires linked { contexts.old ≡ linked self.old }
         ensures ok { OnOk result (self.new
@@ -152,6 +155,7 @@ impl Machine {
     ) -> Result<Arriving, AllocError>
         requires there { index < length self.now.conns }
         requires on { (conn_at index self.now.conns).broken ≡ false }
+        requires heard { is_ended_peer (conn_at index self.now.conns).number contexts.old.conns ≡ self.now.drained }
         requires fresh { is_life (next_of (conn_at index self.now.conns)) contexts.old.calls ≡ false }
         requires linked { contexts.old ≡ linked self.now }
         ensures ok { IfOk result (λ arriving. ComesTo arriving (next_of (conn_at index self.now.conns)) self.now.moment
@@ -193,6 +197,7 @@ impl Machine {
     ) -> Result<Arriving, AllocError>
         requires there { index < length self.now.conns }
         requires on { (conn_at index self.now.conns).broken ≡ false }
+        requires heard { is_ended_peer (conn_at index self.now.conns).number contexts.old.conns ≡ self.now.drained }
         requires fresh { is_life (next_of (conn_at index self.now.conns)) contexts.old.calls ≡ false }
         requires linked { contexts.old ≡ linked self.now }
         ensures ok { IfOk result (λ arriving. ComesTo arriving (next_of (conn_at index self.now.conns)) self.now.moment (asking_at index asked self.now)) }

@@ -1,28 +1,24 @@
 ghost use Rattle.std.specs.Prelude.{◌≡◌, ℕ, OnOk, OnErr, true, false, if◌then◌else◌, is_some, None as Nothing, Some, option_map, option_to_list, slice_set};
 ghost use Rattle.std.specs.List.{count_by, list_any};
 ghost use Rattle.gateway_core.specs.Contexts.{KeepsOthers, is_life, without};
-ghost use Rattle.gateway_core.specs.Kept.{IsStep};
-ghost use Rattle.gateway_core.specs.Ends.{ended_call, ended_kept, unanswered, without_reply};
-ghost use Rattle.gateway_core.specs.Reply.{reply_with};
-ghost use Rattle.gateway_core.specs.Results.{back_kept, is_spent};
-ghost use Rattle.gateway_core.specs.Past.{is_call};
-ghost use Rattle.gateway_core.specs.Store.{given_up_if, waiting_in};
-ghost use Rattle.gateway_core.specs.declared.fault.Seen.{Seen};
-ghost use Rattle.gateway_core.specs.Step.{has_out, next_out, result_on};
+ghost use Rattle.gateway_core.specs.KeptCall.{IsStep};
+ghost use Rattle.gateway_model.specs.Ends.{ended_call, ended_kept, unanswered, without_reply};
+ghost use Rattle.gateway_model.specs.Reply.{reply_with};
+ghost use Rattle.gateway_model.specs.Results.{back_kept, is_spent};
+ghost use Rattle.gateway_model.specs.Past.{is_call};
+ghost use Rattle.gateway_model.specs.Store.{given_up_if, waiting_in};
+ghost use Rattle.gateway_model.specs.declared.fault.Seen.{Seen};
+ghost use Rattle.gateway_model.specs.Step.{has_out, next_out, result_on};
 
 use crate::contexts::Contexts;
-use crate::event::CallEvent;
-use crate::fault::Seen;
 use crate::hook::ReplyHook;
-use crate::id::CallId;
-use crate::machine::cause::Cause;
 use crate::machine::live::Live;
 use crate::machine::reply::reply_to;
 use crate::machine::task::Task;
-use crate::record::CallRecord;
 use crate::reply::Reply;
 use connect_codec::Outcome;
 use err_group::Group;
+use gateway_model::{CallEvent, CallId, CallRecord, Cause, Seen};
 use std::alloc::{AllocError, Global};
 use std::marker::Model;
 
@@ -50,8 +46,9 @@ pub struct Taken {
 
 impl Model for Kept {
     ghost use Rattle.std.specs.Prelude.{◌≡◌, IfSome};
-    ghost use Rattle.gateway_core.specs.Conn.{entry_in};
-    ghost use Rattle.gateway_core.specs.Kept.{KeptValue, kept_value, IsKept};
+    ghost use Rattle.gateway_model.specs.Conn.{entry_in};
+    ghost use Rattle.gateway_model.specs.Kept.{KeptValue};
+    ghost use Rattle.gateway_core.specs.KeptCall.{kept_value, IsKept};
 
     ghost Value = { KeptValue };
 

@@ -1,12 +1,11 @@
 ghost use Rattle.std.specs.Prelude.{◌≡◌, ◌<◌, ◌+◌, ◌++◌, ◌∷◌, [], ◌==◌, length};
 ghost use Rattle.call_plan.specs.Plan.{IsLawful};
-ghost use Rattle.gateway_core.specs.Kept.{live_value};
-ghost use Rattle.gateway_core.specs.Queue.{record_of};
+ghost use Rattle.gateway_core.specs.KeptCall.{live_value};
+ghost use Rattle.gateway_model.specs.Queue.{record_of};
 
-use crate::event::CallEvent;
 use crate::machine::asked::Asked;
-use crate::record::CallRecord;
 use call_plan::Plan;
+use gateway_model::{CallEvent, CallRecord};
 use std::marker::Model;
 use std::sync::Arc;
 
@@ -24,8 +23,8 @@ impl Model for Live {
     ghost use Rattle.std.specs.Prelude.{◌≡◌, ◌<◌, ◌≤◌, length};
     ghost use Rattle.std.specs.Vec.{vec_capacity};
     ghost use Rattle.std.specs.Arc.{arc_value};
-    ghost use Rattle.gateway_core.specs.Kept.{LiveValue, live_value};
-    ghost use Rattle.gateway_core.specs.Past.{Asked as Asks};
+    ghost use Rattle.gateway_core.specs.KeptCall.{LiveValue, live_value};
+    ghost use Rattle.gateway_model.specs.Past.{Asked as Asks};
 
     ghost Value = { LiveValue };
 

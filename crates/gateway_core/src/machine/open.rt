@@ -1,16 +1,16 @@
 ghost use Rattle.std.specs.Prelude.{◌≡◌, ◌<◌, ◌==◌, IfErr, IsTrue, None as Nothing, OnOk, OnErr, length, map, filter, not, is_some};
-ghost use Rattle.gateway_core.specs.Opens.{closed_at, opened_as, JobTaken, ReplyTaken};
+ghost use Rattle.gateway_model.specs.Opens.{closed_at, opened_as, JobTaken, ReplyTaken};
 ghost use Rattle.gateway_core.specs.Linked.{linked};
-ghost use Rattle.gateway_core.specs.Store.{call_at, conn_of};
+ghost use Rattle.gateway_model.specs.Store.{call_at, conn_of};
 
 use crate::contexts::Contexts;
 use crate::hook::ReplyHook;
-use crate::id::CallId;
 use crate::job::Job;
 use crate::machine::conn::Conn;
 use crate::machine::store::{Machine, give_up};
 use crate::reply::Reply;
 use crate::stock::Stock;
+use gateway_model::CallId;
 use std::alloc::Global;
 
 impl Machine {

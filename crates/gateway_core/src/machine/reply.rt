@@ -1,18 +1,17 @@
 ghost use Rattle.std.specs.Prelude.{◌≡◌, IfOk, OnErr, OnOk, option_and_then, option_map, true};
-ghost use Rattle.gateway_core.specs.CallRecord.{last_event};
+ghost use Rattle.gateway_model.specs.CallRecord.{last_event};
 ghost use Rattle.gateway_core.specs.Contexts.{KeepsOthers, is_life, without};
-ghost use Rattle.gateway_core.specs.Errors.{cause_of, ending_with};
-ghost use Rattle.gateway_core.specs.Queue.{call_reply};
-ghost use Rattle.gateway_core.specs.Reply.{reply_with};
-ghost use Rattle.gateway_core.specs.declared.entry.ReplyEntry.{ReplyEntry};
+ghost use Rattle.gateway_model.specs.Errors.{cause_of, ending_with};
+ghost use Rattle.gateway_model.specs.Queue.{call_reply};
+ghost use Rattle.gateway_model.specs.Reply.{reply_with};
+ghost use Rattle.gateway_model.specs.declared.entry.ReplyEntry.{ReplyEntry};
 
 use crate::contexts::Contexts;
-use crate::ending::{Ending, ending_of};
+use crate::ending::ending_of;
 use crate::hook::ReplyHook;
-use crate::id::CallId;
 use crate::joined::joined;
-use crate::record::CallRecord;
 use crate::reply::Reply;
+use gateway_model::{CallId, CallRecord, Ending};
 use http_pieces::Bytes;
 use std::alloc::{AllocError, Global};
 

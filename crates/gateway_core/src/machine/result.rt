@@ -1,26 +1,24 @@
 ghost use Rattle.std.specs.Prelude.{◌≡◌, ◌+◌, ◌<◌, ◌≤◌, ◌++◌, None as Nothing, false, true, if◌then◌else◌, filter, length, map, not, option_to_list};
-ghost use Rattle.gateway_core.specs.Past.{is_call};
+ghost use Rattle.gateway_model.specs.Past.{is_call};
 ghost use Rattle.std.specs.VecDeque.{deque_capacity};
-ghost use Rattle.gateway_core.specs.Ends.{AreApart};
-ghost use Rattle.gateway_core.specs.Job.{job_at};
+ghost use Rattle.gateway_model.specs.Ends.{AreApart};
+ghost use Rattle.gateway_model.specs.Job.{job_at};
 ghost use Rattle.gateway_core.specs.Linked.{IsLinkedWith, linked};
-ghost use Rattle.gateway_core.specs.Orderly.{IsOrderly};
-ghost use Rattle.gateway_core.specs.Results.{back_at, DecidedBy, Forgets, NoneSpent, ResultTaken, Starved};
-ghost use Rattle.gateway_core.specs.Step.{has_out};
-ghost use Rattle.gateway_core.specs.Store.{MachineValue, broken_at, kept_at};
-ghost use Rattle.gateway_core.specs.declared.fault.Seen.{Seen};
+ghost use Rattle.gateway_model.specs.Orderly.{IsOrderly};
+ghost use Rattle.gateway_model.specs.Results.{back_at, DecidedBy, Forgets, NoneSpent, ResultTaken, Starved};
+ghost use Rattle.gateway_model.specs.Step.{has_out};
+ghost use Rattle.gateway_model.specs.Store.{MachineValue, broken_at, kept_at};
+ghost use Rattle.gateway_model.specs.declared.fault.Seen.{Seen};
 
 use crate::contexts::Contexts;
-use crate::fault::{Seen, Took};
 use crate::hook::ReplyHook;
-use crate::id::CallId;
 use crate::job::Job;
 use crate::machine::kept::Kept;
 use crate::machine::reply::reply_to;
 use crate::machine::store::Machine;
 use crate::machine::task::Task;
-use crate::record::CallRecord;
 use connect_codec::Outcome;
+use gateway_model::{CallId, CallRecord, Seen, Took};
 use std::alloc::{AllocError, Global};
 use std::collections::VecDeque;
 
@@ -216,17 +214,5 @@ fn start(jobs: &mut VecDeque<Job>, next: Option<Task>, moment: u64)
 {
     if let Some(task) = next {
         jobs.push_back_reserved(Job::new(task, moment));
-    }
-}
-
-impl Took {
-    /// The branch was not out.
-    fn unknown() -> Took
-        ensures { result ≡ record { seen = Seen.Unknown; broke = false } }
-    {
-        Took {
-            seen: Seen::Unknown,
-            broke: false,
-        }
     }
 }

@@ -1,19 +1,19 @@
 ghost use Rattle.std.specs.Prelude.{◌≡◌, ◌==◌, ◌<◌, false, not, true, length, map, []};
 ghost use Rattle.std.specs.List.{count_by};
-ghost use Rattle.gateway_core.specs.Gateway.{are_all_there};
-ghost use Rattle.gateway_core.specs.Queue.{front};
-ghost use Rattle.gateway_core.specs.Ends.{is_stopped_in};
-ghost use Rattle.gateway_core.specs.Linked.{IsLinkedBut, linked};
-ghost use Rattle.gateway_core.specs.Step.{moment_after};
-ghost use Rattle.gateway_core.specs.Store.{IsFound, call_at, conn_at, broken_at, broken_count, broken_if, given_up_if, fill_first, filled_in, machine_value};
+ghost use Rattle.gateway_model.specs.Gateway.{are_all_there};
+ghost use Rattle.gateway_model.specs.Queue.{front};
+ghost use Rattle.gateway_model.specs.Ends.{is_stopped_in, noted};
+ghost use Rattle.gateway_core.specs.Contexts.{closed};
+ghost use Rattle.gateway_model.specs.Step.{moment_after};
+ghost use Rattle.gateway_model.specs.Store.{IsFound, call_at, conn_at, broken_at, broken_count, broken_if, given_up_if, fill_first, filled_in, hung_if, machine_value};
 
 use crate::contexts::Contexts;
 use crate::hook::ReplyHook;
-use crate::id::CallId;
 use crate::job::Job;
 use crate::machine::conn::Conn;
 use crate::machine::kept::Kept;
 use crate::reply::Reply;
+use gateway_model::{CallId, Cause};
 use std::alloc::Global;
 use std::collections::VecDeque;
 use std::marker::Model;
@@ -37,7 +37,7 @@ pub struct Machine {
 impl Model for Machine {
     ghost use Rattle.std.specs.Prelude.{◌+◌, ◌≤◌, ◌^◌, map, length};
     ghost use Rattle.std.specs.VecDeque.{deque_capacity};
-    ghost use Rattle.gateway_core.specs.Store.{MachineValue, machine_value, waiting};
+    ghost use Rattle.gateway_model.specs.Store.{MachineValue, machine_value, waiting};
 
     ghost Value = { MachineValue };
 
@@ -76,15 +76,19 @@ impl Machine {
         self.moment
     }
 
-    /// The drain begins.
-    pub(crate) fn drain(&mut self)
-        ensures { self.new ≡ record self.old { drained = true } }
+    /// Takes note of what may end calls: the drain, or that the peer of a connection hung up.
+    pub(crate) fn note(&mut self, cause: &Cause)
+        ensures { self.new ≡ noted cause.now self.old }
     {
-        self.drained = true;
+        match cause {
+            Cause::Reached(_) => {}
+            Cause::HungUp(number) => hang_up_in(&mut self.conns, *number),
+            Cause::Drained => self.drained = true,
+        }
     }
 
     /// Whether the connection of that number is open and broken.
-    #[tactic(auto, using(crate::proofs::StoreLemmas::none_stopped))]
+    #[tactic(auto, using(gateway_model::specs::lemmas::StoreLemmas::none_stopped))]
     pub(crate) fn is_stopped(&self, number: u64) -> bool
         ensures { result ≡ is_stopped_in number self.now.conns }
     {
@@ -147,9 +151,8 @@ impl Machine {
         contexts: &mut Contexts<H>,
         number: u64,
     )
-        requires { IsLinkedBut number contexts.old self.old }
         ensures broken { self.new ≡ broken_at number self.old }
-        ensures linked { contexts.new ≡ linked self.new }
+        ensures closed { contexts.new ≡ closed number contexts.old }
     {
         contexts.close(number);
         give_up(&mut self.calls, number);
@@ -194,6 +197,15 @@ fn break_in(conns: &mut Vec<Conn>, number: u64)
 {
     for index in 0..conns.len() {
         conns[index].break_if(number);
+    }
+}
+
+/// The peer of the connection of that number hung up.
+fn hang_up_in(conns: &mut Vec<Conn>, number: u64)
+    ensures { conns.new.items ≡ map (hung_if number) conns.old.items }
+{
+    for index in 0..conns.len() {
+        conns[index].hang_up_if(number);
     }
 }
 

@@ -1,9 +1,9 @@
 ghost use Rattle.std.specs.Prelude.{◌≡◌};
 ghost use Rattle.std.specs.Arc.{arc_value};
-ghost use Rattle.gateway_core.specs.Job.{left_at, task_of};
+ghost use Rattle.gateway_model.specs.Job.{left_at, task_of};
 
-use crate::id::CallId;
 use crate::machine::asked::Asked;
+use gateway_model::CallId;
 use std::marker::Model;
 use std::sync::Arc;
 
@@ -18,7 +18,7 @@ pub struct Task {
 impl Model for Task {
     ghost use Rattle.std.specs.Prelude.{◌<◌, length};
     ghost use Rattle.std.specs.Arc.{arc_value};
-    ghost use Rattle.gateway_core.specs.Job.{TaskValue, task_of};
+    ghost use Rattle.gateway_model.specs.Job.{TaskValue, task_of};
 
     ghost Value = { TaskValue };
 

@@ -2,7 +2,7 @@ use Rattle.std.proofs.Common.{rules, arith, ◌≡◌, ◌<◌, ◌≤◌, ◌++
 use Rattle.std.proofs.lemmas.Grind.{common_steps}
 use Rattle.std.specs.Prelude.{take}
 use Rattle.std.specs.Io.KnownBytes.{Appends}
-use Rattle.gateway_core.specs.Past.{call_id}
+use Rattle.gateway_model.specs.Past.{call_id}
 use Rattle.connections.specs.Writes.{Unwritten, bytes_of}
 use Rattle.connections.proofs.WriteLemmas.{Writes-none, Writes-sent}
 use Rattle.connections.proofs.writing.write_next.Goals.{then-ne-via-then-ne, then-ne-via-else-ne+then-is_err}

@@ -1,5 +1,5 @@
 use Rattle.std.proofs.Common.{refl}
-use Rattle.gateway_core.specs.Arrival.{refusal_reply}
+use Rattle.gateway_model.specs.Arrival.{refusal_reply}
 use Rattle.gateway_core.proofs.answers.too_large.Goals as goal
 
 pub returns : goal.returns

@@ -1,6 +1,6 @@
 use Rattle.std.proofs.Common.{◌≡◌, [], take}
 use Rattle.std.specs.Prelude.{unwrap_or}
-use Rattle.gateway_core.specs.CallRecord.{answer_of_branch}
+use Rattle.gateway_model.specs.CallRecord.{answer_of_branch}
 use Rattle.gateway_core.proofs.joined.answer_of.Given as goal
 
 abbrev pub invariant-loop-event : goal.invariant-loop-event

@@ -1,5 +1,5 @@
 use Rattle.std.proofs.Common.{◌≡◌}
-use Rattle.gateway_core.specs.CallRecord.{answers_in}
+use Rattle.gateway_model.specs.CallRecord.{answers_in}
 use Rattle.gateway_core.proofs.joined.answers_in.Given as goal
 
 abbrev pub invariant-loop-branch : goal.invariant-loop-branch

@@ -1,7 +1,7 @@
 use Rattle.std.proofs.Common.{ap, sym, ◌∙◌}
-use Rattle.gateway_core.specs.Past.{marked}
-use Rattle.gateway_core.specs.Queue.{queued}
-use Rattle.gateway_core.specs.Starts.{jobs}
+use Rattle.gateway_model.specs.Past.{marked}
+use Rattle.gateway_model.specs.Queue.{queued}
+use Rattle.gateway_model.specs.Starts.{jobs}
 use Rattle.gateway_run.proofs.Shifts.{is_shifted}
 use Rattle.gateway_run.proofs.laws.any_cut_law.Goals as goal
 

@@ -1,7 +1,7 @@
 use Rattle.std.proofs.Common.{◌≡◌, ◌++◌, ◌∷◌, [], List, Some, None, sym, ap, ◌∙◌, subst, append-nil, append_assoc}
-use Rattle.gateway_core.specs.declared.entry.ReplyEntry.{ReplyEntry}
-use Rattle.gateway_core.specs.Gateway.{untaken_of}
-use Rattle.gateway_core.specs.Queue.{answer_of}
+use Rattle.gateway_model.specs.declared.entry.ReplyEntry.{ReplyEntry}
+use Rattle.gateway_model.specs.Gateway.{untaken_of}
+use Rattle.gateway_model.specs.Queue.{answer_of}
 use Rattle.gateway_run.specs.Log.{Took}
 use Rattle.gateway_run.specs.Run.{bytes_of}
 use Rattle.gateway_run.proofs.Gathering.{bytes_more, took_more, took_none}

@@ -1,6 +1,6 @@
 use Rattle.std.proofs.Common.{◌≡◌, ◌++◌, List, length}
-use Rattle.gateway_core.specs.declared.entry.ReplyEntry.{ReplyEntry}
-use Rattle.gateway_core.specs.Gateway.{untaken_of}
+use Rattle.gateway_model.specs.declared.entry.ReplyEntry.{ReplyEntry}
+use Rattle.gateway_model.specs.Gateway.{untaken_of}
 use Rattle.gateway_run.specs.Log.{Took}
 use Rattle.gateway_run.specs.Run.{bytes_of}
 use Rattle.gateway_run.proofs.log.take_replies.Given as goal

@@ -1,10 +1,10 @@
 use Rattle.std.specs.Prelude.{◌==◌}
 use Rattle.std.proofs.Common.{ap, ◌∙◌, ◌≡◌, true, false, refl, [], ◌∷◌, length, ◌<◌, sym, subst}
-use Rattle.gateway_core.specs.Events.{is_closing_of, BranchResult, Closing, Drain, HangUp, Moment, Opening, Piece, most_open, open_connections}
-use Rattle.gateway_core.specs.Served.{Served}
-use Rattle.gateway_core.specs.Serving.{BreaksBy, KeepsBut, TellsStep}
-use Rattle.gateway_core.specs.Occurrence as occurs
-use Rattle.gateway_core.specs.Past.{call_id}
+use Rattle.gateway_model.specs.Events.{is_closing_of, BranchResult, Closing, Drain, HangUp, Moment, Opening, Piece, most_open, open_connections}
+use Rattle.gateway_model.specs.Served.{Served}
+use Rattle.gateway_model.specs.Serving.{BreaksBy, KeepsBut, TellsStep}
+use Rattle.gateway_model.specs.Occurrence as occurs
+use Rattle.gateway_model.specs.Past.{call_id}
 use Rattle.gateway_run.specs.Run.{gateway_event}
 use Rattle.gateway_run.specs.Stepping.{BreaksAt, Tells, TellsBreaks, TellsConn, TellsOpening, opened_by, seen_in}
 use Rattle.gateway_run.specs.declared.stepping.Stepped.TheVariants.{Done, Saw}

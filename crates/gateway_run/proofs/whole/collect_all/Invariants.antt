@@ -1,6 +1,6 @@
 use Rattle.std.proofs.Common.{◌≡◌, false}
 use Rattle.std.specs.Prelude.{nat_lt}
-use Rattle.gateway_core.specs.Events.{Before}
+use Rattle.gateway_model.specs.Events.{Before}
 use Rattle.gateway_run.specs.Log.{HasRun}
 use Rattle.gateway_run.proofs.whole.collect_all.Given as goal
 

@@ -1,5 +1,5 @@
 use Rattle.std.proofs.Common.{◌∙◌, sym, ap, subst}
-use Rattle.gateway_core.specs.Gateway.{GatewayValue}
+use Rattle.gateway_model.specs.Gateway.{GatewayValue}
 use Rattle.gateway_run.specs.Log.{StartsAll}
 use Rattle.gateway_run.specs.Run.{gateway_event}
 use Rattle.gateway_run.specs.Stepping.{log_after}

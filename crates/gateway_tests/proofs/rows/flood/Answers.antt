@@ -1,7 +1,7 @@
 use Rattle.std.proofs.Common.{refl}
 use Rattle.http_pieces.specs.Fields.{same_without_case}
 use Rattle.call_plan.specs.Plan.{join_text}
-use Rattle.gateway_core.specs.Arrival.{refusal_reply}
+use Rattle.gateway_model.specs.Arrival.{refusal_reply}
 use Rattle.gateway_tests.proofs.rows.flood.Goals as goal
 
 pub returns-clause-late : goal.returns-clause-late

@@ -1,10 +1,10 @@
 use Rattle.std.proofs.Common.{◌≡◌, ℕ, List, ◌++◌, replicate, codes, refl, ◌∙◌}
 use Rattle.connect_codec.specs.declared.answer.Outcome.{Outcome}
 use Rattle.connect_codec.specs.declared.answer.Outcome.TheVariants.{Answer}
-use Rattle.gateway_core.specs.declared.fault.Seen.TheVariants.{Unknown}
-use Rattle.gateway_core.specs.declared.id.CallId.{CallId}
-use Rattle.gateway_core.specs.Occurrence.{Occurrence, Result}
-use Rattle.gateway_core.specs.Past.{call_id, judged, marked}
+use Rattle.gateway_model.specs.declared.fault.Seen.TheVariants.{Unknown}
+use Rattle.gateway_model.specs.declared.id.CallId.{CallId}
+use Rattle.gateway_model.specs.Occurrence.{Occurrence, Result}
+use Rattle.gateway_model.specs.Past.{call_id, judged, marked}
 use Rattle.gateway_tests.specs.Rows.{answers, flooded, hotel_answered}
 use Rattle.gateway_tests.proofs.rows.floods.Goals as goal
 

@@ -1,7 +1,7 @@
 use Rattle.std.proofs.Common.{[], refl, arith, subst}
-use Rattle.gateway_core.specs.Events.{Moment}
-use Rattle.gateway_core.specs.Occurrence as concerning
-use Rattle.gateway_core.specs.Serving.{BreaksBy}
+use Rattle.gateway_model.specs.Events.{Moment}
+use Rattle.gateway_model.specs.Occurrence as concerning
+use Rattle.gateway_model.specs.Serving.{BreaksBy}
 use Rattle.backend_pool.specs.Book.{BookValue}
 use Rattle.backend_pool.proofs.BookLemmas.{reached_by, takes_event}
 use Rattle.backend_pool.proofs.book.Book.moment.Goals as goal

@@ -1,5 +1,5 @@
 use Rattle.std.proofs.Common.{[], refl, arith}
-use Rattle.gateway_core.specs.Events.{Piece}
+use Rattle.gateway_model.specs.Events.{Piece}
 use Rattle.backend_pool.proofs.BookLemmas.{reached_by, takes_event}
 use Rattle.backend_pool.proofs.book.Book.piece.Goals as goal
 

@@ -1,6 +1,6 @@
 use Rattle.std.proofs.Common.{[], ◌∷◌, refl, arith, subst}
-use Rattle.gateway_core.specs.Events.{BranchResult}
-use Rattle.gateway_core.specs.Occurrence.{Result}
+use Rattle.gateway_model.specs.Events.{BranchResult}
+use Rattle.gateway_model.specs.Occurrence.{Result}
 use Rattle.backend_pool.specs.Book.{BookValue, TellsTook}
 use Rattle.backend_pool.proofs.BookLemmas.{book_sees, reached_by, takes_event}
 use Rattle.backend_pool.proofs.book.Book.result.Goals as goal

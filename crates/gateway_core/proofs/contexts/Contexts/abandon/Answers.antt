@@ -1,7 +1,7 @@
-use Rattle.std.proofs.Common.{◌≡◌, ◌∙◌, Some, None, ap, sym, subst}
+use Rattle.std.proofs.Common.{◌≡◌, ◌∙◌, Some, ap, sym}
 use Rattle.std.specs.Arc.{arc_value}
-use Rattle.call_contexts.specs.Standing.{WithHooks, Standing}
-use Rattle.gateway_core.specs.Contexts.{ContextsValue, ctx_for, ctx_of, first_life, first_of, is_life, is_peer, without_first}
+use Rattle.call_contexts.specs.Standing.{WithHooks}
+use Rattle.gateway_core.specs.Contexts.{ctx_for}
 use Rattle.gateway_core.specs.Ties.{life_ties, peer_ties}
 use Rattle.gateway_core.proofs.ContextLemmas.{left_tied, left_value, no_life, without_none}
 use Rattle.gateway_core.proofs.contexts.Contexts.abandon.Goals as goal

@@ -1,9 +1,9 @@
-use Rattle.std.proofs.Common.{◌≡◌, ap, sym, ◌∙◌, arith, inr, refl, length}
+use Rattle.std.proofs.Common.{◌≡◌, ap, sym, ◌∙◌, arith, length}
 use Rattle.std.proofs.lemmas.List.{length-map}
 use Rattle.std.specs.Arc.{arc_value}
 use Rattle.gateway_core.specs.Contexts.{ContextsValue}
 use Rattle.gateway_core.specs.Ties.{life_tie, life_ties, peer_ties}
-use Rattle.gateway_core.proofs.ContextLemmas.{Sheds, as_many, sheds_all, sheds_more}
+use Rattle.gateway_core.proofs.ContextLemmas.{as_many, sheds_all, sheds_more}
 use Rattle.gateway_core.proofs.contexts.Contexts.abandon_all.Goals as goal
 
 pub loop-index-preserved : goal.loop-index-preserved

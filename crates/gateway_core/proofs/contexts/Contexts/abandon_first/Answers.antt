@@ -1,7 +1,6 @@
-use Rattle.std.proofs.Common.{◌≡◌, ◌∙◌, Some, None, ap, sym, subst}
+use Rattle.std.proofs.Common.{◌≡◌, ◌∙◌, Some, None, ap, sym}
 use Rattle.std.specs.Arc.{arc_value}
-use Rattle.call_contexts.specs.Standing.{WithHooks, Standing}
-use Rattle.gateway_core.specs.Contexts.{ContextsValue, ctx_for, ctx_of, first_life, first_of, is_life, is_peer, without_first}
+use Rattle.gateway_core.specs.Contexts.{ContextsValue, first_life, first_of, without_first}
 use Rattle.gateway_core.specs.Ties.{life_ties, peer_ties}
 use Rattle.gateway_core.proofs.ContextLemmas.{first_in}
 use Rattle.gateway_core.proofs.contexts.Contexts.abandon_first.Goals as goal

@@ -1,7 +1,7 @@
-use Rattle.std.proofs.Common.{◌≡◌, ◌∙◌, Some, None, true, false, ap, sym, is_some}
+use Rattle.std.proofs.Common.{◌≡◌, ◌∙◌, Some, true, false, ap, sym, is_some}
 use Rattle.std.specs.Arc.{arc_value}
-use Rattle.call_contexts.specs.Standing.{WithHooks, Standing}
-use Rattle.gateway_core.specs.Contexts.{ContextsValue, ctx_for, ctx_of, first_life, first_of, is_life, is_peer, without_first}
+use Rattle.call_contexts.specs.Standing.{WithHooks}
+use Rattle.gateway_core.specs.Contexts.{ctx_for, is_life}
 use Rattle.gateway_core.specs.Ties.{life_ties, peer_ties}
 use Rattle.gateway_core.proofs.ContextLemmas.{left_tied, left_value, no_life, stands_in}
 use Rattle.gateway_core.proofs.contexts.Contexts.end.Goals as goal

@@ -1,14 +1,14 @@
-use Rattle.std.proofs.Common.{◌≡◌, ◌∙◌, Some, None, ap, sym, subst}
+use Rattle.std.proofs.Common.{◌∙◌, ap, sym}
 use Rattle.std.specs.Arc.{arc_value}
-use Rattle.call_contexts.specs.Standing.{WithHooks, Standing}
-use Rattle.gateway_core.specs.Contexts.{ContextsValue, ctx_for, ctx_of, first_life, first_of, is_life, is_peer, without_first}
+use Rattle.call_contexts.specs.Standing.{WithHooks}
+use Rattle.gateway_core.specs.Contexts.{ContextsValue, ctx_of, first_life}
 use Rattle.gateway_core.specs.Ties.{life_ties, peer_ties}
 use Rattle.gateway_core.proofs.ContextLemmas.{closed_stay, first_in, known_conn, none_of_it, not_known, peer_gone, peer_gone_value}
 use Rattle.gateway_core.proofs.contexts.Contexts.let_go.Goals as goal
 
 pub returns-in_default : goal.returns-in_default
 returns-in_default g c =
-    closed_stay c.args.number c.args.self.now (not_known c.args.number c.args.self.now (peer_ties c.self.inside.peers.items) (ap (λ (v : ContextsValue). v.conns) c.self.view_is)
+    closed_stay c.args.number c.args.self.now (not_known c.args.number c.args.self.now (peer_ties c.self.inside.peers.items) c.self.inside.contexts.standing.conns (ap (λ (v : ContextsValue). v.conns) c.self.view_is)
     (ap (λ ps. ctx_of c.args.number (peer_ties ps)) (sym c.deref.ensures.value) ∙ sym c.ctx_of.ensures ∙ c.in_default.is)) c.requires
 
 pub close-requires-clause-known : goal.close-requires-clause-known
@@ -34,4 +34,5 @@ invariant_of-self g c =
 pub returns : goal.returns
 returns g c =
     peer_gone_value arc_value c.self.inside.peers.items c.remove_peer.new.peers.items (life_ties c.self.inside.lives.items) c.self.inside.contexts.standing c.close.new.self.standing c.args.self.now
-    c.args.number c.in-Some.conn c.remove_peer.ensures (ap (λ (v : WithHooks _ _). v.standing) c.close.ensures) c.self.view_is c.requires
+    c.args.number c.in-Some.conn c.remove_peer.ensures (ap (λ (v : WithHooks _ _). v.standing) c.close.ensures) c.self.invariant
+    (ap (λ ps. ctx_of c.args.number (peer_ties ps)) (sym c.deref.ensures.value) ∙ sym c.ctx_of.ensures ∙ c.in-Some.is) c.self.view_is c.requires

@@ -1,7 +1,7 @@
 use Rattle.std.proofs.Common.{◌∙◌, ◌++◌, ◌∷◌, [], ap}
 use Rattle.std.specs.Arc.{arc_value}
 use Rattle.call_contexts.specs.Standing.{WithHooks}
-use Rattle.gateway_core.specs.Ties.{life_ties, peer_ties}
+use Rattle.gateway_core.specs.Ties.{life_ties}
 use Rattle.gateway_core.proofs.ContextLemmas.{opened_tied, opened_value}
 use Rattle.gateway_core.proofs.contexts.Contexts.open.Goals as goal
 
@@ -17,4 +17,4 @@ returns-clause-ok g c =
     opened_value c.self.inside.peers.items c.push_reserved.new.self.items (life_ties c.self.inside.lives.items) c.self.inside.contexts.standing c.open.new.self.standing c.args.self.now arc_value
     (record { number = c.args.number; ctx = c.in-Ok.ctx; stock = c.args.stock })
     (c.push_reserved.ensures.items ∙ ap (λ ps. ps ++ record { number = c.args.number; ctx = c.in-Ok.ctx; stock = c.args.stock } ∷ []) c.reserve.ensures.items)
-    (ap (λ (v : WithHooks _ _). v.standing) c.in-Ok.ensures.stands) c.self.view_is
+    (ap (λ (v : WithHooks _ _). v.standing) c.in-Ok.ensures.stands) c.self.invariant c.self.view_is

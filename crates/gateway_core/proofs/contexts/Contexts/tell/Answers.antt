@@ -1,12 +1,13 @@
-use Rattle.std.proofs.Common.{◌≡◌, ◌∙◌, Some, true, ap, map, sym, refl}
+use Rattle.std.proofs.Common.{◌∙◌, true, ap, map, sym}
 use Rattle.std.specs.Prelude.{◌||◌}
 use Rattle.std.specs.Arc.{arc_value}
 use Rattle.context_tree.specs.Context.{same}
 use Rattle.context_tree.specs.Frames.{is_due}
 use Rattle.call_contexts.specs.Standing.{Conn, WithHooks}
-use Rattle.gateway_core.specs.Contexts.{ctx_of}
+use Rattle.gateway_model.specs.declared.cause.Cause.{Cause}
+use Rattle.gateway_core.specs.Contexts.{ctx_of, told}
 use Rattle.gateway_core.specs.Ties.{life_ties, peer_ties}
-use Rattle.gateway_core.proofs.ContextLemmas.{conns_ended, known_conn, told_tied, told_value}
+use Rattle.gateway_core.proofs.ContextLemmas.{conns_ended, drained_value, hung_value, known_conn, reached_value, told_tied, untold_value}
 use Rattle.gateway_core.proofs.contexts.Contexts.tell.Goals as goal
 
 pub cancel-requires : goal.cancel-requires
@@ -21,8 +22,9 @@ invariant_of-self g c =
 
 pub returns-in-Reached : goal.returns-in-Reached
 returns-in-Reached g c =
-    told_value arc_value (peer_ties c.self.inside.peers.items) (life_ties c.self.inside.lives.items) c.self.inside.contexts.standing c.expire.new.self.standing c.args.self.now (λ d. is_due c.in-Reached.moment d.deadline)
-    (ap (λ (v : WithHooks _ _). v.standing.calls) c.expire.ensures) c.self.view_is
+    reached_value arc_value (peer_ties c.self.inside.peers.items) (life_ties c.self.inside.lives.items) c.self.inside.contexts.standing c.expire.new.self.standing c.args.self.now c.in-Reached.moment
+    (ap (λ (v : WithHooks _ _). v.standing) c.expire.ensures) c.self.invariant c.self.view_is
+    ∙ sym (ap (λ (k : Cause). told k c.args.self.now) c.in-Reached.is)
 
 pub invariant_of-self-in-Some : goal.invariant_of-self-in-Some
 invariant_of-self-in-Some g c =
@@ -31,8 +33,10 @@ invariant_of-self-in-Some g c =
 
 pub returns-in-Some : goal.returns-in-Some
 returns-in-Some g c =
-    told_value arc_value (peer_ties c.self.inside.peers.items) (life_ties c.self.inside.lives.items) c.self.inside.contexts.standing c.cancel.new.self.standing c.args.self.now (λ d. same d.conn c.in-Some.conn)
-    (ap (λ (v : WithHooks _ _). v.standing.calls) c.cancel.ensures) c.self.view_is
+    hung_value arc_value (peer_ties c.self.inside.peers.items) (life_ties c.self.inside.lives.items) c.self.inside.contexts.standing c.cancel.new.self.standing c.args.self.now c.in-HungUp.number c.in-Some.conn
+    (ap (λ (v : WithHooks _ _). v.standing) c.cancel.ensures) c.self.invariant
+    (ap (λ ps. ctx_of c.in-HungUp.number (peer_ties ps)) (sym c.deref.ensures.value) ∙ sym c.ctx_of.ensures ∙ c.in-Some.is) c.self.view_is
+    ∙ sym (ap (λ (k : Cause). told k c.args.self.now) c.in-HungUp.is)
 
 pub invariant_of-self-in-Drained : goal.invariant_of-self-in-Drained
 invariant_of-self-in-Drained g c =
@@ -41,5 +45,12 @@ invariant_of-self-in-Drained g c =
 
 pub returns-in-Drained : goal.returns-in-Drained
 returns-in-Drained g c =
-    told_value arc_value (peer_ties c.self.inside.peers.items) (life_ties c.self.inside.lives.items) c.self.inside.contexts.standing c.drain.new.self.standing c.args.self.now (λ d. true)
-    (ap (λ (v : WithHooks _ _). v.standing.calls) c.drain.ensures) c.self.view_is
+    drained_value arc_value (peer_ties c.self.inside.peers.items) (life_ties c.self.inside.lives.items) c.self.inside.contexts.standing c.drain.new.self.standing c.args.self.now
+    (ap (λ (v : WithHooks _ _). v.standing) c.drain.ensures) c.self.invariant c.self.view_is
+    ∙ sym (ap (λ (k : Cause). told k c.args.self.now) c.in-Drained.is)
+
+pub returns-in_default : goal.returns-in_default
+returns-in_default g c =
+    untold_value arc_value (peer_ties c.self.inside.peers.items) (life_ties c.self.inside.lives.items) c.self.inside.contexts.standing c.args.self.now c.in-HungUp.number c.self.invariant
+    (ap (λ ps. ctx_of c.in-HungUp.number (peer_ties ps)) (sym c.deref.ensures.value) ∙ sym c.ctx_of.ensures ∙ c.in_default.is) c.self.view_is
+    ∙ sym (ap (λ (k : Cause). told k c.args.self.now) c.in-HungUp.is)

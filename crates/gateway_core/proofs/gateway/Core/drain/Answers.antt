@@ -1,12 +1,12 @@
 use Rattle.std.proofs.Common.{true, refl, sym, subst}
-use Rattle.gateway_core.specs.Occurrence.{Drain}
-use Rattle.gateway_core.proofs.EndingSteps.{drain_ends}
-use Rattle.gateway_core.specs.Gateway.{GatewayValue}
-use Rattle.gateway_core.specs.Served.{Served}
-use Rattle.gateway_core.specs.Serving.{Keeps, Breaks, BreaksBy}
-use Rattle.gateway_core.specs.declared.machine.cause.Cause.TheVariants.{Drained}
-use Rattle.gateway_core.proofs.ServedLemmas.{drain_served}
-use Rattle.gateway_core.proofs.Keeping.{ended_concerns, ended_keeps}
+use Rattle.gateway_model.specs.Occurrence.{Drain}
+use Rattle.gateway_model.specs.lemmas.EndingSteps.{drain_ends}
+use Rattle.gateway_model.specs.Gateway.{GatewayValue}
+use Rattle.gateway_model.specs.Served.{Served}
+use Rattle.gateway_model.specs.Serving.{Keeps, Breaks, BreaksBy}
+use Rattle.gateway_model.specs.declared.cause.Cause.TheVariants.{Drained}
+use Rattle.gateway_model.specs.lemmas.ServedLemmas.{drain_served}
+use Rattle.gateway_model.specs.lemmas.Keeping.{ended_concerns, ended_keeps}
 use Rattle.gateway_core.proofs.gateway.Core.drain.Goals as goal
 
 pub returns : goal.returns

@@ -1,10 +1,10 @@
 use Rattle.std.specs.Prelude.{◌==◌}
 use Rattle.std.proofs.Common.{sym, subst}
-use Rattle.gateway_core.specs.Gateway.{GatewayValue}
-use Rattle.gateway_core.specs.Served.{ServedUpTo}
-use Rattle.gateway_core.specs.Serving.{CountsCalls, IsDeaf, Keeps, FedTo, TellsStep}
-use Rattle.gateway_core.proofs.ServedWhole.{fed_stands}
-use Rattle.gateway_core.proofs.Keeping.{fed_counts, fed_heard, fed_keeps, fed_moves, fed_tells, fed_within}
+use Rattle.gateway_model.specs.Gateway.{GatewayValue}
+use Rattle.gateway_model.specs.Served.{ServedUpTo}
+use Rattle.gateway_model.specs.Serving.{CountsCalls, Keeps, FedTo, TellsStep}
+use Rattle.gateway_model.specs.lemmas.ServedWhole.{fed_stands}
+use Rattle.gateway_model.specs.lemmas.Keeping.{fed_counts, fed_heard, fed_keeps, fed_moves, fed_tells, fed_within}
 use Rattle.gateway_core.proofs.gateway.Core.feed.Goals as goal
 
 pub returns : goal.returns

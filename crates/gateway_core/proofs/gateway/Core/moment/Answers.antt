@@ -1,13 +1,13 @@
 use Rattle.std.proofs.Common.{true, refl, sym, subst}
-use Rattle.gateway_core.specs.Occurrence.{Moment}
-use Rattle.gateway_core.proofs.EndingSteps.{moment_ends}
-use Rattle.gateway_core.specs.Gateway.{GatewayValue}
-use Rattle.gateway_core.specs.Served.{Served}
-use Rattle.gateway_core.specs.Serving.{Keeps, Breaks, BreaksBy}
-use Rattle.gateway_core.specs.Step.{moment_after}
-use Rattle.gateway_core.specs.declared.machine.cause.Cause.TheVariants.{Reached}
-use Rattle.gateway_core.proofs.ServedLemmas.{moment_served}
-use Rattle.gateway_core.proofs.Keeping.{ended_concerns, ended_keeps}
+use Rattle.gateway_model.specs.Occurrence.{Moment}
+use Rattle.gateway_model.specs.lemmas.EndingSteps.{moment_ends}
+use Rattle.gateway_model.specs.Gateway.{GatewayValue}
+use Rattle.gateway_model.specs.Served.{Served}
+use Rattle.gateway_model.specs.Serving.{Keeps, Breaks, BreaksBy}
+use Rattle.gateway_model.specs.Step.{moment_after}
+use Rattle.gateway_model.specs.declared.cause.Cause.TheVariants.{Reached}
+use Rattle.gateway_model.specs.lemmas.ServedLemmas.{moment_served}
+use Rattle.gateway_model.specs.lemmas.Keeping.{ended_concerns, ended_keeps}
 use Rattle.gateway_core.proofs.gateway.Core.moment.Goals as goal
 
 pub returns : goal.returns

@@ -1,14 +1,14 @@
 use Rattle.std.specs.Prelude.{◌==◌}
 use Rattle.std.proofs.Common.{Some, ◌≡◌, [], ◌∷◌, false, sym, ap, ◌∙◌, subst}
-use Rattle.gateway_core.specs.Gateway.{GatewayValue}
-use Rattle.gateway_core.specs.Served.{Served}
-use Rattle.gateway_core.specs.Serving.{Breaks, BreaksBy, KeepsBut}
-use Rattle.gateway_core.proofs.ServedLemmas.{starved_served}
-use Rattle.gateway_core.proofs.Keeping.{starved_concerns, starved_keeps, unknown_kept}
-use Rattle.gateway_core.proofs.SeenResults.{breaks_of, starved_breaks_are, starved_broke, starved_seen, seen_stands}
-use Rattle.gateway_core.specs.Events.{Occurs}
-use Rattle.gateway_core.specs.Occurrence.{Result}
-use Rattle.gateway_core.specs.Store.{conn_of}
+use Rattle.gateway_model.specs.Gateway.{GatewayValue}
+use Rattle.gateway_model.specs.Served.{Served}
+use Rattle.gateway_model.specs.Serving.{Breaks, BreaksBy, KeepsBut}
+use Rattle.gateway_model.specs.lemmas.ServedLemmas.{starved_served}
+use Rattle.gateway_model.specs.lemmas.Keeping.{starved_concerns, starved_keeps, unknown_kept}
+use Rattle.gateway_model.specs.lemmas.SeenResults.{breaks_of, starved_breaks_are, starved_broke, starved_seen, seen_stands}
+use Rattle.gateway_model.specs.Events.{Occurs}
+use Rattle.gateway_model.specs.Occurrence.{Result}
+use Rattle.gateway_model.specs.Store.{conn_of}
 use Rattle.gateway_core.proofs.gateway.Core.starved.Goals as goal
 
 pub returns : goal.returns

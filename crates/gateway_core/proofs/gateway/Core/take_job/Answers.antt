@@ -1,10 +1,10 @@
 use Rattle.std.specs.Prelude.{is_some}
-use Rattle.gateway_core.specs.Store.{call_at}
+use Rattle.gateway_model.specs.Store.{call_at}
 use Rattle.std.proofs.Common.{sym, ap, ◌∙◌, subst}
-use Rattle.gateway_core.specs.Gateway.{GatewayValue}
-use Rattle.gateway_core.specs.Served.{Served}
-use Rattle.gateway_core.proofs.ServedTakes.{job_served}
-use Rattle.gateway_core.proofs.Keeping.{job_rest}
+use Rattle.gateway_model.specs.Gateway.{GatewayValue}
+use Rattle.gateway_model.specs.Served.{Served}
+use Rattle.gateway_model.specs.lemmas.ServedTakes.{job_served}
+use Rattle.gateway_model.specs.lemmas.Keeping.{job_rest}
 use Rattle.gateway_core.proofs.gateway.Core.take_job.Goals as goal
 
 pub returns : goal.returns

@@ -1,8 +1,8 @@
 use Rattle.std.proofs.Common.{◌≡◌, ap, sym, ◌∙◌, length, min, subst, Some}
 use Rattle.std.specs.Arc.{arc_value}
 use Rattle.call_plan.specs.Plan.{PlanRecord}
-use Rattle.gateway_core.specs.Kept.{IsKept, HasGone, live_value}
-use Rattle.gateway_core.specs.Past.{Asked}
+use Rattle.gateway_core.specs.KeptCall.{IsKept, HasGone, live_value}
+use Rattle.gateway_model.specs.Past.{Asked}
 use Rattle.gateway_core.proofs.GroupLemmas.{begun_kept, is_begun}
 use Rattle.gateway_core.proofs.machine.begin.begin.Goals as goal
 

@@ -1,6 +1,6 @@
 use Rattle.std.proofs.Common.{ap, refl}
 use Rattle.std.specs.Arc.{arc_value}
-use Rattle.gateway_core.specs.Job.{task_of}
+use Rattle.gateway_model.specs.Job.{task_of}
 use Rattle.gateway_core.proofs.GroupLemmas.{gone_more, ok_is}
 use Rattle.gateway_core.proofs.machine.begin.give.Goals as goal
 

@@ -1,5 +1,5 @@
 use Rattle.std.specs.Arc.{arc_value}
-use Rattle.gateway_core.specs.Kept.{HasGone}
+use Rattle.gateway_core.specs.KeptCall.{HasGone}
 use Rattle.gateway_core.proofs.machine.begin.give.Given as goal
 
 abbrev pub invariant-loop-index : goal.invariant-loop-index

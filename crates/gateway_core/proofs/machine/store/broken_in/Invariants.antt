@@ -1,5 +1,5 @@
 use Rattle.std.proofs.Common.{◌≡◌, ◌≤◌, take}
-use Rattle.gateway_core.specs.Store.{broken_count}
+use Rattle.gateway_model.specs.Store.{broken_count}
 use Rattle.gateway_core.proofs.machine.store.broken_in.Given as goal
 
 abbrev pub invariant-loop-index : goal.invariant-loop-index

@@ -1,22 +1,23 @@
 use Rattle.std.proofs.Common.{ap, ◌∙◌, subst}
 use Rattle.std.specs.Prelude.{nat_lt}
-use Rattle.gateway_core.specs.Gateway.{GatewayValue}
-use Rattle.gateway_core.specs.Serving.{gateway_value, Breaks}
-use Rattle.gateway_core.specs.Store.{broken_count}
-use Rattle.gateway_core.proofs.BreakLemmas.{ends_breaks}
-use Rattle.gateway_core.proofs.OrderSteps.{ends_order}
-use Rattle.gateway_core.proofs.ServingLemmas.{keeps_ended, machine_kept}
+use Rattle.gateway_model.specs.Gateway.{GatewayValue}
+use Rattle.gateway_model.specs.Heads.{conn_heads}
+use Rattle.gateway_model.specs.Serving.{gateway_value, Breaks}
+use Rattle.gateway_model.specs.Store.{broken_count}
+use Rattle.gateway_model.specs.lemmas.HeardLemmas.{ended_heads, ended_serving, told_breaks}
 use Rattle.gateway_core.proofs.streams.Streams.end_calls.Goals as goal
 
 pub invariant_of-self : goal.invariant_of-self
 invariant_of-self g c =
-    let v : GatewayValue = gateway_value c.self.inside.plans c.self.inside.machine c.self.inside.streams.items c.self.inside.opened c.self.inside.begun c.self.inside.tally in
-    machine_kept v c.end_calls.new.self (keeps_ended c.args.cause.now v.machine c.end_calls.new.self c.end_calls.ensures) c.self.invariant
+    let v : GatewayValue = gateway_value c.self.inside.plans c.self.inside.machine c.self.inside.streams.items c.self.inside.opened c.self.inside.begun c.self.inside.tally in (
+      ended_serving c.args.cause.now v c.end_calls.new.self c.requires c.self.invariant.0 c.end_calls.ensures.ended,
+      c.end_calls.ensures.heads ∙ ended_heads c.args.cause.now (conn_heads v.machine.conns) c.requires ∙ c.self.invariant.1,
+    )
 
 pub returns-clause-broke : goal.returns-clause-broke
 returns-clause-broke g c =
     let v : GatewayValue = gateway_value c.self.inside.plans c.self.inside.machine c.self.inside.streams.items c.self.inside.opened c.self.inside.begun c.self.inside.tally in
     subst (λ (x : GatewayValue). Breaks x (gateway_value v.plans c.end_calls.new.self v.streams v.opened v.begun v.tally) (nat_lt c.broken-before.result c.broken.result)) c.self.view_is
-    (ends_breaks c.args.cause.now v (gateway_value v.plans c.end_calls.new.self v.streams v.opened v.begun v.tally) (nat_lt c.broken-before.result c.broken.result) c.self.invariant.orderly.conns_apart
-    (ends_order c.args.cause.now v.machine c.end_calls.new.self c.end_calls.ensures c.self.invariant.orderly).conns_apart c.end_calls.ensures
+    (told_breaks c.args.cause.now v (gateway_value v.plans c.end_calls.new.self v.streams v.opened v.begun v.tally) (nat_lt c.broken-before.result c.broken.result) c.requires c.self.invariant.0
+    c.end_calls.ensures.ended
     (ap (λ n. nat_lt n c.broken.result) c.broken-before.ensures ∙ ap (λ n. nat_lt (broken_count v.machine.conns) n) c.broken.ensures))

@@ -2,14 +2,16 @@ use Rattle.std.proofs.lemmas.Result.{err_from_is_err_and}
 use Rattle.std.proofs.Common.{◌≡◌, Ok, Err, true, false, inl, refl, sym, ap, ◌∙◌, ℕ, subst, slice_index_or}
 use Rattle.std.specs.Prelude.{if◌then◌else◌}
 use Rattle.http_pieces.specs.Reader.{is_over}
-use Rattle.gateway_core.specs.declared.fault.StepFault.TheVariants.{Memory}
-use Rattle.gateway_core.specs.Ends.{is_stopped_in}
-use Rattle.gateway_core.specs.Gateway.{GatewayValue, StreamValue, stream_at}
-use Rattle.gateway_core.specs.Serving.{came, dropped, unread, IsServing}
-use Rattle.gateway_core.specs.Store.{broken_at, conn_at}
-use Rattle.gateway_core.proofs.BringLemmas.{fed}
-use Rattle.gateway_core.proofs.Bringing.{counts_read}
-use Rattle.gateway_core.proofs.ServingLemmas.{read_at, stream_is_at}
+use Rattle.gateway_model.specs.declared.fault.StepFault.TheVariants.{Memory}
+use Rattle.gateway_model.specs.Ends.{is_stopped_in}
+use Rattle.gateway_model.specs.Gateway.{GatewayValue, StreamValue, stream_at}
+use Rattle.gateway_model.specs.Serving.{came, dropped, unread, IsServing}
+use Rattle.gateway_model.specs.Store.{broken_at, conn_at}
+use Rattle.gateway_model.specs.lemmas.BringLemmas.{fed}
+use Rattle.gateway_model.specs.lemmas.Bringing.{counts_read}
+use Rattle.gateway_model.specs.lemmas.ServingLemmas.{read_at, stream_is_at}
+use Rattle.gateway_model.specs.Heads.{IsHeard}
+use Rattle.gateway_model.specs.lemmas.HeadLemmas.{heard_at}
 use Rattle.gateway_core.proofs.streams.Streams.feed.Goals as goal
 
 pub returns-then-is_over : goal.returns-then-is_over
@@ -40,7 +42,7 @@ returns g c =
     came i c.in-Ok.taken c.in-Some.ensures (ap (λ (x : StreamValue). is_over x.reader.reading) (sym x_is) ∙ sym c.is_over.ensures ∙ c.if-is_over.false)
     (fed i c.in-Ok.taken c.in-Ok.request c.args.bytes.now s c.read.new.self c.bring.new.self c.bring.result c.in-Some.ensures.stream_there c.in-Ok.ensures.ok c.bring.ensures)
     c.in-Ok.ensures.ok.reads.reads.within
-    (λ some. c.in-Ok.ensures.ok.reads.reads.moves some (read_at i s c.in-Some.ensures.stream_there (subst IsServing c.self.view_is c.self.invariant)))
+    (λ some. c.in-Ok.ensures.ok.reads.reads.moves some (read_at i s c.in-Some.ensures.stream_there (subst IsServing c.self.view_is c.self.invariant.0)))
     Memory (inl refl)
     (counts_read i c.in-Ok.taken c.in-Ok.request c.args.bytes.now s c.read.new.self c.bring.new.self c.in-Ok.ensures.ok c.bring.ensures.counts)
     (sym (ap (λ b. if b then Err Memory else Ok c.in-Ok.taken) on))
@@ -57,7 +59,13 @@ returns-in_err-bring g c =
     came i c.in-Ok.taken c.in-Some.ensures (ap (λ (x : StreamValue). is_over x.reader.reading) (sym x_is) ∙ sym c.is_over.ensures ∙ c.if-is_over.false)
     (fed i c.in-Ok.taken c.in-Ok.request c.args.bytes.now s c.read.new.self c.bring.new.self c.bring.result c.in-Some.ensures.stream_there c.in-Ok.ensures.ok c.bring.ensures)
     c.in-Ok.ensures.ok.reads.reads.within
-    (λ some. c.in-Ok.ensures.ok.reads.reads.moves some (read_at i s c.in-Some.ensures.stream_there (subst IsServing c.self.view_is c.self.invariant)))
+    (λ some. c.in-Ok.ensures.ok.reads.reads.moves some (read_at i s c.in-Some.ensures.stream_there (subst IsServing c.self.view_is c.self.invariant.0)))
     c.in_err-bring.field-0.0 c.in_err-bring.ensures.fault
     (counts_read i c.in-Ok.taken c.in-Ok.request c.args.bytes.now s c.read.new.self c.bring.new.self c.in-Ok.ensures.ok c.bring.ensures.counts)
     (given.1 ∙ ap Err given.2 ∙ sym (ap (λ b. if b then Err c.in_err-bring.field-0.0 else Ok c.in-Ok.taken) on))
+
+pub bring-requires-clause-heard : goal.bring-requires-clause-heard
+bring-requires-clause-heard g c =
+    let heard : (conn_at c.in-Some.index c.args.self.now.machine.conns).hung_up ≡ (stream_at c.in-Some.index c.args.self.now.streams).hung_up =
+    heard_at c.in-Some.index c.args.self.now.machine.conns c.args.self.now.streams (subst IsHeard c.self.view_is c.self.invariant.1) c.in-Some.ensures.conn_there in
+    ap (λ (v : GatewayValue). (conn_at c.in-Some.index v.machine.conns).hung_up) c.in-Ok.ensures.ok.rest ∙ heard ∙ c.in-Some.ensures.on

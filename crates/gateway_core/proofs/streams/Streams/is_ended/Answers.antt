@@ -1,17 +1,17 @@
 use Rattle.std.proofs.Common.{◌≡◌, ℕ, true, false, sym, ap, ◌∙◌, subst}
 use Rattle.std.specs.Prelude.{◌&&◌, ◌||◌, slice_index_or}
 use Rattle.std.specs.Option.{option_map_or}
-use Rattle.gateway_core.specs.Conn.{ConnValue}
-use Rattle.gateway_core.specs.Gateway.{GatewayValue, StreamValue, are_all_there, has_ended, is_broken_conn, is_done, stream_at, stream_of}
-use Rattle.gateway_core.specs.Serving.{IsServing}
-use Rattle.gateway_core.specs.Store.{conn_at}
-use Rattle.gateway_core.proofs.ServingLemmas.{ended_is, none_placed, stopped_is, stream_is_at}
+use Rattle.gateway_model.specs.Conn.{ConnValue}
+use Rattle.gateway_model.specs.Gateway.{GatewayValue, StreamValue, are_all_there, has_ended, is_broken_conn, is_done, stream_at, stream_of}
+use Rattle.gateway_model.specs.Serving.{IsServing}
+use Rattle.gateway_model.specs.Store.{conn_at}
+use Rattle.gateway_model.specs.lemmas.ServingLemmas.{ended_is, none_placed, stopped_is, stream_is_at}
 use Rattle.gateway_core.proofs.streams.Streams.is_ended.Goals as goal
 
 pub returns-in-None : goal.returns-in-None
 returns-in-None g c =
     let v : GatewayValue = c.args.self.now in
-    let serving : IsServing v = subst IsServing c.self.view_is c.self.invariant in
+    let serving : IsServing v = subst IsServing c.self.view_is c.self.invariant.0 in
     sym (ap (λ o. option_map_or (λ (k : ConnValue). option_map_or (λ (s : StreamValue). has_ended k s) (stream_of c.args.number v.streams) true) o true)
     (none_placed c.args.number v serving c.in-None.ensures))
 
@@ -19,7 +19,7 @@ pub returns-then-is_done : goal.returns-then-is_done
 returns-then-is_done g c =
     let v : GatewayValue = c.args.self.now in
     let i : ℕ = c.in-Some.index in
-    let serving : IsServing v = subst IsServing c.self.view_is c.self.invariant in
+    let serving : IsServing v = subst IsServing c.self.view_is c.self.invariant.0 in
     let on : (conn_at i v.machine.conns).broken ≡ false =
     sym (stopped_is c.args.number i v serving c.in-Some.ensures) ∙ ap (λ (x : GatewayValue). is_broken_conn c.args.number x) (sym c.self.view_is) ∙ sym c.is_stopped.ensures ∙ c.if-is_stopped.false in
     let x_is : c.index.result.now ≡ stream_at i v.streams = stream_is_at i c.index.result.now v.streams c.in-Some.ensures.0
@@ -33,7 +33,7 @@ pub returns-else-is_done : goal.returns-else-is_done
 returns-else-is_done g c =
     let v : GatewayValue = c.args.self.now in
     let i : ℕ = c.in-Some.index in
-    let serving : IsServing v = subst IsServing c.self.view_is c.self.invariant in
+    let serving : IsServing v = subst IsServing c.self.view_is c.self.invariant.0 in
     let on : (conn_at i v.machine.conns).broken ≡ false =
     sym (stopped_is c.args.number i v serving c.in-Some.ensures) ∙ ap (λ (x : GatewayValue). is_broken_conn c.args.number x) (sym c.self.view_is) ∙ sym c.is_stopped.ensures ∙ c.if-is_stopped.false in
     let x_is : c.index.result.now ≡ stream_at i v.streams = stream_is_at i c.index.result.now v.streams c.in-Some.ensures.0

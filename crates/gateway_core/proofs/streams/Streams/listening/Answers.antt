@@ -1,8 +1,8 @@
 use Rattle.std.proofs.Common.{◌≡◌, sym, ap, ◌∙◌, inl, inr, subst, slice_index_or}
-use Rattle.gateway_core.specs.Ends.{is_stopped_in}
-use Rattle.gateway_core.specs.Gateway.{GatewayValue, StreamValue, stream_at}
-use Rattle.gateway_core.specs.Serving.{IsServing}
-use Rattle.gateway_core.proofs.ServingLemmas.{deaf_none, deaf_off, listens_on, stream_is_at}
+use Rattle.gateway_model.specs.Ends.{is_stopped_in}
+use Rattle.gateway_model.specs.Gateway.{GatewayValue, StreamValue, stream_at}
+use Rattle.gateway_model.specs.Serving.{IsServing}
+use Rattle.gateway_model.specs.lemmas.ServingLemmas.{deaf_none, deaf_off, listens_on, stream_is_at}
 use Rattle.gateway_core.proofs.streams.Streams.listening.Goals as goal
 
 pub returns-in_default : goal.returns-in_default
@@ -13,12 +13,12 @@ returns-then-has_hung_up g c =
     let s : GatewayValue = c.args.self.now in
     let x_is : c.index.result.now ≡ stream_at c.in-Some.index s.streams = stream_is_at c.in-Some.index c.index.result.now s.streams c.in-Some.ensures.0
     (subst (λ (v : GatewayValue). c.index.result.now ≡ slice_index_or v.streams c.in-Some.index c.index.result.now) c.self.view_is c.index.ensures) in
-    deaf_off c.args.number c.in-Some.index s (subst IsServing c.self.view_is c.self.invariant) c.in-Some.ensures
+    deaf_off c.args.number c.in-Some.index s (subst IsServing c.self.view_is c.self.invariant.0) c.in-Some.ensures
     (inl (ap (λ (x : StreamValue). x.hung_up) (sym x_is) ∙ sym c.has_hung_up.ensures ∙ c.if-has_hung_up.true))
 
 pub returns-then-is_stopped : goal.returns-then-is_stopped
 returns-then-is_stopped g c =
-    deaf_off c.args.number c.in-Some.index c.args.self.now (subst IsServing c.self.view_is c.self.invariant) c.in-Some.ensures
+    deaf_off c.args.number c.in-Some.index c.args.self.now (subst IsServing c.self.view_is c.self.invariant.0) c.in-Some.ensures
     (inr (ap (λ (v : GatewayValue). is_stopped_in c.args.number v.machine.conns) (sym c.self.view_is) ∙ sym c.is_stopped.ensures ∙ c.if-is_stopped.true))
 
 pub returns : goal.returns
@@ -26,6 +26,6 @@ returns g c =
     let s : GatewayValue = c.args.self.now in
     let x_is : c.index.result.now ≡ stream_at c.in-Some.index s.streams = stream_is_at c.in-Some.index c.index.result.now s.streams c.in-Some.ensures.0
     (subst (λ (v : GatewayValue). c.index.result.now ≡ slice_index_or v.streams c.in-Some.index c.index.result.now) c.self.view_is c.index.ensures) in
-    listens_on c.args.number c.in-Some.index s (subst IsServing c.self.view_is c.self.invariant) c.in-Some.ensures
+    listens_on c.args.number c.in-Some.index s (subst IsServing c.self.view_is c.self.invariant.0) c.in-Some.ensures
     (ap (λ (x : StreamValue). x.hung_up) (sym x_is) ∙ sym c.has_hung_up.ensures ∙ c.if-has_hung_up.false)
     (ap (λ (v : GatewayValue). is_stopped_in c.args.number v.machine.conns) (sym c.self.view_is) ∙ sym c.is_stopped.ensures ∙ c.if-is_stopped.false)

@@ -1,20 +1,25 @@
 use Rattle.std.proofs.Common.{◌≡◌, ◌<◌, sym, ap, ◌∙◌, length, subst}
 use Rattle.std.specs.Prelude.{IfOk, OnErr, slice_set}
-use Rattle.gateway_core.specs.Gateway.{GatewayValue, StreamValue, stream_at}
-use Rattle.gateway_core.specs.Serving.{gateway_value, ReadsAt, ReadsOn}
-use Rattle.gateway_core.proofs.BringLemmas.{read_number, read_settled, reads_at, unread_at}
-use Rattle.gateway_core.proofs.ServingLemmas.{read_at, stream_is_at, stream_kept, IsRead}
+use Rattle.gateway_model.specs.Gateway.{GatewayValue, StreamValue, stream_at}
+use Rattle.gateway_model.specs.Serving.{gateway_value, ReadsAt, ReadsOn}
+use Rattle.gateway_model.specs.lemmas.BringLemmas.{read_number, read_settled, reads_at, unread_at, read_hung}
+use Rattle.gateway_model.specs.lemmas.ServingLemmas.{read_at, stream_is_at, stream_kept, IsRead}
+use Rattle.gateway_model.specs.lemmas.HeadLemmas.{stream_heads_set}
 use Rattle.gateway_core.proofs.streams.Streams.read.Goals as goal
 
 pub invariant_of-self : goal.invariant_of-self
 invariant_of-self g c =
     let v : GatewayValue = gateway_value c.self.inside.plans c.self.inside.machine c.self.inside.streams.items c.self.inside.opened c.self.inside.begun c.self.inside.tally in
     let lt : c.args.index < length v.streams = subst (λ (x : GatewayValue). c.args.index < length x.streams) (sym c.self.view_is) c.requires in
-    let x_is : c.index_mut.result.now ≡ stream_at c.args.index v.streams = stream_is_at c.args.index c.index_mut.result.now v.streams lt c.index_mut.ensures.value in
-    stream_kept c.args.index c.read.new.self v lt
-    (read_number c.read.result c.args.bytes.now c.index_mut.result.now c.read.new.self c.read.ensures.ok c.read.ensures.err ∙ ap (λ (s : StreamValue). s.number) x_is)
-    (read_settled c.read.result c.args.bytes.now c.index_mut.result.now c.read.new.self c.read.ensures.ok c.read.ensures.err (subst IsRead (sym x_is) (read_at c.args.index v lt c.self.invariant)))
-    c.self.invariant
+    let x_is : c.index_mut.result.now ≡ stream_at c.args.index v.streams = stream_is_at c.args.index c.index_mut.result.now v.streams lt c.index_mut.ensures.value in (
+      stream_kept c.args.index c.read.new.self v lt
+          (read_number c.read.result c.args.bytes.now c.index_mut.result.now c.read.new.self c.read.ensures.ok c.read.ensures.err ∙ ap (λ (s : StreamValue). s.number) x_is)
+          (read_settled c.read.result c.args.bytes.now c.index_mut.result.now c.read.new.self c.read.ensures.ok c.read.ensures.err (subst IsRead (sym x_is) (read_at c.args.index v lt c.self.invariant.0)))
+          c.self.invariant.0,
+      c.self.invariant.1 ∙ sym (stream_heads_set c.args.index c.read.new.self v.streams lt
+          (read_number c.read.result c.args.bytes.now c.index_mut.result.now c.read.new.self c.read.ensures.ok c.read.ensures.err ∙ ap (λ (s : StreamValue). s.number) x_is)
+          (read_hung c.read.result c.args.bytes.now c.index_mut.result.now c.read.new.self c.read.ensures.ok c.read.ensures.err ∙ ap (λ (s : StreamValue). s.hung_up) x_is)),
+    )
 
 pub returns-clause-ok : goal.returns-clause-ok
 returns-clause-ok g c =

@@ -1,10 +1,14 @@
-use Rattle.gateway_core.specs.Gateway.{GatewayValue}
-use Rattle.gateway_core.specs.Serving.{gateway_value}
-use Rattle.gateway_core.proofs.ServingLemmas.{keeps_starved, machine_kept}
+use Rattle.gateway_model.specs.Gateway.{GatewayValue}
+use Rattle.gateway_model.specs.Serving.{gateway_value}
+use Rattle.gateway_model.specs.lemmas.ServingLemmas.{keeps_starved, machine_kept}
+use Rattle.std.proofs.Common.{◌∙◌}
+use Rattle.gateway_model.specs.lemmas.HeadLemmas.{heads_starved}
 use Rattle.gateway_core.proofs.streams.Streams.starve.Goals as goal
 
 pub invariant_of-self : goal.invariant_of-self
 invariant_of-self g c =
     let v : GatewayValue = gateway_value c.self.inside.plans c.self.inside.machine c.self.inside.streams.items c.self.inside.opened c.self.inside.begun c.self.inside.tally in
-    let e = c.starve-took.ensures.taken in
-    machine_kept v c.starve-took.new.self (keeps_starved c.args.id.now c.args.branch v.machine e.0 c.starve-took.new.self c.starve-took.result e.1 e.2) c.self.invariant
+    let e = c.starve-took.ensures.taken in (
+      machine_kept v c.starve-took.new.self (keeps_starved c.args.id.now c.args.branch v.machine e.0 c.starve-took.new.self c.starve-took.result e.1 e.2) c.self.invariant.0,
+      heads_starved c.args.id.now c.args.branch v.machine e.0 c.starve-took.new.self c.starve-took.result e.1 e.2 ∙ c.self.invariant.1,
+    )

@@ -1,18 +1,18 @@
 use Rattle.std.proofs.Common.{ℕ, List, [], Option, length, sym, ap, ◌∙◌, subst}
 use Rattle.std.specs.Option.{option_map_or}
-use Rattle.gateway_core.specs.declared.entry.ReplyEntry.{ReplyEntry}
-use Rattle.gateway_core.specs.Conn.{ConnValue}
-use Rattle.gateway_core.specs.Gateway.{GatewayValue}
-use Rattle.gateway_core.specs.Queue.{front}
-use Rattle.gateway_core.specs.Serving.{IsServing}
-use Rattle.gateway_core.specs.Store.{conn_at}
-use Rattle.gateway_core.proofs.ServingLemmas.{none_placed, untaken_is}
+use Rattle.gateway_model.specs.declared.entry.ReplyEntry.{ReplyEntry}
+use Rattle.gateway_model.specs.Conn.{ConnValue}
+use Rattle.gateway_model.specs.Gateway.{GatewayValue}
+use Rattle.gateway_model.specs.Queue.{front}
+use Rattle.gateway_model.specs.Serving.{IsServing}
+use Rattle.gateway_model.specs.Store.{conn_at}
+use Rattle.gateway_model.specs.lemmas.ServingLemmas.{none_placed, untaken_is}
 use Rattle.gateway_core.proofs.streams.Streams.untaken.Goals as goal
 
 pub returns-in-Some : goal.returns-in-Some
 returns-in-Some g c =
     let v : GatewayValue = c.args.self.now in
-    let serving : IsServing v = subst IsServing c.self.view_is c.self.invariant in
+    let serving : IsServing v = subst IsServing c.self.view_is c.self.invariant.0 in
     c.untaken.ensures ∙ ap (λ (w : GatewayValue). length (front (slots_at c.in-Some.index w))) c.self.view_is
     ∙ ap (λ (rs : List ReplyEntry). length rs) (sym (untaken_is c.args.number c.in-Some.index v serving c.in-Some.ensures))
   where
@@ -22,5 +22,5 @@ returns-in-Some g c =
 pub returns-in-None : goal.returns-in-None
 returns-in-None g c =
     let v : GatewayValue = c.args.self.now in
-    let serving : IsServing v = subst IsServing c.self.view_is c.self.invariant in
+    let serving : IsServing v = subst IsServing c.self.view_is c.self.invariant.0 in
     sym (ap (λ o. length (option_map_or (λ (k : ConnValue). front k.slots) o [])) (none_placed c.args.number v serving c.in-None.ensures))

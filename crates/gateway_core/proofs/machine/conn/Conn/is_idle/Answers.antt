@@ -1,10 +1,10 @@
 use Rattle.std.proofs.Common.{◌≡◌, List, Option, length, sym, ap, ◌∙◌, arith}
 use Rattle.std.specs.Prelude.{◌==◌}
 use Rattle.std.proofs.lemmas.List.{length-map}
-use Rattle.gateway_core.specs.declared.entry.ReplyEntry.{ReplyEntry}
-use Rattle.gateway_core.specs.Conn.{ConnValue, entry_in}
-use Rattle.gateway_core.specs.Queue.{front}
-use Rattle.gateway_core.proofs.SlotLemmas.{front_all}
+use Rattle.gateway_model.specs.declared.entry.ReplyEntry.{ReplyEntry}
+use Rattle.gateway_model.specs.Conn.{ConnValue, entry_in}
+use Rattle.gateway_model.specs.Queue.{front}
+use Rattle.gateway_model.specs.lemmas.SlotLemmas.{front_all}
 use Rattle.gateway_core.proofs.machine.conn.Conn.is_idle.Goals as goal
 
 pub returns : goal.returns

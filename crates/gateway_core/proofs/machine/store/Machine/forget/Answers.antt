@@ -1,16 +1,16 @@
 use Rattle.std.proofs.Common.{◌≡◌, sym, ap, ◌∙◌, arith, inr, map, subst}
 use Rattle.std.specs.Prelude.{filter, not}
-use Rattle.gateway_core.specs.Kept.{KeptValue}
-use Rattle.gateway_core.specs.Past.{is_call}
+use Rattle.gateway_model.specs.Kept.{KeptValue}
+use Rattle.gateway_model.specs.Past.{is_call}
 use Rattle.gateway_core.specs.Contexts.{contexts_value}
-use Rattle.gateway_core.specs.Job.{HandedJob}
-use Rattle.gateway_core.specs.Linked.{linked_calls, linked_conns}
+use Rattle.gateway_model.specs.Job.{HandedJob}
+use Rattle.gateway_core.specs.Linked.{linked_calls, linked_conns, none_over}
 use Rattle.gateway_core.proofs.LinkedLemmas.{forgot_linked, spent_dead}
-use Rattle.gateway_core.specs.Results.{NoneSpent, is_spent, without_call}
-use Rattle.gateway_core.specs.Store.{MachineValue, machine_value, kept_at, waiting}
-use Rattle.gateway_core.proofs.Forgetting.{none_left}
-use Rattle.gateway_core.proofs.StoreLemmas.{call_found, item_is}
-use Rattle.gateway_core.proofs.StoreMore.{waiting_filtered}
+use Rattle.gateway_model.specs.Results.{NoneSpent, is_spent, without_call}
+use Rattle.gateway_model.specs.Store.{MachineValue, machine_value, kept_at, waiting}
+use Rattle.gateway_model.specs.lemmas.Forgetting.{none_left}
+use Rattle.gateway_model.specs.lemmas.StoreLemmas.{call_found, item_is}
+use Rattle.gateway_model.specs.lemmas.StoreMore.{waiting_filtered}
 use Rattle.gateway_core.proofs.machine.store.Machine.forget.Goals as goal
 
 pub invariant_of-self : goal.invariant_of-self
@@ -32,9 +32,9 @@ returns-then-is_spent c =
         ap (λ ks. machine_value c.self.inside.moment c.self.inside.drained c.self.inside.conns.items ks (map (λ (j : HandedJob). j.job) c.self.inside.jobs.items)) c.forget_in.ensures
             ∙ ap (without_call c.args.id.now) c.self.view_is,
       );
-      linked = ap (λ ks. contexts_value (linked_conns c.self.inside.conns.items) (linked_calls ks)) c.forget_in.ensures
-          ∙ ap (λ (m : MachineValue). contexts_value (linked_conns m.conns) (linked_calls (filter (λ (k : KeptValue). not (is_call k.id c.args.id.now)) m.calls))) c.self.view_is
-          ∙ ap (contexts_value (linked_conns s.conns)) (forgot_linked c.args.id.now s.calls c.in-Some.index c.in-Some.ensures c.requires
+      linked = ap (λ ks. contexts_value c.self.inside.drained (linked_conns c.self.inside.drained c.self.inside.conns.items) (linked_calls none_over ks)) c.forget_in.ensures
+          ∙ ap (λ (m : MachineValue). contexts_value m.drained (linked_conns m.drained m.conns) (linked_calls none_over (filter (λ (k : KeptValue). not (is_call k.id c.args.id.now)) m.calls))) c.self.view_is
+          ∙ ap (contexts_value s.drained (linked_conns s.drained s.conns)) (forgot_linked none_over c.args.id.now s.calls c.in-Some.index c.in-Some.ensures c.requires
           (spent_dead (kept_at c.in-Some.index s.calls) (ap (λ (k : KeptValue). is_spent k.call) (sym was) ∙ sym c.is_spent.ensures ∙ c.if-is_spent.true)));
       none_spent = subst (NoneSpent c.args.id.now) (sym c.forget_in.ensures) (none_left c.args.id.now c.self.inside.calls.items);
     }

@@ -1,6 +1,6 @@
 use Rattle.std.proofs.Common.{◌≡◌, ◌<◌, sym, ap, ◌∙◌, arith, length, subst, slice_index_or}
-use Rattle.gateway_core.specs.Store.{MachineValue}
-use Rattle.gateway_core.proofs.StoreLemmas.{stopped_here}
+use Rattle.gateway_model.specs.Store.{MachineValue}
+use Rattle.gateway_model.specs.lemmas.StoreLemmas.{stopped_here}
 use Rattle.gateway_core.proofs.machine.store.Machine.is_stopped.Goals as goal
 
 pub returns-then-is_of : goal.returns-then-is_of

@@ -1,13 +1,13 @@
 use Rattle.std.proofs.Common.{◌≡◌, ℕ, ◌<◌, ◌++◌, false, true, refl, sym, ap, ◌∙◌, arith, inl, inr, length, map, subst, slice_set}
 use Rattle.std.specs.Prelude.{if◌then◌else◌, is_some, option_to_list}
-use Rattle.gateway_core.specs.declared.fault.Seen.TheVariants.{Counted, Late, Unknown}
-use Rattle.gateway_core.specs.Kept.{KeptValue}
-use Rattle.gateway_core.specs.Job.{job_at}
-use Rattle.gateway_core.specs.Step.{has_out}
-use Rattle.gateway_core.specs.Store.{MachineValue, machine_value, kept_at}
-use Rattle.gateway_core.proofs.LimitLemmas.{same_call}
+use Rattle.gateway_model.specs.declared.fault.Seen.TheVariants.{Counted, Late, Unknown}
+use Rattle.gateway_model.specs.Kept.{KeptValue}
+use Rattle.gateway_model.specs.Job.{job_at}
+use Rattle.gateway_model.specs.Step.{has_out}
+use Rattle.gateway_model.specs.Store.{MachineValue, machine_value, kept_at}
+use Rattle.gateway_model.specs.lemmas.LimitLemmas.{same_call}
 use Rattle.gateway_core.proofs.LinkedLemmas.{stepped_linked}
-use Rattle.gateway_core.proofs.StoreLemmas.{call_missing, item_is}
+use Rattle.gateway_model.specs.lemmas.StoreLemmas.{call_missing, item_is}
 use Rattle.gateway_core.proofs.ResultLemmas.{found_out, its_at, next_waits, waits_then, steps_at}
 use Rattle.gateway_core.proofs.machine.store.Machine.result.Goals as goal
 
@@ -94,5 +94,5 @@ decide-broke-requires g c =
     let at : c.index_mut.result.now ≡ kept_at i s.calls = item_is c.self.inside.calls.items s.calls i c.index_mut.result.now items c.in-Some.ensures.0 c.index_mut.ensures.value in
     stepped_linked s.moment c.args.branch c.args.outcome s _ i (slice_set c.index_mut.result.now.call.out c.args.branch false) c.index_mut.result.now c.take_result-taken.new.self
     c.take_result-taken.result.decided c.take_result-taken.result.next c.args.id.now c.args.contexts.now c.in-Some.ensures.0 at (c.take_result-taken.ensures s.moment)
-    (same_call (kept_at i s.calls).id c.args.id.now c.in-Some.ensures.1) c.apart_law.ensures c.requires (ap (λ (m : MachineValue). m.conns) c.self.view_is)
+    (same_call (kept_at i s.calls).id c.args.id.now c.in-Some.ensures.1) c.apart_law.ensures c.requires (ap (λ (m : MachineValue). m.drained) c.self.view_is) (ap (λ (m : MachineValue). m.conns) c.self.view_is)
     (ap (λ (m : MachineValue). slice_set m.calls i c.take_result-taken.new.self) c.self.view_is)

@@ -1,6 +1,6 @@
 use Rattle.std.proofs.Common.{sym, ◌∙◌}
-use Rattle.gateway_core.proofs.OrderSteps.{starved_order}
-use Rattle.gateway_core.proofs.Keeping.{unknown_starved}
+use Rattle.gateway_model.specs.lemmas.OrderSteps.{starved_order}
+use Rattle.gateway_model.specs.lemmas.Keeping.{unknown_starved}
 use Rattle.gateway_core.proofs.machine.store.Machine.starve.Goals as goal
 
 pub returns : goal.returns

@@ -1,15 +1,21 @@
-use Rattle.std.proofs.Common.{◌≡◌, ap, sym, ◌∙◌, subst, arith}
-use Rattle.gateway_core.specs.Arrival.{arrival_of}
-use Rattle.gateway_core.specs.Conn.{next_of}
-use Rattle.gateway_core.specs.Contexts.{begun}
+use Rattle.std.proofs.Common.{◌≡◌, ◌++◌, ◌∷◌, [], ap, false, sym, ◌∙◌, subst, arith}
+use Rattle.gateway_model.specs.declared.id.CallId.{CallId}
+use Rattle.gateway_model.specs.Past.{Asked}
+use Rattle.gateway_model.specs.Arrival.{arrival_of}
+use Rattle.gateway_model.specs.Conn.{next_of}
+use Rattle.gateway_core.specs.Contexts.{ContextsValue, contexts_value, life_by}
 use Rattle.gateway_core.specs.Linked.{ComesWith, linked}
 use Rattle.gateway_core.proofs.LinkedLemmas.{answered_linked, begun_linked}
-use Rattle.gateway_core.specs.Enters.{ComesTo, arriving_at}
-use Rattle.gateway_core.specs.Machine.{is_full}
-use Rattle.gateway_core.specs.Occurrence.{Request, calls_in}
-use Rattle.gateway_core.specs.Store.{MachineValue, conn_at}
-use Rattle.gateway_core.proofs.Bringing.{asks_one}
+use Rattle.gateway_model.specs.Enters.{arriving_at}
+use Rattle.gateway_core.specs.Comes.{ComesTo}
+use Rattle.gateway_model.specs.Machine.{is_full}
+use Rattle.gateway_model.specs.Occurrence.{Request, calls_in}
+use Rattle.gateway_model.specs.Store.{MachineValue, conn_at}
+use Rattle.gateway_model.specs.lemmas.Bringing.{asks_one}
 use Rattle.gateway_core.proofs.machine.store.Machine.take_in.Goals as goal
+
+abbrev begun_at : CallId → Asked → ContextsValue → ContextsValue
+begun_at id a x = contexts_value x.drained x.conns (x.calls ++ life_by false id a ∷ [])
 
 pub returns-in_ok-begin_counted-in-Begins-clause-bound : goal.returns-in_ok-begin_counted-in-Begins-clause-bound
 returns-in_ok-begin_counted-in-Begins-clause-bound g c =
@@ -32,7 +38,7 @@ returns-in_ok-answer-in-Answered-clause-linked g c =
 pub returns-in_ok-begin_counted-in-Begins-clause-linked : goal.returns-in_ok-begin_counted-in-Begins-clause-linked
 returns-in_ok-begin_counted-in-Begins-clause-linked g c =
     let s : MachineValue = c.args.self.now in
-    let more : c.arriving.new.contexts ≡ begun (next_of (conn_at c.args.index s.conns)) c.in-Begins.asked c.args.contexts.now =
+    let more : c.arriving.new.contexts ≡ begun_at (next_of (conn_at c.args.index s.conns)) c.in-Begins.asked c.args.contexts.now =
     subst (λ a. ComesWith a (next_of (conn_at c.args.index s.conns)) c.args.contexts.now c.arriving.new.contexts) c.in-Begins.is c.in_ok-reply.ensures.contexts in
-    more ∙ ap (begun (next_of (conn_at c.args.index s.conns)) c.in-Begins.asked) c.requires.linked ∙ begun_linked c.args.index c.in-Begins.asked s c.requires.there
+    more ∙ ap (begun_at (next_of (conn_at c.args.index s.conns)) c.in-Begins.asked) c.requires.linked ∙ begun_linked c.args.index c.in-Begins.asked s c.requires.there
     ∙ sym (ap linked c.in_ok-begin_counted-in-Begins.ensures.ok)

@@ -1,6 +1,6 @@
 use Rattle.std.proofs.Common.{sym, ◌∙◌}
-use Rattle.gateway_core.proofs.OrderSteps.{result_order}
-use Rattle.gateway_core.proofs.Keeping.{unknown_result}
+use Rattle.gateway_model.specs.lemmas.OrderSteps.{result_order}
+use Rattle.gateway_model.specs.lemmas.Keeping.{unknown_result}
 use Rattle.gateway_core.proofs.machine.store.Machine.take_result.Goals as goal
 
 pub returns : goal.returns

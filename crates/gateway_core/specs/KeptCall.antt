@@ -1,0 +1,69 @@
+-- A call that is kept, as the code keeps it: its branches as a group.
+use Rattle.std.specs.Prelude.{◌≡◌, ◌⊎◌, ℕ, ◌+◌, ◌-◌, ◌≤◌, min, Bool, false, All, List, [], map, length, slice_index_or, Option, None, Some, option_map, option_to_list}
+use Rattle.std.specs.List.{count_by, range_with_len}
+use Rattle.err_group.specs.GroupState.{GroupState}
+use Rattle.gateway_model.specs.declared.entry.ReplyEntry.{ReplyEntry}
+use Rattle.gateway_model.specs.declared.entry.ReplyEntry.TheVariants.{Call as Calling}
+use Rattle.gateway_model.specs.declared.event.CallEvent.{CallEvent}
+use Rattle.gateway_model.specs.declared.id.CallId.{CallId}
+use Rattle.gateway_model.specs.CallRecord.{CallRecord}
+use Rattle.gateway_model.specs.Begins.{begun_live, first_ones, first_out}
+use Rattle.gateway_model.specs.Job.{JobValue, TaskValue, task_of, job_at}
+use Rattle.gateway_model.specs.LiveStands.{tasks_from}
+use Rattle.gateway_model.specs.Past.{Asked}
+use Rattle.gateway_model.specs.Step.{Live, Step, call_state}
+use Rattle.gateway_model.specs.Kept.{KeptValue}
+
+-- a call that can still be decided: what it asks for, and its own events so far
+pub record LiveValue : Type 0 where
+  pub asked : Asked
+  pub events : List CallEvent
+
+abbrev pub live_value : Asked → List CallEvent → LiveValue
+live_value asked events = record { asked = asked; events = events }
+
+abbrev pub live_of : List TaskValue → LiveValue → Live
+live_of waiting l = record { asked = l.asked; events = l.events; waiting = waiting }
+
+abbrev pub kept_value : CallId → List Bool → List TaskValue → Option LiveValue → Option ReplyEntry → KeptValue
+kept_value id out waiting live reply = record { id = id; call = call_state out (option_map (live_of waiting) live); reply = reply }
+
+-- how many branches have started: those below the limit, and one more for each answer
+abbrev pub started_of : LiveValue → ℕ
+started_of l = min (length l.asked.plan.branches) (l.asked.plan.limit + length l.events)
+
+-- the branches that have not started wait, in declared order, and are not out
+pub record IsGoing (id : CallId) (out : List Bool) (queue : List TaskValue) (l : LiveValue) : Type 0 where
+  pub size_is : length out ≡ length l.asked.plan.branches
+  pub waiting_are : queue ≡ tasks_from (started_of l) id l.asked
+  pub unstarted : (j : ℕ) → started_of l ≤ j → slice_index_or out j false ≡ false
+
+-- nothing waits in a call that can't be decided any more
+abbrev pub MayGo : CallId → List Bool → List TaskValue → Option LiveValue → Type 0
+MayGo id out queue None = queue ≡ []
+MayGo id out queue (Some l) = IsGoing id out queue l
+
+-- as many tasks are active as branches are out
+pub record IsKept (id : CallId) (out : List Bool) (group : GroupState TaskValue (Unit {0})) (live : Option LiveValue) : Type 0 where
+  pub active_is : group.active ≡ count_by (λ b. b) out
+  pub live_is : MayGo id out group.queue live
+
+-- the call made this step at a moment: its record, if it was decided by it, and the branch that starts; both at once never come
+pub record IsStep (moment : ℕ) (old new : KeptValue) (decided : Option CallRecord) (next : Option TaskValue) (step : Step) : Type 0 where
+  pub new_is : new ≡ record { id = old.id; call = step.call; reply = old.reply }
+  pub reply_is : option_map Calling decided ≡ step.reply
+  pub jobs_are : map (job_at moment) (option_to_list next) ≡ step.jobs
+  pub alone : (decided ≡ None) ⊎ (next ≡ None)
+  pub its : All (λ (j : JobValue). j.call ≡ old.id) step.jobs
+
+-- the call as it begins, and the branches that start at once
+pub record IsBegun (id : CallId) (a : Asked) (call : KeptValue) (first : List TaskValue) : Type 0 where
+  pub call_is : call ≡ record { id = id; call = call_state (first_out a) (Some (begun_live id a)); reply = None }
+  pub first_are : first ≡ map (task_of id a) (range_with_len 0 (first_ones a))
+
+-- so many of the call's branches were given to its group: as many as its limit allows have started, and the others wait
+pub record HasGone (id : CallId) (a : Asked) (count : ℕ) (group : GroupState TaskValue (Unit {0})) (first : List TaskValue) : Type 0 where
+  pub active_is : group.active ≡ min count a.plan.limit
+  pub limit_is : group.limit ≡ a.plan.limit
+  pub queue_is : group.queue ≡ map (task_of id a) (range_with_len (min count a.plan.limit) (count - min count a.plan.limit))
+  pub first_are : first ≡ map (task_of id a) (range_with_len 0 (min count a.plan.limit))

@@ -1,0 +1,55 @@
+-- A job: one branch of a call, and what its backend is asked.
+use Rattle.std.specs.Prelude.{ℕ, ◌-◌, Bool, List, Option, option_map}
+use Rattle.call_plan.specs.Plan.{PlanRecord}
+use Rattle.http_pieces.specs.Request.{HttpRequest}
+use Rattle.gateway_model.specs.declared.id.CallId.{CallId}
+use Rattle.gateway_model.specs.Branch.{branch_at}
+use Rattle.gateway_model.specs.Past.{Asked}
+
+pub record JobValue : Type 0 where
+  pub call : CallId
+  pub branch : ℕ
+  pub address : List ℕ
+  pub path : List ℕ
+  pub body : List ℕ
+  pub request_id : Option (List ℕ)
+  -- how long its call has yet, in milliseconds, if it expires
+  pub remaining : Option ℕ
+
+-- the job of a branch has the branch's address and path, and the body and the id of its call's request
+abbrev pub job_with : CallId → ℕ → PlanRecord → HttpRequest → Option (List ℕ) → Option ℕ → JobValue
+job_with call i plan request request_id remaining = record {
+  call = call;
+  branch = i;
+  address = (branch_at plan i).address;
+  path = (branch_at plan i).path;
+  body = request.body;
+  request_id = request_id;
+  remaining = remaining;
+}
+
+-- what is left of the time until the deadline (Go `time.Until`)
+abbrev pub left_at : ℕ → Option ℕ → Option ℕ
+left_at moment deadline = option_map (λ d. d - moment) deadline
+
+-- the job of a branch of the call that starts at this moment
+abbrev pub job_of : CallId → ℕ → Asked → ℕ → JobValue
+job_of call i asked moment = job_with call i asked.plan asked.request asked.request_id (left_at moment asked.deadline)
+
+-- a branch of a call that waits for its start
+pub record TaskValue : Type 0 where
+  pub call : CallId
+  pub branch : ℕ
+  pub asked : Asked
+
+abbrev pub task_of : CallId → Asked → ℕ → TaskValue
+task_of call asked i = record { call = call; branch = i; asked = asked }
+
+-- its job, where it starts at this moment
+abbrev pub job_at : ℕ → TaskValue → JobValue
+job_at moment t = job_of t.call t.branch t.asked moment
+
+-- a job as it is handed out, and whether its answer was still wanted then
+pub record HandedJob : Type 0 where
+  pub job : JobValue
+  pub wanted : Bool

@@ -1,0 +1,259 @@
+-- What has occurred, newest first, and what it means. No state is kept here: each word looks at the whole past.
+use Rattle.std.specs.Prelude.{ℕ, zero, suc, ◌+◌, ◌^◌, min, max, Bool, true, false, ◌&&◌, ◌||◌, not, if◌then◌else◌, ◌==◌, nat_lt, nat_le, is_none, is_some, List, [], ◌∷◌, length, reverse, Option, None, Some, option_map, option_and_then}
+use Rattle.std.specs.Option.{option_or, option_map_or}
+use Rattle.http_pieces.specs.Request.{HttpRequest}
+use Rattle.connect_codec.specs.declared.answer.Outcome.{Outcome}
+use Rattle.connect_codec.specs.declared.answer.Outcome.TheVariants.{Answer, Fail}
+use Rattle.call_plan.specs.Plan.{PlanRecord}
+use Rattle.gateway_model.specs.declared.event.CallEvent.{CallEvent}
+use Rattle.gateway_model.specs.declared.event.CallEvent.TheVariants.{Failed, Expired, HungUp, Drained}
+use Rattle.gateway_model.specs.declared.event.CallEvent.TheVariants as event
+use Rattle.gateway_model.specs.declared.id.CallId.{CallId}
+use Rattle.gateway_model.specs.declared.fault.Seen.{Seen}
+use Rattle.gateway_model.specs.declared.fault.Seen.TheVariants.{Counted, Late, Unknown}
+use Rattle.gateway_model.specs.Arrival.{Judged, Asks}
+use Rattle.gateway_model.specs.Occurrence.{Occurrence, Entry, HangUp, Moment, Result, Drain, Closing, Entering, Request, Refused}
+
+-- one occurrence, whether it is a result that counted, and whether it is a request that asked for one call too many
+pub record Mark : Type 0 where
+  pub what : Occurrence
+  pub counted : Bool
+  pub crowded : Bool
+
+-- what has occurred, newest first
+abbrev pub Past : Type 0
+Past = List Mark
+
+-- ---- moments, drain, closings
+
+-- the moment that is handed in, cut at 2^62
+abbrev pub moment_of : Occurrence → ℕ
+moment_of (Moment m) = min m (2 ^ 62)
+moment_of _ = 0
+
+-- the current moment: the greatest one handed in, or 0 (this project's choice, so that the clock never goes back)
+abbrev pub now : Past → ℕ
+now [] = 0
+now (m ∷ past) = max (now past) (moment_of m.what)
+
+abbrev pub is_drain : Occurrence → Bool
+is_drain Drain = true
+is_drain _ = false
+
+-- the gateway was drained
+abbrev pub is_drained : Past → Bool
+is_drained [] = false
+is_drained (m ∷ past) = is_drain m.what || is_drained past
+
+abbrev pub is_closing_of : ℕ → Occurrence → Bool
+is_closing_of conn (Closing c) = c == conn
+is_closing_of conn _ = false
+
+-- the connection was closed
+abbrev pub is_closed : ℕ → Past → Bool
+is_closed conn [] = false
+is_closed conn (m ∷ past) = is_closing_of conn m.what || is_closed conn past
+
+-- ---- requests, and the calls that they ask for
+
+-- what comes on the connection's stream at this occurrence
+abbrev pub entering_on : ℕ → Occurrence → Option Entering
+entering_on conn (Entry c e) = if c == conn then Some e else None
+entering_on conn _ = None
+
+-- how many requests came on the connection's stream; a refusal counts as one
+abbrev pub entries : ℕ → Past → ℕ
+entries conn [] = 0
+entries conn (m ∷ past) = if is_some (entering_on conn m.what) then suc (entries conn past) else entries conn past
+
+-- what comes as request number `id.request` of its connection, if it comes now
+abbrev pub entering_now : CallId → Mark → Past → Option Entering
+entering_now id m past = if entries id.conn past == id.request then entering_on id.conn m.what else None
+
+-- a call: a request for a plan, which was not crowded out
+pub record Asked : Type 0 where
+  pub plan : PlanRecord
+  pub request : HttpRequest
+  -- the id that its request names, to be passed on (the field `X-Request-Id`)
+  pub request_id : Option (List ℕ)
+  -- the moment of its arrival
+  pub start : ℕ
+  -- the moment at which it expires, if it ever does
+  pub deadline : Option ℕ
+
+-- the smaller of two timeouts, of which either may be absent
+abbrev pub smaller : Option ℕ → Option ℕ → Option ℕ
+smaller None t = t
+smaller (Some s) None = Some s
+smaller (Some s) (Some t) = Some (min s t)
+
+-- the call of the plan that a request begins when it comes at this moment: its deadline is the smaller of the request's timeout and
+-- the plan's after the moment (Connect protocol, `Connect-Timeout-Ms`; Go `context.WithDeadline`)
+abbrev pub asked_of : ℕ → HttpRequest → PlanRecord → Option ℕ → Option (List ℕ) → Asked
+asked_of moment q plan timeout id = record {
+  plan = plan;
+  request = q;
+  request_id = id;
+  start = moment;
+  deadline = option_map (λ t. moment + t) (smaller timeout plan.timeout);
+}
+
+-- the call that comes at this moment, if what comes asks for one
+abbrev pub asked_by : ℕ → Entering → Option Asked
+asked_by moment (Refused r) = None
+asked_by moment (Request q (Judged v)) = None
+asked_by moment (Request q (Asks plan timeout id)) = Some (asked_of moment q plan timeout id)
+
+-- the call that this occurrence begins under that id, if it does
+abbrev pub asked_now : CallId → Mark → Past → Option Asked
+asked_now id m past = if m.crowded then None else option_and_then (asked_by (now past)) (entering_now id m past)
+
+-- the call of that id, if it has arrived
+abbrev pub call : CallId → Past → Option Asked
+call id [] = None
+call id (m ∷ past) = option_or (call id past) (asked_now id m past)
+
+-- the deadline is not above the moment
+abbrev pub is_due : ℕ → Option ℕ → Bool
+is_due moment None = false
+is_due moment (Some deadline) = nat_le deadline moment
+
+-- ---- what happens to a call
+
+-- what decides a call as it arrives: the drain, and else its deadline
+abbrev pub ends_at_arrival : Past → Asked → Option CallEvent
+ends_at_arrival past c = if is_drained past then Some Drained else (if is_due (now past) c.deadline then Some (Expired (now past)) else None)
+
+abbrev pub is_call : CallId → CallId → Bool
+is_call a b = (a.conn == b.conn) && (a.request == b.request)
+
+abbrev pub of_branch : ℕ → Outcome → CallEvent
+of_branch i (Answer body) = event.Answer i body
+of_branch i (Fail error) = Failed i error
+
+-- the event that this is of a call which arrived before and is undecided: a result that counted, the deadline reached, the
+-- hang-up of its connection, or the drain
+abbrev pub event_by : CallId → Asked → Occurrence → Bool → Past → Option CallEvent
+event_by id c (Result of i outcome) counted past = if counted && is_call of id then Some (of_branch i outcome) else None
+event_by id c (Moment m) counted past =
+    let moment = max (now past) (min m (2 ^ 62)) in
+    if is_due moment c.deadline then Some (Expired moment) else None
+event_by id c (HangUp conn) counted past = if conn == id.conn then Some HungUp else None
+event_by id c Drain counted past = Some Drained
+event_by id c _ counted past = None
+
+-- the call's own event at this occurrence: it may arrive ended, and else events come after its arrival; none comes once its
+-- connection is closed
+abbrev pub own_event : CallId → Mark → Past → Option CallEvent
+own_event id m past =
+    if is_closed id.conn past then None
+    else option_map_or (λ c. event_by id c m.what m.counted past) (call id past) (option_and_then (ends_at_arrival past) (asked_now id m past))
+
+abbrev pub is_answer_to : CallId → Occurrence → Bool
+is_answer_to id (Result of i (Answer body)) = is_call of id
+is_answer_to id _ = false
+
+-- how many answers of the call counted
+abbrev pub answers : CallId → Past → ℕ
+answers id [] = 0
+answers id (m ∷ past) = if m.counted && is_answer_to id m.what then suc (answers id past) else answers id past
+
+-- how many branches the call has
+abbrev pub branches : CallId → Past → ℕ
+branches id past = option_map_or (λ c. length c.plan.branches) (call id past) 0
+
+-- each event decides its call, but for an answer that leaves others open (Go `errgroup.Wait`)
+abbrev pub decides : ℕ → ℕ → CallEvent → Bool
+decides answered n (event.Answer i body) = answered + 1 == n
+decides answered n _ = true
+
+-- the event that decides the call at this occurrence, if nothing did before
+abbrev pub deciding : CallId → Mark → Past → Option CallEvent
+deciding id m past = option_and_then (λ e. if decides (answers id past) (branches id past) e then Some e else None) (own_event id m past)
+
+-- the event that decided the call: the first one that did
+abbrev pub decided : CallId → Past → Option CallEvent
+decided id [] = None
+decided id (m ∷ past) = option_or (decided id past) (deciding id m past)
+
+-- ---- branches
+
+-- the call has arrived, and was not decided as it arrived
+abbrev pub began : CallId → Past → Bool
+began id [] = false
+began id (m ∷ past) = began id past || option_map_or (λ c. is_none (ends_at_arrival past c)) (asked_now id m past) false
+
+-- how many branches of the call have started: those below its limit, and one more for each answer that counted (Go
+-- `errgroup.SetLimit`)
+abbrev pub started : CallId → Past → ℕ
+started id past =
+    if began id past then option_map_or (λ c. min (length c.plan.branches) (c.plan.limit + answers id past)) (call id past) 0 else 0
+
+abbrev pub is_result_of : CallId → ℕ → Occurrence → Bool
+is_result_of id i (Result of j outcome) = is_call of id && (j == i)
+is_result_of id i _ = false
+
+-- the branch has started, and no result of it has come since
+abbrev pub is_out : CallId → ℕ → Past → Bool
+is_out id i [] = false
+is_out id i (m ∷ past) =
+    if nat_lt i (started id past)
+    then is_out id i past && not (is_result_of id i m.what)
+    else nat_lt i (started id (m ∷ past))
+
+-- how many of the numbers below n have the property
+abbrev pub count_below : ℕ → (ℕ → Bool) → ℕ
+count_below zero p = 0
+count_below (suc n) p = if p n then suc (count_below n p) else count_below n p
+
+-- how many branches of the call are out
+abbrev pub outs : CallId → Past → ℕ
+outs id past = count_below (branches id past) (λ i. is_out id i past)
+
+-- the call can still be decided
+abbrev pub is_open : CallId → Past → Bool
+is_open id past = is_none (decided id past) && not (is_closed id.conn past)
+
+-- how a result of that branch is seen
+abbrev pub judged : CallId → ℕ → Past → Seen
+judged id i past = if is_out id i past then (if is_open id past then Counted else Late) else Unknown
+
+-- ---- the list of what occurs
+
+-- the occurrence is a result that counts
+abbrev pub counts : Occurrence → Past → Bool
+counts (Result id i outcome) past = is_out id i past && is_open id past
+counts _ past = false
+
+-- the call has arrived and is undecided
+abbrev pub is_undecided : CallId → Past → Bool
+is_undecided id past = is_some (call id past) && is_none (decided id past)
+
+abbrev pub call_id : ℕ → ℕ → CallId
+call_id conn request = record { conn = conn; request = request }
+
+-- how many calls of the connection are undecided
+abbrev pub undecided_calls : ℕ → Past → ℕ
+undecided_calls conn past = count_below (entries conn past) (λ k. is_undecided (call_id conn k) past)
+
+-- a connection may have so many undecided calls (this project's choice)
+abbrev pub most_calls : ℕ
+most_calls = 8
+
+-- the occurrence is a request that asks for one call too many
+abbrev pub crowds : Occurrence → Past → Bool
+crowds (Entry conn (Request q (Asks plan timeout id))) past = nat_le most_calls (undecided_calls conn past)
+crowds _ past = false
+
+-- an occurrence after that past
+abbrev pub mark_of : Past → Occurrence → Mark
+mark_of past o = record { what = o; counted = counts o past; crowded = crowds o past }
+
+-- the past after these occurrences, newest first
+abbrev pub marked : List Occurrence → Past
+marked [] = []
+marked (o ∷ os) = mark_of (marked os) o ∷ marked os
+
+-- the past after these occurrences, in the order in which they came
+abbrev pub past_of : List Occurrence → Past
+past_of os = marked (reverse os)

@@ -1,0 +1,27 @@
+use crate::event::CallEvent;
+use call_plan::Plan;
+use std::marker::Model;
+use std::sync::Arc;
+
+/// What became of a call.
+#[derive(Drop)]
+pub struct CallRecord {
+    pub plan: Arc<Plan>,
+    /// The moment of the call's arrival, in milliseconds.
+    pub start: u64,
+    /// The moment at which the call expires, if it ever does.
+    pub deadline: Option<u64>,
+    /// Whether the reply is the connection's last.
+    pub last: bool,
+    /// The call's own events in their order, by the one that decides it.
+    pub events: Vec<CallEvent>,
+}
+
+impl Model for CallRecord {
+    ghost use Rattle.std.specs.Arc.{arc_value};
+    ghost use Rattle.gateway_model.specs.CallRecord.{CallRecord as Record, record_with};
+
+    ghost Value = { Record };
+
+    ghost view = { λ r. record_with (arc_value r.plan) r.start r.deadline r.last r.events.items };
+}
