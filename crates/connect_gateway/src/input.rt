@@ -1,6 +1,6 @@
-ghost use Rattle.std.specs.Prelude.{◌≡◌, IfErr, IfOk, IfSome, None};
+ghost use Rattle.std.specs.Prelude.{◌≡◌, Err, IfErr, IfOk, IfSome, None};
 ghost use Rattle.connect_gateway.specs.Fault.{IsOfInput, IsOfPlanInput, IsOfReading};
-ghost use Rattle.connect_gateway.specs.Input.{ReadsPlans, ReadsScript, ReadsTooMuch, ReadsWhole};
+ghost use Rattle.connect_gateway.specs.Input.{ReadsNoPlans, ReadsNoScript, ReadsPlans, ReadsScript, ReadsTooMuch, ReadsWhole};
 
 use crate::fault::Fault;
 use call_plan::{PlanError, Plans, read_plans};
@@ -16,11 +16,16 @@ const MAX_INPUT: usize = 16_777_216;
 pub fn read_input<R: Read>(alloc: Global, reader: &mut R) -> Result<(Plans, Vec<Event>), Fault>
     ensures faults { IfErr result IsOfInput }
     ensures read { IfOk result (λ script. ReadsScript (R.remaining reader.old) (R.remaining reader.new) script.0 script.1.items) }
+    ensures script { result ≡ Err Fault.Script → ReadsNoScript (R.remaining reader.old) (R.remaining reader.new) }
 {
     let Some(text) = read_text(alloc, reader)? else {
         return Err(Fault::Script);
     };
-    read_script(alloc, text.as_slice()).map_err(fault_of_script)
+    match read_script(alloc, text.as_slice()) {
+        Ok(script) => Ok(script),
+        Err(ScriptError::Memory) => Err(Fault::Memory),
+        Err(_) => Err(Fault::Script),
+    }
 }
 
 /// Reads a plan file to its end, at most one byte more than it may have. `Io` at a read that failed, `Plans` for a text
@@ -28,28 +33,15 @@ pub fn read_input<R: Read>(alloc: Global, reader: &mut R) -> Result<(Plans, Vec<
 pub fn read_plan_input<R: Read>(alloc: Global, reader: &mut R) -> Result<Plans, Fault>
     ensures faults { IfErr result IsOfPlanInput }
     ensures read { IfOk result (λ plans. ReadsPlans (R.remaining reader.old) (R.remaining reader.new) plans) }
+    ensures plans { result ≡ Err Fault.Plans → ReadsNoPlans (R.remaining reader.old) (R.remaining reader.new) }
 {
     let Some(text) = read_text(alloc, reader)? else {
         return Err(Fault::Plans);
     };
-    read_plans(alloc, text.as_slice()).map_err(fault_of_plans)
-}
-
-fn fault_of_script(error: ScriptError) -> Fault
-    ensures { IsOfInput result }
-{
-    match error {
-        ScriptError::Memory => Fault::Memory,
-        _ => Fault::Script,
-    }
-}
-
-fn fault_of_plans(error: PlanError) -> Fault
-    ensures { IsOfPlanInput result }
-{
-    match error {
-        PlanError::Memory => Fault::Memory,
-        _ => Fault::Plans,
+    match read_plans(alloc, text.as_slice()) {
+        Ok(plans) => Ok(plans),
+        Err(PlanError::Memory) => Err(Fault::Memory),
+        Err(_) => Err(Fault::Plans),
     }
 }
 

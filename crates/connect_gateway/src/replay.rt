@@ -1,8 +1,8 @@
-ghost use Rattle.std.specs.Prelude.{◌≡◌, IfErr, IfOk, length};
+ghost use Rattle.std.specs.Prelude.{◌≡◌, Err, IfErr, IfOk, length};
 ghost use Rattle.std.specs.Io.KnownBytes.{Appends};
 ghost use Rattle.gateway_run.specs.RunText.{run_text};
 ghost use Rattle.connect_gateway.specs.Fault.{IsOfInput, IsOfReading};
-ghost use Rattle.connect_gateway.specs.Input.{Replays};
+ghost use Rattle.connect_gateway.specs.Input.{ReadsNoScript, Replays};
 
 use crate::fault::Fault;
 use crate::input::read_input;
@@ -20,6 +20,7 @@ pub(crate) fn replay<R: Read, W: Write + Drop>(
     writer: W,
 ) -> Result<W, Fault>
     ensures faults { IfErr result IsOfInput }
+    ensures script { result ≡ Err Fault.Script → ReadsNoScript (R.remaining reader.old) (R.remaining reader.new) }
     ensures done { IfOk result (λ now. Replays (R.remaining reader.old) (R.remaining reader.new) (W.contents writer) (W.contents now)) }
 {
     let (plans, events) = read_input(alloc, reader)?;

@@ -1,6 +1,0 @@
-pub mod ContextLemmas
-pub mod LinkedLemmas
-pub mod KeptLemmas
-pub mod GroupLemmas
-pub mod ResultLemmas
-pub mod EnterLemmas

@@ -1,5 +1,0 @@
-pub mod KeptCall
-pub mod Comes
-pub mod Contexts
-pub mod Ties
-pub mod Linked

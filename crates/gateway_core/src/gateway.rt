@@ -16,16 +16,14 @@ ghost use Rattle.gateway_model.specs.Events.{open_connections, most_open, Branch
 ghost use Rattle.gateway_model.specs.Job.{HandedJob, JobValue};
 ghost use Rattle.gateway_model.specs.Served.{Served, ServedUpTo, with_reply};
 
-use crate::hook::ReplyHook;
-use crate::job::Job;
-use crate::reply::Reply;
-use crate::stock::Stock;
 use crate::streams::Streams;
 use call_plan::Plans;
 use connect_codec::Outcome;
+use gateway_machine::Job;
 use gateway_model::request_laws::request_laws;
 use gateway_model::served_laws::opening_law;
 use gateway_model::{CallId, ConnId, OpenError, StepFault, Tally, Took};
+use gateway_replies::{Reply, ReplyHook, Stock};
 use std::alloc::{AllocError, Global};
 use std::marker::Model;
 

@@ -11,15 +11,12 @@ ghost use Rattle.gateway_model.specs.Serving.{Breaks, BringsAt, Closes, Ends, Fe
 ghost use Rattle.gateway_model.specs.Store.{MachineValue, broken_at, conn_at, machine_value};
 ghost use Rattle.gateway_model.specs.Tally.{tally_of};
 
-use crate::hook::ReplyHook;
-use crate::job::Job;
-use crate::linked::LinkedMachine;
-use crate::machine::stream::Stream;
-use crate::reply::Reply;
-use crate::stock::Stock;
+use crate::stream::Stream;
 use call_plan::Plans;
 use connect_codec::Outcome;
+use gateway_machine::{Job, LinkedMachine};
 use gateway_model::{CallId, Cause, ConnId, OpenError, StepFault, Tally, Took};
+use gateway_replies::{Reply, ReplyHook, Stock};
 use http_pieces::{Request, State};
 use std::alloc::{AllocError, Global};
 use std::marker::Model;

@@ -1,7 +1,9 @@
--- Truth values and options, and facts that hang on one.
-use Rattle.std.proofs.Common.{◌≡◌, Bool, true, false, Option, None, Some, refl}
+-- Truth values, options and results, and facts that hang on one.
+use Rattle.std.proofs.Common.{◌≡◌, ℕ, Bool, true, false, List, [], ◌∷◌, Option, None, Some, ap, arith, refl, rules}
+use Rattle.std.specs.List.{list_any}
 use Rattle.std.specs.Option.{option_or}
-use Rattle.std.specs.Prelude.{◌&&◌, ◌||◌, not}
+use Rattle.std.specs.Prelude.{◌==◌, ◌&&◌, ◌||◌, Err, Ok, OnErr, Result, filter, not}
+use Rattle.std.proofs.lemmas.Bool.{or_parts}
 
 pub or_true : (b : Bool) → (b || true) ≡ true
 or_true true = refl
@@ -26,3 +28,15 @@ or_none (Some a) = refl
 pub not_so : (b : Bool) → not b ≡ true → b ≡ false
 not_so true e = absurd (cc)
 not_so false e = refl
+
+pub sym_eqb : (a b : ℕ) → (a == b) ≡ (b == a)
+sym_eqb a b = grind (arith, rules)
+
+pub err_if : {T E P : Type 0} (r : Result T E) → P → OnErr r P
+err_if (Ok x) p = tt
+err_if (Err e) p = p
+
+-- where a test finds none, a filter by it leaves all
+pub all_stay : {A : Type 0} (p : A → Bool) (xs : List A) → list_any p xs ≡ false → filter (λ x. not (p x)) xs ≡ xs
+all_stay p [] is = refl
+all_stay p (x ∷ xs) is = let two = or_parts (p x) (list_any p xs) is in rw two.0 (ap (λ l. x ∷ l) (all_stay p xs two.1))

@@ -237,10 +237,6 @@ fill_view number taken broken hung_up slots k r x le lt x_is none =
     none_in None e = refl
     none_in (Some r) e = absurd (cc)
 
--- what stands for a connection that is not there
-abbrev pub unopened : ConnValue
-unopened = record { number = 0; taken = 0; slots = []; broken = false; hung_up = false }
-
 -- the connection broke as the call at that place ended
 pub broke_at : (s : MachineValue) (i n : ℕ) (x new : KeptValue) → i < length s.calls → x ≡ kept_at i s.calls → new ≡ unanswered x → n ≡ x.id.conn
     → broken_at n (record s { calls = slice_set s.calls i new }) ≡ broken_at (kept_at i s.calls).id.conn s

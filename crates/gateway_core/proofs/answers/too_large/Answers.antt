@@ -1,7 +1,0 @@
-use Rattle.std.proofs.Common.{refl}
-use Rattle.gateway_model.specs.Arrival.{refusal_reply}
-use Rattle.gateway_core.proofs.answers.too_large.Goals as goal
-
-pub returns : goal.returns
-unfolding refusal_reply
-returns c = rw (c.in_ok-bytes.ensures, c.in_ok-error.ensures) refl

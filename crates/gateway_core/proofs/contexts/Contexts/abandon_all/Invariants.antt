@@ -1,5 +1,0 @@
-use Rattle.gateway_core.proofs.ContextLemmas.{Sheds}
-use Rattle.gateway_core.proofs.contexts.Contexts.abandon_all.Given as goal
-
-abbrev pub invariant-loop-index : goal.invariant-loop-index
-invariant-loop-index g l = Sheds l.number l._index l.fn.self l.self

@@ -1,8 +1,0 @@
-use Rattle.std.proofs.Common.{◌≡◌, drop}
-use Rattle.gateway_core.specs.Contexts.{ctx_of}
-use Rattle.gateway_core.specs.Ties.{peer_ties}
-use Rattle.gateway_core.proofs.contexts.ctx_of.Given as goal
-
--- those that were passed are none of it
-abbrev pub invariant-loop-peer : goal.invariant-loop-peer
-invariant-loop-peer g l = ctx_of l.number (peer_ties l.peers) ≡ ctx_of l.number (peer_ties (drop l.peer-index l.peers))

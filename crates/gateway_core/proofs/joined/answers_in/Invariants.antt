@@ -1,6 +1,0 @@
-use Rattle.std.proofs.Common.{◌≡◌}
-use Rattle.gateway_model.specs.CallRecord.{answers_in}
-use Rattle.gateway_core.proofs.joined.answers_in.Given as goal
-
-abbrev pub invariant-loop-branch : goal.invariant-loop-branch
-invariant-loop-branch l = l.answers.items ≡ answers_in l.branch l.events

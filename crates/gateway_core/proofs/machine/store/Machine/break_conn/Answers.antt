@@ -1,7 +1,0 @@
-use Rattle.std.proofs.Common.{ap, arith}
-use Rattle.gateway_model.specs.Store.{waiting}
-use Rattle.gateway_model.specs.lemmas.StoreLemmas.{waiting_less}
-use Rattle.gateway_core.proofs.machine.store.Machine.break_conn.Goals as goal
-
-pub invariant_of-self : goal.invariant_of-self
-invariant_of-self g c = (let room = c.self.invariant.0 in omega (arith, room, waiting_less c.args.number c.self.inside.calls.items, ap waiting c.give_up.ensures), c.self.invariant.1)

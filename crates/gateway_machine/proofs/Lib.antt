@@ -1,0 +1,5 @@
+pub mod LinkedLemmas
+pub mod KeptLemmas
+pub mod GroupLemmas
+pub mod ResultLemmas
+pub mod EnterLemmas

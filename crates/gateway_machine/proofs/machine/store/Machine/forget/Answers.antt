@@ -1,0 +1,40 @@
+use Rattle.std.proofs.Common.{◌≡◌, sym, ap, ◌∙◌, arith, inr, map, subst}
+use Rattle.std.specs.Prelude.{filter, not}
+use Rattle.gateway_model.specs.Kept.{KeptValue}
+use Rattle.gateway_model.specs.Past.{is_call}
+use Rattle.gateway_replies.specs.Contexts.{contexts_value}
+use Rattle.gateway_model.specs.Job.{HandedJob}
+use Rattle.gateway_machine.specs.Linked.{linked_calls, linked_conns, none_over}
+use Rattle.gateway_machine.proofs.LinkedLemmas.{forgot_linked, spent_dead}
+use Rattle.gateway_model.specs.Results.{NoneSpent, is_spent, without_call}
+use Rattle.gateway_model.specs.Store.{MachineValue, machine_value, kept_at, waiting}
+use Rattle.gateway_model.specs.lemmas.Forgetting.{none_left}
+use Rattle.gateway_model.specs.lemmas.StoreLemmas.{call_found, item_is}
+use Rattle.gateway_model.specs.lemmas.StoreMore.{waiting_filtered}
+use Rattle.gateway_machine.proofs.machine.store.Machine.forget.Goals as goal
+
+pub invariant_of-self : goal.invariant_of-self
+invariant_of-self c = (
+  let room = c.self.invariant.0 in
+      omega (arith, room, waiting_filtered (λ k. not (is_call k.id c.args.id.now)) c.self.inside.calls.items, ap waiting c.forget_in.ensures),
+  c.self.invariant.1,
+)
+
+pub returns-then-is_spent : goal.returns-then-is_spent
+returns-then-is_spent c =
+    let s : MachineValue = c.args.self.now in
+    let items : c.self.inside.calls.items ≡ s.calls = ap (λ (m : MachineValue). m.calls) c.self.view_is in
+    let was : c.index.result.now ≡ kept_at c.in-Some.index s.calls =
+    item_is c.self.inside.calls.items s.calls c.in-Some.index c.index.result.now items c.in-Some.ensures.0 c.index.ensures in
+    record {
+      forgets = inr (
+        ap is_spent (call_found c.args.id.now s.calls c.in-Some.index c.in-Some.ensures) ∙ ap (λ (k : KeptValue). is_spent k.call) (sym was) ∙ sym c.is_spent.ensures ∙ c.if-is_spent.true,
+        ap (λ ks. machine_value c.self.inside.moment c.self.inside.drained c.self.inside.conns.items ks (map (λ (j : HandedJob). j.job) c.self.inside.jobs.items)) c.forget_in.ensures
+            ∙ ap (without_call c.args.id.now) c.self.view_is,
+      );
+      linked = ap (λ ks. contexts_value c.self.inside.drained (linked_conns c.self.inside.drained c.self.inside.conns.items) (linked_calls none_over ks)) c.forget_in.ensures
+          ∙ ap (λ (m : MachineValue). contexts_value m.drained (linked_conns m.drained m.conns) (linked_calls none_over (filter (λ (k : KeptValue). not (is_call k.id c.args.id.now)) m.calls))) c.self.view_is
+          ∙ ap (contexts_value s.drained (linked_conns s.drained s.conns)) (forgot_linked none_over c.args.id.now s.calls c.in-Some.index c.in-Some.ensures c.requires
+          (spent_dead (kept_at c.in-Some.index s.calls) (ap (λ (k : KeptValue). is_spent k.call) (sym was) ∙ sym c.is_spent.ensures ∙ c.if-is_spent.true)));
+      none_spent = subst (NoneSpent c.args.id.now) (sym c.forget_in.ensures) (none_left c.args.id.now c.self.inside.calls.items);
+    }

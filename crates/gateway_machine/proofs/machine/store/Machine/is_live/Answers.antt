@@ -1,0 +1,18 @@
+use Rattle.std.proofs.Common.{◌≡◌, sym, ap, ◌∙◌}
+use Rattle.std.specs.Prelude.{is_some}
+use Rattle.gateway_model.specs.Kept.{KeptValue}
+use Rattle.gateway_model.specs.Step.{CallState}
+use Rattle.gateway_model.specs.Store.{MachineValue, kept_at}
+use Rattle.gateway_model.specs.lemmas.StoreLemmas.{call_found, call_missing, item_is}
+use Rattle.gateway_machine.proofs.machine.store.Machine.is_live.Goals as goal
+
+pub returns-in-Some : goal.returns-in-Some
+returns-in-Some c =
+    let s : MachineValue = c.args.self.now in
+    let here : c.index.result.now ≡ kept_at c.in-Some.index s.calls =
+    item_is c.self.inside.calls.items s.calls c.in-Some.index c.index.result.now (ap (λ (m : MachineValue). m.calls) c.self.view_is) c.in-Some.ensures.0 c.index.ensures in
+    c.is_live.ensures ∙ ap (λ (k : KeptValue). is_some k.call.live) here
+    ∙ sym (ap (λ (k : CallState). is_some k.live) (call_found c.args.id.now s.calls c.in-Some.index c.in-Some.ensures))
+
+pub returns-in-None : goal.returns-in-None
+returns-in-None c = sym (ap (λ (k : CallState). is_some k.live) (call_missing c.args.id.now c.args.self.now.calls c.in-None.ensures))

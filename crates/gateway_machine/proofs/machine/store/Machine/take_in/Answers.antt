@@ -1,0 +1,44 @@
+use Rattle.std.proofs.Common.{◌≡◌, ◌++◌, ◌∷◌, [], ap, false, sym, ◌∙◌, subst, arith}
+use Rattle.gateway_model.specs.declared.id.CallId.{CallId}
+use Rattle.gateway_model.specs.Past.{Asked}
+use Rattle.gateway_model.specs.Arrival.{arrival_of}
+use Rattle.gateway_model.specs.Conn.{next_of}
+use Rattle.gateway_replies.specs.Contexts.{ContextsValue, contexts_value, life_by}
+use Rattle.gateway_machine.specs.Linked.{ComesWith, linked}
+use Rattle.gateway_machine.proofs.LinkedLemmas.{answered_linked, begun_linked}
+use Rattle.gateway_model.specs.Enters.{arriving_at}
+use Rattle.gateway_machine.specs.Comes.{ComesTo}
+use Rattle.gateway_model.specs.Machine.{is_full}
+use Rattle.gateway_model.specs.Occurrence.{Request, calls_in}
+use Rattle.gateway_model.specs.Store.{MachineValue, conn_at}
+use Rattle.gateway_model.specs.lemmas.Bringing.{asks_one}
+use Rattle.gateway_machine.proofs.machine.store.Machine.take_in.Goals as goal
+
+abbrev begun_at : CallId → Asked → ContextsValue → ContextsValue
+begun_at id a x = contexts_value x.drained x.conns (x.calls ++ life_by false id a ∷ [])
+
+pub returns-in_ok-begin_counted-in-Begins-clause-bound : goal.returns-in_ok-begin_counted-in-Begins-clause-bound
+returns-in_ok-begin_counted-in-Begins-clause-bound g c =
+    let s : MachineValue = c.args.self.now in
+    let comes : ComesTo c.in_ok-reply.field-0 (next_of (conn_at c.args.index s.conns)) s.moment (arriving_at c.args.index (Request c.args.request (arrival_of c.args.plans.now c.args.request)) s) =
+    c.in_ok-reply.ensures.ok in
+    let one : calls_in (Request c.args.request (arrival_of c.args.plans.now c.args.request)) ≡ 1 =
+    asks_one s.moment s.drained (is_full (conn_at c.args.index s.conns).slots) (next_of (conn_at c.args.index s.conns)) (next_of (conn_at c.args.index s.conns)) c.args.request
+    (arrival_of c.args.plans.now c.args.request) s.moment c.in-Begins.asked
+    (subst (λ a. ComesTo a (next_of (conn_at c.args.index s.conns)) s.moment (arriving_at c.args.index (Request c.args.request (arrival_of c.args.plans.now c.args.request)) s)) c.in-Begins.is comes) in
+    omega (arith, one, c.in_ok-begin_counted-in-Begins.ensures.counted.0)
+
+pub returns-in_ok-answer-in-Answered-clause-linked : goal.returns-in_ok-answer-in-Answered-clause-linked
+returns-in_ok-answer-in-Answered-clause-linked g c =
+    let s : MachineValue = c.args.self.now in
+    let same : c.arriving.new.contexts ≡ c.args.contexts.now =
+    subst (λ a. ComesWith a (next_of (conn_at c.args.index s.conns)) c.args.contexts.now c.arriving.new.contexts) c.in-Answered.is c.in_ok-reply.ensures.contexts in
+    same ∙ c.requires.linked ∙ sym (ap linked c.in_ok-answer-in-Answered.ensures.ok ∙ answered_linked c.args.index c.in-Answered.reply.entry s c.requires.there)
+
+pub returns-in_ok-begin_counted-in-Begins-clause-linked : goal.returns-in_ok-begin_counted-in-Begins-clause-linked
+returns-in_ok-begin_counted-in-Begins-clause-linked g c =
+    let s : MachineValue = c.args.self.now in
+    let more : c.arriving.new.contexts ≡ begun_at (next_of (conn_at c.args.index s.conns)) c.in-Begins.asked c.args.contexts.now =
+    subst (λ a. ComesWith a (next_of (conn_at c.args.index s.conns)) c.args.contexts.now c.arriving.new.contexts) c.in-Begins.is c.in_ok-reply.ensures.contexts in
+    more ∙ ap (begun_at (next_of (conn_at c.args.index s.conns)) c.in-Begins.asked) c.requires.linked ∙ begun_linked c.args.index c.in-Begins.asked s c.requires.there
+    ∙ sym (ap linked c.in_ok-begin_counted-in-Begins.ensures.ok)

@@ -1,0 +1,3 @@
+pub mod KeptCall
+pub mod Comes
+pub mod Linked

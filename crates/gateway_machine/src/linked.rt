@@ -1,0 +1,215 @@
+//! The machine with its contexts.
+ghost use Rattle.std.specs.Prelude.{◌≡◌, ◌<◌, ◌==◌, IfErr, IfOk, None as Nothing, OnErr, OnOk, [], false, length, not, true};
+ghost use Rattle.std.specs.List.{count_by};
+ghost use Rattle.gateway_model.specs.Arrival.{arrival_of};
+ghost use Rattle.gateway_model.specs.Ends.{AreApart, CallsEnd, IsSettled, is_stopped_in, noted};
+ghost use Rattle.gateway_model.specs.Enters.{arriving_at, entered_at};
+ghost use Rattle.gateway_model.specs.Gateway.{are_all_there};
+ghost use Rattle.gateway_model.specs.Heads.{conn_heads, noted_heads};
+ghost use Rattle.gateway_model.specs.Occurrence.{Entering};
+ghost use Rattle.gateway_model.specs.Opens.{JobTaken, ReplyTaken, closed_at, opened_as};
+ghost use Rattle.gateway_model.specs.Orderly.{IsOrderly};
+ghost use Rattle.gateway_model.specs.Queue.{front};
+ghost use Rattle.gateway_model.specs.Results.{Forgets, NoneSpent, ResultTaken, Starved};
+ghost use Rattle.gateway_model.specs.Serving.{IsMade};
+ghost use Rattle.gateway_model.specs.Step.{moment_after};
+ghost use Rattle.gateway_model.specs.Store.{MachineValue, broken_at, broken_count, call_at, conn_at, conn_of, machine_value};
+ghost use Rattle.gateway_model.specs.declared.fault.Seen.{Seen};
+ghost use Rattle.gateway_model.specs.declared.fault.StepFault.TheVariants as fault;
+
+use crate::job::Job;
+use crate::machine::store::Machine;
+use call_plan::Plans;
+use connect_codec::Outcome;
+use gateway_model::{CallId, Cause, StepFault, Took};
+use gateway_replies::{Contexts, Reply, ReplyHook, Stock};
+use http_pieces::{Refusal, Request};
+use std::alloc::{AllocError, Global};
+use std::marker::Model;
+
+/// The machine and its contexts: each connection that is open and not broken has one, and each call that can be decided, on
+/// which its hook is registered.
+#[derive(Drop)]
+pub struct LinkedMachine<H> {
+    machine: Machine,
+    contexts: Contexts<H>,
+}
+
+impl<H> Model for LinkedMachine<H> {
+    ghost use Rattle.std.specs.Prelude.{◌≡◌};
+    ghost use Rattle.gateway_machine.specs.Linked.{linked};
+    ghost use Rattle.gateway_model.specs.Store.{MachineValue};
+
+    ghost Value = { MachineValue };
+
+    ghost view = { λ l. l.machine };
+
+    ghost invariant = { λ l. l.contexts ≡ linked l.machine };
+}
+
+impl<H: ReplyHook + Drop> LinkedMachine<H> {
+    /// No connection and no call.
+    pub fn new(alloc: Global) -> Result<LinkedMachine<H>, AllocError>
+        ensures { IfOk result (λ machine. machine ≡ machine_value 0 false [] [] []) }
+    {
+        Ok(LinkedMachine {
+            machine: Machine::new(alloc),
+            contexts: Contexts::new(alloc)?,
+        })
+    }
+
+    /// Opens a connection of that number with these hooks. Where memory is refused they come back.
+    pub fn open(&mut self, alloc: Global, number: u64, stock: Stock<H>) -> Result<(), Stock<H>>
+        requires { conn_of number self.old.conns ≡ Nothing }
+        ensures ok { OnOk result (self.new ≡ opened_as number self.old) }
+        ensures back { IfErr result (λ back. back ≡ stock) }
+        ensures err { OnErr result (self.new ≡ self.old) }
+    {
+        self.machine.open(alloc, &mut self.contexts, number, stock)
+    }
+
+    /// A request comes on the connection at that place, which breaks where memory is refused, and where a call would begin and as
+    /// many have begun as may. `begun` counts the calls that have.
+    pub fn come(
+        &mut self,
+        alloc: Global,
+        plans: &Plans,
+        index: usize,
+        request: Request,
+        begun: &mut u64,
+    ) -> Result<(), StepFault>
+        requires there { index < length self.old.conns }
+        requires on { (conn_at index self.old.conns).broken ≡ false }
+        requires heard { (conn_at index self.old.conns).hung_up ≡ false }
+        requires orderly { IsOrderly self.old }
+        ensures { IsMade index (Entering.Request request (arrival_of plans.now request)) begun.old self.old begun.new self.new result }
+    {
+        self.machine
+            .come(alloc, &mut self.contexts, plans, index, request, begun)
+    }
+
+    /// The stream of the connection at that place is refused; the connection breaks where memory is.
+    pub fn stop(&mut self, alloc: Global, index: usize, refusal: Refusal) -> Result<(), StepFault>
+        requires { index < length self.old.conns }
+        ensures ok { OnOk result (self.new ≡ entered_at index (arriving_at index (Entering.Refused refusal) self.old) self.old) }
+        ensures err { OnErr result (self.new ≡ broken_at (conn_at index self.old.conns).number self.old) }
+        ensures fault { IfErr result (λ f. f ≡ fault.Memory) }
+    {
+        self.machine.stop(alloc, &mut self.contexts, index, refusal)
+    }
+
+    /// Takes note of what may end calls, tells the contexts, and ends all calls that this ends: their replies go into their slots.
+    /// Where memory is refused to one of them, its connection breaks.
+    pub fn end_calls(&mut self, alloc: Global, cause: &Cause)
+        requires settled { IsSettled self.old }
+        requires apart { AreApart self.old.calls }
+        ensures ended { CallsEnd cause.now (noted cause.now self.old) self.new }
+        ensures heads { conn_heads self.new.conns ≡ noted_heads cause.now (conn_heads self.old.conns) }
+    {
+        self.contexts.tell(cause);
+        self.machine.note(cause);
+        self.machine.end_calls(alloc, &mut self.contexts, cause);
+    }
+
+    /// A branch of a call ends with that outcome. A call that is over, and of which no branch is out, is forgotten.
+    pub fn take_result(&mut self, alloc: Global, id: &CallId, branch: u32, outcome: Outcome) -> Took
+        requires { IsOrderly self.old }
+        ensures taken { (between : MachineValue) × ResultTaken id.now branch outcome self.old between result × Forgets id.now between self.new }
+        ensures unknown { result.seen ≡ Seen.Unknown → self.new ≡ self.old }
+        ensures none_spent { (result.seen ≡ Seen.Unknown → ⊥) → NoneSpent id.now self.new.calls }
+    {
+        self.machine
+            .take_result(alloc, &mut self.contexts, id, branch, outcome)
+    }
+
+    /// A worker found no memory for what a branch ended with: where that counts, its connection breaks.
+    pub fn starve(&mut self, id: &CallId, branch: u32) -> Took
+        requires { IsOrderly self.old }
+        ensures taken { (between : MachineValue) × Starved id.now branch self.old between result × Forgets id.now between self.new }
+        ensures unknown { result.seen ≡ Seen.Unknown → self.new ≡ self.old }
+        ensures none_spent { (result.seen ≡ Seen.Unknown → ⊥) → NoneSpent id.now self.new.calls }
+    {
+        self.machine.starve(&mut self.contexts, id, branch)
+    }
+
+    /// The connection of that number breaks.
+    pub fn break_conn(&mut self, number: u64)
+        ensures { self.new ≡ broken_at number self.old }
+    {
+        self.machine.break_conn(&mut self.contexts, number);
+    }
+
+    /// Closes the connection of that number: its calls are given up, and what it had not handed out is dropped.
+    pub fn close(&mut self, number: u64)
+        ensures { self.new ≡ closed_at number self.old }
+    {
+        self.machine.close(&mut self.contexts, number);
+    }
+
+    /// Takes a moment, in milliseconds, and answers the greatest so far.
+    pub fn tell(&mut self, moment: u64) -> u64
+        ensures greatest { result ≡ moment_after self.old.moment moment }
+        ensures told { self.new ≡ record self.old { moment = moment_after self.old.moment moment } }
+    {
+        self.machine.tell(moment)
+    }
+
+    /// Hands out the next job, in order of start.
+    pub fn take_job(&mut self) -> Option<Job>
+        ensures { JobTaken self.old self.new result }
+    {
+        self.machine.take_job()
+    }
+
+    /// Hands out the first reply of the connection at that place, if it is there.
+    pub fn take_reply(&mut self, index: usize) -> Option<Reply>
+        requires { index < length self.old.conns }
+        ensures { ReplyTaken index self.old self.new result }
+    {
+        self.machine.take_reply(index)
+    }
+
+    /// Whether a job waits to be taken.
+    pub fn has_job(&self) -> bool
+        ensures { result ≡ not (length self.now.jobs == 0) }
+    {
+        self.machine.has_job()
+    }
+
+    /// Whether the connection of that number is open and broken.
+    pub fn is_stopped(&self, number: u64) -> bool
+        ensures { result ≡ is_stopped_in number self.now.conns }
+    {
+        self.machine.is_stopped(number)
+    }
+
+    /// How many replies of the connection at that place can be taken.
+    pub fn untaken(&self, index: usize) -> usize
+        requires { index < length self.now.conns }
+        ensures { result ≡ length (front (conn_at index self.now.conns).slots) }
+    {
+        self.machine.untaken(index)
+    }
+
+    /// Whether each request on the connection at that place has its reply.
+    pub fn is_idle(&self, index: usize) -> bool
+        requires { index < length self.now.conns }
+        ensures { result ≡ are_all_there (conn_at index self.now.conns).slots }
+    {
+        self.machine.is_idle(index)
+    }
+
+    /// How many branches of the call are out.
+    pub fn branches_out(&self, id: &CallId) -> u32
+        ensures { result ≡ count_by (λ b. b) (call_at id.now self.now.calls).out }
+    {
+        self.machine.branches_out(id)
+    }
+
+    /// How many connections are broken.
+    pub fn broken(&self) -> usize
+        ensures { result ≡ broken_count self.now.conns }
+    {
+        self.machine.broken()
+    }
+}

@@ -1,0 +1,89 @@
+ghost use Rattle.std.specs.Prelude.{◌≡◌, ◌++◌, IfOk, [], map, length, nat_lt, option_to_list};
+ghost use Rattle.std.specs.List.{range_with_len};
+ghost use Rattle.std.specs.Arc.{arc_value};
+ghost use Rattle.gateway_machine.specs.KeptCall.{HasGone, IsBegun};
+
+use crate::machine::kept::Kept;
+use crate::machine::live::Live;
+use crate::machine::task::Task;
+use err_group::Group;
+use gateway_model::CallId;
+use gateway_replies::Asked;
+use std::alloc::{AllocError, Global};
+use std::collections::VecDeque;
+use std::sync::Arc;
+
+/// A call as it begins, and the branches that start at once: those below the plan's limit. The others wait.
+pub fn begin(alloc: Global, id: CallId, asked: Asked) -> Result<(Kept, VecDeque<Task>), AllocError>
+    ensures { IfOk result (λ made. IsBegun id asked made.0 made.1.items) }
+{
+    let plan = Arc::try_clone(&asked.plan)?;
+    let asked = Arc::new(alloc, asked)?;
+    let count = plan.branches().len();
+    let events = Vec::with_capacity(alloc, count)?;
+    let out = first_out(alloc, count, count.min(plan.limit() as usize))?;
+    let mut group = Group::new(alloc);
+    let _ = group.set_limit(Some(plan.limit()));
+    let first = give(alloc, &id, &asked, &mut group)?;
+    let live = Some(Live {
+        asked,
+        plan,
+        events,
+    });
+    Ok((
+        Kept {
+            id,
+            out,
+            group,
+            live,
+            reply: None,
+        },
+        first,
+    ))
+}
+
+/// Gives the call's branches to its group, in declared order: those that start at once.
+fn give(
+    alloc: Global,
+    id: &CallId,
+    asked: &Arc<Asked>,
+    group: &mut Group<Task, ()>,
+) -> Result<VecDeque<Task>, AllocError>
+    requires { HasGone id.now (arc_value asked.now) 0 group.old [] }
+    ensures { IfOk result (λ first. HasGone id.now (arc_value asked.now) (length (arc_value asked.now).plan.branches) group.new first.items) }
+{
+    let mut first = VecDeque::new(alloc);
+    for index in 0..asked.plan.branches().len() {
+        let task = Task {
+            call: *id,
+            branch: index as u32,
+            asked: Arc::try_clone(asked)?,
+        };
+        let Ok(started) = group.go(task) else {
+            return Err(AllocError);
+        };
+        keep(&mut first, started)?;
+    }
+    Ok(first)
+}
+
+/// Keeps the task, if it has started.
+fn keep(first: &mut VecDeque<Task>, started: Option<Task>) -> Result<(), AllocError>
+    ensures { IfOk result (λ _. first.new.items ≡ first.old.items ++ option_to_list started) }
+{
+    if let Some(task) = started {
+        first.push_back(task)?;
+    }
+    Ok(())
+}
+
+/// The branches below `first` are out, of so many.
+fn first_out(alloc: Global, count: usize, first: usize) -> Result<Vec<bool>, AllocError>
+    ensures { IfOk result (λ out. out.items ≡ map (λ i. nat_lt i first) (range_with_len 0 count)) }
+{
+    let mut out = Vec::new(alloc);
+    for index in 0..count {
+        out.push(index < first)?;
+    }
+    Ok(out)
+}

@@ -1,0 +1,287 @@
+ghost use Rattle.std.specs.Prelude.{[], ◌≡◌, ◌+◌, ◌<◌, ◌≤◌, ◌++◌, Some, None as Nothing, IfErr, IfOk, OnOk, OnErr, false, length, map};
+ghost use Rattle.std.specs.VecDeque.{deque_capacity};
+ghost use Rattle.gateway_model.specs.Arrival.{arrival_of};
+ghost use Rattle.gateway_model.specs.Begins.{begins};
+ghost use Rattle.gateway_model.specs.Conn.{next_of};
+ghost use Rattle.gateway_replies.specs.Contexts.{KeepsOthers, is_ended_peer, is_life};
+ghost use Rattle.gateway_model.specs.Enters.{arriving_at, asking_at, entered_at, Enters};
+ghost use Rattle.gateway_machine.specs.Comes.{ComesTo};
+ghost use Rattle.gateway_model.specs.Job.{job_at};
+ghost use Rattle.gateway_machine.specs.Linked.{ComesWith, IsLinkedBut, linked};
+ghost use Rattle.gateway_model.specs.Occurrence.{Entering, calls_in};
+ghost use Rattle.gateway_model.specs.Serving.{IsFault, IsMade, most_begun};
+ghost use Rattle.gateway_model.specs.Step.{gone, step_to};
+ghost use Rattle.gateway_model.specs.Store.{broken_at, conn_at, waiting};
+ghost use Rattle.gateway_model.specs.declared.fault.StepFault.TheVariants as fault;
+
+use crate::job::Job;
+use crate::machine::arriving::Arriving;
+use crate::machine::begin::begin;
+use crate::machine::kept::Kept;
+use crate::machine::store::Machine;
+use crate::machine::task::Task;
+use call_plan::Plans;
+use connect_codec::laws::timeout_law;
+use connect_codec::{Verdict, judge, target_path};
+use gateway_model::StepFault;
+use gateway_replies::{Asked, Contexts, Reply, ReplyHook, reply_to};
+use http_pieces::{Refusal, Request};
+use std::alloc::{AllocError, Global};
+use std::collections::VecDeque;
+
+/// Calls that may be begun.
+const MOST_BEGUN: u64 = 1 << 56;
+
+impl Machine {
+    /// A request comes on the connection at that place, which breaks where memory is refused, and where a call would begin and as
+    /// many have begun as may. `begun` counts the calls that have.
+    pub(crate) fn come<H: ReplyHook + Drop>(
+        &mut self,
+        alloc: Global,
+        contexts: &mut Contexts<H>,
+        plans: &Plans,
+        index: usize,
+        request: Request,
+        begun: &mut u64,
+    ) -> Result<(), StepFault>
+        requires there { index < length self.old.conns }
+        requires on { (conn_at index self.old.conns).broken ≡ false }
+        requires heard { is_ended_peer (conn_at index self.old.conns).number contexts.old.conns ≡ self.old.drained }
+        requires fresh { is_life (next_of (conn_at index self.old.conns)) contexts.old.calls ≡ false }
+        requires linked { contexts.old ≡ linked self.old }
+        ensures made { IsMade index (Entering.Request request (arrival_of plans.now request)) begun.old self.old begun.new self.new result }
+        ensures linked { contexts.new ≡ linked self.new }
+    {
+        let came = self.take_in(alloc, contexts, plans, index, request, begun);
+        if came.is_err() {
+            let number = self.conns[index].number;
+            self.break_conn(contexts, number);
+        }
+        came
+    }
+
+    /// The stream of the connection at that place is refused; the connection breaks where memory is.
+    pub(crate) fn stop<H: ReplyHook + Drop>(
+        &mut self,
+        alloc: Global,
+        contexts: &mut Contexts<H>,
+        index: usize,
+        refusal: Refusal,
+    ) -> Result<(), StepFault>
+        requires there { index < length self.old.conns }
+        requires linked { contexts.old ≡ linked self.old }
+        ensures ok { OnOk result (self.new ≡ entered_at index (arriving_at index (Entering.Refused refusal) self.old) self.old) }
+        ensures err { OnErr result (self.new ≡ broken_at (conn_at index self.old.conns).number self.old) }
+        ensures fault { IfErr result (λ f. f ≡ fault.Memory) }
+        ensures linked { contexts.new ≡ linked self.new }
+    {
+        let stopped = self.refuse(alloc, index, refusal);
+        if stopped.is_err() {
+            let number = self.conns[index].number;
+            self.break_conn(contexts, number);
+        }
+        stopped
+    }
+
+    /// A request comes on the connection at that place: it is answered at once, or begins a call. At a fault nothing changes.
+    fn take_in<H: ReplyHook + Drop>(
+        &mut self,
+        alloc: Global,
+        contexts: &mut Contexts<H>,
+        plans: &Plans,
+        index: usize,
+        request: Request,
+        begun: &mut u64,
+    ) -> Result<(), StepFault>
+        requires there { index < length self.old.conns }
+        requires on { (conn_at index self.old.conns).broken ≡ false }
+        requires heard { is_ended_peer (conn_at index self.old.conns).number contexts.old.conns ≡ self.old.drained }
+        requires fresh { is_life (next_of (conn_at index self.old.conns)) contexts.old.calls ≡ false }
+        requires linked { contexts.old ≡ linked self.old }
+        ensures ok { OnOk result (self.new
+            ≡ entered_at index (arriving_at index (Entering.Request request (arrival_of plans.now request)) self.old) self.old) }
+        ensures linked { OnOk result (contexts.new ≡ linked self.new) }
+        ensures err { OnErr result (self.new ≡ self.old) }
+        ensures others { OnErr result (IsLinkedBut (conn_at index self.old.conns).number contexts.new self.new) }
+        ensures fault { IfErr result (λ f. IsFault f begun.new) }
+        ensures grows { begun.old ≤ begun.new }
+        ensures counts { begun.new + length self.old.calls ≡ begun.old + length self.new.calls }
+        ensures few { begun.old < begun.new → begun.new ≤ most_begun }
+        ensures bound { begun.new ≤ begun.old + calls_in (Entering.Request request (arrival_of plans.now request)) }
+    {
+        match self.arriving(alloc, contexts, plans, index, request)? {
+            Arriving::Answered(reply) => self.answer(index, reply)?,
+            Arriving::Begins(asked) => self.begin_counted(alloc, index, asked, begun)?,
+        }
+        Ok(())
+    }
+
+    /// A call begins on the connection at that place, and is counted, unless as many have begun as may.
+    fn begin_counted(
+        &mut self,
+        alloc: Global,
+        index: usize,
+        asked: Asked,
+        begun: &mut u64,
+    ) -> Result<(), StepFault>
+        requires { index < length self.old.conns }
+        ensures ok { OnOk result (self.new
+            ≡ entered_at index (begins self.old.moment Nothing (next_of (conn_at index self.old.conns)) asked) self.old) }
+        ensures err { OnErr result (self.new ≡ self.old) }
+        ensures counted { OnOk result ((begun.new ≡ begun.old + 1) × (begun.new ≤ most_begun)) }
+        ensures same { OnErr result (begun.new ≡ begun.old) }
+        ensures fault { IfErr result (λ f. IsFault f begun.new) }
+    {
+        if *begun >= MOST_BEGUN {
+            return Err(StepFault::Exhausted);
+        }
+        self.begin(alloc, index, asked)?;
+        *begun += 1;
+        Ok(())
+    }
+
+    /// What a request comes to on the connection at that place. A call gets its context; nothing else changes.
+    fn arriving<H: ReplyHook + Drop>(
+        &self,
+        alloc: Global,
+        contexts: &mut Contexts<H>,
+        plans: &Plans,
+        index: usize,
+        request: Request,
+    ) -> Result<Arriving, AllocError>
+        requires there { index < length self.now.conns }
+        requires on { (conn_at index self.now.conns).broken ≡ false }
+        requires heard { is_ended_peer (conn_at index self.now.conns).number contexts.old.conns ≡ self.now.drained }
+        requires fresh { is_life (next_of (conn_at index self.now.conns)) contexts.old.calls ≡ false }
+        requires linked { contexts.old ≡ linked self.now }
+        ensures ok { IfOk result (λ arriving. ComesTo arriving (next_of (conn_at index self.now.conns)) self.now.moment
+            (arriving_at index (Entering.Request request (arrival_of plans.now request)) self.now)) }
+        ensures contexts { IfOk result (λ arriving. ComesWith arriving (next_of (conn_at index self.now.conns)) contexts.old contexts.new) }
+        ensures others { OnErr result (KeepsOthers (conn_at index self.now.conns).number contexts.old contexts.new) }
+    {
+        timeout_law();
+        let plan = match target_path(&request) {
+            Some(path) => plans.find(path),
+            None => None,
+        };
+        match judge(alloc, &request, plan.is_some())? {
+            Verdict::Ask {
+                timeout,
+                request_id,
+            } => match plan {
+                Some(plan) => {
+                    let asked = Asked::new(alloc, plan, request, timeout, request_id, self.moment)?;
+                    self.asking(alloc, contexts, index, asked)
+                }
+                None => unreachable!(),
+            },
+            verdict => {
+                let id = self.conns[index].next_id();
+                let reply = Reply::judged(alloc, id, verdict, request.closes())?;
+                Ok(Arriving::Answered(reply))
+            }
+        }
+    }
+
+    /// What a call that is asked for on the connection at that place comes to: it is crowded out, ends as it comes, or begins.
+    fn asking<H: ReplyHook + Drop>(
+        &self,
+        alloc: Global,
+        contexts: &mut Contexts<H>,
+        index: usize,
+        asked: Asked,
+    ) -> Result<Arriving, AllocError>
+        requires there { index < length self.now.conns }
+        requires on { (conn_at index self.now.conns).broken ≡ false }
+        requires heard { is_ended_peer (conn_at index self.now.conns).number contexts.old.conns ≡ self.now.drained }
+        requires fresh { is_life (next_of (conn_at index self.now.conns)) contexts.old.calls ≡ false }
+        requires linked { contexts.old ≡ linked self.now }
+        ensures ok { IfOk result (λ arriving. ComesTo arriving (next_of (conn_at index self.now.conns)) self.now.moment (asking_at index asked self.now)) }
+        ensures contexts { IfOk result (λ arriving. ComesWith arriving (next_of (conn_at index self.now.conns)) contexts.old contexts.new) }
+        ensures others { OnErr result (KeepsOthers (conn_at index self.now.conns).number contexts.old contexts.new) }
+    {
+        let conn = &self.conns[index];
+        if conn.is_full() {
+            let reply = Reply::crowded(alloc, conn.next_id(), asked.request.closes())?;
+            return Ok(Arriving::Answered(reply));
+        }
+        let id = conn.next_id();
+        contexts.begin(&id, &asked, self.moment)?;
+        match asked.ends_first(self.moment, self.drained) {
+            Some(event) => {
+                let reply = reply_to(alloc, contexts, id, asked.end(alloc, event)?)?;
+                Ok(Arriving::Answered(reply))
+            }
+            None => Ok(Arriving::Begins(asked)),
+        }
+    }
+
+    /// The stream of the connection at that place is refused.
+    fn refuse(&mut self, alloc: Global, index: usize, refusal: Refusal) -> Result<(), StepFault>
+        requires { index < length self.old.conns }
+        ensures ok { OnOk result (self.new ≡ entered_at index (arriving_at index (Entering.Refused refusal) self.old) self.old) }
+        ensures err { OnErr result (self.new ≡ self.old) }
+        ensures fault { IfErr result (λ f. f ≡ fault.Memory) }
+    {
+        let reply = Reply::refused(alloc, self.conns[index].next_id(), refusal)?;
+        self.answer(index, reply)?;
+        Ok(())
+    }
+
+    /// What comes on the connection at that place is answered at once.
+    fn answer(&mut self, index: usize, reply: Reply) -> Result<(), AllocError>
+        requires opened { index < length self.old.conns }
+        requires its { reply.id ≡ next_of (conn_at index self.old.conns) }
+        ensures ok { OnOk result (self.new ≡ entered_at index (step_to gone (Some reply.entry) []) self.old) }
+        ensures err { OnErr result (self.new ≡ self.old) }
+    {
+        self.conns[index].add(Some(reply))
+    }
+
+    /// A call begins on the connection at that place. All growths come before the first change.
+    pub(crate) fn begin(
+        &mut self,
+        alloc: Global,
+        index: usize,
+        asked: Asked,
+    ) -> Result<(), AllocError>
+        requires { index < length self.old.conns }
+        ensures ok { OnOk result (self.new
+            ≡ entered_at index (begins self.old.moment Nothing (next_of (conn_at index self.old.conns)) asked) self.old) }
+        ensures err { OnErr result (self.new ≡ self.old) }
+    {
+        let id = self.conns[index].next_id();
+        let (call, first) = begin(alloc, id, asked)?;
+        let room = waiting(&self.calls) + call.waiting() + first.len();
+        self.calls.reserve(1)?;
+        self.jobs.reserve(room)?;
+        self.conns[index].add(None)?;
+        self.calls.push_reserved(call);
+        start_all(&mut self.jobs, first, self.moment);
+        Ok(())
+    }
+}
+
+/// How many branches wait for their start.
+fn waiting(calls: &Vec<Kept>) -> usize
+    requires { waiting calls.now.items < 18446744073709551616 }
+    ensures { result ≡ waiting calls.now.items }
+{
+    let mut count = 0;
+    for index in 0..calls.len() {
+        count += calls[index].waiting();
+    }
+    count
+}
+
+/// Queues the jobs of the branches that start as their call begins.
+fn start_all(jobs: &mut VecDeque<Job>, mut first: VecDeque<Task>, moment: u64)
+    requires { length jobs.old.items + length first.items ≤ deque_capacity jobs.old }
+    ensures jobs_are { map (λ j. j.job) jobs.new.items ≡ map (λ j. j.job) jobs.old.items ++ map (job_at moment) first.items }
+    ensures size { length jobs.new.items ≡ length jobs.old.items + length first.items }
+    ensures room { deque_capacity jobs.new ≡ deque_capacity jobs.old }
+{
+    while let Some(task) = first.pop_front() {
+        jobs.push_back_reserved(Job::new(task, moment));
+    }
+}

@@ -1,0 +1,246 @@
+ghost use Rattle.std.specs.Prelude.{◌≡◌, ℕ, OnOk, OnErr, true, false, if◌then◌else◌, is_some, None as Nothing, Some, option_map, option_to_list, slice_set};
+ghost use Rattle.std.specs.List.{count_by, list_any};
+ghost use Rattle.gateway_replies.specs.Contexts.{KeepsOthers, is_life, without};
+ghost use Rattle.gateway_machine.specs.KeptCall.{IsStep};
+ghost use Rattle.gateway_model.specs.Ends.{ended_call, ended_kept, unanswered, without_reply};
+ghost use Rattle.gateway_model.specs.Reply.{reply_with};
+ghost use Rattle.gateway_model.specs.Results.{back_kept, is_spent};
+ghost use Rattle.gateway_model.specs.Past.{is_call};
+ghost use Rattle.gateway_model.specs.Store.{given_up_if, waiting_in};
+ghost use Rattle.gateway_model.specs.declared.fault.Seen.{Seen};
+ghost use Rattle.gateway_model.specs.Step.{has_out, next_out, result_on};
+
+use crate::machine::live::Live;
+use crate::machine::task::Task;
+use connect_codec::Outcome;
+use err_group::Group;
+use gateway_model::{CallEvent, CallId, CallRecord, Cause, Seen};
+use gateway_replies::{Contexts, Reply, ReplyHook, reply_to};
+use std::alloc::{AllocError, Global};
+use std::marker::Model;
+
+/// A call that is kept: its branches, and the call as long as it can be decided.
+#[derive(Drop)]
+pub struct Kept {
+    pub(crate) id: CallId,
+    /// Which branches are out: started, and with no result since.
+    pub(crate) out: Vec<bool>,
+    /// Its branches as a group: those that are out are active, and those that wait for their start are queued.
+    pub(crate) group: Group<Task, ()>,
+    pub(crate) live: Option<Live>,
+    /// Its reply, while that is not in its slot yet.
+    pub(crate) reply: Option<Reply>,
+}
+
+/// What comes of a result of a branch.
+#[derive(Drop)]
+pub struct Taken {
+    /// The record of the call, if the result decided it.
+    pub(crate) decided: Option<CallRecord>,
+    /// The branch that starts in the other's place.
+    pub(crate) next: Option<Task>,
+}
+
+impl Model for Kept {
+    ghost use Rattle.std.specs.Prelude.{◌≡◌, IfSome};
+    ghost use Rattle.gateway_model.specs.Conn.{entry_in};
+    ghost use Rattle.gateway_model.specs.Kept.{KeptValue};
+    ghost use Rattle.gateway_machine.specs.KeptCall.{kept_value, IsKept};
+
+    ghost Value = { KeptValue };
+
+    ghost view = { λ c. kept_value c.id c.out.items c.group.queue c.live (entry_in c.reply) };
+
+    ghost invariant = { λ c. IsKept c.id c.out.items c.group c.live × IfSome c.reply (λ r. r.id ≡ c.id) };
+}
+
+impl Kept {
+    /// Whether it is the call of that id.
+    pub(crate) fn is_of(&self, id: &CallId) -> bool
+        ensures { result ≡ is_call self.now.id id.now }
+    {
+        self.id == *id
+    }
+
+    /// Whether it can still be decided.
+    pub(crate) fn is_live(&self) -> bool
+        ensures { result ≡ is_some self.now.call.live }
+    {
+        self.live.is_some()
+    }
+
+    /// Whether no branch of it is out, and it can't be decided any more.
+    pub(crate) fn is_spent(&self) -> bool
+        ensures { result ≡ is_spent self.now.call }
+    {
+        self.live.is_none() && !is_any_out(&self.out)
+    }
+
+    /// Whether the branch is out.
+    pub(crate) fn is_out(&self, branch: u32) -> bool
+        ensures { result ≡ has_out self.now.call branch }
+    {
+        let index = branch as usize;
+        index < self.out.len() && self.out[index]
+    }
+
+    /// How many branches are out.
+    pub(crate) fn outs(&self) -> u32
+        ensures { result ≡ count_by (λ b. b) self.now.call.out }
+    {
+        self.group.active()
+    }
+
+    /// How many branches wait for their start.
+    pub(crate) fn waiting(&self) -> usize
+        ensures { result ≡ waiting_in self.now }
+    {
+        self.group.queued()
+    }
+
+    /// How a result of a branch that is out is seen.
+    pub(crate) fn seen(&self) -> Seen
+        ensures { result ≡ (if is_some self.now.call.live then Seen.Counted else Seen.Late) }
+    {
+        if self.live.is_some() {
+            Seen::Counted
+        } else {
+            Seen::Late
+        }
+    }
+
+    /// A result of a branch that is out. It needs no memory.
+    pub(crate) fn take_result(&mut self, branch: u32, outcome: Outcome) -> Taken
+        requires { has_out self.old.call branch ≡ true }
+        ensures { (moment : ℕ) → IsStep moment self.old self.new result.decided result.next (result_on moment branch outcome (slice_set self.old.call.out branch false) self.old.call.live) }
+    {
+        let live = self.live.take();
+        self.out[branch as usize] = false;
+        match (live, outcome) {
+            (None, _) => {
+                self.group.done(Err(()));
+                Taken::nothing()
+            }
+            (Some(live), Outcome::Fail(error)) => {
+                self.group.clear_queue();
+                self.group.done(Err(()));
+                Taken {
+                    decided: Some(live.end(CallEvent::Failed(branch, error))),
+                    next: None,
+                }
+            }
+            (Some(mut live), Outcome::Answer(body)) => {
+                let next = self.group.done(Ok(())).next;
+                let answer = CallEvent::Answer(branch, body);
+                if live.is_last_answer() {
+                    return Taken {
+                        decided: Some(live.end(answer)),
+                        next,
+                    };
+                }
+                mark_out(&mut self.out, &next);
+                live.keep(answer);
+                self.live = Some(live);
+                Taken {
+                    decided: None,
+                    next,
+                }
+            }
+        }
+    }
+
+    /// A branch comes back, of a call that can't be decided any more.
+    pub(crate) fn come_back(&mut self, branch: u32)
+        requires out { has_out self.old.call branch ≡ true }
+        requires over { self.old.call.live ≡ Nothing }
+        ensures { self.new ≡ back_kept branch self.old }
+    {
+        self.out[branch as usize] = false;
+        self.group.done(Err(()));
+    }
+
+    /// The call's id.
+    pub(crate) fn id(&self) -> CallId
+        ensures { result ≡ self.now.id }
+    {
+        self.id
+    }
+
+    /// Ends the call, if this does, and makes its reply. Where memory is refused to that, it has none.
+    pub(crate) fn end_by<H: ReplyHook + Drop>(
+        &mut self,
+        alloc: Global,
+        contexts: &mut Contexts<H>,
+        cause: &Cause,
+    ) -> Result<(), AllocError>
+        requires { is_some self.old.call.live ≡ true → is_life self.old.id contexts.old.calls ≡ true }
+        ensures ended { OnOk result (self.new ≡ ended_kept cause.now self.old) }
+        ensures gone { OnOk result (contexts.new
+            ≡ (if is_some (ended_call cause.now self.old.id self.old.call).reply then without self.old.id contexts.old else contexts.old)) }
+        ensures others { OnErr result (KeepsOthers self.old.id.conn contexts.old contexts.new) }
+        ensures refused { OnErr result ((is_some (ended_call cause.now self.old.id self.old.call).reply ≡ true) × (self.new ≡ unanswered self.old)) }
+    {
+        let Some(live) = self.live.take() else {
+            return Ok(());
+        };
+        let Some(event) = live.asked.ending(cause, &self.id) else {
+            self.live = Some(live);
+            return Ok(());
+        };
+        self.group.clear_queue();
+        let reply = reply_to(alloc, contexts, self.id, live.end(event))?;
+        self.reply = Some(reply);
+        Ok(())
+    }
+
+    /// Gives its reply, to go into its slot.
+    pub(crate) fn take_reply(&mut self) -> Option<Reply>
+        ensures gives { result ≡ option_map (reply_with self.old.id) self.old.reply }
+        ensures rest { self.new ≡ without_reply self.old }
+    {
+        self.reply.take()
+    }
+
+    /// Gives the call up, if it is one of that connection: it can't be decided any more.
+    pub(crate) fn give_up_if(&mut self, conn: u64)
+        ensures { self.new ≡ given_up_if conn self.old }
+    {
+        if self.id.conn.number() != conn {
+            return;
+        }
+        self.live = None;
+        self.reply = None;
+        self.group.clear_queue();
+    }
+}
+
+impl Taken {
+    fn nothing() -> Taken
+        ensures { result ≡ record { decided = Nothing; next = Nothing } }
+    {
+        Taken {
+            decided: None,
+            next: None,
+        }
+    }
+}
+
+/// Marks the branch that starts as out.
+fn mark_out(out: &mut Vec<bool>, next: &Option<Task>)
+    ensures { out.new.items ≡ next_out (option_to_list next.now) out.old.items }
+{
+    let Some(task) = next else {
+        return;
+    };
+    let index = task.branch as usize;
+    if index < out.len() {
+        out[index] = true;
+    }
+}
+
+/// Whether a branch is out.
+fn is_any_out(out: &Vec<bool>) -> bool
+    ensures { result ≡ list_any (λ b. b) out.now.items }
+{
+    out.iter().any(|out| *out)
+}

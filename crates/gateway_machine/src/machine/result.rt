@@ -1,0 +1,217 @@
+ghost use Rattle.std.specs.Prelude.{◌≡◌, ◌+◌, ◌<◌, ◌≤◌, ◌++◌, None as Nothing, false, true, if◌then◌else◌, filter, length, map, not, option_to_list};
+ghost use Rattle.gateway_model.specs.Past.{is_call};
+ghost use Rattle.std.specs.VecDeque.{deque_capacity};
+ghost use Rattle.gateway_model.specs.Ends.{AreApart};
+ghost use Rattle.gateway_model.specs.Job.{job_at};
+ghost use Rattle.gateway_machine.specs.Linked.{IsLinkedWith, linked};
+ghost use Rattle.gateway_model.specs.Orderly.{IsOrderly};
+ghost use Rattle.gateway_model.specs.Results.{back_at, DecidedBy, Forgets, NoneSpent, ResultTaken, Starved};
+ghost use Rattle.gateway_model.specs.Step.{has_out};
+ghost use Rattle.gateway_model.specs.Store.{MachineValue, broken_at, kept_at};
+ghost use Rattle.gateway_model.specs.declared.fault.Seen.{Seen};
+
+use crate::job::Job;
+use crate::machine::kept::Kept;
+use crate::machine::store::Machine;
+use crate::machine::task::Task;
+use connect_codec::Outcome;
+use gateway_model::{CallId, CallRecord, Seen, Took};
+use gateway_replies::{Contexts, ReplyHook, reply_to};
+use std::alloc::{AllocError, Global};
+use std::collections::VecDeque;
+
+impl Machine {
+    /// A branch of a call ends with that outcome.
+    fn result<H: ReplyHook + Drop>(
+        &mut self,
+        alloc: Global,
+        contexts: &mut Contexts<H>,
+        id: &CallId,
+        branch: u32,
+        outcome: Outcome,
+    ) -> Took
+        requires { contexts.old ≡ linked self.old }
+        ensures taken { ResultTaken id.now branch outcome self.old self.new result }
+        ensures linked { contexts.new ≡ linked self.new }
+    {
+        let Some(index) = self.find(id) else {
+            return Took::unknown();
+        };
+        if !self.calls[index].is_out(branch) {
+            return Took::unknown();
+        }
+        contexts.apart_law();
+        let seen = self.calls[index].seen();
+        let taken = self.calls[index].take_result(branch, outcome);
+        start(&mut self.jobs, taken.next, self.moment);
+        let broke = self.decide(alloc, contexts, id, taken.decided);
+        Took { seen, broke }
+    }
+
+    /// A branch of a call ends with that outcome. A call that is over, and of which no branch is out, is forgotten.
+    pub(crate) fn take_result<H: ReplyHook + Drop>(
+        &mut self,
+        alloc: Global,
+        contexts: &mut Contexts<H>,
+        id: &CallId,
+        branch: u32,
+        outcome: Outcome,
+    ) -> Took
+        requires linked { contexts.old ≡ linked self.old }
+        requires orderly { IsOrderly self.old }
+        ensures taken { (between : MachineValue) × ResultTaken id.now branch outcome self.old between result × Forgets id.now between self.new }
+        ensures unknown { result.seen ≡ Seen.Unknown → self.new ≡ self.old }
+        ensures none_spent { (result.seen ≡ Seen.Unknown → ⊥) → NoneSpent id.now self.new.calls }
+        ensures linked { contexts.new ≡ linked self.new }
+    {
+        let took = self.result(alloc, contexts, id, branch, outcome);
+        self.forget_unless(took.seen, id);
+        took
+    }
+
+    /// A worker found no memory for what a branch ended with: where that counts, its connection breaks.
+    pub(crate) fn starve<H: ReplyHook + Drop>(
+        &mut self,
+        contexts: &mut Contexts<H>,
+        id: &CallId,
+        branch: u32,
+    ) -> Took
+        requires linked { contexts.old ≡ linked self.old }
+        requires orderly { IsOrderly self.old }
+        ensures taken { (between : MachineValue) × Starved id.now branch self.old between result × Forgets id.now between self.new }
+        ensures unknown { result.seen ≡ Seen.Unknown → self.new ≡ self.old }
+        ensures none_spent { (result.seen ≡ Seen.Unknown → ⊥) → NoneSpent id.now self.new.calls }
+        ensures linked { contexts.new ≡ linked self.new }
+    {
+        let took = self.come_back(contexts, id, branch);
+        self.forget_unless(took.seen, id);
+        took
+    }
+
+    /// A branch comes back with nothing: where that counts, its connection breaks.
+    fn come_back<H: ReplyHook + Drop>(
+        &mut self,
+        contexts: &mut Contexts<H>,
+        id: &CallId,
+        branch: u32,
+    ) -> Took
+        requires { contexts.old ≡ linked self.old }
+        ensures taken { Starved id.now branch self.old self.new result }
+        ensures linked { contexts.new ≡ linked self.new }
+    {
+        let Some(index) = self.find(id) else {
+            return Took::unknown();
+        };
+        if !self.calls[index].is_out(branch) {
+            return Took::unknown();
+        }
+        let seen = self.calls[index].seen();
+        let broke = self.calls[index].is_live();
+        self.break_if(contexts, broke, id.conn.number());
+        self.give_back(index, branch);
+        Took { seen, broke }
+    }
+
+    /// Breaks the connection, if that is so.
+    fn break_if<H: ReplyHook + Drop>(
+        &mut self,
+        contexts: &mut Contexts<H>,
+        broke: bool,
+        number: u64,
+    )
+        requires { contexts.old ≡ linked self.old }
+        ensures broken { self.new ≡ (if broke then broken_at number self.old else self.old) }
+        ensures linked { contexts.new ≡ linked self.new }
+    {
+        if broke {
+            self.break_conn(contexts, number);
+        }
+    }
+
+    /// A branch of the call at that place comes back, which can't be decided any more.
+    fn give_back(&mut self, index: usize, branch: u32)
+        requires kept { index < length self.old.calls }
+        requires out { has_out (kept_at index self.old.calls).call branch ≡ true }
+        requires over { (kept_at index self.old.calls).call.live ≡ Nothing }
+        ensures back { self.new ≡ back_at index branch self.old }
+        ensures linked { linked self.new ≡ linked self.old }
+    {
+        self.calls[index].come_back(branch);
+    }
+
+    /// Forgets the call as `forget` does, unless the result was of no branch that was out.
+    fn forget_unless(&mut self, seen: Seen, id: &CallId)
+        requires { AreApart self.old.calls }
+        ensures forgets { Forgets id.now self.old self.new }
+        ensures linked { linked self.new ≡ linked self.old }
+        ensures kept { seen ≡ Seen.Unknown → self.new ≡ self.old }
+        ensures none_spent { (seen ≡ Seen.Unknown → ⊥) → NoneSpent id.now self.new.calls }
+    {
+        match seen {
+            Seen::Unknown => {}
+            Seen::Counted | Seen::Late => self.forget(id),
+        }
+    }
+
+    /// Forgets the call, if it can't be decided any more and no branch of it is out.
+    fn forget(&mut self, id: &CallId)
+        requires { AreApart self.old.calls }
+        ensures forgets { Forgets id.now self.old self.new }
+        ensures linked { linked self.new ≡ linked self.old }
+        ensures none_spent { NoneSpent id.now self.new.calls }
+    {
+        let Some(index) = self.find(id) else {
+            return;
+        };
+        if self.calls[index].is_spent() {
+            forget_in(&mut self.calls, id);
+        }
+    }
+
+    /// Puts the reply to a call into its slot, if it was decided. True where memory is refused to the reply: its connection breaks.
+    fn decide<H: ReplyHook + Drop>(
+        &mut self,
+        alloc: Global,
+        contexts: &mut Contexts<H>,
+        id: &CallId,
+        decided: Option<CallRecord>,
+    ) -> bool
+        requires { IsLinkedWith id.now decided contexts.old self.old }
+        ensures decided { DecidedBy id.now decided self.old self.new result }
+        ensures linked { contexts.new ≡ linked self.new }
+    {
+        let Some(decided) = decided else {
+            return false;
+        };
+        contexts.others_law();
+        match reply_to(alloc, contexts, *id, decided) {
+            Ok(reply) => {
+                self.fill(Some(reply));
+                false
+            }
+            Err(AllocError) => {
+                self.break_conn(contexts, id.conn.number());
+                true
+            }
+        }
+    }
+}
+
+/// Leaves the calls of other ids.
+fn forget_in(calls: &mut Vec<Kept>, id: &CallId)
+    ensures { calls.new.items ≡ filter (λ k. not (is_call k.id id.now)) calls.old.items }
+{
+    calls.retain(|call| !call.is_of(id));
+}
+
+/// Queues the job of the branch that starts, whose room was made as its call began.
+fn start(jobs: &mut VecDeque<Job>, next: Option<Task>, moment: u64)
+    requires { length jobs.old.items + length (option_to_list next) ≤ deque_capacity jobs.old }
+    ensures jobs_are { map (λ j. j.job) jobs.new.items ≡ map (λ j. j.job) jobs.old.items ++ map (job_at moment) (option_to_list next) }
+    ensures size { length jobs.new.items ≡ length jobs.old.items + length (option_to_list next) }
+    ensures room { deque_capacity jobs.new ≡ deque_capacity jobs.old }
+{
+    if let Some(task) = next {
+        jobs.push_back_reserved(Job::new(task, moment));
+    }
+}

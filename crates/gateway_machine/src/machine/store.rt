@@ -1,0 +1,221 @@
+ghost use Rattle.std.specs.Prelude.{◌≡◌, ◌==◌, ◌<◌, false, not, true, length, map, []};
+ghost use Rattle.std.specs.List.{count_by};
+ghost use Rattle.gateway_model.specs.Gateway.{are_all_there};
+ghost use Rattle.gateway_model.specs.Queue.{front};
+ghost use Rattle.gateway_model.specs.Ends.{is_stopped_in, noted};
+ghost use Rattle.gateway_replies.specs.Contexts.{closed};
+ghost use Rattle.gateway_model.specs.Step.{moment_after};
+ghost use Rattle.gateway_model.specs.Store.{IsFound, call_at, conn_at, broken_at, broken_count, broken_if, given_up_if, fill_first, filled_in, hung_if, machine_value};
+
+use crate::job::Job;
+use crate::machine::conn::Conn;
+use crate::machine::kept::Kept;
+use gateway_model::{CallId, Cause};
+use gateway_replies::{Contexts, Reply, ReplyHook};
+use std::alloc::Global;
+use std::collections::VecDeque;
+use std::marker::Model;
+
+/// Moments above this one count as it.
+const LAST_MOMENT: u64 = 1 << 62;
+
+/// The connections that are open, and the calls that are kept: those that can be decided, and those of which a branch is out.
+#[derive(Drop)]
+pub struct Machine {
+    pub(crate) moment: u64,
+    pub(crate) drained: bool,
+    /// By rising number.
+    pub(crate) conns: Vec<Conn>,
+    /// By beginning.
+    pub(crate) calls: Vec<Kept>,
+    /// The jobs not taken yet, with room for those of all branches that wait for their start.
+    pub(crate) jobs: VecDeque<Job>,
+}
+
+impl Model for Machine {
+    ghost use Rattle.std.specs.Prelude.{◌+◌, ◌≤◌, ◌^◌, map, length};
+    ghost use Rattle.std.specs.VecDeque.{deque_capacity};
+    ghost use Rattle.gateway_model.specs.Store.{MachineValue, machine_value, waiting};
+
+    ghost Value = { MachineValue };
+
+    ghost view = { λ m. machine_value m.moment m.drained m.conns.items m.calls.items (map (λ j. j.job) m.jobs.items) };
+
+    ghost invariant = { λ m. (length m.jobs.items + waiting m.calls.items ≤ deque_capacity m.jobs) × (m.moment ≤ 2 ^ 62) };
+}
+
+impl Machine {
+    /// No connection and no call.
+    pub fn new(alloc: Global) -> Machine
+        ensures { result ≡ machine_value 0 false [] [] [] }
+    {
+        Machine {
+            moment: 0,
+            drained: false,
+            conns: Vec::new(alloc),
+            calls: Vec::new(alloc),
+            jobs: VecDeque::new(alloc),
+        }
+    }
+
+    /// Whether a job waits to be taken.
+    pub fn has_job(&self) -> bool
+        ensures { result ≡ not (length self.now.jobs == 0) }
+    {
+        !self.jobs.is_empty()
+    }
+
+    /// Takes a moment, in milliseconds, and answers the greatest so far.
+    pub(crate) fn tell(&mut self, moment: u64) -> u64
+        ensures greatest { result ≡ moment_after self.old.moment moment }
+        ensures told { self.new ≡ record self.old { moment = moment_after self.old.moment moment } }
+    {
+        self.moment = self.moment.max(moment.min(LAST_MOMENT));
+        self.moment
+    }
+
+    /// Takes note of what may end calls: the drain, or that the peer of a connection hung up.
+    pub(crate) fn note(&mut self, cause: &Cause)
+        ensures { self.new ≡ noted cause.now self.old }
+    {
+        match cause {
+            Cause::Reached(_) => {}
+            Cause::HungUp(number) => hang_up_in(&mut self.conns, *number),
+            Cause::Drained => self.drained = true,
+        }
+    }
+
+    /// Whether the connection of that number is open and broken.
+    #[tactic(auto, using(gateway_model::specs::lemmas::StoreLemmas::none_stopped))]
+    pub(crate) fn is_stopped(&self, number: u64) -> bool
+        ensures { result ≡ is_stopped_in number self.now.conns }
+    {
+        for index in 0..self.conns.len() {
+            if self.conns[index].is_of(number) {
+                return self.conns[index].is_broken();
+            }
+        }
+        false
+    }
+
+    /// How many replies of the connection at that place can be taken.
+    pub(crate) fn untaken(&self, index: usize) -> usize
+        requires { index < length self.now.conns }
+        ensures { result ≡ length (front (conn_at index self.now.conns).slots) }
+    {
+        self.conns[index].untaken()
+    }
+
+    /// Whether each request on the connection at that place has its reply.
+    pub(crate) fn is_idle(&self, index: usize) -> bool
+        requires { index < length self.now.conns }
+        ensures { result ≡ are_all_there (conn_at index self.now.conns).slots }
+    {
+        self.conns[index].is_idle()
+    }
+
+    /// How many branches of the call are out.
+    pub(crate) fn branches_out(&self, id: &CallId) -> u32
+        ensures { result ≡ count_by (λ b. b) (call_at id.now self.now.calls).out }
+    {
+        match self.find(id) {
+            Some(index) => self.calls[index].outs(),
+            None => 0,
+        }
+    }
+
+    /// How many connections are broken.
+    pub(crate) fn broken(&self) -> usize
+        ensures { result ≡ broken_count self.now.conns }
+    {
+        broken_in(&self.conns)
+    }
+
+    /// Where the call is kept.
+    pub(crate) fn find(&self, id: &CallId) -> Option<usize>
+        ensures { IsFound id.now self.now.calls result }
+    {
+        for index in 0..self.calls.len() {
+            if self.calls[index].is_of(id) {
+                return Some(index);
+            }
+        }
+        None
+    }
+
+    /// Memory was refused in a step of the connection: it breaks, and its calls can't be decided any more.
+    pub(crate) fn break_conn<H: ReplyHook + Drop>(
+        &mut self,
+        contexts: &mut Contexts<H>,
+        number: u64,
+    )
+        ensures broken { self.new ≡ broken_at number self.old }
+        ensures closed { contexts.new ≡ closed number contexts.old }
+    {
+        contexts.close(number);
+        give_up(&mut self.calls, number);
+        break_in(&mut self.conns, number);
+    }
+
+    /// Fills the slot of a reply.
+    pub(crate) fn fill(&mut self, reply: Option<Reply>)
+        ensures { self.new ≡ record self.old { conns = filled_in reply self.old.conns } }
+    {
+        if let Some(reply) = reply {
+            fill_in(&mut self.conns, reply);
+        }
+    }
+}
+
+/// How many of these are broken.
+fn broken_in(conns: &Vec<Conn>) -> usize
+    ensures { result ≡ broken_count conns.now.items }
+{
+    let mut count = 0;
+    for index in 0..conns.len() {
+        if conns[index].is_broken() {
+            count += 1;
+        }
+    }
+    count
+}
+
+/// Gives up the calls of the connection.
+pub(crate) fn give_up(calls: &mut Vec<Kept>, number: u64)
+    ensures { calls.new.items ≡ map (given_up_if number) calls.old.items }
+{
+    for index in 0..calls.len() {
+        calls[index].give_up_if(number);
+    }
+}
+
+/// Breaks the connection of that number.
+fn break_in(conns: &mut Vec<Conn>, number: u64)
+    ensures { conns.new.items ≡ map (broken_if number) conns.old.items }
+{
+    for index in 0..conns.len() {
+        conns[index].break_if(number);
+    }
+}
+
+/// The peer of the connection of that number hung up.
+fn hang_up_in(conns: &mut Vec<Conn>, number: u64)
+    ensures { conns.new.items ≡ map (hung_if number) conns.old.items }
+{
+    for index in 0..conns.len() {
+        conns[index].hang_up_if(number);
+    }
+}
+
+/// Fills the slot of the reply in its connection.
+fn fill_in(conns: &mut Vec<Conn>, reply: Reply)
+    ensures { conns.new.items ≡ fill_first reply conns.old.items }
+{
+    let number = reply.id().conn.number();
+    for index in 0..conns.len() {
+        if conns[index].is_of(number) {
+            conns[index].fill(reply);
+            return;
+        }
+    }
+}

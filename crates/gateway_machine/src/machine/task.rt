@@ -1,0 +1,28 @@
+ghost use Rattle.std.specs.Prelude.{◌≡◌};
+ghost use Rattle.std.specs.Arc.{arc_value};
+ghost use Rattle.gateway_model.specs.Job.{left_at, task_of};
+
+use gateway_model::CallId;
+use gateway_replies::Asked;
+use std::marker::Model;
+use std::sync::Arc;
+
+/// A branch of a call that waits for its start.
+#[derive(Drop)]
+pub struct Task {
+    pub(crate) call: CallId,
+    pub(crate) branch: u32,
+    pub(crate) asked: Arc<Asked>,
+}
+
+impl Model for Task {
+    ghost use Rattle.std.specs.Prelude.{◌<◌, length};
+    ghost use Rattle.std.specs.Arc.{arc_value};
+    ghost use Rattle.gateway_model.specs.Job.{TaskValue, task_of};
+
+    ghost Value = { TaskValue };
+
+    ghost view = { λ t. task_of t.call (arc_value t.asked) t.branch };
+
+    ghost invariant = { λ t. t.branch < length (arc_value t.asked).plan.branches };
+}

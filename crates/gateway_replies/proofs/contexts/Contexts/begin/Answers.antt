@@ -1,0 +1,43 @@
+use Rattle.std.proofs.Common.{◌≡◌, ◌∙◌, ◌++◌, ◌∷◌, [], Some, None, true, false, ap, sym}
+use Rattle.std.specs.Arc.{arc_value}
+use Rattle.call_contexts.specs.Standing.{WithHooks}
+use Rattle.gateway_model.specs.Past.{Asked}
+use Rattle.gateway_replies.specs.Contexts.{ContextsValue, ctx_of}
+use Rattle.gateway_replies.specs.Ties.{life_ties, peer_ties}
+use Rattle.gateway_replies.proofs.ContextLemmas.{begun_tied, begun_value, known_conn, no_such, not_known}
+use Rattle.gateway_replies.proofs.contexts.Contexts.begin.Goals as goal
+
+pub unreachable-requires : goal.unreachable-requires
+unreachable-requires g c =
+    let at : ctx_of c.args.id.now.conn (peer_ties c.self.inside.peers.items) ≡ None =
+    ap (λ ps. ctx_of c.args.id.now.conn (peer_ties ps)) (sym c.deref.ensures.value) ∙ ap (λ n. ctx_of n (peer_ties c.deref.result.now)) (sym c.number.ensures) ∙ sym c.ctx_of.ensures
+    ∙ c.in_default.is in
+    let clash : true ≡ false = sym c.requires.known ∙ not_known c.args.id.now.conn c.args.self.now (peer_ties c.self.inside.peers.items) c.self.inside.contexts.standing.conns (ap (λ (v : ContextsValue). v.conns) c.self.view_is) at in
+    cc
+
+pub begin-requires : goal.begin-requires
+begin-requires g c =
+    let at : ctx_of c.args.id.now.conn (peer_ties c.self.inside.peers.items) ≡ Some c.in-Some.conn =
+    ap (λ ps. ctx_of c.args.id.now.conn (peer_ties ps)) (sym c.deref.ensures.value) ∙ ap (λ n. ctx_of n (peer_ties c.deref.result.now)) (sym c.number.ensures) ∙ sym c.ctx_of.ensures ∙ c.in-Some.is in
+    known_conn (peer_ties c.self.inside.peers.items) (life_ties c.self.inside.lives.items) c.self.inside.contexts.standing c.args.id.now.conn c.in-Some.conn c.self.invariant at
+
+pub invariant_of-self-2 : goal.invariant_of-self-2
+invariant_of-self-2 g c =
+    let at : ctx_of c.args.id.now.conn (peer_ties c.self.inside.peers.items) ≡ Some c.in-Some.conn =
+    ap (λ ps. ctx_of c.args.id.now.conn (peer_ties ps)) (sym c.deref.ensures.value) ∙ ap (λ n. ctx_of n (peer_ties c.deref.result.now)) (sym c.number.ensures) ∙ sym c.ctx_of.ensures ∙ c.in-Some.is in
+    begun_tied (peer_ties c.self.inside.peers.items) (peer_ties c.take_hook.new.peers.items) c.self.inside.lives.items c.push_reserved.new.self.items c.self.inside.contexts.standing c.begin.new.self.standing
+    (record { id = c.args.id.now; ctx = c.in-Ok.ctx }) c.in-Some.conn _ _ _ c.take_hook.ensures
+    (c.push_reserved.ensures.items ∙ ap (λ ls. ls ++ record { id = c.args.id.now; ctx = c.in-Ok.ctx } ∷ []) c.in_ok-reserve.ensures.items)
+    (ap (λ (v : WithHooks _ _). v.standing) c.in-Ok.ensures.stands) c.self.invariant at
+    (no_such arc_value (peer_ties c.self.inside.peers.items) (life_ties c.self.inside.lives.items) c.self.inside.contexts.standing c.args.self.now c.args.id.now c.self.invariant c.self.view_is c.requires.fresh)
+
+pub returns-clause-ok : goal.returns-clause-ok
+returns-clause-ok g c =
+    let at : ctx_of c.args.id.now.conn (peer_ties c.self.inside.peers.items) ≡ Some c.in-Some.conn =
+    ap (λ ps. ctx_of c.args.id.now.conn (peer_ties ps)) (sym c.deref.ensures.value) ∙ ap (λ n. ctx_of n (peer_ties c.deref.result.now)) (sym c.number.ensures) ∙ sym c.ctx_of.ensures ∙ c.in-Some.is in
+    begun_value arc_value (peer_ties c.self.inside.peers.items) (peer_ties c.take_hook.new.peers.items) c.self.inside.lives.items c.push_reserved.new.self.items c.self.inside.contexts.standing
+    c.begin.new.self.standing c.args.self.now c.args.asked.now (record { id = c.args.id.now; ctx = c.in-Ok.ctx }) c.in-Some.conn _ _ _ c.take_hook.ensures
+    (c.push_reserved.ensures.items ∙ ap (λ ls. ls ++ record { id = c.args.id.now; ctx = c.in-Ok.ctx } ∷ []) c.in_ok-reserve.ensures.items)
+    (ap (λ (v : WithHooks _ _). v.standing) c.in-Ok.ensures.stands) c.self.invariant at c.self.view_is
+    (ap (λ (a : Asked). a.deadline) c.asked.view_is)
+    (c.in_ok-request_id.ensures ∙ ap (λ (a : Asked). a.request_id) c.asked.view_is)

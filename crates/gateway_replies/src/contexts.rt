@@ -1,0 +1,271 @@
+//! The contexts of the open connections and of their undecided calls, found by the connections' numbers and the calls' ids.
+mod life;
+mod peer;
+
+ghost use Rattle.std.specs.Prelude.{◌≡◌, ◌==◌, IfErr, IfOk, None as Nothing, OnErr, OnOk, filter, false, not, option_map, true};
+ghost use Rattle.std.specs.Arc.{arc_value};
+ghost use Rattle.gateway_replies.specs.Contexts.{KeepsOthers, LivesApart, begun, closed, ctx_for, ctx_of, first_life, first_of, is_life, is_peer, no_contexts, opened, told, without, without_calls, without_first};
+ghost use Rattle.gateway_model.specs.Duty.{MeetsDuty};
+ghost use Rattle.gateway_model.specs.Past.{is_call};
+ghost use Rattle.gateway_model.specs.declared.id.CallId.{CallId as AnyCall};
+ghost use Rattle.gateway_replies.specs.Ties.{life_ties, peer_ties};
+
+use crate::asked::Asked;
+use crate::contexts::life::Life;
+use crate::contexts::peer::Peer;
+use crate::hook::ReplyHook;
+use crate::stock::Stock;
+use call_contexts::CallContexts;
+use context_tree::CtxId;
+use gateway_model::{CallId, Cause, Ending};
+use http_pieces::Bytes;
+use std::alloc::{AllocError, Global};
+use std::marker::Model;
+use std::sync::Arc;
+
+/// The contexts of the open connections and of their undecided calls, and the hooks of these calls.
+#[derive(Drop)]
+pub struct Contexts<H> {
+    contexts: CallContexts<Arc<Bytes>, H>,
+    /// One of each connection that is open and not broken.
+    peers: Vec<Peer<H>>,
+    /// One of each call that can be decided.
+    lives: Vec<Life>,
+}
+
+impl<H> Model for Contexts<H> {
+    ghost use Rattle.std.specs.Arc.{arc_value};
+    ghost use Rattle.gateway_replies.specs.Contexts.{ContextsValue, IsTied, contexts_of};
+    ghost use Rattle.gateway_replies.specs.Ties.{life_ties, peer_ties};
+
+    ghost Value = { ContextsValue };
+
+    ghost view = { λ c. contexts_of arc_value (peer_ties c.peers.items) (life_ties c.lives.items) c.contexts.standing };
+
+    ghost invariant = { λ c. IsTied (peer_ties c.peers.items) (life_ties c.lives.items) c.contexts.standing };
+}
+
+impl<H: ReplyHook + Drop> Contexts<H> {
+    /// Of no connection.
+    pub fn new(alloc: Global) -> Result<Contexts<H>, AllocError>
+        ensures { IfOk result (λ contexts. contexts ≡ no_contexts) }
+    {
+        Ok(Contexts {
+            contexts: CallContexts::new(alloc)?,
+            peers: Vec::new(alloc),
+            lives: Vec::new(alloc),
+        })
+    }
+
+    /// A connection opens, with its context and its hooks. Where memory is refused they come back.
+    pub fn open(&mut self, number: u64, stock: Stock<H>) -> Result<(), Stock<H>>
+        requires { is_peer number self.old.conns ≡ false }
+        ensures ok { OnOk result (self.new ≡ opened number self.old) }
+        ensures back { IfErr result (λ back. back ≡ stock) }
+        ensures err { OnErr result (self.new ≡ self.old) }
+    {
+        if self.peers.reserve(1).is_err() {
+            return Err(stock);
+        }
+        let Ok(ctx) = self.contexts.open() else {
+            return Err(stock);
+        };
+        self.peers.push_reserved(Peer { number, ctx, stock });
+        Ok(())
+    }
+
+    /// A call begins on its connection, with the next of the connection's hooks.
+    pub fn begin(&mut self, id: &CallId, asked: &Asked, now: u64) -> Result<(), AllocError>
+        requires known { is_peer id.now.conn self.old.conns ≡ true }
+        requires fresh { is_life id.now self.old.calls ≡ false }
+        ensures ok { OnOk result (self.new ≡ begun now id.now asked.now self.old) }
+        ensures err { OnErr result (self.new ≡ self.old) }
+    {
+        self.lives.reserve(1)?;
+        let request_id = shared(&asked.request_id)?;
+        let Some(conn) = ctx_of(&self.peers, id.conn.number()) else {
+            unreachable!();
+        };
+        let Some(hook) = take_hook(&mut self.peers, id.conn.number()) else {
+            return Err(AllocError);
+        };
+        let Ok(ctx) = self
+            .contexts
+            .begin(conn, asked.deadline, now, request_id, hook)
+        else {
+            return Err(AllocError);
+        };
+        self.lives.push_reserved(Life { id: *id, ctx });
+        Ok(())
+    }
+
+    /// Tells the contexts what may end calls: those of the calls that this ends have ended.
+    pub fn tell(&mut self, cause: &Cause)
+        ensures { self.new ≡ told cause.now self.old }
+    {
+        match cause {
+            Cause::Reached(moment) => self.contexts.expire(*moment),
+            Cause::HungUp(number) => {
+                if let Some(conn) = ctx_of(&self.peers, *number) {
+                    self.contexts.cancel(conn);
+                }
+            }
+            Cause::Drained => self.contexts.drain(),
+        }
+    }
+
+    /// Calls the hook of the call with what ended it, and lets go of its context.
+    pub fn end(&mut self, id: &CallId, ending: Ending) -> Result<Bytes, AllocError>
+        requires { is_life id.now self.old.calls ≡ true }
+        ensures duty { IfOk result (λ bytes. MeetsDuty ending bytes) }
+        ensures gone { self.new ≡ without id.now self.old }
+    {
+        let Some(ctx) = ctx_for(&self.lives, id) else {
+            unreachable!();
+        };
+        self.contexts.apart_law();
+        remove_life(&mut self.lives, id);
+        match self.contexts.end(ctx, ending) {
+            Some(answer) => answer,
+            None => unreachable!(),
+        }
+    }
+
+    /// Drops the hook of the call uncalled, if it has one, and lets go of its context.
+    pub fn abandon(&mut self, id: &CallId)
+        ensures { self.new ≡ without id.now self.old }
+    {
+        let Some(ctx) = ctx_for(&self.lives, id) else {
+            return;
+        };
+        self.contexts.apart_law();
+        remove_life(&mut self.lives, id);
+        self.contexts.abandon(ctx);
+    }
+
+    /// Drops all hooks of the connection of that number uncalled, and lets go of its contexts.
+    pub fn close(&mut self, number: u64)
+        ensures { self.new ≡ closed number self.old }
+    {
+        self.abandon_all(number);
+        self.let_go(number);
+    }
+
+    /// No call has two contexts. It does nothing.
+    pub fn apart_law(&self)
+        ensures { LivesApart self.now.calls }
+    {
+        let _ = &self.lives;
+    }
+
+    /// Where a call's context goes, nothing changes but for the calls of its connection. It does nothing.
+    pub fn others_law(&self)
+        ensures { (id : AnyCall) → KeepsOthers id.conn self.now (without id self.now) }
+    {
+        let _ = &self.lives;
+    }
+
+    /// Lets go of the context of a connection, of which no call has one.
+    fn let_go(&mut self, number: u64)
+        requires { first_life number self.old.calls ≡ Nothing }
+        ensures { self.new ≡ closed number self.old }
+    {
+        let Some(conn) = ctx_of(&self.peers, number) else {
+            return;
+        };
+        remove_peer(&mut self.peers, number);
+        self.contexts.close(conn);
+    }
+
+    /// Drops the hooks of all calls of the connection of that number.
+    fn abandon_all(&mut self, number: u64)
+        ensures gone { self.new ≡ without_calls number self.old }
+        ensures none { first_life number self.new.calls ≡ Nothing }
+    {
+        for _index in 0..self.lives.len() {
+            self.abandon_first(number);
+        }
+    }
+
+    /// Drops the hook of the first call of the connection of that number.
+    fn abandon_first(&mut self, number: u64)
+        ensures { self.new ≡ without_first (first_life number self.old.calls) self.old }
+    {
+        let Some(id) = first_call(&self.lives, number) else {
+            return;
+        };
+        self.abandon(&id);
+    }
+}
+
+/// The context of the connection of that number.
+fn ctx_of<H>(peers: &[Peer<H>], number: u64) -> Option<CtxId>
+    ensures { result ≡ ctx_of number (peer_ties peers.now) }
+{
+    for peer in peers {
+        if peer.number == number {
+            return Some(peer.ctx);
+        }
+    }
+    None
+}
+
+/// The next hook of the connection of that number.
+fn take_hook<H>(peers: &mut Vec<Peer<H>>, number: u64) -> Option<H>
+    ensures { peer_ties peers.new.items ≡ peer_ties peers.old.items }
+{
+    for index in 0..peers.len() {
+        if peers[index].number == number {
+            return peers[index].stock.take();
+        }
+    }
+    None
+}
+
+/// Leaves the connections of other numbers.
+fn remove_peer<H: Drop>(peers: &mut Vec<Peer<H>>, number: u64)
+    ensures { peers.new.items ≡ filter (λ p. not (p.number == number)) peers.old.items }
+{
+    peers.retain(|peer| peer.number != number);
+}
+
+/// The context of the call.
+fn ctx_for(lives: &[Life], id: &CallId) -> Option<CtxId>
+    ensures { result ≡ ctx_for id.now (life_ties lives.now) }
+{
+    for life in lives {
+        if life.id == *id {
+            return Some(life.ctx);
+        }
+    }
+    None
+}
+
+/// The first call of the connection of that number.
+fn first_call(lives: &[Life], number: u64) -> Option<CallId>
+    ensures { result ≡ first_of number (life_ties lives.now) }
+{
+    for life in lives {
+        if life.id.conn.number() == number {
+            return Some(life.id);
+        }
+    }
+    None
+}
+
+/// Leaves the other calls.
+fn remove_life(lives: &mut Vec<Life>, id: &CallId)
+    ensures { lives.new.items ≡ filter (λ l. not (is_call l.id id.now)) lives.old.items }
+{
+    lives.retain(|life| life.id != *id);
+}
+
+/// The request id, shared once more.
+fn shared(request_id: &Option<Arc<Bytes>>) -> Result<Option<Arc<Bytes>>, AllocError>
+    ensures { IfOk result (λ shared. option_map arc_value shared ≡ option_map arc_value request_id.now) }
+{
+    match request_id {
+        Some(request_id) => Ok(Some(Arc::try_clone(request_id)?)),
+        None => Ok(None),
+    }
+}

@@ -1,0 +1,20 @@
+//! Replies, and what they are made of: what a call asks for, its context with its hook, and the reply that its record comes to.
+#![tactic(auto)]
+
+mod answers;
+mod asked;
+mod contexts;
+mod decided;
+mod ending;
+mod hook;
+mod joined;
+mod reply;
+mod stock;
+
+pub use asked::Asked;
+pub use contexts::Contexts;
+pub use decided::reply_to;
+pub use ending::ending_reply;
+pub use hook::{CallHook, ReplyHook};
+pub use reply::Reply;
+pub use stock::{HOOKS, Stock};

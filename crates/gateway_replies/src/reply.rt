@@ -1,0 +1,117 @@
+ghost use Rattle.std.specs.Prelude.{◌≡◌, IfOk, false};
+ghost use Rattle.connect_codec.specs.Verdict.{HasBareStatus};
+ghost use Rattle.gateway_model.specs.Arrival.{is_ask};
+ghost use Rattle.gateway_model.specs.Queue.{answer_of, call_reply};
+ghost use Rattle.gateway_model.specs.Reply.{reply_with};
+ghost use Rattle.gateway_model.specs.declared.entry.ReplyEntry.{ReplyEntry};
+
+use crate::answers::{crowded, judged, refused};
+use connect_codec::Verdict;
+use gateway_model::{CallId, CallRecord, ReplyBytes, ReplyEntry};
+use http_pieces::{Bytes, Refusal};
+use std::alloc::{AllocError, Global};
+use std::marker::Model;
+
+/// A reply, ready to be written to its connection: its bytes are those that answer its entry.
+#[derive(Drop)]
+pub struct Reply {
+    id: CallId,
+    entry: ReplyEntry,
+    message: ReplyBytes,
+}
+
+impl Model for Reply {
+    ghost use Rattle.std.specs.Prelude.{◌≡◌};
+    ghost use Rattle.gateway_model.specs.Queue.{answer_of};
+    ghost use Rattle.gateway_model.specs.Reply.{ReplyValue, reply_with};
+
+    ghost Value = { ReplyValue };
+
+    ghost view = { λ r. reply_with r.id r.entry };
+
+    ghost invariant = { λ r. r.message ≡ answer_of r.entry };
+}
+
+impl Reply {
+    /// The request that it answers: its connection, and its number on it.
+    pub fn id(&self) -> CallId
+        ensures { result ≡ self.now.id }
+    {
+        self.id
+    }
+
+    /// What the request is answered by.
+    pub fn entry(&self) -> &ReplyEntry
+        ensures { result.now ≡ self.now.entry }
+    {
+        &self.entry
+    }
+
+    /// The bytes to be written.
+    pub fn bytes(&self) -> &[u8]
+        ensures { result.now ≡ (answer_of self.now.entry).bytes }
+    {
+        self.message.bytes.as_slice()
+    }
+
+    /// Whether it is the connection's last: no request behind it is read.
+    pub fn last(&self) -> bool
+        ensures { result ≡ (answer_of self.now.entry).last }
+    {
+        self.message.last
+    }
+
+    /// The reply to a stream's refusal.
+    pub fn refused(alloc: Global, id: CallId, refusal: Refusal) -> Result<Reply, AllocError>
+        ensures { IfOk result (λ reply. reply ≡ reply_with id (ReplyEntry.Refused refusal)) }
+    {
+        Ok(Reply {
+            id,
+            entry: ReplyEntry::Refused(refusal),
+            message: refused(alloc, refusal)?,
+        })
+    }
+
+    /// The reply to a request that is no call.
+    pub fn judged(
+        alloc: Global,
+        id: CallId,
+        verdict: Verdict,
+        last: bool,
+    ) -> Result<Reply, AllocError>
+        requires no_call { is_ask verdict ≡ false }
+        requires bare { HasBareStatus verdict }
+        ensures { IfOk result (λ reply. reply ≡ reply_with id (ReplyEntry.Judged verdict last)) }
+    {
+        let message = judged(alloc, &verdict, last)?;
+        Ok(Reply {
+            id,
+            entry: ReplyEntry::Judged(verdict, last),
+            message,
+        })
+    }
+
+    /// The reply to a call too many.
+    pub fn crowded(alloc: Global, id: CallId, last: bool) -> Result<Reply, AllocError>
+        ensures { IfOk result (λ reply. reply ≡ reply_with id (ReplyEntry.Crowded last)) }
+    {
+        Ok(Reply {
+            id,
+            entry: ReplyEntry::Crowded(last),
+            message: crowded(alloc, last)?,
+        })
+    }
+
+    /// The reply to a decided call.
+    pub fn of_call(id: CallId, call: CallRecord, bytes: Bytes) -> Reply
+        requires { bytes ≡ (call_reply call).bytes }
+        ensures { result ≡ reply_with id (ReplyEntry.Call call) }
+    {
+        let last = call.last;
+        Reply {
+            id,
+            entry: ReplyEntry::Call(call),
+            message: ReplyBytes { bytes, last },
+        }
+    }
+}
