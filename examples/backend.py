@@ -1,8 +1,9 @@
 #!/usr/bin/env python3
-"""A backend to try the gateway with: python3 examples/backend.py [--port N] [--delay MS] [--fail STATUS]
+"""A backend to try the gateway with: python3 examples/backend.py [--port N] [--delay MS] [--fail STATUS] [--chunked]
 
 It answers any POST of JSON with a JSON object that names the path asked for and its own port, and has the body in it
-as it came. With --delay it waits so many milliseconds first; with --fail it answers that status and a message.
+as it came. With --delay it waits so many milliseconds first; with --fail it answers that status and a message. With
+--chunked its replies are sent in chunks, as no backend of the gateway may send them.
 """
 
 import argparse
@@ -33,7 +34,11 @@ class Handler(BaseHTTPRequestHandler):
     def answer(self, status, body):
         self.send_response_only(status)
         self.send_header("Content-Type", "application/json")
-        self.send_header("Content-Length", str(len(body)))
+        if self.server.options.chunked:
+            self.send_header("Transfer-Encoding", "chunked")
+            body = b"%x\r\n%s\r\n0\r\n\r\n" % (len(body), body)
+        else:
+            self.send_header("Content-Length", str(len(body)))
         self.end_headers()
         self.wfile.write(body)
 
@@ -54,6 +59,7 @@ def main():
     parser.add_argument("--port", type=int, default=9001)
     parser.add_argument("--delay", type=int, default=0, metavar="MS")
     parser.add_argument("--fail", type=int, metavar="STATUS")
+    parser.add_argument("--chunked", action="store_true")
     options = parser.parse_args()
     server = Server(("127.0.0.1", options.port), Handler)
     server.options = options

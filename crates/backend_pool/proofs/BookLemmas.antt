@@ -1,22 +1,25 @@
 -- Lemmas on what a book stands for.
-use Rattle.std.specs.Prelude.{◌≡◌, ℕ, ◌+◌, ◌≤◌, filter, false, List, [], ◌∷◌, ◌++◌, length, Option, Some, Result, Ok, Err, MatchResult}
+use Rattle.std.specs.Prelude.{◌≡◌, Bool, ℕ, ◌+◌, ◌≤◌, filter, false, List, [], ◌∷◌, ◌++◌, length, Option, Some, Result, Ok, Err, MatchResult}
 use Rattle.std.proofs.Common.{arith, refl, subst, sym, ap, ◌∙◌, length-append}
 use Rattle.gateway_model.specs.declared.entry.ReplyEntry.{ReplyEntry}
-use Rattle.gateway_model.specs.declared.fault.Seen.{Seen}
-use Rattle.gateway_model.specs.declared.fault.Seen.TheVariants.{Counted, Late, Unknown}
-use Rattle.gateway_model.specs.declared.tally.Tally.{Tally}
+use Rattle.gateway_model.specs.declared.seen.Seen.{Seen}
+use Rattle.gateway_model.specs.declared.seen.Seen.TheVariants.{Counted, Late, Unknown}
+use Rattle.gateway_theory.specs.declared.tally.Tally.{Tally}
 use Rattle.gateway_model.specs.declared.id.CallId.{CallId}
-use Rattle.gateway_model.specs.Conn.{ConnValue}
-use Rattle.gateway_model.specs.Events.{Before, GatewayEvent, Occurs, Opening}
-use Rattle.gateway_model.specs.Gateway.{GatewayValue}
+use Rattle.gateway_theory.specs.Conn.{ConnValue}
+use Rattle.gateway_model.specs.Events.{Before, Occurs}
+use Rattle.gateway_model.specs.declared.event.Event.{Event}
+use Rattle.gateway_model.specs.declared.event.Event.TheVariants.{Opening}
+use Rattle.gateway_theory.specs.Gateway.{GatewayValue}
 use Rattle.gateway_model.specs.Job.{JobValue}
-use Rattle.gateway_model.specs.Past.{judged, marked}
-use Rattle.gateway_model.specs.Reply.{ReplyValue}
-use Rattle.gateway_model.specs.Served.{Served, with_reply}
+use Rattle.gateway_model.specs.Past.{how_seen, marked}
+use Rattle.gateway_theory.specs.Replies.{ReplyValue}
+use Rattle.gateway_theory.specs.Served.{Served, with_reply}
 use Rattle.gateway_model.specs.Starts.{Placed, occurrences}
-use Rattle.gateway_model.specs.Store.{conn_of}
-use Rattle.gateway_model.specs.Tally.{is_counted, is_late, is_unknown, most_counted, tally_of}
-use Rattle.backend_pool.specs.Book.{BookStands, BookValue, IsReached, IsTallied, TakesEvent, book_value, bytes_in, results_in}
+use Rattle.gateway_theory.specs.Store.{conn_of}
+use Rattle.gateway_theory.specs.Tally.{is_counted, is_late, is_unknown, most_counted, tally_of}
+use Rattle.gateway_theory.specs.Serving.{KeepsBut}
+use Rattle.backend_pool.specs.Book.{BookStands, BookValue, HandsJobs, HandsReply, IsReached, IsTallied, TakesEvent, TakesOpening, book_value, bytes_in, results_in}
 
 -- ---- how results were seen
 
@@ -51,12 +54,12 @@ reached_tallied v bytes jobs results h = h.4.tallied
 -- ---- one event
 
 -- the core stands for one event more
-abbrev pub CoreTakes : GatewayEvent → GatewayValue → GatewayValue → Type 0
+abbrev pub CoreTakes : Event → GatewayValue → GatewayValue → Type 0
 CoreTakes e v w =
     (opened : List ℕ) (events : Before) (taken : ℕ → List ReplyEntry) (handed : List JobValue) → Served v opened events taken handed
     → Served w opened (e ∷ events) taken handed
 
-takes : (e : GatewayEvent) (v w : GatewayValue) (bytes jobs results more_bytes more_results : ℕ)
+takes : (e : Event) (v w : GatewayValue) (bytes jobs results more_bytes more_results : ℕ)
     → CoreTakes e v w → CoreTallies (results_in e) v w → more_bytes ≡ bytes + bytes_in e → more_results ≡ results + results_in e
     → TakesEvent e (book_value v bytes jobs results) (book_value w more_bytes jobs more_results)
 takes e v w bytes jobs results more_bytes more_results core tallies bytes_is results_is opened events taken handed h = record {
@@ -68,14 +71,14 @@ takes e v w bytes jobs results more_bytes more_results core tallies bytes_is res
 }
 
 -- a book stands for one event more, if its core does and the totals have grown by what the event brings
-pub takes_event : (e : GatewayEvent) (b : BookValue) (v w : GatewayValue) (bytes jobs results more_bytes more_results : ℕ)
+pub takes_event : (e : Event) (b : BookValue) (v w : GatewayValue) (bytes jobs results more_bytes more_results : ℕ)
     → book_value v bytes jobs results ≡ b → CoreTakes e v w → CoreTallies (results_in e) v w → more_bytes ≡ bytes + bytes_in e → more_results ≡ results + results_in e
     → TakesEvent e b (book_value w more_bytes jobs more_results)
 takes_event e b v w bytes jobs results more_bytes more_results is core tallies bytes_is results_is =
     subst (λ (x : BookValue). TakesEvent e x (book_value w more_bytes jobs more_results)) is
     (takes e v w bytes jobs results more_bytes more_results core tallies bytes_is results_is)
 
-pub reached_by : (e : GatewayEvent) (v w : GatewayValue) (bytes jobs results more_bytes more_results : ℕ)
+pub reached_by : (e : Event) (v w : GatewayValue) (bytes jobs results more_bytes more_results : ℕ)
     → CoreTakes e v w → CoreTallies (results_in e) v w → more_bytes ≡ bytes + bytes_in e → more_results ≡ results + results_in e
     → IsReached (book_value v bytes jobs results) → IsReached (book_value w more_bytes jobs more_results)
 reached_by e v w bytes jobs results more_bytes more_results core tallies bytes_is results_is h =
@@ -88,13 +91,8 @@ CoreOpens result v w =
     (opened : List ℕ) (es : Before) (taken : ℕ → List ReplyEntry) (handed : List JobValue) → Served v opened es taken handed
     → MatchResult result (λ _. Served w (opened ++ length es ∷ []) (Opening ∷ es) taken handed) (λ _. Served w opened (Opening ∷ es) taken handed)
 
-abbrev pub BookOpens : {E : Type 0} → Result ℕ E → BookValue → BookValue → Type 0
-BookOpens result b c =
-    (opened : List ℕ) (es : Before) (taken : ℕ → List ReplyEntry) (handed : List JobValue) → BookStands b opened es taken handed
-    → MatchResult result (λ _. BookStands c (opened ++ length es ∷ []) (Opening ∷ es) taken handed) (λ _. BookStands c opened (Opening ∷ es) taken handed)
-
 opens : {E : Type 0} → (result : Result ℕ E) (v w : GatewayValue) (bytes jobs results : ℕ) → CoreOpens result v w → CoreTallies 0 v w
-    → BookOpens result (book_value v bytes jobs results) (book_value w bytes jobs results)
+    → TakesOpening result (book_value v bytes jobs results) (book_value w bytes jobs results)
 opens (Ok n) v w bytes jobs results core tallies opened es taken handed h = record {
   served = core opened es taken handed h.served;
   bytes_are = omega (arith, h.bytes_are);
@@ -111,11 +109,11 @@ opens (Err e) v w bytes jobs results core tallies opened es taken handed h = rec
 }
 
 pub book_opens : {E : Type 0} → (result : Result ℕ E) (b : BookValue) (v w : GatewayValue) (bytes jobs results : ℕ)
-    → book_value v bytes jobs results ≡ b → CoreOpens result v w → CoreTallies 0 v w → BookOpens result b (book_value w bytes jobs results)
+    → book_value v bytes jobs results ≡ b → CoreOpens result v w → CoreTallies 0 v w → TakesOpening result b (book_value w bytes jobs results)
 book_opens result b v w bytes jobs results is core tallies =
-    subst (λ (x : BookValue). BookOpens result x (book_value w bytes jobs results)) is (opens result v w bytes jobs results core tallies)
+    subst (λ (x : BookValue). TakesOpening result x (book_value w bytes jobs results)) is (opens result v w bytes jobs results core tallies)
 
-reached_opened : {E : Type 0} → (result : Result ℕ E) (b c : BookValue) → BookOpens result b c → IsReached b → IsReached c
+reached_opened : {E : Type 0} → (result : Result ℕ E) (b c : BookValue) → TakesOpening result b c → IsReached b → IsReached c
 reached_opened (Ok n) b c more h = (h.0 ++ length h.1 ∷ [], Opening ∷ h.1, h.2, h.3, more h.0 h.1 h.2 h.3 h.4)
 reached_opened (Err e) b c more h = (h.0, Opening ∷ h.1, h.2, h.3, more h.0 h.1 h.2 h.3 h.4)
 
@@ -130,25 +128,6 @@ served_in b v bytes jobs results opened es taken handed is h =
     let same : v ≡ b.core = ap (λ (x : BookValue). x.core) is in
     subst (λ (x : GatewayValue). Served x opened es taken handed) (sym same) h.served
 
--- ---- results
-
-abbrev pub CoreSees : CallId → ℕ → GatewayValue → Seen → Type 0
-CoreSees call branch v seen =
-    (opened : List ℕ) (es : Before) (taken : ℕ → List ReplyEntry) (handed : List JobValue) (occurred : List Placed)
-    → Served v opened es taken handed → Occurs v.plans opened es occurred
-    → (k : ConnValue) → conn_of call.conn v.machine.conns ≡ Some k → k.broken ≡ false → seen ≡ judged call branch (marked (occurrences occurred))
-
-abbrev pub BookSees : CallId → ℕ → BookValue → Seen → Type 0
-BookSees call branch b seen =
-    (opened : List ℕ) (es : Before) (taken : ℕ → List ReplyEntry) (handed : List JobValue) (occurred : List Placed)
-    → BookStands b opened es taken handed → Occurs b.core.plans opened es occurred
-    → (k : ConnValue) → conn_of call.conn b.core.machine.conns ≡ Some k → k.broken ≡ false → seen ≡ judged call branch (marked (occurrences occurred))
-
-pub book_sees : (call : CallId) (branch : ℕ) (b : BookValue) (v : GatewayValue) (bytes jobs results : ℕ) (seen : Seen)
-    → book_value v bytes jobs results ≡ b → CoreSees call branch v seen → BookSees call branch b seen
-book_sees call branch b v bytes jobs results seen is core =
-    subst (λ (x : BookValue). BookSees call branch x seen) is (λ opened es taken handed occurred h. core opened es taken handed occurred h.served)
-
 -- ---- what is taken
 
 abbrev pub CoreHands : List JobValue → GatewayValue → GatewayValue → Type 0
@@ -156,13 +135,8 @@ CoreHands jobs v w =
     (opened : List ℕ) (es : Before) (taken : ℕ → List ReplyEntry) (handed : List JobValue) → Served v opened es taken handed
     → Served w opened es taken (handed ++ jobs)
 
-abbrev pub BookHands : List JobValue → BookValue → BookValue → Type 0
-BookHands jobs b c =
-    (opened : List ℕ) (es : Before) (taken : ℕ → List ReplyEntry) (handed : List JobValue) → BookStands b opened es taken handed
-    → BookStands c opened es taken (handed ++ jobs)
-
 hands : (job : List JobValue) (v w : GatewayValue) (bytes jobs results more : ℕ) → CoreHands job v w → CoreTallies 0 v w → more ≡ jobs + length job
-    → BookHands job (book_value v bytes jobs results) (book_value w bytes more results)
+    → HandsJobs job (book_value v bytes jobs results) (book_value w bytes more results)
 hands job v w bytes jobs results more core tallies more_is opened es taken handed h = record {
   served = core opened es taken handed h.served;
   bytes_are = h.bytes_are;
@@ -172,9 +146,9 @@ hands job v w bytes jobs results more core tallies more_is opened es taken hande
 }
 
 pub book_hands : (job : List JobValue) (b : BookValue) (v w : GatewayValue) (bytes jobs results more : ℕ) → book_value v bytes jobs results ≡ b
-    → CoreHands job v w → CoreTallies 0 v w → more ≡ jobs + length job → BookHands job b (book_value w bytes more results)
+    → CoreHands job v w → CoreTallies 0 v w → more ≡ jobs + length job → HandsJobs job b (book_value w bytes more results)
 book_hands job b v w bytes jobs results more is core tallies more_is =
-    subst (λ (x : BookValue). BookHands job x (book_value w bytes more results)) is (hands job v w bytes jobs results more core tallies more_is)
+    subst (λ (x : BookValue). HandsJobs job x (book_value w bytes more results)) is (hands job v w bytes jobs results more core tallies more_is)
 
 pub reached_by_job : (job : List JobValue) (v w : GatewayValue) (bytes jobs results more : ℕ) → CoreHands job v w → CoreTallies 0 v w → more ≡ jobs + length job
     → IsReached (book_value v bytes jobs results) → IsReached (book_value w bytes more results)
@@ -186,13 +160,8 @@ CoreReplies conn reply v w =
     (opened : List ℕ) (es : Before) (taken : ℕ → List ReplyEntry) (handed : List JobValue) → Served v opened es taken handed
     → Served w opened es (with_reply conn reply taken) handed
 
-abbrev pub BookReplies : ℕ → Option ReplyValue → BookValue → BookValue → Type 0
-BookReplies conn reply b c =
-    (opened : List ℕ) (es : Before) (taken : ℕ → List ReplyEntry) (handed : List JobValue) → BookStands b opened es taken handed
-    → BookStands c opened es (with_reply conn reply taken) handed
-
 replies : (conn : ℕ) (reply : Option ReplyValue) (v w : GatewayValue) (bytes jobs results : ℕ) → CoreReplies conn reply v w → CoreTallies 0 v w
-    → BookReplies conn reply (book_value v bytes jobs results) (book_value w bytes jobs results)
+    → HandsReply conn reply (book_value v bytes jobs results) (book_value w bytes jobs results)
 replies conn reply v w bytes jobs results core tallies opened es taken handed h = record {
   served = core opened es taken handed h.served;
   bytes_are = h.bytes_are;
@@ -202,12 +171,17 @@ replies conn reply v w bytes jobs results core tallies opened es taken handed h 
 }
 
 pub book_replies : (conn : ℕ) (reply given : Option ReplyValue) (b : BookValue) (v w : GatewayValue) (bytes jobs results : ℕ) → given ≡ reply
-    → book_value v bytes jobs results ≡ b → CoreReplies conn reply v w → CoreTallies 0 v w → BookReplies conn given b (book_value w bytes jobs results)
+    → book_value v bytes jobs results ≡ b → CoreReplies conn reply v w → CoreTallies 0 v w → HandsReply conn given b (book_value w bytes jobs results)
 book_replies conn reply given b v w bytes jobs results same is core tallies =
-    subst (λ (r : Option ReplyValue). BookReplies conn r b (book_value w bytes jobs results)) (sym same)
-    (subst (λ (x : BookValue). BookReplies conn reply x (book_value w bytes jobs results)) is (replies conn reply v w bytes jobs results core tallies))
+    subst (λ (r : Option ReplyValue). HandsReply conn r b (book_value w bytes jobs results)) (sym same)
+    (subst (λ (x : BookValue). HandsReply conn reply x (book_value w bytes jobs results)) is (replies conn reply v w bytes jobs results core tallies))
 
 pub reached_by_reply : (conn : ℕ) (reply : Option ReplyValue) (v w : GatewayValue) (bytes jobs results : ℕ) → CoreReplies conn reply v w → CoreTallies 0 v w
     → IsReached (book_value v bytes jobs results) → IsReached (book_value w bytes jobs results)
 reached_by_reply conn reply v w bytes jobs results core tallies h =
     (h.0, h.1, with_reply conn reply h.2, h.3, replies conn reply v w bytes jobs results core tallies h.0 h.1 h.2 h.3 h.4)
+
+-- what the core keeps, the book's keeps
+pub core_keeps : (closed breaks : ℕ → Bool) (seen : List Seen) (b : BookValue) (v w : GatewayValue) (bytes jobs results : ℕ)
+    → book_value v bytes jobs results ≡ b → KeepsBut closed breaks seen v w → KeepsBut closed breaks seen b.core w
+core_keeps closed breaks seen b v w bytes jobs results is keeps = subst (λ (x : BookValue). KeepsBut closed breaks seen x.core w) is keeps

@@ -4,7 +4,7 @@ use Rattle.std.proofs.Common.{arith, lit≤}
 use Rattle.std.proofs.lemmas.Grind.{common_steps}
 use Rattle.std.specs.List.{AllZip}
 use Rattle.connect_codec.specs.declared.answer.Outcome.{Outcome}
-use Rattle.gateway_model.specs.Job.{HandedJob}
+use Rattle.gateway_theory.specs.Task.{HandedJob}
 use Rattle.backend_pool.specs.declared.asked.Asked.{Asked}
 use Rattle.backend_pool.specs.Work.{Told, WorksAt, NextTells, RecordTells, IsOutcomeOf, desk_record}
 

@@ -1,18 +1,21 @@
 -- The core with its three totals, and the events that it stands for.
-use Rattle.std.specs.Prelude.{◌≡◌, ℕ, ◌+◌, ◌^◌, true, List, [], ◌∷◌, ◌++◌, length, Option, Some, None, is_some, option_map, option_to_list}
+use Rattle.std.specs.Prelude.{◌≡◌, ℕ, ◌+◌, ◌^◌, ◌<◌, IfOk, MatchResult, Result, true, List, [], ◌∷◌, ◌++◌, length, Option, Some, None, is_some, option_map, option_to_list}
 use Rattle.gateway_model.specs.declared.entry.ReplyEntry.{ReplyEntry}
-use Rattle.gateway_model.specs.declared.fault.Seen.{Seen}
-use Rattle.gateway_model.specs.declared.fault.Seen.TheVariants.{Counted, Unknown}
-use Rattle.gateway_model.specs.declared.fault.Took.{Took}
-use Rattle.gateway_model.specs.Events.{Before, BranchResult, GatewayEvent, Piece}
-use Rattle.gateway_model.specs.Gateway.{GatewayValue}
-use Rattle.gateway_model.specs.Job.{HandedJob, JobValue}
+use Rattle.gateway_model.specs.declared.seen.Seen.{Seen}
+use Rattle.gateway_model.specs.declared.seen.Seen.TheVariants.{Counted, Unknown}
+use Rattle.gateway_theory.specs.declared.fault.Took.{Took}
+use Rattle.gateway_model.specs.Events.{Before, most_open, open_connections}
+use Rattle.gateway_model.specs.declared.event.Event.TheVariants.{BranchResult, Opening, Piece}
+use Rattle.gateway_model.specs.declared.event.Event.{Event}
+use Rattle.gateway_theory.specs.Gateway.{GatewayValue}
+use Rattle.gateway_theory.specs.Task.{HandedJob}
+use Rattle.gateway_model.specs.Job.{JobValue}
 use Rattle.gateway_model.specs.Occurrence.{Occurrence}
-use Rattle.gateway_model.specs.Reply.{ReplyValue}
-use Rattle.gateway_model.specs.Served.{Served}
-use Rattle.gateway_model.specs.Serving.{Breaks, BreaksBy}
-use Rattle.gateway_model.specs.Store.{call_at}
-use Rattle.gateway_model.specs.Tally.{tally_of}
+use Rattle.gateway_theory.specs.Replies.{ReplyValue}
+use Rattle.gateway_theory.specs.Served.{Served, with_reply}
+use Rattle.gateway_theory.specs.Serving.{Breaks, BreaksBy}
+use Rattle.gateway_theory.specs.Told.{IsWanted}
+use Rattle.gateway_theory.specs.Tally.{tally_of}
 use Rattle.backend_pool.specs.declared.shares.Totals.{Totals}
 use Rattle.backend_pool.specs.declared.next_reply.NextReply.{NextReply}
 use Rattle.backend_pool.specs.declared.next_reply.NextReply.TheVariants.{Ready, Pending, Over}
@@ -37,12 +40,12 @@ most_total = 2 ^ 62
 -- ---- totals
 
 -- the bytes that an event brings
-abbrev pub bytes_in : GatewayEvent → ℕ
+abbrev pub bytes_in : Event → ℕ
 bytes_in (Piece conn bytes) = length bytes
 bytes_in _ = 0
 
 -- the results that an event brings
-abbrev pub results_in : GatewayEvent → ℕ
+abbrev pub results_in : Event → ℕ
 results_in (BranchResult conn request branch outcome) = 1
 results_in _ = 0
 
@@ -69,10 +72,32 @@ pub record BookStands (b : BookValue) (opened : List ℕ) (events : Before) (tak
   pub tallied : IsTallied b.core b.results
 
 -- whatever it stood for, it stands for that and this event more
-abbrev pub TakesEvent : GatewayEvent → BookValue → BookValue → Type 0
+abbrev pub TakesEvent : Event → BookValue → BookValue → Type 0
 TakesEvent e b c =
     (opened : List ℕ) (events : Before) (taken : ℕ → List ReplyEntry) (handed : List JobValue) → BookStands b opened events taken handed
     → BookStands c opened (e ∷ events) taken handed
+
+-- an opening more, which succeeded or did not; it succeeds only where fewer are open than may be
+abbrev pub TakesOpening : {E : Type 0} → Result ℕ E → BookValue → BookValue → Type 0
+TakesOpening result b c =
+    (opened : List ℕ) (es : Before) (taken : ℕ → List ReplyEntry) (handed : List JobValue) → BookStands b opened es taken handed
+    → MatchResult result (λ _. BookStands c (opened ++ length es ∷ []) (Opening ∷ es) taken handed) (λ _. BookStands c opened (Opening ∷ es) taken handed)
+
+abbrev pub OpensFew : {E : Type 0} → Result ℕ E → BookValue → Type 0
+OpensFew result b =
+    (opened : List ℕ) (es : Before) (taken : ℕ → List ReplyEntry) (handed : List JobValue) → BookStands b opened es taken handed
+    → IfOk result (λ _. open_connections opened es < most_open)
+
+-- these jobs were taken, or the reply of that connection, if there was one, and no event came
+abbrev pub HandsJobs : List JobValue → BookValue → BookValue → Type 0
+HandsJobs jobs b c =
+    (opened : List ℕ) (es : Before) (taken : ℕ → List ReplyEntry) (handed : List JobValue) → BookStands b opened es taken handed
+    → BookStands c opened es taken (handed ++ jobs)
+
+abbrev pub HandsReply : ℕ → Option ReplyValue → BookValue → BookValue → Type 0
+HandsReply conn reply b c =
+    (opened : List ℕ) (es : Before) (taken : ℕ → List ReplyEntry) (handed : List JobValue) → BookStands b opened es taken handed
+    → BookStands c opened es (with_reply conn reply taken) handed
 
 -- there are events that it stands for
 abbrev pub IsReached : BookValue → Type 0
@@ -81,13 +106,6 @@ IsReached b =
 
 -- ---- what a call tells
 
--- a connection breaks only by a result that counts and concerns it, and nothing but the tally changes by one of a branch that is not out
-pub record TellsTook (o : Occurrence) (took : Took) (v w : GatewayValue) : Type 0 where
-  pub counted : took.broke ≡ true → took.seen ≡ Counted
-  pub broke : Breaks v w took.broke
-  pub concerned : BreaksBy o v w
-  pub unknown : took.seen ≡ Unknown → w ≡ record v { tally = w.tally }
-
 abbrev pub job_list : Option HandedJob → List JobValue
 job_list job = option_to_list (option_map (λ j. j.job) job)
 
@@ -95,7 +113,7 @@ job_list job = option_to_list (option_map (λ j. j.job) job)
 pub record GivesJob (job : Option HandedJob) (v w : GatewayValue) : Type 0 where
   pub first : v.machine.jobs ≡ job_list job ++ w.machine.jobs
   pub none : job ≡ None → v.machine.jobs ≡ []
-  pub wanted : (j : HandedJob) → job ≡ Some j → j.wanted ≡ is_some (call_at j.job.call v.machine.calls).live
+  pub wanted : (j : HandedJob) → job ≡ Some j → IsWanted j.job.call v j.wanted
 
 -- the reply that is given, if one is
 abbrev pub reply_given : NextReply → Option ReplyValue

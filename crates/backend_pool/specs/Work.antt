@@ -3,7 +3,7 @@ use Rattle.std.specs.Prelude.{◌≡◌, ℕ, ◌≤◌, ⊤, Bool, true, false,
 use Rattle.std.specs.List.{AllZip}
 use Rattle.connect_codec.specs.declared.answer.Outcome.{Outcome}
 use Rattle.connect_codec.specs.Outcome.{outcome_of}
-use Rattle.gateway_model.specs.Job.{HandedJob}
+use Rattle.gateway_theory.specs.Task.{HandedJob}
 use Rattle.backend_pool.specs.declared.asked.Asked.{Asked}
 use Rattle.backend_pool.specs.declared.asked.Asked.TheVariants.{Reply, Lost, NoMemory}
 use Rattle.backend_pool.specs.declared.desk_record.DeskRecord.{DeskRecord}

@@ -1,4 +1,4 @@
-ghost use Rattle.gateway_model.specs.Job.{HandedJob};
+ghost use Rattle.gateway_theory.specs.Task.{HandedJob};
 ghost use Rattle.backend_pool.specs.declared.asked.Asked.{Asked};
 
 use crate::asked::Asked;

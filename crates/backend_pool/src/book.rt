@@ -1,23 +1,29 @@
+ghost use Rattle.gateway_model.specs.Known.{IsKnown};
+ghost use Rattle.gateway_theory.specs.Told.{TellsTook};
+ghost use Rattle.gateway_theory.specs.Serving.{CountsCalls, Keeps, KeepsBut};
+ghost use Rattle.gateway_theory.specs.Gateway.{shown};
 ghost use Rattle.std.specs.Prelude.{◌≡◌, ◌==◌, ◌+◌, ◌<◌, ◌≤◌, ◌^◌, ◌∷◌, ◌++◌, [], Err, IfErr, IfOk, IfSome, IsTrue, List, MatchResult, None, OnErr, OnOk, Some, false, true, is_some, length, option_map, option_to_list, ℕ, ◌↔◌, ◌⊎◌};
 ghost use Rattle.gateway_model.specs.declared.id.CallId.{CallId};
 ghost use Rattle.connect_codec.specs.declared.answer.Outcome.{Outcome as Outcomes};
 ghost use Rattle.gateway_model.specs.declared.entry.ReplyEntry.{ReplyEntry};
-ghost use Rattle.gateway_model.specs.Conn.{ConnValue};
-ghost use Rattle.gateway_model.specs.Events.{Before, GatewayEvent, BranchResult, Closing, Drain, HangUp, Moment, Occurs, Opening, Piece, most_open, open_connections};
-ghost use Rattle.gateway_model.specs.Gateway.{is_ended, next_reply, outs_of, untaken_of};
+ghost use Rattle.gateway_theory.specs.Conn.{ConnValue};
+ghost use Rattle.gateway_model.specs.Events.{Occurs, most_open};
+ghost use Rattle.gateway_model.specs.declared.event.Event.{Event};
+ghost use Rattle.gateway_model.specs.declared.event.Event.TheVariants.{BranchResult, Closing, Drain, HangUp, Moment, Piece};
+ghost use Rattle.gateway_theory.specs.Gateway.{is_ended, next_reply, outs_of, untaken_of};
 ghost use Rattle.gateway_model.specs.Job.{JobValue};
-ghost use Rattle.gateway_model.specs.Past.{Asked, call, judged, marked};
+ghost use Rattle.gateway_model.specs.Past.{ArrivedCall, call, marked};
 ghost use Rattle.gateway_model.specs.Queue.{record_of};
 ghost use Rattle.gateway_model.specs.Record.{is_decided, is_lawful};
-ghost use Rattle.gateway_model.specs.Refused.{RefusesOpening};
-ghost use Rattle.gateway_model.specs.Served.{Served, with_reply};
+ghost use Rattle.gateway_theory.specs.Refused.{RefusesOpening};
+ghost use Rattle.gateway_theory.specs.Served.{Served};
 ghost use Rattle.gateway_model.specs.Occurrence as concerning;
-ghost use Rattle.gateway_model.specs.Serving.{Breaks, BreaksBy, FewCalls, TakesOnly, TellsStep};
+ghost use Rattle.gateway_theory.specs.Serving.{Breaks, BreaksBy, FewCalls, TakesOnly, TellsStep};
 ghost use Rattle.gateway_model.specs.Starts.{Placed, occurrences};
-ghost use Rattle.gateway_model.specs.Step.{Live};
-ghost use Rattle.gateway_model.specs.Store.{call_at, conn_of};
+ghost use Rattle.gateway_theory.specs.Step.{Live};
+ghost use Rattle.gateway_theory.specs.Store.{call_at, conn_of};
 ghost use Rattle.backend_pool.specs.declared.next_reply.NextReply.{NextReply};
-ghost use Rattle.backend_pool.specs.Book.{BookStands, GivesJob, TakesEvent, TellsTook, book_value, job_list, most_total, reply_given, totals_of};
+ghost use Rattle.backend_pool.specs.Book.{book_value, BookStands, GivesJob, HandsJobs, HandsReply, job_list, most_total, OpensFew, reply_given, TakesEvent, TakesOpening, totals_of};
 
 use crate::counter::Counter;
 use crate::ledger_full::LedgerFull;
@@ -28,8 +34,8 @@ use connect_codec::Outcome;
 use gateway_core::{
     CallId, ConnId, Core, Job, OpenError, ReplyHook, StepFault, Stock, Tally, Took,
 };
-use gateway_model::served_laws::calls_law;
 use gateway_run::deliver;
+use gateway_theory::served_laws::{calls_law, known_law};
 use std::alloc::{AllocError, Global};
 use std::marker::Model;
 use std::sync::ledger::{Ledger, Share};
@@ -99,18 +105,14 @@ impl<H: ReplyHook + Drop, L: Ledger, J: Ledger, K: Ledger> Book<H, L, J, K> {
     /// Opens a connection, each of whose calls gets one of these hooks. A refusal is the first that applies of `Full`,
     /// `Exhausted` and `Memory`; it changes nothing, and the hooks come back.
     pub fn opening(&mut self, stock: Stock<H>) -> Result<ConnId, (Stock<H>, OpenError)>
-        ensures stands { (opened : List ℕ) (es : Before) (taken : ℕ → List ReplyEntry) (handed : List JobValue)
-            → BookStands self.old opened es taken handed
-            → MatchResult result (λ _. BookStands self.new (opened ++ length es ∷ []) (Opening ∷ es) taken handed)
-            (λ _. BookStands self.new opened (Opening ∷ es) taken handed) }
-        ensures few { (opened : List ℕ) (es : Before) (taken : ℕ → List ReplyEntry) (handed : List JobValue)
-            → BookStands self.old opened es taken handed
-            → IfOk result (λ _. open_connections opened es < most_open) }
+        ensures stands { TakesOpening result self.old self.new }
+        ensures few { OpensFew result self.old }
         ensures number { IfOk result (λ conn. conn ≡ self.old.core.opened) }
         ensures refused { IfErr result (λ e. RefusesOpening e.1 self.old.core) }
         ensures back { IfErr result (λ e. e.0 ≡ stock) }
         ensures unchanged { OnErr result (self.new ≡ self.old) }
         ensures counts { self.new ≡ record self.old { core = self.new.core } }
+        ensures keeps { Keeps (λ c. false) self.old.core self.new.core }
     {
         self.core.open_conn(stock)
     }
@@ -129,8 +131,9 @@ impl<H: ReplyHook + Drop, L: Ledger, J: Ledger, K: Ledger> Book<H, L, J, K> {
         ensures counts { OnOk result
             (self.new ≡ record self.old { core = self.new.core; bytes = self.old.bytes + length bytes.now }) }
         ensures full { MatchResult result (λ _. self.old.bytes + length bytes.now ≤ most_total)
-            (λ _. most_total < self.old.bytes + length bytes.now) }
-        ensures unchanged { OnErr result (self.new ≡ self.old) }
+            (λ _. (most_total < self.old.bytes + length bytes.now) × (self.new ≡ self.old)) }
+        ensures begun { OnOk result (CountsCalls self.old.core self.new.core) }
+        ensures keeps { OnOk result (Keeps (λ c. c == conn) self.old.core self.new.core) }
         ensures share { MatchResult result (λ _. mine.new.amount ≡ mine.old.amount + length bytes.now)
             (λ _. mine.new.amount ≡ mine.old.amount) }
         ensures parts { mine.new.parts ≡ mine.old.parts }
@@ -149,6 +152,7 @@ impl<H: ReplyHook + Drop, L: Ledger, J: Ledger, K: Ledger> Book<H, L, J, K> {
         ensures tells { TellsStep conn self.old.core self.new.core result }
         ensures begins { result ≡ Err StepFault.Exhausted → ⊥ }
         ensures counts { self.new ≡ record self.old { core = self.new.core } }
+        ensures keeps { Keeps (λ c. c == conn) self.old.core self.new.core }
     {
         self.core.hang_up(conn)
     }
@@ -159,6 +163,7 @@ impl<H: ReplyHook + Drop, L: Ledger, J: Ledger, K: Ledger> Book<H, L, J, K> {
         ensures broke { Breaks self.old.core self.new.core result }
         ensures concerned { BreaksBy (concerning.Moment moment) self.old.core self.new.core }
         ensures counts { self.new ≡ record self.old { core = self.new.core } }
+        ensures keeps { Keeps (λ c. true) self.old.core self.new.core }
     {
         self.core.moment(moment)
     }
@@ -169,6 +174,7 @@ impl<H: ReplyHook + Drop, L: Ledger, J: Ledger, K: Ledger> Book<H, L, J, K> {
         ensures broke { Breaks self.old.core self.new.core result }
         ensures concerned { BreaksBy concerning.Drain self.old.core self.new.core }
         ensures counts { self.new ≡ record self.old { core = self.new.core } }
+        ensures keeps { Keeps (λ c. true) self.old.core self.new.core }
     {
         self.core.drain()
     }
@@ -178,6 +184,7 @@ impl<H: ReplyHook + Drop, L: Ledger, J: Ledger, K: Ledger> Book<H, L, J, K> {
         ensures stands { TakesEvent (Closing conn) self.old self.new }
         ensures closed { result ≡ is_some (conn_of conn self.old.core.machine.conns) }
         ensures counts { self.new ≡ record self.old { core = self.new.core } }
+        ensures keeps { KeepsBut (λ c. c == conn) (λ c. false) [] self.old.core self.new.core }
     {
         self.core.close(conn)
     }
@@ -193,13 +200,9 @@ impl<H: ReplyHook + Drop, L: Ledger, J: Ledger, K: Ledger> Book<H, L, J, K> {
         requires { 0 < mine.old.parts }
         ensures stands { OnOk result
             (TakesEvent (BranchResult call.now.conn call.now.request branch outcome) self.old self.new) }
-        ensures seen { (opened : List ℕ) (es : Before) (taken : ℕ → List ReplyEntry) (handed : List JobValue)
-            (occurred : List Placed) → BookStands self.old opened es taken handed
-            → Occurs self.old.core.plans opened es occurred
-            → (k : ConnValue) → conn_of call.now.conn self.old.core.machine.conns ≡ Some k → k.broken ≡ false
-            → IfOk result (λ took. took.seen ≡ judged call.now branch (marked (occurrences occurred))) }
-        ensures tells { IfOk result (λ took.
-            TellsTook (concerning.Result call.now branch outcome) took self.old.core self.new.core) }
+        ensures tells { IfOk result (λ took. TellsTook call.now branch outcome took self.old.core self.new.core) }
+        ensures keeps { IfOk result (λ took.
+            KeepsBut (λ c. false) (λ c. c == call.now.conn) (took.seen ∷ []) self.old.core self.new.core) }
         ensures counts { OnOk result
             (self.new ≡ record self.old { core = self.new.core; results = self.old.results + 1 }) }
         ensures full { MatchResult result (λ _. self.old.results + 1 ≤ most_total)
@@ -227,13 +230,10 @@ impl<H: ReplyHook + Drop, L: Ledger, J: Ledger, K: Ledger> Book<H, L, J, K> {
         ensures stands { OnOk result
             ((outcome : Outcomes)
             → TakesEvent (BranchResult call.now.conn call.now.request branch outcome) self.old self.new) }
-        ensures seen { (opened : List ℕ) (es : Before) (taken : ℕ → List ReplyEntry) (handed : List JobValue)
-            (occurred : List Placed) → BookStands self.old opened es taken handed
-            → Occurs self.old.core.plans opened es occurred
-            → (k : ConnValue) → conn_of call.now.conn self.old.core.machine.conns ≡ Some k → k.broken ≡ false
-            → IfOk result (λ took. took.seen ≡ judged call.now branch (marked (occurrences occurred))) }
         ensures tells { IfOk result (λ took. (outcome : Outcomes)
-            → TellsTook (concerning.Result call.now branch outcome) took self.old.core self.new.core) }
+            → TellsTook call.now branch outcome took self.old.core self.new.core) }
+        ensures keeps { IfOk result (λ took.
+            KeepsBut (λ c. false) (λ c. c == call.now.conn) (took.seen ∷ []) self.old.core self.new.core) }
         ensures counts { OnOk result
             (self.new ≡ record self.old { core = self.new.core; results = self.old.results + 1 }) }
         ensures full { MatchResult result (λ _. self.old.results + 1 ≤ most_total)
@@ -254,10 +254,7 @@ impl<H: ReplyHook + Drop, L: Ledger, J: Ledger, K: Ledger> Book<H, L, J, K> {
     /// 2^62 it answers `LedgerFull`.
     pub fn take_job(&mut self, mine: &mut Share<J>) -> Result<Option<Job>, LedgerFull>
         requires { 0 < mine.old.parts }
-        ensures stands { IfOk result (λ job.
-            (opened : List ℕ) (es : Before) (taken : ℕ → List ReplyEntry) (handed : List JobValue)
-            → BookStands self.old opened es taken handed
-            → BookStands self.new opened es taken (handed ++ job_list job)) }
+        ensures stands { IfOk result (λ job. HandsJobs (job_list job) self.old self.new) }
         ensures gives { IfOk result (λ job. GivesJob job self.old.core self.new.core) }
         ensures rest { IfOk result (λ job. self.new ≡ record self.old {
           core = record self.old.core { machine = record self.old.core.machine { jobs = self.new.core.machine.jobs } };
@@ -282,9 +279,7 @@ impl<H: ReplyHook + Drop, L: Ledger, J: Ledger, K: Ledger> Book<H, L, J, K> {
 
     /// Hands out the next reply of a connection, in order of its requests.
     pub fn take_reply(&mut self, conn: ConnId) -> NextReply
-        ensures stands { (opened : List ℕ) (es : Before) (taken : ℕ → List ReplyEntry) (handed : List JobValue)
-            → BookStands self.old opened es taken handed
-            → BookStands self.new opened es (with_reply conn (reply_given result) taken) handed }
+        ensures stands { HandsReply conn (reply_given result) self.old self.new }
         ensures first { untaken_of conn self.old.core
             ≡ option_to_list (option_map (λ r. r.entry) (reply_given result)) ++ untaken_of conn self.new.core }
         ensures its { IfSome (reply_given result) (λ r. r.id ≡ next_reply conn self.old.core) }
@@ -305,18 +300,28 @@ impl<H: ReplyHook + Drop, L: Ledger, J: Ledger, K: Ledger> Book<H, L, J, K> {
     pub fn bounds_law(&self)
         ensures few { length self.now.core.streams ≤ most_open }
         ensures calls { FewCalls self.now.core.machine.conns }
-        ensures records { (id : CallId) (k : ConnValue) (l : Live) (opened : List ℕ) (es : List GatewayEvent) (taken : ℕ → List ReplyEntry)
+        ensures records { (id : CallId) (k : ConnValue) (l : Live) (opened : List ℕ) (es : List Event) (taken : ℕ → List ReplyEntry)
             (handed : List JobValue) (occurred : List Placed)
             → Served self.now.core opened es taken handed → Occurs self.now.core.plans opened es occurred
             → conn_of id.conn self.now.core.machine.conns ≡ Some k → k.broken ≡ false → (call_at id self.now.core.machine.calls).live ≡ Some l
             → (is_lawful (record_of l.asked l.events) ≡ true) × (is_decided (record_of l.asked l.events) ≡ false) }
-        ensures limit { (id : CallId) (a : Asked) (opened : List ℕ) (es : List GatewayEvent) (taken : ℕ → List ReplyEntry)
+        ensures limit { (id : CallId) (a : ArrivedCall) (opened : List ℕ) (es : List Event) (taken : ℕ → List ReplyEntry)
             (handed : List JobValue) (occurred : List Placed)
             → Served self.now.core opened es taken handed → Occurs self.now.core.plans opened es occurred
             → call id (marked (occurrences occurred)) ≡ Some a → outs_of id self.now.core ≤ a.plan.limit }
     {
         self.core.bounds_law();
         calls_law();
+    }
+
+    /// What is known of the gateway by the events that it stands for, whichever they are. It does nothing.
+    pub fn known_law(&self)
+        ensures known { (opened : List ℕ) (es : List Event) (taken : ℕ → List ReplyEntry) (handed : List JobValue)
+            (occurred : List Placed) → BookStands self.now opened es taken handed
+            → Occurs self.now.core.plans opened es occurred
+            → IsKnown (shown self.now.core) opened es (occurrences occurred) taken handed }
+    {
+        known_law();
     }
 
     /// Whether some branch may be asked or is: a job waits to be taken, or one that was taken has no result yet.

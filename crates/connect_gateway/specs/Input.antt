@@ -3,11 +3,12 @@ use Rattle.std.specs.Prelude.{◌≡◌, ◌≤◌, ◌⊎◌, ℕ, List, length
 use Rattle.std.specs.Io.KnownBytes.{Appends, Consumes, IsAtEnd}
 use Rattle.call_plan.specs.Plan.{PlanRecord}
 use Rattle.call_plan.specs.PlanFile.{plans_in}
-use Rattle.gateway_run.specs.Run.{IsRun, newest_first}
+use Rattle.gateway_run.specs.Running.{IsRun}
+use Rattle.gateway_model.specs.Run.{newest_first}
 use Rattle.gateway_run.specs.RunText.{run_text}
 use Rattle.gateway_run.specs.Script.{script_in}
-use Rattle.gateway_run.specs.declared.event.Event.{Event}
-use Rattle.gateway_run.specs.declared.outcome.Run.{Run}
+use Rattle.gateway_model.specs.declared.event.Event.{Event}
+use Rattle.gateway_model.specs.declared.run.Run.{Run}
 
 -- the whole text was read, and is no longer than it may be
 abbrev pub ReadsWhole : Option (List ℕ) → Option (List ℕ) → List ℕ → Type 0

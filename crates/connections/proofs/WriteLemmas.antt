@@ -8,7 +8,7 @@ use Rattle.std.proofs.lemmas.Grind.{common_steps, flat_map-append}
 use Rattle.std.specs.Io.KnownBytes.{Appends}
 use Rattle.gateway_model.specs.declared.id.CallId.{CallId}
 use Rattle.gateway_model.specs.Past.{call_id}
-use Rattle.gateway_model.specs.Reply.{ReplyValue}
+use Rattle.gateway_theory.specs.Replies.{ReplyValue}
 use Rattle.connections.specs.declared.queue.Handed.{Handed}
 use Rattle.connections.specs.declared.queue.Handed.TheVariants.{Reply, Over}
 use Rattle.connections.specs.Told.{Tells}

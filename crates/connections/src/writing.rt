@@ -1,6 +1,6 @@
 ghost use Rattle.std.specs.Prelude.{◌≡◌, ◌≤◌, ◌++◌, [], length, take, vec_len, List, map, false};
 ghost use Rattle.std.specs.Io.KnownBytes.{Appends};
-ghost use Rattle.gateway_model.specs.Reply.{ReplyValue};
+ghost use Rattle.gateway_theory.specs.Replies.{ReplyValue};
 ghost use Rattle.connections.specs.Writes.{End, Writes, WritesToItsEnd, goes_on, calls_of};
 
 use crate::queue::ReplyQueue;

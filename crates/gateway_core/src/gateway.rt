@@ -1,29 +1,31 @@
-ghost use Rattle.std.specs.Prelude.{◌≡◌, ◌==◌, ◌^◌, ◌∷◌, ◌++◌, ◌<◌, ◌≤◌, [], Err, IfOk, IfErr, IfSome, None, OnErr, OnOk, Some, false, is_some, not, ℕ, List, MatchResult, length, option_map, option_to_list, take, true};
+ghost use Rattle.std.specs.Prelude.{◌≡◌, ◌==◌, ◌∷◌, ◌++◌, ◌<◌, ◌≤◌, [], Err, IfOk, IfErr, IfSome, None, OnErr, OnOk, Some, false, is_some, not, ℕ, List, length, option_map, option_to_list, true};
 ghost use Rattle.connect_codec.specs.declared.answer.Outcome.{Outcome as Outcomes};
 ghost use Rattle.gateway_model.specs.declared.entry.ReplyEntry.{ReplyEntry};
-ghost use Rattle.gateway_model.specs.Gateway.{is_broken_conn, is_ended, next_reply, outs_of, untaken_of};
-ghost use Rattle.gateway_model.specs.declared.fault.Seen.{Seen};
+ghost use Rattle.gateway_theory.specs.Gateway.{is_broken_conn, is_ended, shown, next_reply, outs_of, untaken_of};
 ghost use Rattle.gateway_model.specs.Occurrence as concerning;
-ghost use Rattle.gateway_model.specs.Serving.{Breaks, BreaksBy, CountsCalls, FewCalls, IsDeaf, Keeps, KeepsBut, TakesOnly, TellsStep};
-ghost use Rattle.gateway_model.specs.Refused.{RefusesOpening};
-ghost use Rattle.gateway_model.specs.Results.{NoneSpent};
-ghost use Rattle.gateway_model.specs.Tally.{tally_of};
-ghost use Rattle.gateway_model.specs.Conn.{ConnValue};
-ghost use Rattle.gateway_model.specs.Past.{judged, marked};
+ghost use Rattle.gateway_theory.specs.Serving.{Breaks, BreaksBy, CountsCalls, FewCalls, IsDeaf, Keeps, KeepsBut, TakesOnly, TellsStep};
+ghost use Rattle.gateway_theory.specs.Refused.{RefusesOpening};
+ghost use Rattle.gateway_theory.specs.Tally.{tally_of};
 ghost use Rattle.gateway_model.specs.Starts.{Placed, occurrences};
-ghost use Rattle.gateway_model.specs.Store.{call_at, conn_of};
-ghost use Rattle.gateway_model.specs.Events.{open_connections, most_open, BranchResult, Closing, Drain, GatewayEvent, HangUp, Moment, Occurs, Opening, Piece};
-ghost use Rattle.gateway_model.specs.Job.{HandedJob, JobValue};
-ghost use Rattle.gateway_model.specs.Served.{Served, ServedUpTo, with_reply};
+ghost use Rattle.gateway_theory.specs.Store.{conn_of};
+ghost use Rattle.gateway_model.specs.Events.{most_open, Occurs};
+ghost use Rattle.gateway_model.specs.declared.event.Event.TheVariants.{BranchResult, Closing, Drain, HangUp, Moment};
+ghost use Rattle.gateway_model.specs.declared.event.Event.{Event};
+ghost use Rattle.gateway_theory.specs.Task.{HandedJob};
+ghost use Rattle.gateway_theory.specs.Told.{HandsJobs, HandsReply, IsWanted, OpensFew, TakesBytes, TakesEvent, TakesOneOf, TakesOpening, TellsTook};
+ghost use Rattle.gateway_model.specs.Known.{IsKnown};
+ghost use Rattle.gateway_model.specs.Job.{JobValue};
+ghost use Rattle.gateway_theory.specs.Served.{Served};
 
 use crate::streams::Streams;
 use call_plan::Plans;
 use connect_codec::Outcome;
 use gateway_machine::Job;
-use gateway_model::request_laws::request_laws;
-use gateway_model::served_laws::opening_law;
-use gateway_model::{CallId, ConnId, OpenError, StepFault, Tally, Took};
+use gateway_model::{CallId, ConnId};
 use gateway_replies::{Reply, ReplyHook, Stock};
+use gateway_theory::request_laws::request_laws;
+use gateway_theory::served_laws::{known_law, opening_law};
+use gateway_theory::{OpenError, StepFault, Tally, Took};
 use std::alloc::{AllocError, Global};
 use std::marker::Model;
 
@@ -34,7 +36,7 @@ pub struct Core<H> {
 }
 
 impl<H> Model for Core<H> {
-    ghost use Rattle.gateway_model.specs.Gateway.{GatewayValue};
+    ghost use Rattle.gateway_theory.specs.Gateway.{GatewayValue};
 
     ghost Value = { GatewayValue };
 
@@ -55,12 +57,8 @@ impl<H: ReplyHook + Drop> Core<H> {
     /// Opens a connection, each of whose calls gets one of these hooks. A refusal is the first that applies of `Full`,
     /// `Exhausted` and `Memory`; it changes nothing, and the hooks come back.
     pub fn open_conn(&mut self, stock: Stock<H>) -> Result<ConnId, (Stock<H>, OpenError)>
-        ensures stands { (opened : List ℕ) (es : List GatewayEvent) (taken : ℕ → List ReplyEntry) (handed : List JobValue)
-            → Served self.old opened es taken handed
-            → MatchResult result (λ _. Served self.new (opened ++ length es ∷ []) (Opening ∷ es) taken handed)
-            (λ _. Served self.new opened (Opening ∷ es) taken handed) }
-        ensures few { (opened : List ℕ) (es : List GatewayEvent) (taken : ℕ → List ReplyEntry) (handed : List JobValue)
-            → Served self.old opened es taken handed → IfOk result (λ _. open_connections opened es < most_open) }
+        ensures stands { TakesOpening result self.old self.new }
+        ensures few { OpensFew result self.old }
         ensures number { IfOk result (λ conn. conn ≡ self.old.opened) }
         ensures refused { IfErr result (λ e. RefusesOpening e.1 self.old) }
         ensures back { IfErr result (λ e. e.0 ≡ stock) }
@@ -74,12 +72,10 @@ impl<H: ReplyHook + Drop> Core<H> {
 
     /// Takes bytes of a connection's stream, at most up to the end of a request, and answers how many.
     pub fn feed(&mut self, conn: ConnId, bytes: &[u8]) -> Result<usize, StepFault>
-        ensures stands { (fed : List ℕ) (opened : List ℕ) (es : List GatewayEvent) (taken : ℕ → List ReplyEntry) (handed : List JobValue)
-            → ServedUpTo conn fed self.old opened es taken handed
-            → MatchResult result (λ n. ServedUpTo conn (fed ++ take n bytes.now) self.new opened es taken handed)
-            (λ _. Served self.new opened (Piece conn (fed ++ bytes.now) ∷ es) taken handed) }
+        ensures stands { TakesBytes conn bytes.now result self.old self.new }
         ensures within { IfOk result (λ n. n ≤ length bytes.now) }
         ensures moves { 0 < length bytes.now → IfOk result (λ n. 0 < n) }
+        ensures one { TakesOneOf conn bytes.now result self.old }
         ensures tells { TellsStep conn self.old self.new result }
         ensures heard { OnOk result (IsDeaf conn self.new → ⊥) }
         ensures counts { CountsCalls self.old self.new }
@@ -94,8 +90,7 @@ impl<H: ReplyHook + Drop> Core<H> {
 
     /// The peer of a connection hung up.
     pub fn hang_up(&mut self, conn: ConnId) -> Result<(), StepFault>
-        ensures stands { (opened : List ℕ) (es : List GatewayEvent) (taken : ℕ → List ReplyEntry) (handed : List JobValue)
-            → Served self.old opened es taken handed → Served self.new opened (HangUp conn ∷ es) taken handed }
+        ensures stands { TakesEvent (HangUp conn) self.old self.new }
         ensures tells { TellsStep conn self.old self.new result }
         ensures begins { result ≡ Err StepFault.Exhausted → ⊥ }
         ensures keeps { Keeps (λ c. c == conn) self.old self.new }
@@ -106,8 +101,7 @@ impl<H: ReplyHook + Drop> Core<H> {
 
     /// A moment has come, in milliseconds. True where a connection broke in the step.
     pub fn moment(&mut self, moment: u64) -> bool
-        ensures stands { (opened : List ℕ) (es : List GatewayEvent) (taken : ℕ → List ReplyEntry) (handed : List JobValue)
-            → Served self.old opened es taken handed → Served self.new opened (Moment moment ∷ es) taken handed }
+        ensures stands { TakesEvent (Moment moment) self.old self.new }
         ensures broke { Breaks self.old self.new result }
         ensures concerned { BreaksBy (concerning.Moment moment) self.old self.new }
         ensures keeps { Keeps (λ c. true) self.old self.new }
@@ -118,8 +112,7 @@ impl<H: ReplyHook + Drop> Core<H> {
 
     /// The drain has begun. True where a connection broke in the step.
     pub fn drain(&mut self) -> bool
-        ensures stands { (opened : List ℕ) (es : List GatewayEvent) (taken : ℕ → List ReplyEntry) (handed : List JobValue)
-            → Served self.old opened es taken handed → Served self.new opened (Drain ∷ es) taken handed }
+        ensures stands { TakesEvent Drain self.old self.new }
         ensures broke { Breaks self.old self.new result }
         ensures concerned { BreaksBy concerning.Drain self.old self.new }
         ensures keeps { Keeps (λ c. true) self.old self.new }
@@ -130,8 +123,7 @@ impl<H: ReplyHook + Drop> Core<H> {
 
     /// Closes a connection, and answers whether it was open.
     pub fn close(&mut self, conn: ConnId) -> bool
-        ensures stands { (opened : List ℕ) (es : List GatewayEvent) (taken : ℕ → List ReplyEntry) (handed : List JobValue)
-            → Served self.old opened es taken handed → Served self.new opened (Closing conn ∷ es) taken handed }
+        ensures stands { TakesEvent (Closing conn) self.old self.new }
         ensures closed { result ≡ is_some (conn_of conn self.old.machine.conns) }
         ensures keeps { KeepsBut (λ c. c == conn) (λ c. false) [] self.old self.new }
     {
@@ -141,18 +133,8 @@ impl<H: ReplyHook + Drop> Core<H> {
 
     /// A branch of a call ends with that outcome.
     pub fn result(&mut self, call: &CallId, branch: u32, outcome: Outcome) -> Took
-        ensures stands { (opened : List ℕ) (es : List GatewayEvent) (taken : ℕ → List ReplyEntry) (handed : List JobValue)
-            → Served self.old opened es taken handed
-            → Served self.new opened (BranchResult call.now.conn call.now.request branch outcome ∷ es) taken handed }
-        ensures seen { (opened : List ℕ) (es : List GatewayEvent) (taken : ℕ → List ReplyEntry) (handed : List JobValue) (occurred : List Placed)
-            → Served self.old opened es taken handed → Occurs self.old.plans opened es occurred
-            → (k : ConnValue) → conn_of call.now.conn self.old.machine.conns ≡ Some k → k.broken ≡ false
-            → result.seen ≡ judged call.now branch (marked (occurrences occurred)) }
-        ensures counted { result.broke ≡ true → result.seen ≡ Seen.Counted }
-        ensures broke { Breaks self.old self.new result.broke }
-        ensures unknown { result.seen ≡ Seen.Unknown → self.new ≡ record self.old { tally = self.new.tally } }
-        ensures none_spent { (result.seen ≡ Seen.Unknown → ⊥) → NoneSpent call.now self.new.machine.calls }
-        ensures concerned { BreaksBy (concerning.Result call.now branch outcome) self.old self.new }
+        ensures stands { TakesEvent (BranchResult call.now.conn call.now.request branch outcome) self.old self.new }
+        ensures tells { TellsTook call.now branch outcome result self.old self.new }
         ensures keeps { KeepsBut (λ c. false) (λ c. c == call.now.conn) (result.seen ∷ []) self.old self.new }
     {
         self.streams.serving_law();
@@ -161,18 +143,9 @@ impl<H: ReplyHook + Drop> Core<H> {
 
     /// A worker found no memory for what a branch ended with, whatever that was.
     pub fn starved(&mut self, call: &CallId, branch: u32) -> Took
-        ensures stands { (outcome : Outcomes) (opened : List ℕ) (es : List GatewayEvent) (taken : ℕ → List ReplyEntry) (handed : List JobValue)
-            → Served self.old opened es taken handed
-            → Served self.new opened (BranchResult call.now.conn call.now.request branch outcome ∷ es) taken handed }
-        ensures seen { (opened : List ℕ) (es : List GatewayEvent) (taken : ℕ → List ReplyEntry) (handed : List JobValue) (occurred : List Placed)
-            → Served self.old opened es taken handed → Occurs self.old.plans opened es occurred
-            → (k : ConnValue) → conn_of call.now.conn self.old.machine.conns ≡ Some k → k.broken ≡ false
-            → result.seen ≡ judged call.now branch (marked (occurrences occurred)) }
-        ensures counted { result.broke ≡ true → result.seen ≡ Seen.Counted }
-        ensures broke { Breaks self.old self.new result.broke }
-        ensures unknown { result.seen ≡ Seen.Unknown → self.new ≡ record self.old { tally = self.new.tally } }
-        ensures none_spent { (result.seen ≡ Seen.Unknown → ⊥) → NoneSpent call.now self.new.machine.calls }
-        ensures concerned { (outcome : Outcomes) → BreaksBy (concerning.Result call.now branch outcome) self.old self.new }
+        ensures stands { (outcome : Outcomes)
+            → TakesEvent (BranchResult call.now.conn call.now.request branch outcome) self.old self.new }
+        ensures tells { (outcome : Outcomes) → TellsTook call.now branch outcome result self.old self.new }
         ensures keeps { KeepsBut (λ c. false) (λ c. c == call.now.conn) (result.seen ∷ []) self.old self.new }
     {
         self.streams.serving_law();
@@ -181,12 +154,10 @@ impl<H: ReplyHook + Drop> Core<H> {
 
     /// Hands out the next job, in order of start.
     pub fn take_job(&mut self) -> Option<Job>
-        ensures stands { (opened : List ℕ) (es : List GatewayEvent) (taken : ℕ → List ReplyEntry) (handed : List JobValue)
-            → Served self.old opened es taken handed
-            → Served self.new opened es taken (handed ++ option_to_list (option_map (λ j. j.job) result)) }
+        ensures stands { HandsJobs (option_to_list (option_map (λ j. j.job) result)) self.old self.new }
         ensures first { self.old.machine.jobs ≡ option_to_list (option_map (λ j. j.job) result) ++ self.new.machine.jobs }
         ensures none { result ≡ None → self.old.machine.jobs ≡ [] }
-        ensures wanted { (j : HandedJob) → result ≡ Some j → j.wanted ≡ is_some (call_at j.job.call self.old.machine.calls).live }
+        ensures wanted { (j : HandedJob) → result ≡ Some j → IsWanted j.job.call self.old j.wanted }
         ensures rest { self.new ≡ record self.old { machine = record self.old.machine { jobs = self.new.machine.jobs } } }
     {
         self.streams.serving_law();
@@ -195,8 +166,7 @@ impl<H: ReplyHook + Drop> Core<H> {
 
     /// Hands out the next reply of a connection, in order of its requests.
     pub fn take_reply(&mut self, conn: ConnId) -> Option<Reply>
-        ensures stands { (opened : List ℕ) (es : List GatewayEvent) (taken : ℕ → List ReplyEntry) (handed : List JobValue)
-            → Served self.old opened es taken handed → Served self.new opened es (with_reply conn result taken) handed }
+        ensures stands { HandsReply conn result self.old self.new }
         ensures first { untaken_of conn self.old ≡ option_to_list (option_map (λ r. r.entry) result) ++ untaken_of conn self.new }
         ensures its { IfSome result (λ r. r.id ≡ next_reply conn self.old) }
         ensures none { result ≡ None → untaken_of conn self.old ≡ [] }
@@ -213,6 +183,15 @@ impl<H: ReplyHook + Drop> Core<H> {
         ensures calls { FewCalls self.now.machine.conns }
     {
         self.streams.serving_law();
+    }
+
+    /// What is known of the gateway by the events that it stands for, whichever they are. It does nothing.
+    pub fn known_law(&self)
+        ensures known { (opened : List ℕ) (es : List Event) (taken : ℕ → List ReplyEntry) (handed : List JobValue) (occurred : List Placed)
+            → Served self.now opened es taken handed → Occurs self.now.plans opened es occurred
+            → IsKnown (shown self.now) opened es (occurrences occurred) taken handed }
+    {
+        known_law();
     }
 
     /// Whether a job waits to be taken.

@@ -9,7 +9,7 @@ mod streams;
 pub use gateway::Core;
 pub use gateway_machine::Job;
 pub use gateway_model::{
-    CallEvent, CallId, CallRecord, ConnId, EndCause, Ending, OpenError, ReplyBytes, ReplyEntry,
-    Seen, StepFault, Tally, Took,
+    CallEvent, CallId, CallRecord, ConnId, EndCause, Ending, ReplyBytes, ReplyEntry, Seen,
 };
 pub use gateway_replies::{CallHook, HOOKS, Reply, ReplyHook, Stock, ending_reply};
+pub use gateway_theory::{OpenError, StepFault, Tally, Took};

@@ -1,8 +1,8 @@
 ghost use Rattle.std.specs.Prelude.{◌≡◌, ◌==◌, ◌||◌, IfNone, IfOk, IfSome, List, OnErr, Some, ℕ, true};
 ghost use Rattle.http_pieces.specs.Reader.{Waiting, is_over, state_of};
 ghost use Rattle.http_pieces.specs.Request.{HttpRequest};
-ghost use Rattle.gateway_model.specs.Gateway.{new_stream};
-ghost use Rattle.gateway_model.specs.Serving.{Reads, ReadsOn, TakesRequest};
+ghost use Rattle.gateway_theory.specs.Gateway.{new_stream};
+ghost use Rattle.gateway_theory.specs.Serving.{Reads, ReadsOn, TakesRequest};
 
 use http_pieces::{Reader, Request, State};
 use std::alloc::{AllocError, Global};
@@ -18,7 +18,7 @@ pub struct Stream {
 }
 
 impl Model for Stream {
-    ghost use Rattle.gateway_model.specs.Gateway.{StreamValue};
+    ghost use Rattle.gateway_theory.specs.Gateway.{StreamValue};
 
     ghost Value = { StreamValue };
 

@@ -1,22 +1,23 @@
 ghost use Rattle.std.specs.Prelude.{◌≡◌, ◌==◌, ◌<◌, ◌≤◌, ◌^◌, ◌∷◌, IfOk, IfErr, List, OnErr, false, true, not, filter, length, []};
-ghost use Rattle.gateway_model.specs.Ends.{is_stopped_in, noted};
-ghost use Rattle.gateway_model.specs.Heads.{IsOfAll};
-ghost use Rattle.gateway_model.specs.Gateway.{is_broken_conn, is_ended, outs_of, untaken_of};
-ghost use Rattle.gateway_model.specs.Step.{moment_after};
-ghost use Rattle.gateway_model.specs.Refused.{RefusesOpening};
-ghost use Rattle.gateway_model.specs.Results.{Forgets, NoneSpent, ResultTaken, Starved};
-ghost use Rattle.gateway_model.specs.declared.fault.Seen.{Seen};
-ghost use Rattle.gateway_model.specs.Opens.{JobTaken};
-ghost use Rattle.gateway_model.specs.Serving.{Breaks, BringsAt, Closes, Ends, FedTo, gateway_value, HangsUp, IsListening, IsPlaced, IsServing, ListensAt, Opens, ReadsAt, TakesReply};
-ghost use Rattle.gateway_model.specs.Store.{MachineValue, broken_at, conn_at, machine_value};
-ghost use Rattle.gateway_model.specs.Tally.{tally_of};
+ghost use Rattle.gateway_theory.specs.Ends.{is_stopped_in, noted};
+ghost use Rattle.gateway_theory.specs.Heads.{IsOfAll};
+ghost use Rattle.gateway_theory.specs.Gateway.{is_broken_conn, is_ended, outs_of, untaken_of};
+ghost use Rattle.gateway_theory.specs.Step.{moment_after};
+ghost use Rattle.gateway_theory.specs.Refused.{RefusesOpening};
+ghost use Rattle.gateway_theory.specs.Results.{Forgets, NoneSpent, ResultTaken, Starved};
+ghost use Rattle.gateway_model.specs.declared.seen.Seen.{Seen};
+ghost use Rattle.gateway_theory.specs.Opens.{JobTaken};
+ghost use Rattle.gateway_theory.specs.Serving.{Breaks, BringsAt, Closes, Ends, FedTo, gateway_value, HangsUp, IsListening, IsPlaced, IsServing, ListensAt, Opens, ReadsAt, TakesReply};
+ghost use Rattle.gateway_theory.specs.Store.{MachineValue, broken_at, conn_at, machine_value};
+ghost use Rattle.gateway_theory.specs.Tally.{tally_of};
 
 use crate::stream::Stream;
 use call_plan::Plans;
 use connect_codec::Outcome;
 use gateway_machine::{Job, LinkedMachine};
-use gateway_model::{CallId, Cause, ConnId, OpenError, StepFault, Tally, Took};
+use gateway_model::{CallId, ConnId};
 use gateway_replies::{Reply, ReplyHook, Stock};
+use gateway_theory::{Cause, OpenError, StepFault, Tally, Took};
 use http_pieces::{Request, State};
 use std::alloc::{AllocError, Global};
 use std::marker::Model;
@@ -43,9 +44,9 @@ pub(crate) struct Streams<H> {
 }
 
 impl<H> Model for Streams<H> {
-    ghost use Rattle.gateway_model.specs.Gateway.{GatewayValue};
-    ghost use Rattle.gateway_model.specs.Heads.{IsHeard};
-    ghost use Rattle.gateway_model.specs.Serving.{gateway_value, IsServing};
+    ghost use Rattle.gateway_theory.specs.Gateway.{GatewayValue};
+    ghost use Rattle.gateway_theory.specs.Heads.{IsHeard};
+    ghost use Rattle.gateway_theory.specs.Serving.{gateway_value, IsServing};
 
     ghost Value = { GatewayValue };
 

@@ -7,12 +7,12 @@ use Rattle.std.proofs.lemmas.List.FromFn.{length-map-range_with_len, get_or-map-
 use Rattle.std.proofs.lemmas.List.Sums.{sum_by_push}
 use Rattle.std.proofs.Math.ListN.{get_or-eq_default}
 use Rattle.err_group.specs.GroupState.{GroupState, has_room}
-use Rattle.gateway_model.specs.declared.event.CallEvent.{CallEvent}
+use Rattle.gateway_model.specs.declared.call_event.CallEvent.{CallEvent}
 use Rattle.gateway_model.specs.declared.id.CallId.{CallId}
-use Rattle.gateway_model.specs.Begins.{first_ones, first_out}
-use Rattle.gateway_model.specs.Job.{TaskValue, task_of}
-use Rattle.gateway_model.specs.LiveStands.{tasks_from}
-use Rattle.gateway_model.specs.Past.{Asked}
+use Rattle.gateway_theory.specs.Begins.{first_ones, first_out}
+use Rattle.gateway_theory.specs.Task.{TaskValue, task_of}
+use Rattle.gateway_theory.specs.LiveStands.{tasks_from}
+use Rattle.gateway_model.specs.Past.{ArrivedCall}
 use Rattle.gateway_machine.specs.KeptCall.{live_value, kept_value, IsKept, IsBegun, HasGone}
 use Rattle.gateway_machine.proofs.KeptLemmas.{outs}
 
@@ -23,7 +23,7 @@ pub ok_is : {T E : Type 0} (x y : T) (r s : Result T E) → r ≡ Ok x → s ≡
 ok_is x y r s r_is s_is e = cc
 
 -- one more branch was given to the group
-pub gone_more : (id : CallId) (a : Asked) (i : ℕ) (g h : Tasks) (first after : List TaskValue) (task : TaskValue) (started : Option TaskValue) → HasGone id a i g first → task ≡ task_of id a i
+pub gone_more : (id : CallId) (a : ArrivedCall) (i : ℕ) (g h : Tasks) (first after : List TaskValue) (task : TaskValue) (started : Option TaskValue) → HasGone id a i g first → task ≡ task_of id a i
     → (IsTrue (has_room g) → (started ≡ Some task) × (h ≡ record g { active = g.active + 1 }))
     → (has_room g ≡ false → (started ≡ None) × (h ≡ record g { queue = g.queue ++ task ∷ [] }))
     → after ≡ first ++ option_to_list started → HasGone id a (i + 1) h after
@@ -82,7 +82,7 @@ out_at n k i above =
     (λ (ge : n ≤ i). get_or-eq_default (map (λ j. nat_lt j k) (range_with_len 0 n)) false {n = i} (omega (arith, ge, length-map-range_with_len (λ j. nat_lt j k) 0 n)))
     (cases_lt i n)
 
-pub begun_kept : (id : CallId) (a : Asked) (n first : ℕ) (out : List Bool) (g : Tasks) (tasks : List TaskValue) (events : List CallEvent) → n ≡ length a.plan.branches → first ≡ min n a.plan.limit
+pub begun_kept : (id : CallId) (a : ArrivedCall) (n first : ℕ) (out : List Bool) (g : Tasks) (tasks : List TaskValue) (events : List CallEvent) → n ≡ length a.plan.branches → first ≡ min n a.plan.limit
     → out ≡ map (λ i. nat_lt i first) (range_with_len 0 n) → HasGone id a n g tasks → events ≡ [] → IsKept id out g (Some (live_value a events))
 begun_kept id a n first out g tasks events n_is first_is out_is k events_are = rw (events_are, out_is) (record {
   active_is = k.active_is ∙ sym (first_count first n ∙ omega (arith, first_is));
@@ -96,7 +96,7 @@ begun_kept id a n first out g tasks events n_is first_is out_is k events_are = r
     same : min (length a.plan.branches) a.plan.limit ≡ min (length a.plan.branches) (a.plan.limit + 0)
     same = omega arith
 
-pub is_begun : (id : CallId) (a asked : Asked) (n first : ℕ) (out : List Bool) (g : Tasks) (tasks : List TaskValue) (events : List CallEvent) → asked ≡ a → n ≡ length a.plan.branches
+pub is_begun : (id : CallId) (a asked : ArrivedCall) (n first : ℕ) (out : List Bool) (g : Tasks) (tasks : List TaskValue) (events : List CallEvent) → asked ≡ a → n ≡ length a.plan.branches
     → first ≡ min n a.plan.limit → out ≡ map (λ i. nat_lt i first) (range_with_len 0 n) → HasGone id a n g tasks → events ≡ []
     → IsBegun id a (kept_value id out g.queue (Some (live_value asked events)) None) tasks
 is_begun id a asked n first out g tasks events asked_is n_is first_is out_is k events_are =

@@ -10,19 +10,20 @@ use Rattle.connect_codec.specs.declared.answer.Outcome.{Outcome}
 use Rattle.connect_codec.specs.declared.answer.Outcome.TheVariants.{Answer}
 use Rattle.gateway_model.specs.declared.entry.ReplyEntry.{ReplyEntry}
 use Rattle.err_group.specs.GroupState.{GroupState, Finishes, freed_by}
-use Rattle.gateway_model.specs.declared.event.CallEvent.{CallEvent}
-use Rattle.gateway_model.specs.declared.event.CallEvent.TheVariants.{Answer as Answered}
+use Rattle.gateway_model.specs.declared.call_event.CallEvent.{CallEvent}
+use Rattle.gateway_model.specs.declared.call_event.CallEvent.TheVariants.{Answer as Answered}
 use Rattle.gateway_model.specs.declared.id.CallId.{CallId}
 use Rattle.gateway_model.specs.CallRecord.{CallRecord}
-use Rattle.gateway_model.specs.Job.{JobValue, TaskValue, task_of, job_at}
-use Rattle.gateway_model.specs.LiveStands.{tasks_from}
-use Rattle.gateway_model.specs.Past.{Asked}
+use Rattle.gateway_model.specs.Job.{JobValue}
+use Rattle.gateway_theory.specs.Task.{TaskValue, task_of, job_at}
+use Rattle.gateway_theory.specs.LiveStands.{tasks_from}
+use Rattle.gateway_model.specs.Past.{ArrivedCall}
 use Rattle.call_plan.specs.Plan.{IsLawful}
 use Rattle.gateway_model.specs.Queue.{record_of}
-use Rattle.gateway_model.specs.Step.{result_on, next_out, rest_of, first_of}
-use Rattle.gateway_model.specs.Kept.{KeptValue}
+use Rattle.gateway_theory.specs.Step.{result_on, next_out, rest_of, first_of}
+use Rattle.gateway_theory.specs.Kept.{KeptValue}
 use Rattle.gateway_machine.specs.KeptCall.{LiveValue, live_value, kept_value, started_of, IsGoing, IsKept, IsStep}
-use Rattle.gateway_model.specs.lemmas.StepLemmas.{tasks_none, tasks_next}
+use Rattle.gateway_theory.specs.lemmas.StepLemmas.{tasks_none, tasks_next}
 
 within : (out : List Bool) (i : ℕ) → slice_index_or out i false ≡ true → i < length out
 within out i it =
@@ -199,7 +200,7 @@ answer_going_kept id out after i e g h was l later next k was_is it next_as fini
     (subst (λ x. IsKept id (next_out g.queue (slice_set out i false)) h (Some x)) (sym later_is) (going_kept id out i e g h l live it finishes))
 
 -- the job of the first of a call's tasks is of that call
-first_its : (moment : ℕ) (id : CallId) (k : ℕ) (a : Asked) (queue : List TaskValue) → queue ≡ tasks_from k id a → All (λ (j : JobValue). j.call ≡ id) (first_of moment queue)
+first_its : (moment : ℕ) (id : CallId) (k : ℕ) (a : ArrivedCall) (queue : List TaskValue) → queue ≡ tasks_from k id a → All (λ (j : JobValue). j.call ≡ id) (first_of moment queue)
 first_its moment id k a queue e = subst (λ q. All (λ (j : JobValue). j.call ≡ id) (first_of moment q)) (sym e) (of_range (range_with_len k (length a.plan.branches - k)))
   where
     of_range : (ns : List ℕ) → All (λ (j : JobValue). j.call ≡ id) (first_of moment (map (task_of id a) ns))

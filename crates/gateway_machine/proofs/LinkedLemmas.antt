@@ -12,30 +12,30 @@ use Rattle.connect_codec.specs.declared.answer.Outcome.TheVariants.{Answer, Fail
 use Rattle.gateway_model.specs.declared.entry.ReplyEntry.{ReplyEntry}
 use Rattle.gateway_model.specs.declared.entry.ReplyEntry.TheVariants.{Call as Calling}
 use Rattle.gateway_model.specs.declared.id.CallId.{CallId}
-use Rattle.gateway_model.specs.declared.cause.Cause.{Cause}
-use Rattle.gateway_model.specs.declared.cause.Cause.TheVariants.{Reached, HungUp, Drained}
-use Rattle.gateway_model.specs.declared.event.CallEvent.{CallEvent}
-use Rattle.gateway_model.specs.declared.event.CallEvent.TheVariants.{Expired, HungUp as HungUpNow}
+use Rattle.gateway_theory.specs.declared.cause.Cause.{Cause}
+use Rattle.gateway_theory.specs.declared.cause.Cause.TheVariants.{Reached, HungUp, Drained}
+use Rattle.gateway_model.specs.declared.call_event.CallEvent.{CallEvent}
+use Rattle.gateway_model.specs.declared.call_event.CallEvent.TheVariants.{Expired, HungUp as HungUpNow}
 use Rattle.gateway_model.specs.CallRecord.{CallRecord}
-use Rattle.gateway_model.specs.Begins.{begins}
-use Rattle.gateway_model.specs.Conn.{ConnValue, added, conn_value, fill_at, filled, next_of, without_first}
+use Rattle.gateway_theory.specs.Begins.{begins}
+use Rattle.gateway_theory.specs.Conn.{ConnValue, added, conn_value, fill_at, filled, next_of, without_first}
 use Rattle.gateway_replies.specs.Contexts.{ContextsValue, KeepsOthers, LifeValue, LivesApart, PeerValue, begun, closed, contexts_value, ends_life, ends_peer, is_ended_peer, is_life, is_peer, life_by, others, peer, told, without}
-use Rattle.gateway_model.specs.Ends.{AreApart, CallsEnd, caused, ended_below, ended_call, ended_kept, is_stopped_in, noted, settled_at, unanswered, without_reply}
-use Rattle.gateway_model.specs.Enters.{entered_at}
-use Rattle.gateway_model.specs.Job.{TaskValue}
-use Rattle.gateway_model.specs.Kept.{KeptValue}
+use Rattle.gateway_theory.specs.Ends.{AreApart, CallsEnd, caused, ended_below, ended_call, ended_kept, is_stopped_in, noted, settled_at, unanswered, without_reply}
+use Rattle.gateway_theory.specs.Enters.{entered_at}
+use Rattle.gateway_theory.specs.Task.{TaskValue}
+use Rattle.gateway_theory.specs.Kept.{KeptValue}
 use Rattle.gateway_machine.specs.KeptCall.{IsStep}
 use Rattle.gateway_machine.specs.Linked.{IsLinkedBut, IsLinkedWith, Over, linked, linked_by, linked_calls, linked_conns, lives_in, none_over, over_by}
-use Rattle.gateway_model.specs.Opens.{ReplyTaken}
-use Rattle.gateway_model.specs.Orderly.{ConnsApart, IsInOrder, IsOrderly}
-use Rattle.gateway_model.specs.Past.{Asked, is_call, is_due}
-use Rattle.gateway_model.specs.Reply.{ReplyValue}
-use Rattle.gateway_model.specs.Results.{is_spent}
-use Rattle.gateway_model.specs.Step.{Live, is_last_answer, result_on, step_to}
-use Rattle.gateway_model.specs.Store.{MachineValue, IsFound, broken_at, broken_if, conn_at, conn_of, fill_first, filled_in, given_up, given_up_if, hung_if, kept_at, machine_value}
-use Rattle.gateway_model.specs.lemmas.Cases.{all_stay, or_false, or_true, sym_eqb}
-use Rattle.gateway_model.specs.lemmas.LimitLemmas.{same_call}
-use Rattle.gateway_model.specs.lemmas.StoreLemmas.{call_itself}
+use Rattle.gateway_theory.specs.Opens.{ReplyTaken}
+use Rattle.gateway_theory.specs.Orderly.{ConnsApart, IsInOrder, IsOrderly}
+use Rattle.gateway_model.specs.Past.{ArrivedCall, is_call, is_due}
+use Rattle.gateway_theory.specs.Replies.{ReplyValue}
+use Rattle.gateway_theory.specs.Results.{is_spent}
+use Rattle.gateway_theory.specs.Step.{Live, is_last_answer, result_on, step_to}
+use Rattle.gateway_theory.specs.Store.{MachineValue, IsFound, broken_at, broken_if, conn_at, conn_of, fill_first, filled_in, given_up, given_up_if, hung_if, kept_at, machine_value}
+use Rattle.gateway_theory.specs.lemmas.Cases.{all_stay, or_false, or_true, sym_eqb}
+use Rattle.gateway_theory.specs.lemmas.LimitLemmas.{same_call}
+use Rattle.gateway_theory.specs.lemmas.StoreLemmas.{call_itself}
 
 -- ---- connections
 
@@ -355,7 +355,7 @@ module _ (over : Over) where
 -- ---- what may end calls
 
 -- each context of a call has ended by this
-lives_told : (g : LifeValue → Bool) (over : Over) → ((id : CallId) (a : Asked) → g (life_by false id a) ≡ over id a) → (ks : List KeptValue)
+lives_told : (g : LifeValue → Bool) (over : Over) → ((id : CallId) (a : ArrivedCall) → g (life_by false id a) ≡ over id a) → (ks : List KeptValue)
     → map (λ l. ends_life (g l) l) (linked_calls none_over ks) ≡ linked_calls over ks
 lives_told g over same [] = refl
 lives_told g over same (k ∷ ks) =
@@ -428,7 +428,7 @@ others_but c v x y is keeps = record {
   others_are = keeps.others_are ∙ ap (λ (z : ContextsValue). others c z.calls) is;
 }
 
-pub begun_others : (now : ℕ) (id : CallId) (a : Asked) (x : ContextsValue) → KeepsOthers id.conn x (begun now id a x)
+pub begun_others : (now : ℕ) (id : CallId) (a : ArrivedCall) (x : ContextsValue) → KeepsOthers id.conn x (begun now id a x)
 begun_others now id a x = record {
   drained_is = refl;
   conns_are = refl;
@@ -439,17 +439,17 @@ begun_others now id a x = record {
 pub others_then : (c : ℕ) (x y z : ContextsValue) → KeepsOthers c x y → KeepsOthers c y z → KeepsOthers c x z
 others_then c x y z a b = record { drained_is = b.drained_is ∙ a.drained_is; conns_are = b.conns_are ∙ a.conns_are; others_are = b.others_are ∙ a.others_are }
 
-pub begun_is : (now : ℕ) (id : CallId) (a : Asked) (x : ContextsValue) → is_life id (begun now id a x).calls ≡ true
+pub begun_is : (now : ℕ) (id : CallId) (a : ArrivedCall) (x : ContextsValue) → is_life id (begun now id a x).calls ≡ true
 begun_is now id a x = list_any-append (λ (l : LifeValue). is_call l.id id) x.calls (life_by (is_ended_peer id.conn x.conns || is_due now a.deadline) id a ∷ [])
     ∙ rw (call_itself id) (or_true (is_life id x.calls))
 
-pub begun_gone : (now : ℕ) (id : CallId) (a : Asked) (x : ContextsValue) → is_life id x.calls ≡ false → without id (begun now id a x) ≡ x
+pub begun_gone : (now : ℕ) (id : CallId) (a : ArrivedCall) (x : ContextsValue) → is_life id x.calls ≡ false → without id (begun now id a x) ≡ x
 begun_gone now id a x none =
     ap (contexts_value x.drained x.conns) (filter-append (λ (l : LifeValue). not (is_call l.id id)) x.calls (life_by (is_ended_peer id.conn x.conns || is_due now a.deadline) id a ∷ [])
     ∙ rw (call_itself id) (append-nil (filter (λ (l : LifeValue). not (is_call l.id id)) x.calls) ∙ all_stay (λ (l : LifeValue). is_call l.id id) x.calls none))
 
 -- a context that begins, and has not ended
-pub begun_on : (now : ℕ) (id : CallId) (a : Asked) (x : ContextsValue) → is_ended_peer id.conn x.conns ≡ false → is_due now a.deadline ≡ false
+pub begun_on : (now : ℕ) (id : CallId) (a : ArrivedCall) (x : ContextsValue) → is_ended_peer id.conn x.conns ≡ false → is_due now a.deadline ≡ false
     → begun now id a x ≡ contexts_value x.drained x.conns (x.calls ++ life_by false id a ∷ [])
 begun_on now id a x heard not_due = rw (heard, not_due) refl
 
@@ -533,7 +533,7 @@ answered_linked i entry v lt =
     ∙ ap (λ ks. contexts_value v.drained (linked_conns v.drained v.conns) (linked_calls none_over ks)) (append-nil v.calls)
 
 -- a call that begins has its context
-pub begun_linked : (i : ℕ) (a : Asked) (v : MachineValue) → i < length v.conns
+pub begun_linked : (i : ℕ) (a : ArrivedCall) (v : MachineValue) → i < length v.conns
     → contexts_value v.drained (linked_conns v.drained v.conns) (linked_calls none_over v.calls ++ life_by false (next_of (conn_at i v.conns)) a ∷ []) ≡ linked (entered_at i (begins v.moment None (next_of (conn_at i v.conns)) a) v)
 begun_linked i a v lt = sym (
     ap (λ ns. contexts_value v.drained ns (linked_calls none_over (entered_at i (begins v.moment None (next_of (conn_at i v.conns)) a) v).calls)) (conns_set v.drained v.conns i (added None (conn_at i v.conns)) lt refl refl refl)

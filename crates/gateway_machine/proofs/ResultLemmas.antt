@@ -8,14 +8,15 @@ use Rattle.connect_codec.specs.declared.answer.Outcome.TheVariants.{Answer, Fail
 use Rattle.gateway_model.specs.declared.entry.ReplyEntry.TheVariants.{Call as Calling}
 use Rattle.gateway_model.specs.declared.id.CallId.{CallId}
 use Rattle.gateway_model.specs.CallRecord.{CallRecord}
-use Rattle.gateway_model.specs.Job.{JobValue, TaskValue, job_at}
-use Rattle.gateway_model.specs.Kept.{KeptValue}
+use Rattle.gateway_model.specs.Job.{JobValue}
+use Rattle.gateway_theory.specs.Task.{TaskValue, job_at}
+use Rattle.gateway_theory.specs.Kept.{KeptValue}
 use Rattle.gateway_machine.specs.KeptCall.{IsStep}
-use Rattle.gateway_model.specs.Reply.{reply_with}
-use Rattle.gateway_model.specs.Step.{Live, Step, has_out, result_on, is_last_answer}
-use Rattle.gateway_model.specs.Store.{MachineValue, machine_value, call_at, kept_at, no_call, broken_at, filled_in, IsFound, waiting_in, waiting}
-use Rattle.gateway_model.specs.Results.{result_at, stepped_kept, StepsAt, DecidedBy}
-use Rattle.gateway_model.specs.lemmas.StoreLemmas.{call_found}
+use Rattle.gateway_theory.specs.Replies.{reply_with}
+use Rattle.gateway_theory.specs.Step.{Live, Step, has_out, result_on, is_last_answer}
+use Rattle.gateway_theory.specs.Store.{MachineValue, machine_value, call_at, kept_at, no_call, broken_at, filled_in, IsFound, waiting_in, waiting}
+use Rattle.gateway_theory.specs.Results.{result_at, stepped_kept, StepsAt, DecidedBy}
+use Rattle.gateway_theory.specs.lemmas.StoreLemmas.{call_found}
 
 pub found_out : (id : CallId) (calls : List KeptValue) (i branch : ℕ) (x : KeptValue) (b : Bool) → IsFound id calls (Some i) → x ≡ kept_at i calls → b ≡ has_out x.call branch
     → has_out (call_at id calls) branch ≡ b

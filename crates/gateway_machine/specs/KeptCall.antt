@@ -4,22 +4,23 @@ use Rattle.std.specs.List.{count_by, range_with_len}
 use Rattle.err_group.specs.GroupState.{GroupState}
 use Rattle.gateway_model.specs.declared.entry.ReplyEntry.{ReplyEntry}
 use Rattle.gateway_model.specs.declared.entry.ReplyEntry.TheVariants.{Call as Calling}
-use Rattle.gateway_model.specs.declared.event.CallEvent.{CallEvent}
+use Rattle.gateway_model.specs.declared.call_event.CallEvent.{CallEvent}
 use Rattle.gateway_model.specs.declared.id.CallId.{CallId}
 use Rattle.gateway_model.specs.CallRecord.{CallRecord}
-use Rattle.gateway_model.specs.Begins.{begun_live, first_ones, first_out}
-use Rattle.gateway_model.specs.Job.{JobValue, TaskValue, task_of, job_at}
-use Rattle.gateway_model.specs.LiveStands.{tasks_from}
-use Rattle.gateway_model.specs.Past.{Asked}
-use Rattle.gateway_model.specs.Step.{Live, Step, call_state}
-use Rattle.gateway_model.specs.Kept.{KeptValue}
+use Rattle.gateway_theory.specs.Begins.{begun_live, first_ones, first_out}
+use Rattle.gateway_model.specs.Job.{JobValue}
+use Rattle.gateway_theory.specs.Task.{TaskValue, task_of, job_at}
+use Rattle.gateway_theory.specs.LiveStands.{tasks_from}
+use Rattle.gateway_model.specs.Past.{ArrivedCall}
+use Rattle.gateway_theory.specs.Step.{Live, Step, call_state}
+use Rattle.gateway_theory.specs.Kept.{KeptValue}
 
 -- a call that can still be decided: what it asks for, and its own events so far
 pub record LiveValue : Type 0 where
-  pub asked : Asked
+  pub asked : ArrivedCall
   pub events : List CallEvent
 
-abbrev pub live_value : Asked → List CallEvent → LiveValue
+abbrev pub live_value : ArrivedCall → List CallEvent → LiveValue
 live_value asked events = record { asked = asked; events = events }
 
 abbrev pub live_of : List TaskValue → LiveValue → Live
@@ -57,12 +58,12 @@ pub record IsStep (moment : ℕ) (old new : KeptValue) (decided : Option CallRec
   pub its : All (λ (j : JobValue). j.call ≡ old.id) step.jobs
 
 -- the call as it begins, and the branches that start at once
-pub record IsBegun (id : CallId) (a : Asked) (call : KeptValue) (first : List TaskValue) : Type 0 where
+pub record IsBegun (id : CallId) (a : ArrivedCall) (call : KeptValue) (first : List TaskValue) : Type 0 where
   pub call_is : call ≡ record { id = id; call = call_state (first_out a) (Some (begun_live id a)); reply = None }
   pub first_are : first ≡ map (task_of id a) (range_with_len 0 (first_ones a))
 
 -- so many of the call's branches were given to its group: as many as its limit allows have started, and the others wait
-pub record HasGone (id : CallId) (a : Asked) (count : ℕ) (group : GroupState TaskValue (Unit {0})) (first : List TaskValue) : Type 0 where
+pub record HasGone (id : CallId) (a : ArrivedCall) (count : ℕ) (group : GroupState TaskValue (Unit {0})) (first : List TaskValue) : Type 0 where
   pub active_is : group.active ≡ min count a.plan.limit
   pub limit_is : group.limit ≡ a.plan.limit
   pub queue_is : group.queue ≡ map (task_of id a) (range_with_len (min count a.plan.limit) (count - min count a.plan.limit))

@@ -4,14 +4,14 @@ use Rattle.gateway_model.specs.declared.id.CallId.{CallId}
 use Rattle.gateway_machine.specs.declared.machine.arriving.Arriving.{Arriving}
 use Rattle.gateway_machine.specs.declared.machine.arriving.Arriving.TheVariants.{Answered, Begins}
 use Rattle.gateway_model.specs.CallRecord.{CallRecord}
-use Rattle.gateway_model.specs.declared.cause.Cause.{Cause}
-use Rattle.gateway_model.specs.Conn.{ConnValue}
-use Rattle.gateway_model.specs.Ends.{caused}
+use Rattle.gateway_theory.specs.declared.cause.Cause.{Cause}
+use Rattle.gateway_theory.specs.Conn.{ConnValue}
+use Rattle.gateway_theory.specs.Ends.{caused}
 use Rattle.gateway_replies.specs.Contexts.{ContextsValue, LifeValue, KeepsOthers, PeerValue, contexts_value, is_life, life_by, peer, without}
-use Rattle.gateway_model.specs.Kept.{KeptValue}
-use Rattle.gateway_model.specs.Past.{Asked}
-use Rattle.gateway_model.specs.Step.{Live}
-use Rattle.gateway_model.specs.Store.{MachineValue}
+use Rattle.gateway_theory.specs.Kept.{KeptValue}
+use Rattle.gateway_model.specs.Past.{ArrivedCall}
+use Rattle.gateway_theory.specs.Step.{Live}
+use Rattle.gateway_theory.specs.Store.{MachineValue}
 
 -- the context of a connection has ended once that is drained or its peer hung up
 abbrev pub linked_conns : Bool → List ConnValue → List PeerValue
@@ -19,7 +19,7 @@ linked_conns drained conns = map (λ k. peer k.number (drained || k.hung_up)) (f
 
 -- which calls' contexts have ended
 abbrev pub Over : Type 0
-Over = CallId → Asked → Bool
+Over = CallId → ArrivedCall → Bool
 
 abbrev pub none_over : Over
 none_over id a = false

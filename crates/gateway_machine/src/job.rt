@@ -1,5 +1,5 @@
 ghost use Rattle.std.specs.Prelude.{◌≡◌, option_map, true};
-ghost use Rattle.gateway_model.specs.Job.{job_at};
+ghost use Rattle.gateway_theory.specs.Task.{job_at};
 
 use crate::machine::task::Task;
 use gateway_model::CallId;
@@ -17,7 +17,8 @@ pub struct Job {
 
 impl Model for Job {
     ghost use Rattle.std.specs.Prelude.{◌≡◌};
-    ghost use Rattle.gateway_model.specs.Job.{HandedJob, job_with};
+    ghost use Rattle.gateway_theory.specs.Task.{HandedJob};
+    ghost use Rattle.gateway_model.specs.Job.{job_with};
 
     ghost Value = { HandedJob };
 

@@ -2,27 +2,28 @@
 ghost use Rattle.std.specs.Prelude.{◌≡◌, ◌<◌, ◌==◌, IfErr, IfOk, None as Nothing, OnErr, OnOk, [], false, length, not, true};
 ghost use Rattle.std.specs.List.{count_by};
 ghost use Rattle.gateway_model.specs.Arrival.{arrival_of};
-ghost use Rattle.gateway_model.specs.Ends.{AreApart, CallsEnd, IsSettled, is_stopped_in, noted};
-ghost use Rattle.gateway_model.specs.Enters.{arriving_at, entered_at};
-ghost use Rattle.gateway_model.specs.Gateway.{are_all_there};
-ghost use Rattle.gateway_model.specs.Heads.{conn_heads, noted_heads};
-ghost use Rattle.gateway_model.specs.Occurrence.{Entering};
-ghost use Rattle.gateway_model.specs.Opens.{JobTaken, ReplyTaken, closed_at, opened_as};
-ghost use Rattle.gateway_model.specs.Orderly.{IsOrderly};
+ghost use Rattle.gateway_theory.specs.Ends.{AreApart, CallsEnd, IsSettled, is_stopped_in, noted};
+ghost use Rattle.gateway_theory.specs.Enters.{arriving_at, entered_at};
+ghost use Rattle.gateway_theory.specs.Gateway.{are_all_there};
+ghost use Rattle.gateway_theory.specs.Heads.{conn_heads, noted_heads};
+ghost use Rattle.gateway_model.specs.Occurrence.{Coming};
+ghost use Rattle.gateway_theory.specs.Opens.{JobTaken, ReplyTaken, closed_at, opened_as};
+ghost use Rattle.gateway_theory.specs.Orderly.{IsOrderly};
 ghost use Rattle.gateway_model.specs.Queue.{front};
-ghost use Rattle.gateway_model.specs.Results.{Forgets, NoneSpent, ResultTaken, Starved};
-ghost use Rattle.gateway_model.specs.Serving.{IsMade};
-ghost use Rattle.gateway_model.specs.Step.{moment_after};
-ghost use Rattle.gateway_model.specs.Store.{MachineValue, broken_at, broken_count, call_at, conn_at, conn_of, machine_value};
-ghost use Rattle.gateway_model.specs.declared.fault.Seen.{Seen};
-ghost use Rattle.gateway_model.specs.declared.fault.StepFault.TheVariants as fault;
+ghost use Rattle.gateway_theory.specs.Results.{Forgets, NoneSpent, ResultTaken, Starved};
+ghost use Rattle.gateway_theory.specs.Serving.{IsMade};
+ghost use Rattle.gateway_theory.specs.Step.{moment_after};
+ghost use Rattle.gateway_theory.specs.Store.{MachineValue, broken_at, broken_count, call_at, conn_at, conn_of, machine_value};
+ghost use Rattle.gateway_model.specs.declared.seen.Seen.{Seen};
+ghost use Rattle.gateway_theory.specs.declared.fault.StepFault.TheVariants as fault;
 
 use crate::job::Job;
 use crate::machine::store::Machine;
 use call_plan::Plans;
 use connect_codec::Outcome;
-use gateway_model::{CallId, Cause, StepFault, Took};
+use gateway_model::CallId;
 use gateway_replies::{Contexts, Reply, ReplyHook, Stock};
+use gateway_theory::{Cause, StepFault, Took};
 use http_pieces::{Refusal, Request};
 use std::alloc::{AllocError, Global};
 use std::marker::Model;
@@ -38,7 +39,7 @@ pub struct LinkedMachine<H> {
 impl<H> Model for LinkedMachine<H> {
     ghost use Rattle.std.specs.Prelude.{◌≡◌};
     ghost use Rattle.gateway_machine.specs.Linked.{linked};
-    ghost use Rattle.gateway_model.specs.Store.{MachineValue};
+    ghost use Rattle.gateway_theory.specs.Store.{MachineValue};
 
     ghost Value = { MachineValue };
 
@@ -82,7 +83,7 @@ impl<H: ReplyHook + Drop> LinkedMachine<H> {
         requires on { (conn_at index self.old.conns).broken ≡ false }
         requires heard { (conn_at index self.old.conns).hung_up ≡ false }
         requires orderly { IsOrderly self.old }
-        ensures { IsMade index (Entering.Request request (arrival_of plans.now request)) begun.old self.old begun.new self.new result }
+        ensures { IsMade index (Coming.Request request (arrival_of plans.now request)) begun.old self.old begun.new self.new result }
     {
         self.machine
             .come(alloc, &mut self.contexts, plans, index, request, begun)
@@ -91,7 +92,7 @@ impl<H: ReplyHook + Drop> LinkedMachine<H> {
     /// The stream of the connection at that place is refused; the connection breaks where memory is.
     pub fn stop(&mut self, alloc: Global, index: usize, refusal: Refusal) -> Result<(), StepFault>
         requires { index < length self.old.conns }
-        ensures ok { OnOk result (self.new ≡ entered_at index (arriving_at index (Entering.Refused refusal) self.old) self.old) }
+        ensures ok { OnOk result (self.new ≡ entered_at index (arriving_at index (Coming.Refused refusal) self.old) self.old) }
         ensures err { OnErr result (self.new ≡ broken_at (conn_at index self.old.conns).number self.old) }
         ensures fault { IfErr result (λ f. f ≡ fault.Memory) }
     {

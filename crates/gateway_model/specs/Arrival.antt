@@ -36,12 +36,6 @@ arrival_by (Fail error) plan = Judged (Fail error)
 abbrev pub arrival_of : List PlanRecord → HttpRequest → Arrival
 arrival_of plans q = option_map_or (λ plan. arrival_by (verdict_of q true) plan) (plan_of plans q) (Judged (verdict_of q false))
 
--- the verdict asks for a call
-abbrev pub is_ask : Verdict → Bool
-is_ask (Ask timeout id) = true
-is_ask (Bare status) = false
-is_ask (Fail error) = false
-
 -- the reply to a request that is no call
 abbrev pub verdict_reply : Verdict → Bool → ReplyBytes
 verdict_reply (Ask timeout id) last = reply_of [] last

@@ -3,8 +3,8 @@ use Rattle.std.specs.Prelude.{ℕ, Bool, ◌==◌, if◌then◌else◌, List, []
 use Rattle.std.specs.List.{range_with_len}
 use Rattle.std.specs.Option.{option_or, unwrap_or}
 use Rattle.call_plan.specs.Plan.{PlanRecord}
-use Rattle.gateway_model.specs.declared.event.CallEvent.{CallEvent}
-use Rattle.gateway_model.specs.declared.event.CallEvent.TheVariants.{Answer}
+use Rattle.gateway_model.specs.declared.call_event.CallEvent.{CallEvent}
+use Rattle.gateway_model.specs.declared.call_event.CallEvent.TheVariants.{Answer}
 
 -- a call, and its own events in their order, by the event that decides it
 pub record CallRecord : Type 0 where

@@ -7,8 +7,8 @@ use Rattle.call_plan.specs.Plan.{PlanRecord}
 use Rattle.gateway_model.specs.declared.ending.EndCause.{EndCause}
 use Rattle.gateway_model.specs.declared.ending.EndCause.TheVariants as cause
 use Rattle.gateway_model.specs.declared.ending.Ending.{Ending}
-use Rattle.gateway_model.specs.declared.event.CallEvent.{CallEvent}
-use Rattle.gateway_model.specs.declared.event.CallEvent.TheVariants.{Answer, Failed, Expired, HungUp, Drained}
+use Rattle.gateway_model.specs.declared.call_event.CallEvent.{CallEvent}
+use Rattle.gateway_model.specs.declared.call_event.CallEvent.TheVariants.{Answer, Failed, Expired, HungUp, Drained}
 use Rattle.gateway_model.specs.Branch.{branch_at}
 
 -- the error of a failed branch, as the caller is told it: its code and its details, and its message behind the branch's name
@@ -29,9 +29,6 @@ cause_error (cause.Branch name error) = branch_error name error
 cause_error cause.Deadline = expired_error
 cause_error cause.HangUp = plain_error Canceled (codes "context canceled")
 cause_error cause.Drain = plain_error Unavailable (codes "gateway is draining")
-
-abbrev pub ending_with : EndCause → Bool → Ending
-ending_with why last = record { cause = why; last = last }
 
 -- the error that an ending tells
 abbrev pub ending_error : Ending → RpcError

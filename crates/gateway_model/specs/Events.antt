@@ -2,28 +2,19 @@
 use Rattle.std.specs.Prelude.{◌≡◌, ℕ, suc, ◌<◌, ⊤, Bool, true, false, ◌&&◌, ◌||◌, not, if◌then◌else◌, ◌==◌, nat_lt, List, [], ◌∷◌, ◌++◌, map, length, MatchBool}
 use Rattle.std.specs.List.{list_any}
 use Rattle.http_pieces.specs.Request.{HttpRequest}
-use Rattle.http_pieces.specs.Requests.{Ending, Open, Broken, Closed, Requests}
-use Rattle.connect_codec.specs.declared.answer.Outcome.{Outcome}
+use Rattle.http_pieces.specs.Requests.{StreamEnd, Open, RefusedBy, Closed, Requests}
 use Rattle.call_plan.specs.Plan.{PlanRecord}
 use Rattle.gateway_model.specs.Arrival.{arrival_of}
-use Rattle.gateway_model.specs.Occurrence.{Occurrence, Entering, Request, Refused, Entry}
+use Rattle.gateway_model.specs.Occurrence.{Occurrence, Coming, Request, Refused, Comes}
 use Rattle.gateway_model.specs.Occurrence as occurs
 use Rattle.gateway_model.specs.Past.{call_id, count_below}
 use Rattle.gateway_model.specs.Starts.{Placed}
-
--- what may happen to a gateway; a connection is named by its number, a call by its connection and the number of its request
-pub data GatewayEvent : Type 0 where
-  Opening : GatewayEvent
-  Piece : ℕ → List ℕ → GatewayEvent
-  HangUp : ℕ → GatewayEvent
-  Moment : ℕ → GatewayEvent
-  BranchResult : ℕ → ℕ → ℕ → Outcome → GatewayEvent
-  Drain : GatewayEvent
-  Closing : ℕ → GatewayEvent
+use Rattle.gateway_model.specs.declared.event.Event.{Event}
+use Rattle.gateway_model.specs.declared.event.Event.TheVariants.{Opening, Piece, HangUp, Moment, BranchResult, Drain, Closing}
 
 -- the events before one, newest first; the place of the next is their number
 abbrev pub Before : Type 0
-Before = List GatewayEvent
+Before = List Event
 
 -- ---- connections; `opened` lists the places of the openings that succeeded
 
@@ -37,7 +28,7 @@ connections opened [] = 0
 connections opened (Opening ∷ before) = if succeeds opened (length before) then suc (connections opened before) else connections opened before
 connections opened (e ∷ before) = connections opened before
 
-abbrev pub is_closing_of : ℕ → GatewayEvent → Bool
+abbrev pub is_closing_of : ℕ → Event → Bool
 is_closing_of conn (Closing c) = c == conn
 is_closing_of conn _ = false
 
@@ -76,7 +67,7 @@ pub record IsOpened (opened : List ℕ) (events : Before) : Type 0 where
   pub rising : IsRising opened
   pub openings : (place : ℕ) → succeeds opened place ≡ true → OpensAt opened events place
 
-abbrev pub is_hang_up_of : ℕ → GatewayEvent → Bool
+abbrev pub is_hang_up_of : ℕ → Event → Bool
 is_hang_up_of conn (HangUp c) = c == conn
 is_hang_up_of conn _ = false
 
@@ -90,7 +81,7 @@ abbrev pub listens : List ℕ → ℕ → Before → Bool
 listens opened conn before = is_open opened conn before && not (hung_up opened conn before)
 
 -- the piece of the connection's stream that an event brings
-abbrev pub piece_of : ℕ → GatewayEvent → List ℕ
+abbrev pub piece_of : ℕ → Event → List ℕ
 piece_of conn (Piece c bytes) = if c == conn then bytes else []
 piece_of conn _ = []
 
@@ -103,23 +94,23 @@ stream opened conn (e ∷ before) =
 -- ---- what a piece brings
 
 -- the refusal that a longer stream gains
-abbrev pub refusal_gained : Ending → Ending → List Entering
-refusal_gained (Broken r) later = []
-refusal_gained (Open left) (Broken r) = Refused r ∷ []
+abbrev pub refusal_gained : StreamEnd → StreamEnd → List Coming
+refusal_gained (RefusedBy r) later = []
+refusal_gained (Open left) (RefusedBy r) = Refused r ∷ []
 refusal_gained (Open left) (Open more) = []
 refusal_gained (Open left) Closed = []
 refusal_gained Closed later = []
 
 -- the requests that come, with what each comes to
-abbrev pub requests_gained : List PlanRecord → List HttpRequest → List Entering
+abbrev pub requests_gained : List PlanRecord → List HttpRequest → List Coming
 requests_gained plans more = map (λ q. Request q (arrival_of plans q)) more
 
 -- what the stream gains when it grows from one text to the other: the requests that the other has more, and its refusal
-pub record Gains (plans : List PlanRecord) (text longer : List ℕ) (gained : List Entering) : Type 0 where
+pub record Gains (plans : List PlanRecord) (text longer : List ℕ) (gained : List Coming) : Type 0 where
   pub given : List HttpRequest
   pub more : List HttpRequest
-  pub ending : Ending
-  pub later : Ending
+  pub ending : StreamEnd
+  pub later : StreamEnd
   pub text_is : Requests 0 text given ending
   pub longer_is : Requests 0 longer (given ++ more) later
   pub gained_is : gained ≡ requests_gained plans more ++ refusal_gained ending later
@@ -133,11 +124,11 @@ once false o = []
 
 -- what occurs at an event, behind these: an event of a connection that is not open has no effect, and so has a piece or a
 -- hang-up after its first hang-up
-abbrev pub OccursAt : List PlanRecord → List ℕ → GatewayEvent → Before → List Occurrence → Type 0
+abbrev pub OccursAt : List PlanRecord → List ℕ → Event → Before → List Occurrence → Type 0
 OccursAt plans opened Opening before os = os ≡ once (succeeds opened (length before)) occurs.Opening
 OccursAt plans opened (Piece conn bytes) before os =
     MatchBool (listens opened conn before)
-    ((gained : List Entering) × Gains plans (stream opened conn before) (stream opened conn before ++ bytes) gained × (os ≡ map (Entry conn) gained))
+    ((gained : List Coming) × Gains plans (stream opened conn before) (stream opened conn before ++ bytes) gained × (os ≡ map (Comes conn) gained))
     (os ≡ [])
 OccursAt plans opened (HangUp conn) before os = os ≡ once (listens opened conn before) (occurs.HangUp conn)
 OccursAt plans opened (Moment m) before os = os ≡ occurs.Moment m ∷ []
@@ -147,7 +138,7 @@ OccursAt plans opened (Closing conn) before os = os ≡ once (is_open opened con
 
 -- the event has no effect: it names a connection that is not open, is a piece or a hang-up after the connection's first hang-up, or an
 -- opening that does not succeed
-abbrev pub has_no_effect : List ℕ → GatewayEvent → Before → Bool
+abbrev pub has_no_effect : List ℕ → Event → Before → Bool
 has_no_effect opened Opening before = not (succeeds opened (length before))
 has_no_effect opened (Piece conn bytes) before = not (listens opened conn before)
 has_no_effect opened (HangUp conn) before = not (listens opened conn before)

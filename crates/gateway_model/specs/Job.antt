@@ -4,7 +4,7 @@ use Rattle.call_plan.specs.Plan.{PlanRecord}
 use Rattle.http_pieces.specs.Request.{HttpRequest}
 use Rattle.gateway_model.specs.declared.id.CallId.{CallId}
 use Rattle.gateway_model.specs.Branch.{branch_at}
-use Rattle.gateway_model.specs.Past.{Asked}
+use Rattle.gateway_model.specs.Past.{ArrivedCall}
 
 pub record JobValue : Type 0 where
   pub call : CallId
@@ -33,23 +33,5 @@ abbrev pub left_at : ℕ → Option ℕ → Option ℕ
 left_at moment deadline = option_map (λ d. d - moment) deadline
 
 -- the job of a branch of the call that starts at this moment
-abbrev pub job_of : CallId → ℕ → Asked → ℕ → JobValue
+abbrev pub job_of : CallId → ℕ → ArrivedCall → ℕ → JobValue
 job_of call i asked moment = job_with call i asked.plan asked.request asked.request_id (left_at moment asked.deadline)
-
--- a branch of a call that waits for its start
-pub record TaskValue : Type 0 where
-  pub call : CallId
-  pub branch : ℕ
-  pub asked : Asked
-
-abbrev pub task_of : CallId → Asked → ℕ → TaskValue
-task_of call asked i = record { call = call; branch = i; asked = asked }
-
--- its job, where it starts at this moment
-abbrev pub job_at : ℕ → TaskValue → JobValue
-job_at moment t = job_of t.call t.branch t.asked moment
-
--- a job as it is handed out, and whether its answer was still wanted then
-pub record HandedJob : Type 0 where
-  pub job : JobValue
-  pub wanted : Bool

@@ -7,17 +7,17 @@ use Rattle.gateway_model.specs.declared.id.CallId.{CallId}
 use Rattle.gateway_model.specs.Arrival.{Arrival, Asks, Judged}
 
 -- what comes on a connection's stream
-pub data Entering : Type 0 where
+pub data Coming : Type 0 where
   -- a request, and what it comes to by its verdict
-  Request : HttpRequest → Arrival → Entering
+  Request : HttpRequest → Arrival → Coming
   -- the stream's refusal, which ends it
-  Refused : Refusal → Entering
+  Refused : Refusal → Coming
 
 pub data Occurrence : Type 0 where
   -- a connection is opened; connections count from 0
   Opening : Occurrence
   -- something comes on the stream of the connection of that number
-  Entry : ℕ → Entering → Occurrence
+  Comes : ℕ → Coming → Occurrence
   -- the peer of a connection hangs up
   HangUp : ℕ → Occurrence
   -- the moment is handed in, in milliseconds
@@ -28,18 +28,3 @@ pub data Occurrence : Type 0 where
   Drain : Occurrence
   -- a connection is closed
   Closing : ℕ → Occurrence
-
--- how many calls come with it: one with a request that asks for a call, whatever it then comes to
-abbrev pub calls_in : Entering → ℕ
-calls_in (Request q (Judged verdict)) = 0
-calls_in (Request q (Asks plan timeout id)) = 1
-calls_in (Refused refusal) = 0
-
-abbrev pub calls_by : Occurrence → ℕ
-calls_by (Entry c x) = calls_in x
-calls_by _ = 0
-
--- how many calls have arrived
-abbrev pub calls_arrived : List Occurrence → ℕ
-calls_arrived [] = 0
-calls_arrived (o ∷ os) = calls_by o + calls_arrived os

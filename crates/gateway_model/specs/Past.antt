@@ -5,14 +5,14 @@ use Rattle.http_pieces.specs.Request.{HttpRequest}
 use Rattle.connect_codec.specs.declared.answer.Outcome.{Outcome}
 use Rattle.connect_codec.specs.declared.answer.Outcome.TheVariants.{Answer, Fail}
 use Rattle.call_plan.specs.Plan.{PlanRecord}
-use Rattle.gateway_model.specs.declared.event.CallEvent.{CallEvent}
-use Rattle.gateway_model.specs.declared.event.CallEvent.TheVariants.{Failed, Expired, HungUp, Drained}
-use Rattle.gateway_model.specs.declared.event.CallEvent.TheVariants as event
+use Rattle.gateway_model.specs.declared.call_event.CallEvent.{CallEvent}
+use Rattle.gateway_model.specs.declared.call_event.CallEvent.TheVariants.{Failed, Expired, HungUp, Drained}
+use Rattle.gateway_model.specs.declared.call_event.CallEvent.TheVariants as event
 use Rattle.gateway_model.specs.declared.id.CallId.{CallId}
-use Rattle.gateway_model.specs.declared.fault.Seen.{Seen}
-use Rattle.gateway_model.specs.declared.fault.Seen.TheVariants.{Counted, Late, Unknown}
+use Rattle.gateway_model.specs.declared.seen.Seen.{Seen}
+use Rattle.gateway_model.specs.declared.seen.Seen.TheVariants.{Counted, Late, Unknown}
 use Rattle.gateway_model.specs.Arrival.{Judged, Asks}
-use Rattle.gateway_model.specs.Occurrence.{Occurrence, Entry, HangUp, Moment, Result, Drain, Closing, Entering, Request, Refused}
+use Rattle.gateway_model.specs.Occurrence.{Occurrence, Comes, HangUp, Moment, Result, Drain, Closing, Coming, Request, Refused}
 
 -- one occurrence, whether it is a result that counted, and whether it is a request that asked for one call too many
 pub record Mark : Type 0 where
@@ -45,33 +45,33 @@ abbrev pub is_drained : Past → Bool
 is_drained [] = false
 is_drained (m ∷ past) = is_drain m.what || is_drained past
 
-abbrev pub is_closing_of : ℕ → Occurrence → Bool
-is_closing_of conn (Closing c) = c == conn
-is_closing_of conn _ = false
+abbrev pub closing_occurs : ℕ → Occurrence → Bool
+closing_occurs conn (Closing c) = c == conn
+closing_occurs conn _ = false
 
 -- the connection was closed
 abbrev pub is_closed : ℕ → Past → Bool
 is_closed conn [] = false
-is_closed conn (m ∷ past) = is_closing_of conn m.what || is_closed conn past
+is_closed conn (m ∷ past) = closing_occurs conn m.what || is_closed conn past
 
 -- ---- requests, and the calls that they ask for
 
 -- what comes on the connection's stream at this occurrence
-abbrev pub entering_on : ℕ → Occurrence → Option Entering
-entering_on conn (Entry c e) = if c == conn then Some e else None
-entering_on conn _ = None
+abbrev pub coming_on : ℕ → Occurrence → Option Coming
+coming_on conn (Comes c e) = if c == conn then Some e else None
+coming_on conn _ = None
 
 -- how many requests came on the connection's stream; a refusal counts as one
-abbrev pub entries : ℕ → Past → ℕ
-entries conn [] = 0
-entries conn (m ∷ past) = if is_some (entering_on conn m.what) then suc (entries conn past) else entries conn past
+abbrev pub arrivals : ℕ → Past → ℕ
+arrivals conn [] = 0
+arrivals conn (m ∷ past) = if is_some (coming_on conn m.what) then suc (arrivals conn past) else arrivals conn past
 
 -- what comes as request number `id.request` of its connection, if it comes now
-abbrev pub entering_now : CallId → Mark → Past → Option Entering
-entering_now id m past = if entries id.conn past == id.request then entering_on id.conn m.what else None
+abbrev pub coming_now : CallId → Mark → Past → Option Coming
+coming_now id m past = if arrivals id.conn past == id.request then coming_on id.conn m.what else None
 
 -- a call: a request for a plan, which was not crowded out
-pub record Asked : Type 0 where
+pub record ArrivedCall : Type 0 where
   pub plan : PlanRecord
   pub request : HttpRequest
   -- the id that its request names, to be passed on (the field `X-Request-Id`)
@@ -89,7 +89,7 @@ smaller (Some s) (Some t) = Some (min s t)
 
 -- the call of the plan that a request begins when it comes at this moment: its deadline is the smaller of the request's timeout and
 -- the plan's after the moment (Connect protocol, `Connect-Timeout-Ms`; Go `context.WithDeadline`)
-abbrev pub asked_of : ℕ → HttpRequest → PlanRecord → Option ℕ → Option (List ℕ) → Asked
+abbrev pub asked_of : ℕ → HttpRequest → PlanRecord → Option ℕ → Option (List ℕ) → ArrivedCall
 asked_of moment q plan timeout id = record {
   plan = plan;
   request = q;
@@ -99,17 +99,17 @@ asked_of moment q plan timeout id = record {
 }
 
 -- the call that comes at this moment, if what comes asks for one
-abbrev pub asked_by : ℕ → Entering → Option Asked
+abbrev pub asked_by : ℕ → Coming → Option ArrivedCall
 asked_by moment (Refused r) = None
 asked_by moment (Request q (Judged v)) = None
 asked_by moment (Request q (Asks plan timeout id)) = Some (asked_of moment q plan timeout id)
 
 -- the call that this occurrence begins under that id, if it does
-abbrev pub asked_now : CallId → Mark → Past → Option Asked
-asked_now id m past = if m.crowded then None else option_and_then (asked_by (now past)) (entering_now id m past)
+abbrev pub asked_now : CallId → Mark → Past → Option ArrivedCall
+asked_now id m past = if m.crowded then None else option_and_then (asked_by (now past)) (coming_now id m past)
 
 -- the call of that id, if it has arrived
-abbrev pub call : CallId → Past → Option Asked
+abbrev pub call : CallId → Past → Option ArrivedCall
 call id [] = None
 call id (m ∷ past) = option_or (call id past) (asked_now id m past)
 
@@ -121,7 +121,7 @@ is_due moment (Some deadline) = nat_le deadline moment
 -- ---- what happens to a call
 
 -- what decides a call as it arrives: the drain, and else its deadline
-abbrev pub ends_at_arrival : Past → Asked → Option CallEvent
+abbrev pub ends_at_arrival : Past → ArrivedCall → Option CallEvent
 ends_at_arrival past c = if is_drained past then Some Drained else (if is_due (now past) c.deadline then Some (Expired (now past)) else None)
 
 abbrev pub is_call : CallId → CallId → Bool
@@ -133,7 +133,7 @@ of_branch i (Fail error) = Failed i error
 
 -- the event that this is of a call which arrived before and is undecided: a result that counted, the deadline reached, the
 -- hang-up of its connection, or the drain
-abbrev pub event_by : CallId → Asked → Occurrence → Bool → Past → Option CallEvent
+abbrev pub event_by : CallId → ArrivedCall → Occurrence → Bool → Past → Option CallEvent
 event_by id c (Result of i outcome) counted past = if counted && is_call of id then Some (of_branch i outcome) else None
 event_by id c (Moment m) counted past =
     let moment = max (now past) (min m (2 ^ 62)) in
@@ -211,18 +211,18 @@ abbrev pub outs : CallId → Past → ℕ
 outs id past = count_below (branches id past) (λ i. is_out id i past)
 
 -- the call can still be decided
-abbrev pub is_open : CallId → Past → Bool
-is_open id past = is_none (decided id past) && not (is_closed id.conn past)
+abbrev pub can_be_decided : CallId → Past → Bool
+can_be_decided id past = is_none (decided id past) && not (is_closed id.conn past)
 
 -- how a result of that branch is seen
-abbrev pub judged : CallId → ℕ → Past → Seen
-judged id i past = if is_out id i past then (if is_open id past then Counted else Late) else Unknown
+abbrev pub how_seen : CallId → ℕ → Past → Seen
+how_seen id i past = if is_out id i past then (if can_be_decided id past then Counted else Late) else Unknown
 
 -- ---- the list of what occurs
 
 -- the occurrence is a result that counts
 abbrev pub counts : Occurrence → Past → Bool
-counts (Result id i outcome) past = is_out id i past && is_open id past
+counts (Result id i outcome) past = is_out id i past && can_be_decided id past
 counts _ past = false
 
 -- the call has arrived and is undecided
@@ -234,7 +234,7 @@ call_id conn request = record { conn = conn; request = request }
 
 -- how many calls of the connection are undecided
 abbrev pub undecided_calls : ℕ → Past → ℕ
-undecided_calls conn past = count_below (entries conn past) (λ k. is_undecided (call_id conn k) past)
+undecided_calls conn past = count_below (arrivals conn past) (λ k. is_undecided (call_id conn k) past)
 
 -- a connection may have so many undecided calls (this project's choice)
 abbrev pub most_calls : ℕ
@@ -242,7 +242,7 @@ most_calls = 8
 
 -- the occurrence is a request that asks for one call too many
 abbrev pub crowds : Occurrence → Past → Bool
-crowds (Entry conn (Request q (Asks plan timeout id))) past = nat_le most_calls (undecided_calls conn past)
+crowds (Comes conn (Request q (Asks plan timeout id))) past = nat_le most_calls (undecided_calls conn past)
 crowds _ past = false
 
 -- an occurrence after that past

@@ -7,15 +7,15 @@ use Rattle.connect_codec.specs.Reply.{success_reply, error_reply}
 use Rattle.call_plan.specs.Plan.{PlanRecord, join_text}
 use Rattle.gateway_model.specs.declared.entry.ReplyEntry.{ReplyEntry}
 use Rattle.gateway_model.specs.declared.entry.ReplyEntry.TheVariants as reply_entry
-use Rattle.gateway_model.specs.declared.event.CallEvent.{CallEvent}
+use Rattle.gateway_model.specs.declared.call_event.CallEvent.{CallEvent}
 use Rattle.gateway_model.specs.declared.id.CallId.{CallId}
 use Rattle.gateway_model.specs.declared.reply_bytes.ReplyBytes.{ReplyBytes}
 use Rattle.gateway_model.specs.Arrival.{Judged, Asks, refusal_reply, verdict_reply}
 use Rattle.gateway_model.specs.CallRecord.{CallRecord, record_with, answers_in, last_event}
 use Rattle.gateway_model.specs.Errors.{crowded_error, error_of}
 use Rattle.gateway_model.specs.Reply.{reply_of}
-use Rattle.gateway_model.specs.Occurrence.{Entering, Request, Refused}
-use Rattle.gateway_model.specs.Past.{Past, Asked, call, call_id, own_event, decided, entering_now, entries}
+use Rattle.gateway_model.specs.Occurrence.{Coming, Request, Refused}
+use Rattle.gateway_model.specs.Past.{Past, ArrivedCall, call, call_id, own_event, decided, coming_now, arrivals}
 
 -- ---- the record of a call
 
@@ -26,7 +26,7 @@ own_events id (m ∷ past) =
     if is_some (decided id past) then own_events id past
     else own_events id past ++ option_to_list (own_event id m past)
 
-abbrev pub record_of : Asked → List CallEvent → CallRecord
+abbrev pub record_of : ArrivedCall → List CallEvent → CallRecord
 record_of c events = record_with c.plan c.start c.deadline (closes c.request) events
 
 -- ---- the reply to a call
@@ -52,9 +52,9 @@ answer_of (reply_entry.Crowded last) = reply_of (error_reply crowded_error last)
 answer_of (reply_entry.Call r) = call_reply r
 
 -- what came as that request, and whether it was crowded out
-abbrev pub came : CallId → Past → Option (Entering × Bool)
+abbrev pub came : CallId → Past → Option (Coming × Bool)
 came id [] = None
-came id (m ∷ past) = option_or (came id past) (option_map (λ e. (e, m.crowded)) (entering_now id m past))
+came id (m ∷ past) = option_or (came id past) (option_map (λ e. (e, m.crowded)) (coming_now id m past))
 
 -- the entry of a call, once it is decided
 abbrev pub call_entry : CallId → Past → Option ReplyEntry
@@ -62,7 +62,7 @@ call_entry id past =
     if is_some (decided id past) then option_map (λ c. reply_entry.Call (record_of c (own_events id past))) (call id past) else None
 
 -- the entry of what came: a refusal, a verdict and a call too many have theirs at once
-abbrev pub entry_by : CallId → Past → Entering × Bool → Option ReplyEntry
+abbrev pub entry_by : CallId → Past → Coming × Bool → Option ReplyEntry
 entry_by id past (Refused r, crowded) = Some (reply_entry.Refused r)
 entry_by id past (Request q (Judged v), crowded) = Some (reply_entry.Judged v (closes q))
 entry_by id past (Request q (Asks plan timeout request_id), true) = Some (reply_entry.Crowded (closes q))
@@ -80,9 +80,9 @@ front [] = []
 front (None ∷ rest) = []
 front (Some a ∷ rest) = a ∷ front rest
 
--- the entries of a connection's requests in order, up to the first that is undecided
+-- the arrivals of a connection's requests in order, up to the first that is undecided
 abbrev pub queued_entries : ℕ → Past → List ReplyEntry
-queued_entries conn past = front (map (λ k. entry (call_id conn k) past) (range_with_len 0 (entries conn past)))
+queued_entries conn past = front (map (λ k. entry (call_id conn k) past) (range_with_len 0 (arrivals conn past)))
 
 -- the replies to a connection's requests in order, up to the first that is undecided
 abbrev pub replies : ℕ → Past → List ReplyBytes

@@ -1,8 +1,8 @@
 -- When the record of a call is lawful: its events can have come so.
 use Rattle.std.specs.Prelude.{ℕ, suc, ◌+◌, min, Bool, true, false, not, ◌&&◌, ◌||◌, ◌==◌, nat_lt, is_none, List, [], ◌∷◌, ◌++◌, length}
 use Rattle.std.specs.Option.{option_map_or}
-use Rattle.gateway_model.specs.declared.event.CallEvent.{CallEvent}
-use Rattle.gateway_model.specs.declared.event.CallEvent.TheVariants.{Answer, Failed, Expired, HungUp, Drained}
+use Rattle.gateway_model.specs.declared.call_event.CallEvent.{CallEvent}
+use Rattle.gateway_model.specs.declared.call_event.CallEvent.TheVariants.{Answer, Failed, Expired, HungUp, Drained}
 use Rattle.gateway_model.specs.CallRecord.{CallRecord, answer_of_branch, last_event}
 use Rattle.gateway_model.specs.Past.{decides, is_due}
 

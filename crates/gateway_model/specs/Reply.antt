@@ -7,11 +7,3 @@ use Rattle.gateway_model.specs.declared.reply_bytes.ReplyBytes.{ReplyBytes}
 -- the bytes of a reply, and whether it is its connection's last
 abbrev pub reply_of : List ℕ → Bool → ReplyBytes
 reply_of bytes last = record { bytes = bytes; last = last }
-
--- the reply to the request of that connection and number, by its entry
-pub record ReplyValue : Type 0 where
-  pub id : CallId
-  pub entry : ReplyEntry
-
-abbrev pub reply_with : CallId → ReplyEntry → ReplyValue
-reply_with id entry = record { id = id; entry = entry }

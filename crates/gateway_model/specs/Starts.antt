@@ -4,8 +4,8 @@ use Rattle.std.specs.List.{range_with_len}
 use Rattle.std.specs.Option.{option_map_or}
 use Rattle.gateway_model.specs.declared.id.CallId.{CallId}
 use Rattle.gateway_model.specs.Job.{JobValue, job_of}
-use Rattle.gateway_model.specs.Occurrence.{Occurrence, Entry, Result}
-use Rattle.gateway_model.specs.Past.{Past, Mark, call, call_id, entries, now, started, mark_of, marked}
+use Rattle.gateway_model.specs.Occurrence.{Occurrence, Comes, Result}
+use Rattle.gateway_model.specs.Past.{Past, Mark, call, call_id, arrivals, now, started, mark_of, marked}
 
 -- an occurrence, and the place of its event in the list of events
 abbrev pub Placed : Type 0
@@ -25,7 +25,7 @@ jobs_started id m past = option_map_or (λ c. map (λ i. job_of id i c (now past
 
 -- the jobs that start at this occurrence; only branches of the call that a request begins, or that a result is of, can start
 abbrev pub jobs_by : Occurrence → Mark → Past → List JobValue
-jobs_by (Entry conn e) m past = jobs_started (call_id conn (entries conn past)) m past
+jobs_by (Comes conn e) m past = jobs_started (call_id conn (arrivals conn past)) m past
 jobs_by (Result id i outcome) m past = jobs_started id m past
 jobs_by _ m past = []
 
@@ -35,18 +35,18 @@ jobs [] = []
 jobs (m ∷ past) = jobs past ++ jobs_by m.what m past
 
 -- a branch of a call starts at the event of that place, and gives that job
-pub record Start : Type 0 where
+pub record StartedJob : Type 0 where
   pub place : ℕ
   pub job : JobValue
 
-abbrev pub start : ℕ → JobValue → Start
+abbrev pub start : ℕ → JobValue → StartedJob
 start place job = record { place = place; job = job }
 
-abbrev pub job_started : Start → JobValue
+abbrev pub job_started : StartedJob → JobValue
 job_started s = s.job
 
 -- all branches that have started by what occurred, newest first: by event, then by request of the call, then by branch
-abbrev pub starts : List Placed → List Start
+abbrev pub starts : List Placed → List StartedJob
 starts [] = []
 starts (o ∷ placed) =
     let past = marked (occurrences placed) in

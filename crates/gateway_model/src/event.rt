@@ -1,17 +1,34 @@
-use error_document::RpcError;
+ghost use Rattle.std.specs.Prelude.{◌≡◌};
+ghost use Rattle.gateway_model.specs.Run.{is_opening};
+
+use connect_codec::Outcome;
 use http_pieces::Bytes;
 
-/// An event of a call. Branches are named by their number in the plan, from 0 in declared order.
+/// What may happen to the gateway. A connection is named by its number, a call by its connection and the
+/// number of its request, from 0.
 #[derive(Debug, Drop, PartialEq, Eq)]
-pub enum CallEvent {
-    /// A branch answered with these bytes, and the answer counted.
-    Answer(u32, Bytes),
-    /// A branch failed, which decides its call.
-    Failed(u32, RpcError),
-    /// The deadline was reached at this moment, in milliseconds.
-    Expired(u64),
-    /// The peer of the connection hung up.
-    HungUp,
-    /// The gateway was drained.
-    Drained,
+pub enum Event {
+    /// A connection is opened.
+    Opening,
+    /// Bytes of a connection's stream come.
+    Piece(u64, Bytes),
+    /// A connection's client is gone: nothing more comes of its stream.
+    HangUp(u64),
+    /// This many milliseconds have passed, by the caller's clock.
+    Moment(u64),
+    /// A branch of a call ends: connection, request, branch, and how.
+    BranchResult(u64, u64, u32, Outcome),
+    /// The gateway is drained: each call ends, and so does each that comes later.
+    Drain,
+    /// A connection is closed, and its calls are dropped.
+    Closing(u64),
+}
+
+impl Event {
+    /// Whether it opens a connection.
+    pub fn is_opening(&self) -> bool
+        ensures { result ≡ is_opening self.now }
+    {
+        matches!(self, Event::Opening)
+    }
 }

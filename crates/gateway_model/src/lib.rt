@@ -1,29 +1,23 @@
-//! The gateway as a function of what comes in: the words of its interface, and in `specs/` what each event makes of the
-//! replies and jobs. The laws are facts on every list of events; their functions do nothing. No code of the gateway is here.
+//! What must be believed of the gateway: the definitions that the headline is said in (`specs/`), and the types that they speak of.
+//! No code of the gateway is here, and no proof.
 #![tactic(auto)]
 
-mod cause;
+mod call_event;
 mod ending;
 mod entry;
 mod event;
-pub mod event_laws;
-mod fault;
-pub mod gateway_laws;
 mod id;
-pub mod laws;
-pub mod machine_laws;
 mod record;
 mod reply_bytes;
-pub mod request_laws;
-pub mod served_laws;
-mod tally;
+mod run;
+mod seen;
 
-pub use cause::Cause;
+pub use call_event::CallEvent;
 pub use ending::{EndCause, Ending};
 pub use entry::ReplyEntry;
-pub use event::CallEvent;
-pub use fault::{OpenError, Seen, StepFault, Took};
+pub use event::Event;
 pub use id::{CallId, ConnId};
 pub use record::CallRecord;
 pub use reply_bytes::ReplyBytes;
-pub use tally::Tally;
+pub use run::{Run, RunError, Start};
+pub use seen::Seen;

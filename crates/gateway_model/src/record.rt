@@ -1,4 +1,4 @@
-use crate::event::CallEvent;
+use crate::call_event::CallEvent;
 use call_plan::Plan;
 use std::marker::Model;
 use std::sync::Arc;

@@ -9,16 +9,16 @@ use Rattle.std.proofs.lemmas.Option.{same_Some}
 use Rattle.context_tree.specs.Context.{Id, same}
 use Rattle.context_tree.specs.Frames.{is_due as is_due_there}
 use Rattle.call_contexts.specs.Standing.{AreApart, Call, Conn, Standing, ends_if, is_conn, is_fresh, opened as standing_opened, begun as standing_begun, without as standing_without, closed as standing_closed, expired as standing_expired, cancelled as standing_cancelled, all_ended as standing_ended, is_call as is_standing, is_ended_conn}
-use Rattle.gateway_model.specs.declared.cause.Cause.TheVariants.{Reached, HungUp, Drained}
+use Rattle.gateway_theory.specs.declared.cause.Cause.TheVariants.{Reached, HungUp, Drained}
 use Rattle.gateway_model.specs.declared.id.CallId.{CallId}
-use Rattle.gateway_model.specs.Past.{Asked, is_call, is_due}
+use Rattle.gateway_model.specs.Past.{ArrivedCall, is_call, is_due}
 use Rattle.gateway_replies.specs.declared.contexts.life.Life.{Life}
 use Rattle.gateway_replies.specs.declared.contexts.peer.Peer.{Peer}
 use Rattle.gateway_replies.specs.Ties.{life_tie, life_ties, peer_tie, peer_ties}
 use Rattle.gateway_replies.specs.Contexts.{AreTied, LivesApart, PeerValue, begun, contexts_of, ContextsValue, IsTied, KeepsOthers, LifeValue, Lives, NoTwo, Peers, closed, contexts_value, ctx_for, ctx_of, ends_life, ends_peer, first_life, first_of, is_ended_peer, is_life, is_peer, peer, peers_of, told, life_with, lives_of, opened, others, same_id, same_context, same_number, without, without_calls, without_first}
-use Rattle.gateway_model.specs.lemmas.Cases.{all_stay, or_false, or_true, sym_eqb}
-use Rattle.gateway_model.specs.lemmas.LimitLemmas.{same_call}
-use Rattle.gateway_model.specs.lemmas.StoreLemmas.{call_itself}
+use Rattle.gateway_theory.specs.lemmas.Cases.{all_stay, or_false, or_true, sym_eqb}
+use Rattle.gateway_theory.specs.lemmas.LimitLemmas.{same_call}
+use Rattle.gateway_theory.specs.lemmas.StoreLemmas.{call_itself}
 
 -- ---- lists
 
@@ -604,7 +604,7 @@ module _ {V : Type 0} where
       (subst (λ ls. IsTied ps ls (standing_begun l.ctx conn deadline now request_id v)) (sym (ap life_ties more_is ∙ map_push life_tie lives l))
       (tied_begun ps (life_ties lives) v l.id l.ctx conn deadline now request_id tied known none)))
 
-  pub begun_value : (text : V → List ℕ) (ps qs : Peers) (lives more : List Life) (v w : Standing V) (u : ContextsValue) (a : Asked) (l : Life) (conn : Id) (deadline : Option ℕ) (now : ℕ)
+  pub begun_value : (text : V → List ℕ) (ps qs : Peers) (lives more : List Life) (v w : Standing V) (u : ContextsValue) (a : ArrivedCall) (l : Life) (conn : Id) (deadline : Option ℕ) (now : ℕ)
       (request_id : Option V) → qs ≡ ps → more ≡ lives ++ l ∷ [] → w ≡ standing_begun l.ctx conn deadline now request_id v → IsTied ps (life_ties lives) v → ctx_of l.id.conn ps ≡ Some conn
       → contexts_of text ps (life_ties lives) v ≡ u → deadline ≡ a.deadline → option_map text request_id ≡ a.request_id → contexts_of text qs (life_ties more) w ≡ begun now l.id a u
   begun_value text ps qs lives more v w u a l conn deadline now request_id qs_are more_is w_is tied known u_is deadline_is id_is =

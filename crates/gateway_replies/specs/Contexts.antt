@@ -3,10 +3,10 @@ use Rattle.std.specs.Prelude.{◌≡◌, ℕ, Bool, true, false, not, if◌then�
 use Rattle.std.specs.List.{list_any}
 use Rattle.context_tree.specs.Context.{Id, same}
 use Rattle.call_contexts.specs.Standing.{Call, Conn, Standing}
-use Rattle.gateway_model.specs.declared.cause.Cause.{Cause}
-use Rattle.gateway_model.specs.declared.cause.Cause.TheVariants.{Reached, HungUp, Drained}
+use Rattle.gateway_theory.specs.declared.cause.Cause.{Cause}
+use Rattle.gateway_theory.specs.declared.cause.Cause.TheVariants.{Reached, HungUp, Drained}
 use Rattle.gateway_model.specs.declared.id.CallId.{CallId}
-use Rattle.gateway_model.specs.Past.{Asked, is_call, is_due}
+use Rattle.gateway_model.specs.Past.{ArrivedCall, is_call, is_due}
 
 -- a connection that has a context, and whether that has ended
 pub record PeerValue : Type 0 where
@@ -36,7 +36,7 @@ abbrev pub no_contexts : ContextsValue
 no_contexts = contexts_value false [] []
 
 -- the context that is made for a call
-abbrev pub life_by : Bool → CallId → Asked → LifeValue
+abbrev pub life_by : Bool → CallId → ArrivedCall → LifeValue
 life_by ended id a = record { id = id; deadline = a.deadline; request_id = a.request_id; ended = ended }
 
 -- the connection of that number has a context
@@ -62,7 +62,7 @@ abbrev pub opened : ℕ → ContextsValue → ContextsValue
 opened number v = contexts_value v.drained (v.conns ++ peer number v.drained ∷ []) v.calls
 
 -- a call's context begins; it has ended where that of its connection has, or its deadline is reached
-abbrev pub begun : ℕ → CallId → Asked → ContextsValue → ContextsValue
+abbrev pub begun : ℕ → CallId → ArrivedCall → ContextsValue → ContextsValue
 begun now id a v = contexts_value v.drained v.conns (v.calls ++ life_by (is_ended_peer id.conn v.conns || is_due now a.deadline) id a ∷ [])
 
 -- the context of the connection, or of the call, ends if the condition holds

@@ -2,7 +2,8 @@
 ghost use Rattle.std.specs.Prelude.{◌≡◌, IfOk, IsTrue, true, false};
 ghost use Rattle.connect_codec.specs.Reply.{bare_reply, error_reply, is_bare_status};
 ghost use Rattle.connect_codec.specs.Verdict.{HasBareStatus};
-ghost use Rattle.gateway_model.specs.Arrival.{is_ask, refusal_reply, verdict_reply};
+ghost use Rattle.gateway_theory.specs.Arrivals.{is_ask};
+ghost use Rattle.gateway_model.specs.Arrival.{refusal_reply, verdict_reply};
 ghost use Rattle.gateway_model.specs.Errors.{crowded_error};
 ghost use Rattle.gateway_model.specs.Reply.{reply_of};
 

@@ -10,14 +10,15 @@ ghost use Rattle.gateway_model.specs.Past.{is_call};
 ghost use Rattle.gateway_model.specs.declared.id.CallId.{CallId as AnyCall};
 ghost use Rattle.gateway_replies.specs.Ties.{life_ties, peer_ties};
 
-use crate::asked::Asked;
+use crate::arrived_call::ArrivedCall;
 use crate::contexts::life::Life;
 use crate::contexts::peer::Peer;
 use crate::hook::ReplyHook;
 use crate::stock::Stock;
 use call_contexts::CallContexts;
 use context_tree::CtxId;
-use gateway_model::{CallId, Cause, Ending};
+use gateway_model::{CallId, Ending};
+use gateway_theory::Cause;
 use http_pieces::Bytes;
 use std::alloc::{AllocError, Global};
 use std::marker::Model;
@@ -75,7 +76,7 @@ impl<H: ReplyHook + Drop> Contexts<H> {
     }
 
     /// A call begins on its connection, with the next of the connection's hooks.
-    pub fn begin(&mut self, id: &CallId, asked: &Asked, now: u64) -> Result<(), AllocError>
+    pub fn begin(&mut self, id: &CallId, asked: &ArrivedCall, now: u64) -> Result<(), AllocError>
         requires known { is_peer id.now.conn self.old.conns ≡ true }
         requires fresh { is_life id.now self.old.calls ≡ false }
         ensures ok { OnOk result (self.new ≡ begun now id.now asked.now self.old) }

@@ -1,9 +1,10 @@
 ghost use Rattle.std.specs.Prelude.{◌≡◌, IfOk, OnErr, OnOk, option_and_then, option_map, true};
 ghost use Rattle.gateway_model.specs.CallRecord.{last_event};
 ghost use Rattle.gateway_replies.specs.Contexts.{KeepsOthers, is_life, without};
-ghost use Rattle.gateway_model.specs.Errors.{cause_of, ending_with};
+ghost use Rattle.gateway_model.specs.Errors.{cause_of};
+ghost use Rattle.gateway_theory.specs.Endings.{ending_with};
 ghost use Rattle.gateway_model.specs.Queue.{call_reply};
-ghost use Rattle.gateway_model.specs.Reply.{reply_with};
+ghost use Rattle.gateway_theory.specs.Replies.{reply_with};
 ghost use Rattle.gateway_model.specs.declared.entry.ReplyEntry.{ReplyEntry};
 
 use crate::contexts::Contexts;

@@ -1,7 +1,8 @@
 ghost use Rattle.std.specs.Prelude.{◌≡◌, IfOk, option_map};
 ghost use Rattle.connect_codec.specs.Reply.{error_reply};
 ghost use Rattle.gateway_model.specs.Branch.{branch_at};
-ghost use Rattle.gateway_model.specs.Errors.{branch_error, cause_error, cause_of, ending_error, ending_with};
+ghost use Rattle.gateway_model.specs.Errors.{branch_error, cause_error, cause_of, ending_error};
+ghost use Rattle.gateway_theory.specs.Endings.{ending_with};
 
 use call_plan::Plan;
 use connect_codec::error_reply;

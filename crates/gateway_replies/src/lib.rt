@@ -2,7 +2,7 @@
 #![tactic(auto)]
 
 mod answers;
-mod asked;
+mod arrived_call;
 mod contexts;
 mod decided;
 mod ending;
@@ -11,7 +11,7 @@ mod joined;
 mod reply;
 mod stock;
 
-pub use asked::Asked;
+pub use arrived_call::ArrivedCall;
 pub use contexts::Contexts;
 pub use decided::reply_to;
 pub use ending::ending_reply;

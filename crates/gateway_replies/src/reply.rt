@@ -1,8 +1,8 @@
 ghost use Rattle.std.specs.Prelude.{◌≡◌, IfOk, false};
 ghost use Rattle.connect_codec.specs.Verdict.{HasBareStatus};
-ghost use Rattle.gateway_model.specs.Arrival.{is_ask};
+ghost use Rattle.gateway_theory.specs.Arrivals.{is_ask};
 ghost use Rattle.gateway_model.specs.Queue.{answer_of, call_reply};
-ghost use Rattle.gateway_model.specs.Reply.{reply_with};
+ghost use Rattle.gateway_theory.specs.Replies.{reply_with};
 ghost use Rattle.gateway_model.specs.declared.entry.ReplyEntry.{ReplyEntry};
 
 use crate::answers::{crowded, judged, refused};
@@ -23,7 +23,7 @@ pub struct Reply {
 impl Model for Reply {
     ghost use Rattle.std.specs.Prelude.{◌≡◌};
     ghost use Rattle.gateway_model.specs.Queue.{answer_of};
-    ghost use Rattle.gateway_model.specs.Reply.{ReplyValue, reply_with};
+    ghost use Rattle.gateway_theory.specs.Replies.{ReplyValue, reply_with};
 
     ghost Value = { ReplyValue };
 

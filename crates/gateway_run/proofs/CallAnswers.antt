@@ -7,22 +7,22 @@ use Rattle.std.proofs.lemmas.List.{reverse-reverse}
 use Rattle.connect_codec.specs.Reply.{error_reply}
 use Rattle.connect_codec.specs.declared.answer.Outcome.TheVariants.{Answer, Fail}
 use Rattle.gateway_model.specs.declared.entry.ReplyEntry.TheVariants.{Call as Calling}
-use Rattle.gateway_model.specs.declared.event.CallEvent.{CallEvent}
-use Rattle.gateway_model.specs.declared.event.CallEvent.TheVariants.{Answer as Answered, Failed, Expired, HungUp, Drained}
+use Rattle.gateway_model.specs.declared.call_event.CallEvent.{CallEvent}
+use Rattle.gateway_model.specs.declared.call_event.CallEvent.TheVariants.{Answer as Answered, Failed, Expired, HungUp, Drained}
 use Rattle.gateway_model.specs.declared.id.CallId.{CallId}
 use Rattle.gateway_model.specs.Arrival.{Judged, Asks}
 use Rattle.gateway_model.specs.Branch.{branch_at}
 use Rattle.gateway_model.specs.CallRecord.{CallRecord, answer_in, answer_of_branch, last_event}
 use Rattle.gateway_model.specs.Errors.{branch_error, error_of}
-use Rattle.gateway_model.specs.Finished.{IsDecidedAt}
-use Rattle.gateway_model.specs.Occurrence.{Occurrence, Opening, Entry, HangUp, Moment, Result, Drain, Closing, Entering, Request, Refused}
-use Rattle.gateway_model.specs.Past.{Asked, Mark, Past, answers, asked_now, branches, call, count_below, counts, decided, decides, ends_at_arrival, event_by, is_call, is_closed, is_drained, is_due, mark_of, marked, now, own_event, past_of}
+use Rattle.gateway_model.specs.Decided.{IsDecidedAt}
+use Rattle.gateway_model.specs.Occurrence.{Occurrence, Opening, Comes, HangUp, Moment, Result, Drain, Closing, Coming, Request, Refused}
+use Rattle.gateway_model.specs.Past.{ArrivedCall, Mark, Past, answers, asked_now, branches, call, count_below, counts, decided, decides, ends_at_arrival, event_by, is_call, is_closed, is_drained, is_due, mark_of, marked, now, own_event, past_of}
 use Rattle.gateway_model.specs.Queue.{answer_of, call_entry, came, entry, entry_by, joined_reply, own_events, record_of}
 use Rattle.gateway_model.specs.Record.{answers_among, is_decided, is_ending, is_last, is_lawful, may_come, may_follow, started_after}
 use Rattle.gateway_model.specs.Reply.{reply_of}
-use Rattle.gateway_run.specs.Headline.{AllAnswered, AnswersCall, failed, joined, HasAnswered, IsAnswered}
-use Rattle.gateway_model.specs.lemmas.Cases.{or_none}
-use Rattle.gateway_model.specs.lemmas.LimitLemmas.{same_call}
+use Rattle.gateway_model.specs.Headline.{AllAnswered, AnswersCall, failed, joined, HasAnswered, IsAnswered}
+use Rattle.gateway_theory.specs.lemmas.Cases.{or_none}
+use Rattle.gateway_theory.specs.lemmas.LimitLemmas.{same_call}
 
 -- ---- counts
 
@@ -186,21 +186,21 @@ last_own id (m ∷ past) e d = by_decided (decided id past) (own_event id m past
 
 -- ---- the call of an entry
 
-called : (id : CallId) (past : Past) (r : CallRecord) (o : Option (Entering × Bool)) → option_and_then (entry_by id past) o ≡ Some (Calling r) → call_entry id past ≡ Some (Calling r)
+called : (id : CallId) (past : Past) (r : CallRecord) (o : Option (Coming × Bool)) → option_and_then (entry_by id past) o ≡ Some (Calling r) → call_entry id past ≡ Some (Calling r)
 called id past r None e = absurd (cc)
 called id past r (Some (Refused x, crowded)) e = absurd (cc)
 called id past r (Some (Request q (Judged v), crowded)) e = absurd (cc)
 called id past r (Some (Request q (Asks plan timeout rid), true)) e = absurd (cc)
 called id past r (Some (Request q (Asks plan timeout rid), false)) e = e
 
-record IsOf (r : CallRecord) (d : Option CallEvent) (c : Option Asked) (es : List CallEvent) : Type 0 where
-  asked : Asked
+record IsOf (r : CallRecord) (d : Option CallEvent) (c : Option ArrivedCall) (es : List CallEvent) : Type 0 where
+  asked : ArrivedCall
   call_is : c ≡ Some asked
   record_is : r ≡ record_of asked es
   event : CallEvent
   decided_is : d ≡ Some event
 
-is_of : (r : CallRecord) (d : Option CallEvent) (c : Option Asked) (es : List CallEvent)
+is_of : (r : CallRecord) (d : Option CallEvent) (c : Option ArrivedCall) (es : List CallEvent)
     → (if is_some d then option_map (λ a. Calling (record_of a es)) c else None) ≡ Some (Calling r) → IsOf r d c es
 is_of r None c es e = absurd (cc)
 is_of r (Some d) None es e = absurd (cc)
@@ -235,7 +235,7 @@ is_answered laws id os r e =
 -- ---- where answers come from
 
 -- what ends a call as it arrives is no answer
-no_answer : (past : Past) (o : Option Asked) (i : ℕ) (body : List ℕ) → option_and_then (ends_at_arrival past) o ≡ Some (Answered i body) → ⊥
+no_answer : (past : Past) (o : Option ArrivedCall) (i : ℕ) (body : List ℕ) → option_and_then (ends_at_arrival past) o ≡ Some (Answered i body) → ⊥
 no_answer past None i body e = cc
 no_answer past (Some c) i body e = by_tests (is_drained past) (is_due (now past) c.deadline) e
   where
@@ -245,7 +245,7 @@ no_answer past (Some c) i body e = by_tests (is_drained past) (is_due (now past)
     by_tests false false e = cc
 
 -- an event that is an answer is a result that counted
-answer_by : (id : CallId) (c : Asked) (o : Occurrence) (counted : Bool) (past : Past) (i : ℕ) (body : List ℕ) → event_by id c o counted past ≡ Some (Answered i body)
+answer_by : (id : CallId) (c : ArrivedCall) (o : Occurrence) (counted : Bool) (past : Past) (i : ℕ) (body : List ℕ) → event_by id c o counted past ≡ Some (Answered i body)
     → (o ≡ Result id i (Answer body)) × (counted ≡ true)
 answer_by id c (Result of j (Answer b)) counted past i body e = by_test (counted && is_call of id) refl e
   where
@@ -275,14 +275,14 @@ answer_by id c (HangUp conn) counted past i body e = by_test (conn == id.conn) e
     by_test false e = absurd (cc)
 answer_by id c Drain counted past i body e = absurd (cc)
 answer_by id c Opening counted past i body e = absurd (cc)
-answer_by id c (Entry conn x) counted past i body e = absurd (cc)
+answer_by id c (Comes conn x) counted past i body e = absurd (cc)
 answer_by id c (Closing conn) counted past i body e = absurd (cc)
 
 own_answer : (id : CallId) (m : Mark) (past : Past) (i : ℕ) (body : List ℕ) → own_event id m past ≡ Some (Answered i body)
     → (m.what ≡ Result id i (Answer body)) × (m.counted ≡ true)
 own_answer id m past i body e = by_closed (is_closed id.conn past) (call id past) e
   where
-    by_closed : (b : Bool) (o : Option Asked)
+    by_closed : (b : Bool) (o : Option ArrivedCall)
         → (if b then None else option_map_or (λ c. event_by id c m.what m.counted past) o (option_and_then (ends_at_arrival past) (asked_now id m past))) ≡ Some (Answered i body)
         → (m.what ≡ Result id i (Answer body)) × (m.counted ≡ true)
     by_closed true o e = absurd (cc)

@@ -2,22 +2,23 @@
 use Rattle.std.specs.Prelude.{◌≡◌, ◌↔◌, ℕ, ◌<◌, ◌≤◌, true, false, List, [], ◌∷◌, ◌++◌, length, map, Some}
 use Rattle.call_plan.specs.Plan.{PlanRecord}
 use Rattle.gateway_model.specs.declared.entry.ReplyEntry.{ReplyEntry}
-use Rattle.gateway_model.specs.Breaking.{BrokeNow}
-use Rattle.gateway_model.specs.Conn.{ConnValue}
-use Rattle.gateway_model.specs.EventAdds.{EventAdds}
-use Rattle.gateway_model.specs.Events.{Before, GatewayEvent, Occurs, connections, is_open, onto, open_connections, succeeds}
-use Rattle.gateway_model.specs.Gateway.{GatewayValue, untaken_of}
+use Rattle.gateway_theory.specs.Breaking.{BrokeNow}
+use Rattle.gateway_theory.specs.Conn.{ConnValue}
+use Rattle.gateway_theory.specs.EventAdds.{EventAdds}
+use Rattle.gateway_model.specs.Events.{Before, Occurs, connections, is_open, listens, onto, open_connections, succeeds}
+use Rattle.gateway_model.specs.declared.event.Event.{Event}
+use Rattle.gateway_theory.specs.Gateway.{GatewayValue, untaken_of}
 use Rattle.gateway_model.specs.Job.{JobValue}
 use Rattle.gateway_model.specs.Occurrence.{Occurrence}
 use Rattle.gateway_model.specs.Past.{marked}
 use Rattle.gateway_model.specs.Queue.{IsPrefixOf, front}
-use Rattle.gateway_model.specs.Served.{JobsAre, QueueIs, Served}
+use Rattle.gateway_theory.specs.Served.{JobsAre, QueueIs, Served}
 use Rattle.gateway_model.specs.Starts.{Placed, job_started, jobs, occurrences, starts}
-use Rattle.gateway_model.specs.Store.{conn_of}
+use Rattle.gateway_theory.specs.Store.{conn_of}
 
 -- what one event adds, and whose jobs the starts are
 pub record EventLaws : Type 0 where
-  pub adds : (plans : List PlanRecord) (opened : List ℕ) (e : GatewayEvent) (es : Before) (before after : List Placed)
+  pub adds : (plans : List PlanRecord) (opened : List ℕ) (e : Event) (es : Before) (before after : List Placed)
       → Occurs plans opened es before → Occurs plans opened (e ∷ es) after → EventAdds opened e es before after
   pub started : (placed : List Placed) → map job_started (starts placed) ≡ jobs (marked (occurrences placed))
 
@@ -30,7 +31,7 @@ pub record StandingLaws : Type 0 where
 
 -- a connection that breaks at an event
 abbrev pub BreakingLaw : Type 0
-BreakingLaw = (c place : ℕ) (v w : GatewayValue) (opened later : List ℕ) (e : GatewayEvent) (es : Before) (taken : ℕ → List ReplyEntry) (handed added : List JobValue)
+BreakingLaw = (c place : ℕ) (v w : GatewayValue) (opened later : List ℕ) (e : Event) (es : Before) (taken : ℕ → List ReplyEntry) (handed added : List JobValue)
     (os : List Occurrence) (before after : List Placed) → Served v opened es taken handed → Served w later (e ∷ es) taken handed
     → Occurs v.plans opened es before → Occurs w.plans later (e ∷ es) after → after ≡ onto place os before
     → w.machine.jobs ≡ v.machine.jobs ++ added → IsPrefixOf (untaken_of c v) (untaken_of c w) → (k l : ConnValue)
@@ -45,5 +46,7 @@ pub record OpeningsLaws : Type 0 where
       → length es ≤ place → connections (opened ++ place ∷ []) es ≡ connections opened es
   pub is_open : (opened : List ℕ) (place : ℕ) (es : Before) → ((other : ℕ) → succeeds opened other ≡ true → other < place)
       → length es ≤ place → (c : ℕ) → is_open (opened ++ place ∷ []) c es ≡ is_open opened c es
+  pub listens : (opened : List ℕ) (place : ℕ) (es : Before) → ((other : ℕ) → succeeds opened other ≡ true → other < place)
+      → length es ≤ place → (c : ℕ) → listens (opened ++ place ∷ []) c es ≡ listens opened c es
   pub open_connections : (opened : List ℕ) (place : ℕ) (es : Before) → ((other : ℕ) → succeeds opened other ≡ true → other < place)
       → length es ≤ place → open_connections (opened ++ place ∷ []) es ≡ open_connections opened es

@@ -5,13 +5,15 @@ use Rattle.std.proofs.lemmas.Bool.{cases_Bool, eq-eqb, eqb-true, ne_eqb}
 use Rattle.std.proofs.lemmas.List.{length-append}
 use Rattle.std.proofs.lemmas.List.Recursion.{or_push}
 use Rattle.gateway_model.specs.declared.entry.ReplyEntry.{ReplyEntry}
-use Rattle.gateway_model.specs.Events.{Before, Closing, GatewayEvent, IsOpened, IsRising, Opening, OpensAt, connections, is_closing_of, is_open, most_open, open_connections, succeeds}
-use Rattle.gateway_model.specs.Events as events
-use Rattle.gateway_model.specs.Gateway.{GatewayValue}
+use Rattle.gateway_model.specs.Events.{Before, IsOpened, IsRising, OpensAt, connections, is_closing_of, is_open, most_open, open_connections, succeeds}
+use Rattle.gateway_model.specs.declared.event.Event.TheVariants.{Closing, Opening}
+use Rattle.gateway_model.specs.declared.event.Event.{Event}
+use Rattle.gateway_model.specs.declared.event.Event.TheVariants as events
+use Rattle.gateway_theory.specs.Gateway.{GatewayValue}
 use Rattle.gateway_model.specs.Job.{JobValue}
-use Rattle.gateway_model.specs.Served.{HasConns, Served}
-use Rattle.gateway_model.specs.declared.fault.Seen.{Seen}
-use Rattle.gateway_model.specs.Serving.{KeepsBut}
+use Rattle.gateway_theory.specs.Served.{HasConns, Served}
+use Rattle.gateway_model.specs.declared.seen.Seen.{Seen}
+use Rattle.gateway_theory.specs.Serving.{KeepsBut}
 use Rattle.gateway_model.specs.Starts.{job_started}
 use Rattle.gateway_run.specs.Log.{HasRun, LogValue, StartsAll}
 use Rattle.gateway_run.specs.Stepping.{BreaksAt, CollectsFor, log_after, opened_by}
@@ -21,7 +23,7 @@ use Rattle.gateway_run.proofs.Flags.{more_default}
 use Rattle.gateway_run.proofs.CoreLaws.{BreakingLaw, EventLaws, OpeningsLaws, StandingLaws}
 use Rattle.gateway_run.proofs.Gathering.{collected_run}
 use Rattle.gateway_run.proofs.RunSteps.{Steps, run_on}
-use Rattle.gateway_model.specs.lemmas.ServedOpens.{succeeds_more}
+use Rattle.gateway_theory.specs.lemmas.ServedOpens.{succeeds_more}
 
 -- the same connections were gathered
 pub same_gathered : (f g : ℕ → Bool) (v : GatewayValue) (log : LogValue) (es : Before) → ((c : ℕ) → f c ≡ g c) → HasRun f v log es → HasRun g v log es
@@ -43,6 +45,7 @@ same_gathered f g v log es same h = record {
   none_left = λ c on. h.none_left c (same c ∙ on);
   broke_are = h.broke_are;
   unbroken = h.unbroken;
+  in_order = h.in_order;
   all_unbroken = h.all_unbroken;
 }
 
@@ -51,14 +54,14 @@ turned a b = ⊎_elim (λ (same : (b == a) ≡ true). eq-eqb a b (sym (eqb-true 
     (λ (other : (b == a) ≡ false). ne_eqb a b (λ at. let clash : true ≡ false = sym (eq-eqb b a (sym at)) ∙ other in absurd (cc)) ∙ sym other) (cases_Bool (b == a))
 
 -- what is queued for the connection that the event closes was taken
-collected_for : (standing : StandingLaws) (e : GatewayEvent) (v w : GatewayValue) (log later : LogValue) (es : Before) → HasRun (λ c. false) v log es → CollectsFor e v w log later
+collected_for : (standing : StandingLaws) (e : Event) (v w : GatewayValue) (log later : LogValue) (es : Before) → HasRun (λ c. false) v log es → CollectsFor e v w log later
     → HasRun (λ c. is_closing_of c e) w later es
 collected_for standing e v w log later es h x = by_event e x
   where
     kept : (w ≡ v) × (later ≡ log) → HasRun (λ c. false) w later es
     kept y = subst (λ u. HasRun (λ c. false) u later es) (sym y.0) (subst (λ l. HasRun (λ c. false) v l es) (sym y.1) h)
 
-    by_event : (f : GatewayEvent) → CollectsFor f v w log later → HasRun (λ c. is_closing_of c f) w later es
+    by_event : (f : Event) → CollectsFor f v w log later → HasRun (λ c. is_closing_of c f) w later es
     by_event (Closing n) y = same_gathered (λ c. false || c == n) (λ c. n == c) w later es (λ c. turned c n) (collected_run standing (λ c. false) n v w log later es h y)
     by_event Opening y = kept y
     by_event (events.Piece n bytes) y = kept y
@@ -78,7 +81,7 @@ rising_more (p ∷ q ∷ opened) n rising below = (rising.0, rising_more (q ∷ 
     later true e = refl
     later false e = e
 
-opens_later : (opened : List ℕ) (e : GatewayEvent) (es : Before) (place : ℕ) → OpensAt opened es place → OpensAt opened (e ∷ es) place
+opens_later : (opened : List ℕ) (e : Event) (es : Before) (place : ℕ) → OpensAt opened es place → OpensAt opened (e ∷ es) place
 opens_later opened e es place o = record {
   later = e ∷ o.later;
   before = o.before;
@@ -87,7 +90,7 @@ opens_later opened e es place o = record {
   few = o.few;
 }
 
-module _ (e : GatewayEvent) (es : Before) (v w : GatewayValue) (opened : List ℕ) where
+module _ (e : Event) (es : Before) (v w : GatewayValue) (opened : List ℕ) where
   -- none succeeded at this event
   steps_on : {seen : List Seen} → ((taken : ℕ → List ReplyEntry) (handed : List JobValue) → Served v opened es taken handed → Served w opened (e ∷ es) taken handed)
       → BreaksAt e v w → KeepsBut (λ c. is_closing_of c e) (λ c. true) seen v w → Steps e es v w opened opened
@@ -99,6 +102,7 @@ module _ (e : GatewayEvent) (es : Before) (v w : GatewayValue) (opened : List �
     opened_are = λ o h. record { rising = o.rising; openings = λ place its. opens_later opened e es place (o.openings place its) };
     same_count = λ h. refl;
     same_open = λ h c. refl;
+    same_listens = λ earlier le h c. refl;
     before = λ occurred h o. o;
     after = λ earlier occurred le h o. o;
   }
@@ -118,6 +122,7 @@ module _ (e : GatewayEvent) (es : Before) (v w : GatewayValue) (opened : List �
     };
     same_count = λ h. openings.connections opened (length es) es h.below (omega arith);
     same_open = λ h. openings.is_open opened (length es) es h.below (omega arith);
+    same_listens = λ earlier le h. openings.listens opened (length es) earlier h.below le;
     before = λ occurred h o. (openings.occurs v.plans opened (length es) es occurred h.below (omega arith)).0 o;
     after = λ earlier occurred le h o. (openings.occurs v.plans opened (length es) earlier occurred h.below le).1 o;
   }
@@ -149,7 +154,7 @@ module _ (e : GatewayEvent) (es : Before) (v w : GatewayValue) (opened : List �
 
 -- ---- the event
 
-module _ {H : Type 0} (event : EventLaws) (openings : OpeningsLaws) (standing : StandingLaws) (breaking : BreakingLaw) (e : GatewayEvent) (es : Before) (v u w x : GatewayValue) (log gathered next end : LogValue) (stepped : Stepped H) where
+module _ {H : Type 0} (event : EventLaws) (openings : OpeningsLaws) (standing : StandingLaws) (breaking : BreakingLaw) (e : Event) (es : Before) (v u w x : GatewayValue) (log gathered next end : LogValue) (stepped : Stepped H) where
   pub event_run : {seen : List Seen} → HasRun (λ c. false) v log es → CollectsFor e v u log gathered
       → ((opened : List ℕ) (es : Before) (taken : ℕ → List ReplyEntry) (handed : List JobValue) → Served u opened es taken handed
       → Served w (opened_by stepped (length es) opened) (e ∷ es) taken handed)
@@ -185,7 +190,7 @@ module _ {H : Type 0} (event : EventLaws) (openings : OpeningsLaws) (standing : 
           served_now : Served w gathered.opened (e ∷ es) mid.taken (map job_started mid.started)
           served_now = subst (λ o. Served w o (e ∷ es) mid.taken (map job_started mid.started)) (ap (λ y. opened_by y (length es) gathered.opened) r_is ∙ same gathered.opened) now
 
-          no_more : (f : GatewayEvent) → e ≡ f → connections gathered.opened (f ∷ es) ≡ connections gathered.opened es
+          no_more : (f : Event) → e ≡ f → connections gathered.opened (f ∷ es) ≡ connections gathered.opened es
           no_more Opening f_is = ap (λ b. if b then suc (connections gathered.opened es) else connections gathered.opened es) (fails f_is)
           no_more (events.Piece n bytes) f_is = refl
           no_more (events.HangUp n) f_is = refl

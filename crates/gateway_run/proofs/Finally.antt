@@ -5,22 +5,26 @@ use Rattle.std.specs.List.{range_with_len}
 use Rattle.std.specs.Option.{option_map_or}
 use Rattle.std.proofs.lemmas.Bool.{cases_Bool, eq-eqb, eqb-true, lt-ltb, le-ltb, ltb-true, ltb-false}
 use Rattle.call_plan.specs.Plan.{PlanRecord}
-use Rattle.gateway_model.specs.Conn.{ConnValue}
-use Rattle.gateway_model.specs.Events.{Before, Closing, GatewayEvent, IsRising, Occurs, Opening}
-use Rattle.gateway_model.specs.Events as events
-use Rattle.gateway_model.specs.Gateway.{GatewayValue, is_broken_conn}
+use Rattle.gateway_theory.specs.Conn.{ConnValue}
+use Rattle.gateway_model.specs.Events.{Before, IsRising, Occurs}
+use Rattle.gateway_model.specs.declared.event.Event.TheVariants.{Closing, Opening}
+use Rattle.gateway_model.specs.declared.event.Event.{Event}
+use Rattle.gateway_model.specs.declared.event.Event.TheVariants as events
+use Rattle.gateway_theory.specs.Gateway.{GatewayValue, is_broken_conn}
 use Rattle.gateway_model.specs.Past.{marked}
 use Rattle.gateway_model.specs.Queue.{queued, queued_entries}
-use Rattle.gateway_model.specs.Served.{QueueIs, Served}
+use Rattle.gateway_theory.specs.Served.{QueueIs, Served}
 use Rattle.gateway_model.specs.Starts.{Placed, job_started, occurrences, starts}
-use Rattle.gateway_model.specs.Store.{conn_of}
+use Rattle.gateway_theory.specs.Store.{conn_of}
 use Rattle.gateway_run.specs.Log.{Collects, absent, gathers, HasRun, LogValue, flag_at, is_flagged, is_open_conn, is_started_on, log_value, queue_at}
-use Rattle.gateway_run.specs.Run.{BrokeAs, IsRun, bytes_of, is_listed, is_start_of, run_start, starts_of}
+use Rattle.gateway_model.specs.Run.{BrokeAs, IsSublist, bytes_of, is_listed, is_start_of, run_start, starts_of}
+use Rattle.gateway_run.specs.Running.{IsRun}
 use Rattle.gateway_run.specs.Stepping.{CollectsFor}
 use Rattle.gateway_run.proofs.CoreLaws.{StandingLaws}
 use Rattle.gateway_run.proofs.Flags.{beyond, run_starts_on, same_jobs}
+use Rattle.gateway_run.proofs.Sublists.{sub_map, sub_none}
 use Rattle.gateway_run.proofs.WholeLemmas.{filter_rising, listed_at, listed_below}
-use Rattle.gateway_model.specs.lemmas.CutLemmas.{open_known}
+use Rattle.gateway_theory.specs.lemmas.CutLemmas.{open_known}
 
 pub on_then : {X E : Type 0} {A B : Type 0} (r : Result X E) → OnOk r A → (A → B) → OnOk r B
 on_then (Ok x) a f = f a
@@ -36,7 +40,7 @@ pub collects_opened : (n : ℕ) (v w : GatewayValue) (log later : LogValue) → 
 collects_opened n v w log later (absent out w_is later_is) = ap (λ (x : LogValue). x.opened) later_is
 collects_opened n v w log later (gathers lt t later_is) = ap (λ (x : LogValue). x.opened) later_is
 
-pub collects_for_plans : (e : GatewayEvent) (v w : GatewayValue) (log later : LogValue) → CollectsFor e v w log later → w.plans ≡ v.plans
+pub collects_for_plans : (e : Event) (v w : GatewayValue) (log later : LogValue) → CollectsFor e v w log later → w.plans ≡ v.plans
 collects_for_plans (Closing n) v w log later x = collects_plans n v w log later x
 collects_for_plans Opening v w log later x = ap (λ (y : GatewayValue). y.plans) x.0
 collects_for_plans (events.Piece n bytes) v w log later x = ap (λ (y : GatewayValue). y.plans) x.0
@@ -83,6 +87,7 @@ run_first standing v log served log_is = subst (λ l. HasRun (λ c. false) v l [
   none_left = λ c on. absurd (cc);
   broke_are = λ c on. absurd (none_broken c on);
   unbroken = λ c off occurred none. ap (λ xs. filter (is_started_on c) (starts xs)) (sym none);
+  in_order = λ occurred none. sub_none (starts occurred);
   all_unbroken = λ off occurred none. ap starts (sym none);
 })
   where
@@ -158,6 +163,9 @@ module _ (count : ℕ) (v : GatewayValue) (log : LogValue) (es : Before) (broken
   run_all_starts : (occurred : List Placed) → Occurs v.plans log.opened es occurred → broken ≡ [] → log.starts ≡ starts_of occurred
   run_all_starts occurred o none = h.starts_are ∙ ap (map run_start) (h.all_unbroken (λ c. unflagged c (ap (is_listed c) none)) occurred o)
 
+  run_in_order : (occurred : List Placed) → Occurs v.plans log.opened es occurred → IsSublist log.starts (starts_of occurred)
+  run_in_order occurred o = subst (λ xs. IsSublist xs (starts_of occurred)) (sym h.starts_are) (sub_map run_start h.started (starts occurred) (h.in_order occurred o))
+
   run_below : (c : ℕ) → is_listed c broken ≡ true → c < length log.opened
   run_below c e = let lt = listed_below (λ n. slice_index_or log.broke n false) 0 (length log.broke) c (sym (ap (is_listed c) broken_is) ∙ e) in omega (arith, lt, sizes, count_is)
 
@@ -184,6 +192,7 @@ module _ (count : ℕ) (v : GatewayValue) (log : LogValue) (es : Before) (broken
     queued_are = λ occurred o c lt off. run_queued occurred (its occurred o) c lt off;
     starts_are = λ occurred o c off. run_starts occurred (its occurred o) c off;
     broke = λ occurred o c on. subst (λ ps. BrokeAs c ps log.opened (queue_at c log) log.starts es occurred) plans_are (run_broke occurred (its occurred o) c on);
+    in_order = λ occurred o. run_in_order occurred (its occurred o);
     unbroken = λ occurred o none. run_all_starts occurred (its occurred o) none;
     one_each = run_sizes;
     known = run_below;

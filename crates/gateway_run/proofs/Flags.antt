@@ -3,12 +3,12 @@ use Rattle.std.proofs.Common.{◌≡◌, ℕ, zero, suc, ◌<◌, ◌≤◌, Boo
 use Rattle.std.specs.Prelude.{if◌then◌else◌, ◌||◌, filter, slice_index_or, slice_set}
 use Rattle.std.specs.Option.{option_or}
 use Rattle.std.proofs.lemmas.Bool.{cases_Bool, eq-eqb, eqb-true}
-use Rattle.gateway_model.specs.Breaks.{is_of}
+use Rattle.gateway_model.specs.Known.{is_of}
 use Rattle.gateway_model.specs.Job.{JobValue}
-use Rattle.gateway_model.specs.Starts.{Start, job_started, start}
+use Rattle.gateway_model.specs.Starts.{StartedJob, job_started, start}
 use Rattle.gateway_run.specs.Log.{is_started_on}
-use Rattle.gateway_run.specs.Run.{is_start_of, run_start, start_at}
-use Rattle.gateway_model.specs.lemmas.Cases.{or_none}
+use Rattle.gateway_model.specs.Run.{is_start_of, run_start, start_at}
+use Rattle.gateway_theory.specs.lemmas.Cases.{or_none}
 
 -- ---- places
 
@@ -46,7 +46,7 @@ or_false_right false b e = e
 
 -- ---- starts of a connection
 
-pub jobs_on : (c : ℕ) (started : List Start) → filter (is_of c) (map job_started started) ≡ map job_started (filter (is_started_on c) started)
+pub jobs_on : (c : ℕ) (started : List StartedJob) → filter (is_of c) (map job_started started) ≡ map job_started (filter (is_started_on c) started)
 jobs_on c [] = refl
 jobs_on c (s ∷ started) = by_it (is_of c s.job) (jobs_on c started)
   where
@@ -66,7 +66,7 @@ starts_on c place (j ∷ js) = by_it (is_of c j) (starts_on c place js)
     by_it true rest = ap (λ xs. start place j ∷ xs) rest
     by_it false rest = rest
 
-pub run_starts_on : (c : ℕ) (started : List Start) → filter (is_start_of c) (map run_start started) ≡ map run_start (filter (is_started_on c) started)
+pub run_starts_on : (c : ℕ) (started : List StartedJob) → filter (is_start_of c) (map run_start started) ≡ map run_start (filter (is_started_on c) started)
 run_starts_on c [] = refl
 run_starts_on c (s ∷ started) = by_it (is_of c s.job) (run_starts_on c started)
   where
@@ -86,7 +86,7 @@ jobs_again place (j ∷ js) = ap (λ xs. j ∷ xs) (jobs_again place js)
 
 -- ---- jobs that are the same for each connection, where the one list is of one
 
-none_else : (d : ℕ) (xs : List JobValue) → filter (is_of d) xs ≡ xs → (c : ℕ) → (c ≡ d → ⊥) → filter (is_of c) xs ≡ []
+pub none_else : (d : ℕ) (xs : List JobValue) → filter (is_of d) xs ≡ xs → (c : ℕ) → (c ≡ d → ⊥) → filter (is_of c) xs ≡ []
 none_else d [] all c ne = refl
 none_else d (j ∷ xs) all c ne = by_it (is_of d j) refl all (λ rest. none_else d xs rest c ne)
   where
@@ -108,7 +108,7 @@ none_else d (j ∷ xs) all c ne = by_it (is_of d j) refl all (λ rest. none_else
         ap (λ b. if b then j ∷ filter (is_of c) xs else filter (is_of c) xs) other ∙ others (tails j (filter (is_of d) xs) xs rest)
     by_it false e rest others = absurd (let size : length (filter (is_of d) xs) ≡ suc (length xs) = ap (λ (ys : List JobValue). length ys) rest in omega (arith, size, shorter xs))
 
-all_here : (d : ℕ) (js : List JobValue) → ((c : ℕ) → (c ≡ d → ⊥) → filter (is_of c) js ≡ []) → filter (is_of d) js ≡ js
+pub all_here : (d : ℕ) (js : List JobValue) → ((c : ℕ) → (c ≡ d → ⊥) → filter (is_of c) js ≡ []) → filter (is_of d) js ≡ js
 all_here d [] none = refl
 all_here d (j ∷ js) none = ⊎_elim
     (λ (its : is_of d j ≡ true). ap (λ b. if b then j ∷ filter (is_of d) js else filter (is_of d) js) its ∙ ap (λ xs. j ∷ xs) (all_here d js (λ c ne. rest c (none c ne))))

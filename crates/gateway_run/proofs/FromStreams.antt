@@ -6,41 +6,43 @@ use Rattle.std.proofs.lemmas.Bool.{cases_Bool, eq-eqb, eqb-true, ne_eqb}
 use Rattle.std.proofs.lemmas.List.{append_cancel_left, map-append}
 use Rattle.http_pieces.specs.declared.refusal.Refusal.{Refusal}
 use Rattle.http_pieces.specs.Request.{HttpRequest}
-use Rattle.http_pieces.specs.Requests.{Ending, Open, Broken, Closed, Requests}
+use Rattle.http_pieces.specs.Requests.{StreamEnd, Open, RefusedBy, Closed, Requests}
 use Rattle.call_plan.specs.Plan.{PlanRecord}
 use Rattle.gateway_model.specs.Arrival.{arrival_of}
-use Rattle.gateway_model.specs.Events.{Before, GatewayEvent, Opening, Piece, HangUp, Moment, BranchResult, Drain, Closing, Gains, Occurs, OccursAt, is_open, listens, once, onto, piece_of, refusal_gained, requests_gained, stream, succeeds}
-use Rattle.gateway_model.specs.Occurrence.{Entering, Entry, Occurrence, Request}
+use Rattle.gateway_model.specs.Events.{Before, Gains, Occurs, OccursAt, is_open, listens, once, onto, piece_of, refusal_gained, requests_gained, stream, succeeds}
+use Rattle.gateway_model.specs.declared.event.Event.{Event}
+use Rattle.gateway_model.specs.declared.event.Event.TheVariants.{Opening, Piece, HangUp, Moment, BranchResult, Drain, Closing}
+use Rattle.gateway_model.specs.Occurrence.{Coming, Comes, Occurrence, Request}
 use Rattle.gateway_model.specs.Occurrence as occurs
-use Rattle.gateway_model.specs.Past.{call_id, crowds, entering_now, entering_on, entries, mark_of, marked}
+use Rattle.gateway_model.specs.Past.{call_id, crowds, coming_now, coming_on, arrivals, mark_of, marked}
 use Rattle.gateway_model.specs.Queue.{came}
 use Rattle.gateway_model.specs.Starts.{Placed, occurrences}
-use Rattle.gateway_run.specs.Headline.{brought_by, came_on}
-use Rattle.gateway_model.specs.lemmas.Cases.{or_none}
+use Rattle.gateway_model.specs.Headline.{brought_by, came_on}
+use Rattle.gateway_theory.specs.lemmas.Cases.{or_none}
 
 -- what is known of requests
 pub record StreamLaws : Type 0 where
   pub first : Requests 0 [] [] (Open [])
-  pub unique : (k : ℕ) (text : List ℕ) (given other : List HttpRequest) (a b : Ending)
+  pub unique : (k : ℕ) (text : List ℕ) (given other : List HttpRequest) (a b : StreamEnd)
       → Requests k text given a → Requests k text other b → (given ≡ other) × (a ≡ b)
-  pub refused_stays : (k : ℕ) (text more : List ℕ) (given : List HttpRequest) (r : Refusal) → Requests k text given (Broken r)
-      → Requests k (text ++ more) given (Broken r)
+  pub refused_stays : (k : ℕ) (text more : List ℕ) (given : List HttpRequest) (r : Refusal) → Requests k text given (RefusedBy r)
+      → Requests k (text ++ more) given (RefusedBy r)
   pub closed_stays : (k : ℕ) (text more : List ℕ) (given : List HttpRequest) → Requests k text given Closed → Requests k (text ++ more) given Closed
 
 -- ---- what comes by some occurrences
 
-abbrev gained_on : ℕ → List Occurrence → List Entering
-gained_on conn os = flat_map (λ o. option_to_list (entering_on conn o)) os
+abbrev gained_on : ℕ → List Occurrence → List Coming
+gained_on conn os = flat_map (λ o. option_to_list (coming_on conn o)) os
 
 came_onto : (conn place : ℕ) (os : List Occurrence) (past : List Placed) → came_on conn (occurrences (onto place os past)) ≡ came_on conn (occurrences past) ++ gained_on conn os
 came_onto conn place [] past = sym (append-nil (came_on conn (occurrences past)))
 came_onto conn place (o ∷ os) past =
-    came_onto conn place os ((place, o) ∷ past) ∙ append_assoc (came_on conn (occurrences past)) (option_to_list (entering_on conn o)) (gained_on conn os)
+    came_onto conn place os ((place, o) ∷ past) ∙ append_assoc (came_on conn (occurrences past)) (option_to_list (coming_on conn o)) (gained_on conn os)
 
-entries_gained : (c conn : ℕ) (xs : List Entering) → gained_on conn (map (Entry c) xs) ≡ (if c == conn then xs else [])
+entries_gained : (c conn : ℕ) (xs : List Coming) → gained_on conn (map (Comes c) xs) ≡ (if c == conn then xs else [])
 entries_gained c conn [] = by_test (c == conn)
   where
-    nothing : List Entering
+    nothing : List Coming
     nothing = []
 
     by_test : (b : Bool) → nothing ≡ (if b then nothing else nothing)
@@ -48,12 +50,12 @@ entries_gained c conn [] = by_test (c == conn)
     by_test false = refl
 entries_gained c conn (x ∷ xs) = by_test (c == conn) (entries_gained c conn xs)
   where
-    by_test : (b : Bool) → gained_on conn (map (Entry c) xs) ≡ (if b then xs else [])
-        → option_to_list (if b then Some x else None) ++ gained_on conn (map (Entry c) xs) ≡ (if b then x ∷ xs else [])
+    by_test : (b : Bool) → gained_on conn (map (Comes c) xs) ≡ (if b then xs else [])
+        → option_to_list (if b then Some x else None) ++ gained_on conn (map (Comes c) xs) ≡ (if b then x ∷ xs else [])
     by_test true e = ap (λ ys. x ∷ ys) e
     by_test false e = e
 
-once_gained : (conn : ℕ) (b : Bool) (o : Occurrence) → entering_on conn o ≡ None → gained_on conn (once b o) ≡ []
+once_gained : (conn : ℕ) (b : Bool) (o : Occurrence) → coming_on conn o ≡ None → gained_on conn (once b o) ≡ []
 once_gained conn true o e = ap (λ x. option_to_list x ++ []) e
 once_gained conn false o e = refl
 
@@ -63,27 +65,27 @@ same_if : (b : Bool) (s t : List ℕ) → t ≡ [] → (if b then s ++ t else s)
 same_if true s t e = ap (λ xs. s ++ xs) e ∙ append-nil s
 same_if false s t e = refl
 
-stream_same : (opened : List ℕ) (conn : ℕ) (e : GatewayEvent) (before : Before) → piece_of conn e ≡ [] → stream opened conn (e ∷ before) ≡ stream opened conn before
+stream_same : (opened : List ℕ) (conn : ℕ) (e : Event) (before : Before) → piece_of conn e ≡ [] → stream opened conn (e ∷ before) ≡ stream opened conn before
 stream_same opened conn e before none = same_if (listens opened conn before) (stream opened conn before) (piece_of conn e) none
 
-refusal_from : (left : List ℕ) (e : Ending) → refusal_gained (Open left) e ≡ refusal_gained (Open []) e
+refusal_from : (left : List ℕ) (e : StreamEnd) → refusal_gained (Open left) e ≡ refusal_gained (Open []) e
 refusal_from left (Open l) = refl
-refusal_from left (Broken r) = refl
+refusal_from left (RefusedBy r) = refl
 refusal_from left Closed = refl
 
 -- what a longer stream brings is what the shorter one brought, and what it gains
-brought_more : (plans : List PlanRecord) (ending later : Ending) (given more : List HttpRequest)
-    → ((r : Refusal) → ending ≡ Broken r → (more ≡ []) × (later ≡ Broken r)) → (ending ≡ Closed → (more ≡ []) × (later ≡ Closed))
+brought_more : (plans : List PlanRecord) (ending later : StreamEnd) (given more : List HttpRequest)
+    → ((r : Refusal) → ending ≡ RefusedBy r → (more ≡ []) × (later ≡ RefusedBy r)) → (ending ≡ Closed → (more ≡ []) × (later ≡ Closed))
     → brought_by plans given ending ++ (requests_gained plans more ++ refusal_gained ending later) ≡ brought_by plans (given ++ more) later
 brought_more plans (Open left) later given more refused closed =
     ap (λ xs. xs ++ (requests_gained plans more ++ refusal_gained (Open left) later)) (append-nil (requests_gained plans given))
     ∙ ap (λ xs. requests_gained plans given ++ (requests_gained plans more ++ xs)) (refusal_from left later)
     ∙ sym (append_assoc (requests_gained plans given) (requests_gained plans more) (refusal_gained (Open []) later))
     ∙ ap (λ xs. xs ++ refusal_gained (Open []) later) (sym (map-append (λ q. Request q (arrival_of plans q)) given more))
-brought_more plans (Broken r) later given more refused closed =
+brought_more plans (RefusedBy r) later given more refused closed =
     let h = refused r refl in
-    ap (λ xs. brought_by plans given (Broken r) ++ (requests_gained plans xs ++ refusal_gained (Broken r) later)) h.0
-    ∙ append-nil (brought_by plans given (Broken r))
+    ap (λ xs. brought_by plans given (RefusedBy r) ++ (requests_gained plans xs ++ refusal_gained (RefusedBy r) later)) h.0
+    ∙ append-nil (brought_by plans given (RefusedBy r))
     ∙ ap (λ e. brought_by plans given e) (sym h.1) ∙ ap (λ xs. brought_by plans xs later) (sym (append-nil given) ∙ ap (λ xs. given ++ xs) (sym h.0))
 brought_more plans Closed later given more refused closed =
     let h = closed refl in
@@ -92,23 +94,23 @@ brought_more plans Closed later given more refused closed =
     ∙ ap (λ e. brought_by plans given e) (sym h.1) ∙ ap (λ xs. brought_by plans xs later) (sym (append-nil given) ∙ ap (λ xs. given ++ xs) (sym h.0))
 
 module _ (laws : StreamLaws) (plans : List PlanRecord) (opened : List ℕ) (conn : ℕ) (before : Before) (past : List Placed)
-    (was : (given : List HttpRequest) (ending : Ending) → Requests 0 (stream opened conn before) given ending → came_on conn (occurrences past) ≡ brought_by plans given ending) where
+    (was : (given : List HttpRequest) (ending : StreamEnd) → Requests 0 (stream opened conn before) given ending → came_on conn (occurrences past) ≡ brought_by plans given ending) where
   -- where nothing comes
-  quiet : (e : GatewayEvent) (os : List Occurrence) (given : List HttpRequest) (ending : Ending) → piece_of conn e ≡ [] → gained_on conn os ≡ []
+  quiet : (e : Event) (os : List Occurrence) (given : List HttpRequest) (ending : StreamEnd) → piece_of conn e ≡ [] → gained_on conn os ≡ []
       → Requests 0 (stream opened conn (e ∷ before)) given ending → came_on conn (occurrences past) ++ gained_on conn os ≡ brought_by plans given ending
   quiet e os given ending none nothing r =
       ap (λ xs. came_on conn (occurrences past) ++ xs) nothing ∙ append-nil (came_on conn (occurrences past))
       ∙ was given ending (subst (λ t. Requests 0 t given ending) (stream_same opened conn e before none) r)
 
   -- a piece of the stream
-  gains : (bytes : List ℕ) (gained : List Entering) (given : List HttpRequest) (ending : Ending)
+  gains : (bytes : List ℕ) (gained : List Coming) (given : List HttpRequest) (ending : StreamEnd)
       → Gains plans (stream opened conn before) (stream opened conn before ++ bytes) gained → Requests 0 (stream opened conn before ++ bytes) given ending
       → came_on conn (occurrences past) ++ gained ≡ brought_by plans given ending
   gains bytes gained given ending g r =
       let text : List ℕ = stream opened conn before in
       let whole = laws.unique 0 (text ++ bytes) given (g.given ++ g.more) ending g.later r g.longer_is in
-      let refused : (x : Refusal) → g.ending ≡ Broken x → (g.more ≡ []) × (g.later ≡ Broken x) = λ x e.
-      (let u = laws.unique 0 (text ++ bytes) (g.given ++ g.more) g.given g.later (Broken x) g.longer_is
+      let refused : (x : Refusal) → g.ending ≡ RefusedBy x → (g.more ≡ []) × (g.later ≡ RefusedBy x) = λ x e.
+      (let u = laws.unique 0 (text ++ bytes) (g.given ++ g.more) g.given g.later (RefusedBy x) g.longer_is
       (laws.refused_stays 0 text bytes g.given x (subst (λ y. Requests 0 text g.given y) e g.text_is)) in
       (append_cancel_left g.given g.more [] (u.0 ∙ sym (append-nil g.given)), u.1)) in
       let closed : g.ending ≡ Closed → (g.more ≡ []) × (g.later ≡ Closed) = λ e.
@@ -121,9 +123,9 @@ module _ (laws : StreamLaws) (plans : List PlanRecord) (opened : List ℕ) (conn
       ∙ ap (λ xs. brought_by plans xs g.later) (sym whole.0) ∙ ap (λ e. brought_by plans given e) (sym whole.1)
 
   abbrev Brings : List ℕ → List Occurrence → Type 0
-  Brings bytes os = (gained : List Entering) × Gains plans (stream opened conn before) (stream opened conn before ++ bytes) gained × (os ≡ map (Entry conn) gained)
+  Brings bytes os = (gained : List Coming) × Gains plans (stream opened conn before) (stream opened conn before ++ bytes) gained × (os ≡ map (Comes conn) gained)
 
-  own_piece : (b : Bool) (bytes : List ℕ) (os : List Occurrence) (given : List HttpRequest) (ending : Ending) → MatchBool b (Brings bytes os) (os ≡ [])
+  own_piece : (b : Bool) (bytes : List ℕ) (os : List Occurrence) (given : List HttpRequest) (ending : StreamEnd) → MatchBool b (Brings bytes os) (os ≡ [])
       → Requests 0 (if b then stream opened conn before ++ piece_of conn (Piece conn bytes) else stream opened conn before) given ending
       → came_on conn (occurrences past) ++ gained_on conn os ≡ brought_by plans given ending
   own_piece true bytes os given ending (gained, g, os_is) r =
@@ -141,12 +143,12 @@ module _ (laws : StreamLaws) (plans : List PlanRecord) (opened : List ℕ) (conn
   other_piece c bytes os other at = by_listening (listens opened c before) at
     where
       by_listening : (b : Bool)
-          → MatchBool b ((gained : List Entering) × Gains plans (stream opened c before) (stream opened c before ++ bytes) gained × (os ≡ map (Entry c) gained)) (os ≡ [])
+          → MatchBool b ((gained : List Coming) × Gains plans (stream opened c before) (stream opened c before ++ bytes) gained × (os ≡ map (Comes c) gained)) (os ≡ [])
           → gained_on conn os ≡ []
       by_listening true (gained, g, os_is) = ap (gained_on conn) os_is ∙ entries_gained c conn gained ∙ ap (λ b. if b then gained else []) other
       by_listening false none = ap (gained_on conn) none
 
-  at_event : (e : GatewayEvent) (os : List Occurrence) (given : List HttpRequest) (ending : Ending) → OccursAt plans opened e before os
+  at_event : (e : Event) (os : List Occurrence) (given : List HttpRequest) (ending : StreamEnd) → OccursAt plans opened e before os
       → Requests 0 (stream opened conn (e ∷ before)) given ending → came_on conn (occurrences past) ++ gained_on conn os ≡ brought_by plans given ending
   at_event Opening os given ending at r =
       quiet Opening os given ending refl (ap (gained_on conn) at ∙ once_gained conn (succeeds opened (length before)) occurs.Opening refl) r
@@ -164,7 +166,7 @@ module _ (laws : StreamLaws) (plans : List PlanRecord) (opened : List ℕ) (conn
       quiet (Piece c bytes) os given ending (ap (λ b. if b then bytes else []) other) (other_piece c bytes os other at) r)
       (cases_Bool (c == conn))
 
-pub came_are : (laws : StreamLaws) (plans : List PlanRecord) (opened : List ℕ) (conn : ℕ) (es : Before) (occurred : List Placed) (given : List HttpRequest) (ending : Ending)
+pub came_are : (laws : StreamLaws) (plans : List PlanRecord) (opened : List ℕ) (conn : ℕ) (es : Before) (occurred : List Placed) (given : List HttpRequest) (ending : StreamEnd)
     → Occurs plans opened es occurred → Requests 0 (stream opened conn es) given ending → came_on conn (occurrences occurred) ≡ brought_by plans given ending
 came_are laws plans opened conn [] occurred given ending o r =
     let none = laws.unique 0 [] given [] ending (Open []) r laws.first in
@@ -188,51 +190,51 @@ at_end [] x (suc k) = sym (ap (λ b. if b then Some x else None) (ne_eqb 0 (suc 
 at_end (y ∷ xs) x zero = refl
 at_end (y ∷ xs) x (suc k) = at_end xs x k ∙ ap (λ b. option_or (slice_get xs k) (if b then Some x else None)) (sym (eqb_suc (length xs) k))
 
-came_count : (conn : ℕ) (os : List Occurrence) → entries conn (marked os) ≡ length (came_on conn os)
+came_count : (conn : ℕ) (os : List Occurrence) → arrivals conn (marked os) ≡ length (came_on conn os)
 came_count conn [] = refl
-came_count conn (o ∷ os) = by_what (entering_on conn o) (came_count conn os)
+came_count conn (o ∷ os) = by_what (coming_on conn o) (came_count conn os)
   where
-    pushed : (xs : List Entering) (x : Entering) → length (xs ++ x ∷ []) ≡ suc (length xs)
+    pushed : (xs : List Coming) (x : Coming) → length (xs ++ x ∷ []) ≡ suc (length xs)
     pushed [] x = refl
     pushed (y ∷ xs) x = ap suc (pushed xs x)
 
-    by_what : (x : Option Entering) → entries conn (marked os) ≡ length (came_on conn os)
-        → (if is_some x then suc (entries conn (marked os)) else entries conn (marked os)) ≡ length (came_on conn os ++ option_to_list x)
-    by_what None e = e ∙ ap (λ (xs : List Entering). length xs) (sym (append-nil (came_on conn os)))
+    by_what : (x : Option Coming) → arrivals conn (marked os) ≡ length (came_on conn os)
+        → (if is_some x then suc (arrivals conn (marked os)) else arrivals conn (marked os)) ≡ length (came_on conn os ++ option_to_list x)
+    by_what None e = e ∙ ap (λ (xs : List Coming). length xs) (sym (append-nil (came_on conn os)))
     by_what (Some x) e = ap suc e ∙ sym (pushed (came_on conn os) x)
 
 -- what came as that request
-abbrev entering_of : Option (Entering × Bool) → Option Entering
+abbrev entering_of : Option (Coming × Bool) → Option Coming
 entering_of o = option_map (λ x. x.0) o
 
-both_of : (a b : Option (Entering × Bool)) → entering_of (option_or a b) ≡ option_or (entering_of a) (entering_of b)
+both_of : (a b : Option (Coming × Bool)) → entering_of (option_or a b) ≡ option_or (entering_of a) (entering_of b)
 both_of None b = refl
 both_of (Some a) b = refl
 
 -- request k of a connection is number k of what came on it
-pub came_at : (conn k : ℕ) (os : List Occurrence) → option_map {U = Entering} (λ x. x.0) (came (call_id conn k) (marked os)) ≡ slice_get (came_on conn os) k
+pub came_at : (conn k : ℕ) (os : List Occurrence) → option_map {U = Coming} (λ x. x.0) (came (call_id conn k) (marked os)) ≡ slice_get (came_on conn os) k
 came_at conn k [] = refl
 came_at conn k (o ∷ os) =
-    both_of (came (call_id conn k) (marked os)) (option_map {U = Entering × Bool} (λ (e : Entering). (e, crowds o (marked os))) (entering_now (call_id conn k) (mark_of (marked os) o) (marked os)))
-    ∙ by_what (entering_on conn o) (came_at conn k os)
+    both_of (came (call_id conn k) (marked os)) (option_map {U = Coming × Bool} (λ (e : Coming). (e, crowds o (marked os))) (coming_now (call_id conn k) (mark_of (marked os) o) (marked os)))
+    ∙ by_what (coming_on conn o) (came_at conn k os)
   where
-    at_none : (b c : Bool) → entering_of (option_map {U = Entering × Bool} (λ (e : Entering). (e, c)) (if b then None else None)) ≡ None
+    at_none : (b c : Bool) → entering_of (option_map {U = Coming × Bool} (λ (e : Coming). (e, c)) (if b then None else None)) ≡ None
     at_none true c = refl
     at_none false c = refl
 
-    at_some : (b c : Bool) (x : Entering) → entering_of (option_map {U = Entering × Bool} (λ (e : Entering). (e, c)) (if b then Some x else None)) ≡ (if b then Some x else None)
+    at_some : (b c : Bool) (x : Coming) → entering_of (option_map {U = Coming × Bool} (λ (e : Coming). (e, c)) (if b then Some x else None)) ≡ (if b then Some x else None)
     at_some true c x = refl
     at_some false c x = refl
 
-    by_what : (x : Option Entering) → entering_of (came (call_id conn k) (marked os)) ≡ slice_get (came_on conn os) k
+    by_what : (x : Option Coming) → entering_of (came (call_id conn k) (marked os)) ≡ slice_get (came_on conn os) k
         → option_or (entering_of (came (call_id conn k) (marked os)))
-        (entering_of (option_map {U = Entering × Bool} (λ (e : Entering). (e, crowds o (marked os))) (if entries conn (marked os) == k then x else None)))
+        (entering_of (option_map {U = Coming × Bool} (λ (e : Coming). (e, crowds o (marked os))) (if arrivals conn (marked os) == k then x else None)))
         ≡ slice_get (came_on conn os ++ option_to_list x) k
     by_what None e =
-        ap (λ y. option_or (entering_of (came (call_id conn k) (marked os))) y) (at_none (entries conn (marked os) == k) (crowds o (marked os)))
+        ap (λ y. option_or (entering_of (came (call_id conn k) (marked os))) y) (at_none (arrivals conn (marked os) == k) (crowds o (marked os)))
         ∙ or_none (entering_of (came (call_id conn k) (marked os))) ∙ e ∙ ap (λ xs. slice_get xs k) (sym (append-nil (came_on conn os)))
     by_what (Some x) e =
-        ap (λ y. option_or (entering_of (came (call_id conn k) (marked os))) y) (at_some (entries conn (marked os) == k) (crowds o (marked os)) x)
-        ∙ ap (λ y. option_or y (if entries conn (marked os) == k then Some x else None)) e
+        ap (λ y. option_or (entering_of (came (call_id conn k) (marked os))) y) (at_some (arrivals conn (marked os) == k) (crowds o (marked os)) x)
+        ∙ ap (λ y. option_or y (if arrivals conn (marked os) == k then Some x else None)) e
         ∙ ap (λ n. option_or (slice_get (came_on conn os) k) (if n == k then Some x else None)) (came_count conn os)
         ∙ sym (at_end (came_on conn os) x k)

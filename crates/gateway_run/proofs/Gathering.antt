@@ -7,21 +7,21 @@ use Rattle.std.proofs.lemmas.Grind.{flat_map-append}
 use Rattle.std.proofs.lemmas.List.{append_cancel_left, length-set, map-append}
 use Rattle.gateway_model.specs.declared.entry.ReplyEntry.{ReplyEntry}
 use Rattle.gateway_model.specs.declared.reply_bytes.ReplyBytes.{ReplyBytes}
-use Rattle.gateway_model.specs.Conn.{ConnValue}
+use Rattle.gateway_theory.specs.Conn.{ConnValue}
 use Rattle.gateway_model.specs.Events.{Before, Occurs}
-use Rattle.gateway_model.specs.Gateway.{GatewayValue, is_broken_conn, untaken_of}
+use Rattle.gateway_theory.specs.Gateway.{GatewayValue, is_broken_conn, untaken_of}
 use Rattle.gateway_model.specs.Job.{JobValue}
 use Rattle.gateway_model.specs.Queue.{answer_of, front}
-use Rattle.gateway_model.specs.Reply.{ReplyValue}
-use Rattle.gateway_model.specs.Served.{QueueIs, Served, with_reply}
-use Rattle.gateway_model.specs.Serving.{TakesOnly}
+use Rattle.gateway_theory.specs.Replies.{ReplyValue}
+use Rattle.gateway_theory.specs.Served.{QueueIs, Served, with_reply}
+use Rattle.gateway_theory.specs.Serving.{TakesOnly}
 use Rattle.gateway_model.specs.Starts.{Placed, job_started}
-use Rattle.gateway_model.specs.Store.{conn_of}
+use Rattle.gateway_theory.specs.Store.{conn_of}
 use Rattle.gateway_run.specs.Log.{BrokeSo, Collects, absent, gathers, HasRun, LogValue, Took, flag_at, is_flagged, is_open_conn, log_with, queue_at}
-use Rattle.gateway_run.specs.Run.{bytes_of}
+use Rattle.gateway_model.specs.Run.{bytes_of}
 use Rattle.gateway_run.proofs.CoreLaws.{StandingLaws}
 use Rattle.gateway_run.proofs.Flags.{or_false_right, set_here, set_other}
-use Rattle.gateway_model.specs.lemmas.CutLemmas.{open_known}
+use Rattle.gateway_theory.specs.lemmas.CutLemmas.{open_known}
 
 only_then : (n : ℕ) (u v w : GatewayValue) → TakesOnly n u v → TakesOnly n v w → TakesOnly n u w
 only_then n u v w a b = record {
@@ -102,6 +102,7 @@ module _ (standing : StandingLaws) (gathered : ℕ → Bool) (n : ℕ) (v w : Ga
     none_left = λ c on. none_of c (c == n) refl on;
     broke_are = h.broke_are;
     unbroken = h.unbroken;
+    in_order = h.in_order;
     all_unbroken = h.all_unbroken;
   }))
     where
@@ -318,6 +319,7 @@ module _ (standing : StandingLaws) (gathered : ℕ → Bool) (n : ℕ) (v w : Ga
       none_left = λ c on. none_then c on (which c);
       broke_are = broke_still;
       unbroken = λ c off occurred o. h.unbroken c (unflagged_before c off (which c)) occurred (plain occurred o);
+      in_order = λ occurred o. h.in_order occurred (plain occurred o);
       all_unbroken = λ off occurred o. h.all_unbroken (λ c. unflagged_before c (off c) (which c)) occurred (plain occurred o);
     }
 

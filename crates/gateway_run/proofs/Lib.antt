@@ -3,6 +3,8 @@ pub mod RunLemmas
 pub mod Scripts
 pub mod Existence
 pub mod Flags
+pub mod Sublists
+pub mod Hearing
 pub mod Gathering
 pub mod RunSteps
 pub mod WholeLemmas

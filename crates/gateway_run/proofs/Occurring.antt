@@ -3,35 +3,37 @@ use Rattle.std.proofs.Common.{◌≡◌, ℕ, Bool, true, false, List, [], ◌�
 use Rattle.std.specs.Prelude.{MatchBool, not}
 use Rattle.std.proofs.lemmas.List.{append_cancel_left, map-append}
 use Rattle.http_pieces.specs.Request.{HttpRequest}
-use Rattle.http_pieces.specs.Requests.{Ending, Requests}
+use Rattle.http_pieces.specs.Requests.{StreamEnd, Requests}
 use Rattle.call_plan.specs.Plan.{PlanRecord}
-use Rattle.gateway_model.specs.Occurrence.{Occurrence, Entering, Entry}
+use Rattle.gateway_model.specs.Occurrence.{Occurrence, Coming, Comes}
 use Rattle.gateway_model.specs.Occurrence as occurs
 use Rattle.gateway_model.specs.Past.{Past, mark_of, marked}
 use Rattle.gateway_model.specs.Starts.{Placed, occurrences}
 use Rattle.gateway_model.specs.Queue.{queued, IsPrefixOf}
-use Rattle.gateway_model.specs.Events.{GatewayEvent, Opening, Piece, HangUp, Moment, BranchResult, Drain, Closing, Before, Gains, OccursAt, Occurs, has_no_effect, once, onto, is_open, listens, stream, succeeds}
-use Rattle.gateway_model.specs.lemmas.EventLemmas.{both_ways, onto_front}
+use Rattle.gateway_model.specs.declared.event.Event.{Event}
+use Rattle.gateway_model.specs.declared.event.Event.TheVariants.{Opening, Piece, HangUp, Moment, BranchResult, Drain, Closing}
+use Rattle.gateway_model.specs.Events.{Before, Gains, OccursAt, Occurs, has_no_effect, once, onto, is_open, listens, stream, succeeds}
+use Rattle.gateway_theory.specs.lemmas.EventLemmas.{both_ways, onto_front}
 
 -- what is known of requests: a text has one list of them
 abbrev pub HasOneList : Type 0
-HasOneList = (k : ℕ) (text : List ℕ) (given other : List HttpRequest) (a b : Ending) → Requests k text given a → Requests k text other b → (given ≡ other) × (a ≡ b)
+HasOneList = (k : ℕ) (text : List ℕ) (given other : List HttpRequest) (a b : StreamEnd) → Requests k text given a → Requests k text other b → (given ≡ other) × (a ≡ b)
 
-gains_unique : HasOneList → (plans : List PlanRecord) (text longer : List ℕ) (a b : List Entering) → Gains plans text longer a → Gains plans text longer b → a ≡ b
+gains_unique : HasOneList → (plans : List PlanRecord) (text longer : List ℕ) (a b : List Coming) → Gains plans text longer a → Gains plans text longer b → a ≡ b
 gains_unique one plans text longer a b g h =
     let front = one 0 text g.given h.given g.ending h.ending g.text_is h.text_is in
     let whole = one 0 longer (g.given ++ g.more) (h.given ++ h.more) g.later h.later g.longer_is h.longer_is in
     let more : g.more ≡ h.more = append_cancel_left h.given g.more h.more (ap (λ xs. xs ++ g.more) (sym front.0) ∙ whole.0) in
     g.gained_is ∙ rw (more, front.1, whole.1) (sym h.gained_is)
 
-at_unique : HasOneList → (plans : List PlanRecord) (opened : List ℕ) (e : GatewayEvent) (before : Before) (x y : List Occurrence)
+at_unique : HasOneList → (plans : List PlanRecord) (opened : List ℕ) (e : Event) (before : Before) (x y : List Occurrence)
     → OccursAt plans opened e before x → OccursAt plans opened e before y → x ≡ y
 at_unique one plans opened Opening before x y h g = h ∙ sym g
 at_unique one plans opened (Piece conn bytes) before x y h g =
     let P : List Occurrence → Type 0 = λ os.
-    (gained : List Entering) × Gains plans (stream opened conn before) (stream opened conn before ++ bytes) gained × (os ≡ map (Entry conn) gained) in
+    (gained : List Coming) × Gains plans (stream opened conn before) (stream opened conn before ++ bytes) gained × (os ≡ map (Comes conn) gained) in
     both_ways (listens opened conn before) P (λ os. os ≡ []) x y
-    (λ a b. a.2 ∙ ap (λ es. map (Entry conn) es) (gains_unique one plans (stream opened conn before) (stream opened conn before ++ bytes) a.0 b.0 a.1 b.1) ∙ sym b.2)
+    (λ a b. a.2 ∙ ap (λ es. map (Comes conn) es) (gains_unique one plans (stream opened conn before) (stream opened conn before ++ bytes) a.0 b.0 a.1 b.1) ∙ sym b.2)
     (λ a b. a ∙ sym b) h g
 at_unique one plans opened (HangUp conn) before x y h g = h ∙ sym g
 at_unique one plans opened (Moment m) before x y h g = h ∙ sym g
@@ -90,11 +92,11 @@ not_so : (b : Bool) → not b ≡ true → b ≡ false
 not_so true e = absurd (cc)
 not_so false e = refl
 
-nothing_at : (plans : List PlanRecord) (opened : List ℕ) (e : GatewayEvent) (before : Before) (os : List Occurrence) → has_no_effect opened e before ≡ true
+nothing_at : (plans : List PlanRecord) (opened : List ℕ) (e : Event) (before : Before) (os : List Occurrence) → has_no_effect opened e before ≡ true
     → OccursAt plans opened e before os → os ≡ []
 nothing_at plans opened Opening before os none h = h ∙ ap (λ b. once b occurs.Opening) (not_so (succeeds opened (length before)) none)
 nothing_at plans opened (Piece conn bytes) before os none h =
-    let P : Type 0 = (gained : List Entering) × Gains plans (stream opened conn before) (stream opened conn before ++ bytes) gained × (os ≡ map (Entry conn) gained) in
+    let P : Type 0 = (gained : List Coming) × Gains plans (stream opened conn before) (stream opened conn before ++ bytes) gained × (os ≡ map (Comes conn) gained) in
     subst (λ b. MatchBool b P (os ≡ [])) (not_so (listens opened conn before) none) h
 nothing_at plans opened (HangUp conn) before os none h = h ∙ ap (λ b. once b (occurs.HangUp conn)) (not_so (listens opened conn before) none)
 nothing_at plans opened (Moment m) before os none h = absurd (cc)
@@ -102,7 +104,7 @@ nothing_at plans opened (BranchResult conn request branch outcome) before os non
 nothing_at plans opened Drain before os none h = absurd (cc)
 nothing_at plans opened (Closing conn) before os none h = h ∙ ap (λ b. once b (occurs.Closing conn)) (not_so (is_open opened conn before) none)
 
-pub nothing_occurs : HasOneList → (plans : List PlanRecord) (opened : List ℕ) (e : GatewayEvent) (before : Before) (a b : List Placed) → has_no_effect opened e before ≡ true
+pub nothing_occurs : HasOneList → (plans : List PlanRecord) (opened : List ℕ) (e : Event) (before : Before) (a b : List Placed) → has_no_effect opened e before ≡ true
     → Occurs plans opened before a → Occurs plans opened (e ∷ before) b → b ≡ a
 nothing_occurs one plans opened e before a b none h g =
     let empty : g.2.0 ≡ [] = nothing_at plans opened e before g.2.0 none g.2.1 in

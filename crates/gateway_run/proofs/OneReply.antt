@@ -7,12 +7,12 @@ use Rattle.std.proofs.lemmas.Bool.{and_parts, cases_lt, ne_eqb}
 use Rattle.gateway_model.specs.declared.entry.ReplyEntry.{ReplyEntry}
 use Rattle.gateway_model.specs.declared.id.CallId.{CallId}
 use Rattle.gateway_model.specs.declared.entry.ReplyEntry.TheVariants.{Call as Calling}
-use Rattle.gateway_model.specs.declared.event.CallEvent.{CallEvent}
+use Rattle.gateway_model.specs.declared.call_event.CallEvent.{CallEvent}
 use Rattle.gateway_model.specs.Arrival.{Asks, Judged}
-use Rattle.gateway_model.specs.Occurrence.{Entering, Refused, Request}
-use Rattle.gateway_model.specs.Past.{Asked, Mark, Past, asked_by, call, call_id, decided, entering_now, entering_on, entries, is_undecided, now}
+use Rattle.gateway_model.specs.Occurrence.{Coming, Refused, Request}
+use Rattle.gateway_model.specs.Past.{ArrivedCall, Mark, Past, asked_by, call, call_id, decided, coming_now, coming_on, arrivals, is_undecided, now}
 use Rattle.gateway_model.specs.Queue.{came, entry, entry_by, front, own_events, queued_entries, record_of}
-use Rattle.gateway_model.specs.lemmas.Cases.{or_none}
+use Rattle.gateway_theory.specs.lemmas.Cases.{or_none}
 
 -- number k of the first ones that are there
 front_at : {A : Type 0} (f : ℕ → Option A) (a n k : ℕ) (x : A) → slice_get (front (map f (range_with_len a n))) k ≡ Some x → f (a + k) ≡ Some x
@@ -37,33 +37,33 @@ front_ends f a (suc n) e = let next : a + 1 + n ≡ a + suc n = omega arith in b
         let same : a + suc (length (front (map f (range_with_len (a + 1) n)))) ≡ a + 1 + length (front (map f (range_with_len (a + 1) n))) = omega arith in ap f same ∙ rest
 
 -- a request that has not come
-came_not : (id : CallId) (past : Past) → entries id.conn past ≤ id.request → came id past ≡ None
+came_not : (id : CallId) (past : Past) → arrivals id.conn past ≤ id.request → came id past ≡ None
 came_not id [] le = refl
-came_not id (m ∷ past) le = by_what (entering_on id.conn m.what) le (λ l. came_not id past l)
+came_not id (m ∷ past) le = by_what (coming_on id.conn m.what) le (λ l. came_not id past l)
   where
-    by_test : (b : Bool) → option_map {U = Entering × Bool} (λ (e : Entering). (e, m.crowded)) (if b then None else None) ≡ None
+    by_test : (b : Bool) → option_map {U = Coming × Bool} (λ (e : Coming). (e, m.crowded)) (if b then None else None) ≡ None
     by_test true = refl
     by_test false = refl
 
-    by_what : (o : Option Entering) → (if is_some o then suc (entries id.conn past) else entries id.conn past) ≤ id.request
-        → (entries id.conn past ≤ id.request → came id past ≡ None)
-        → option_or (came id past) (option_map {U = Entering × Bool} (λ (e : Entering). (e, m.crowded)) (if entries id.conn past == id.request then o else None)) ≡ None
+    by_what : (o : Option Coming) → (if is_some o then suc (arrivals id.conn past) else arrivals id.conn past) ≤ id.request
+        → (arrivals id.conn past ≤ id.request → came id past ≡ None)
+        → option_or (came id past) (option_map {U = Coming × Bool} (λ (e : Coming). (e, m.crowded)) (if arrivals id.conn past == id.request then o else None)) ≡ None
     by_what None le before =
-        ap (λ y. option_or y (option_map {U = Entering × Bool} (λ (e : Entering). (e, m.crowded)) (if entries id.conn past == id.request then None else None))) (before le)
-        ∙ by_test (entries id.conn past == id.request)
+        ap (λ y. option_or y (option_map {U = Coming × Bool} (λ (e : Coming). (e, m.crowded)) (if arrivals id.conn past == id.request then None else None))) (before le)
+        ∙ by_test (arrivals id.conn past == id.request)
     by_what (Some x) le before =
-        ap (λ y. option_or y (option_map {U = Entering × Bool} (λ (e : Entering). (e, m.crowded)) (if entries id.conn past == id.request then Some x else None))) (before (omega (arith, le)))
-        ∙ ap (λ b. option_map {U = Entering × Bool} (λ (e : Entering). (e, m.crowded)) (if b then Some x else None))
-        (ne_eqb (entries id.conn past) id.request (λ same. omega (arith, le, same)))
+        ap (λ y. option_or y (option_map {U = Coming × Bool} (λ (e : Coming). (e, m.crowded)) (if arrivals id.conn past == id.request then Some x else None))) (before (omega (arith, le)))
+        ∙ ap (λ b. option_map {U = Coming × Bool} (λ (e : Coming). (e, m.crowded)) (if b then Some x else None))
+        (ne_eqb (arrivals id.conn past) id.request (λ same. omega (arith, le, same)))
 
-entry_not : (id : CallId) (past : Past) → entries id.conn past ≤ id.request → entry id past ≡ None
+entry_not : (id : CallId) (past : Past) → arrivals id.conn past ≤ id.request → entry id past ≡ None
 entry_not id past le = ap (λ o. option_and_then (entry_by id past) o) (came_not id past le)
 
 -- entry number k of the queue is that of request k
 pub queued_at : (conn k : ℕ) (past : Past) (x : ReplyEntry) → slice_get (queued_entries conn past) k ≡ Some x → entry (call_id conn k) past ≡ Some x
 queued_at conn k past x e =
     let same : k ≡ 0 + k = omega arith in
-    ap (λ n. entry (call_id conn n) past) same ∙ front_at (λ n. entry (call_id conn n) past) 0 (entries conn past) k x e
+    ap (λ n. entry (call_id conn n) past) same ∙ front_at (λ n. entry (call_id conn n) past) 0 (arrivals conn past) k x e
 
 -- the request behind the queue has no entry
 pub queued_until : (conn : ℕ) (past : Past) → entry (call_id conn (length (queued_entries conn past))) past ≡ None
@@ -71,23 +71,23 @@ queued_until conn past =
     let n : ℕ = length (queued_entries conn past) in
     let same : n ≡ 0 + n = omega arith in
     ap (λ k. entry (call_id conn k) past) same
-    ∙ front_ends (λ k. entry (call_id conn k) past) 0 (entries conn past) (entry_not (call_id conn (0 + entries conn past)) past (omega arith))
+    ∙ front_ends (λ k. entry (call_id conn k) past) 0 (arrivals conn past) (entry_not (call_id conn (0 + arrivals conn past)) past (omega arith))
 
 -- ---- which requests have no reply yet
 
-came_known : (id : CallId) (past : Past) (x : Entering × Bool) → came id past ≡ Some x → id.request < entries id.conn past
-came_known id past x e = ⊎_elim (λ (lt : id.request < entries id.conn past). lt)
-    (λ (le : entries id.conn past ≤ id.request). absurd (let none : came id past ≡ None = came_not id past le in let clash : Some x ≡ None = sym e ∙ none in cc))
-    (cases_lt id.request (entries id.conn past))
+came_known : (id : CallId) (past : Past) (x : Coming × Bool) → came id past ≡ Some x → id.request < arrivals id.conn past
+came_known id past x e = ⊎_elim (λ (lt : id.request < arrivals id.conn past). lt)
+    (λ (le : arrivals id.conn past ≤ id.request). absurd (let none : came id past ≡ None = came_not id past le in let clash : Some x ≡ None = sym e ∙ none in cc))
+    (cases_lt id.request (arrivals id.conn past))
 
 -- nothing comes twice as one request
-entering_none : (id : CallId) (m : Mark) (past : Past) (x : Entering × Bool) → came id past ≡ Some x → entering_now id m past ≡ None
+entering_none : (id : CallId) (m : Mark) (past : Past) (x : Coming × Bool) → came id past ≡ Some x → coming_now id m past ≡ None
 entering_none id m past x e =
-    let lt : id.request < entries id.conn past = came_known id past x e in
-    ap (λ b. if b then entering_on id.conn m.what else None) (ne_eqb (entries id.conn past) id.request (λ same. omega (arith, lt, same)))
+    let lt : id.request < arrivals id.conn past = came_known id past x e in
+    ap (λ b. if b then coming_on id.conn m.what else None) (ne_eqb (arrivals id.conn past) id.request (λ same. omega (arith, lt, same)))
 
 -- what came asks for a call, and is not one too many
-abbrev asks : Option (Entering × Bool) → Bool
+abbrev asks : Option (Coming × Bool) → Bool
 asks None = false
 asks (Some (Refused r, crowded)) = false
 asks (Some (Request q (Judged v), crowded)) = false
@@ -97,7 +97,7 @@ call_is : (id : CallId) (past : Past) → is_some (call id past) ≡ asks (came 
 call_is id [] = refl
 call_is id (m ∷ past) = by_came (came id past) refl (call_is id past)
   where
-    by_now : (moment : ℕ) (x : Option Entering) (b : Bool) → is_some (if b then None else option_and_then (asked_by moment) x) ≡ asks (option_map {U = Entering × Bool} (λ (e : Entering). (e, b)) x)
+    by_now : (moment : ℕ) (x : Option Coming) (b : Bool) → is_some (if b then None else option_and_then (asked_by moment) x) ≡ asks (option_map {U = Coming × Bool} (λ (e : Coming). (e, b)) x)
     by_now moment None true = refl
     by_now moment None false = refl
     by_now moment (Some (Refused r)) true = refl
@@ -111,33 +111,33 @@ call_is id (m ∷ past) = by_came (came id past) refl (call_is id past)
     nothing true = refl
     nothing false = refl
 
-    none_of : (x : Option Asked) → is_some x ≡ false → x ≡ None
+    none_of : (x : Option ArrivedCall) → is_some x ≡ false → x ≡ None
     none_of None e = refl
     none_of (Some a) e = absurd (cc)
 
-    by_came : (o : Option (Entering × Bool)) → came id past ≡ o → is_some (call id past) ≡ asks o
-        → is_some (option_or (call id past) (if m.crowded then None else option_and_then (asked_by (now past)) (entering_now id m past)))
-        ≡ asks (option_or o (option_map {U = Entering × Bool} (λ (e : Entering). (e, m.crowded)) (entering_now id m past)))
+    by_came : (o : Option (Coming × Bool)) → came id past ≡ o → is_some (call id past) ≡ asks o
+        → is_some (option_or (call id past) (if m.crowded then None else option_and_then (asked_by (now past)) (coming_now id m past)))
+        ≡ asks (option_or o (option_map {U = Coming × Bool} (λ (e : Coming). (e, m.crowded)) (coming_now id m past)))
     by_came None o_is e =
-        ap (λ x. is_some (option_or x (if m.crowded then None else option_and_then (asked_by (now past)) (entering_now id m past)))) (none_of (call id past) e)
-        ∙ by_now (now past) (entering_now id m past) m.crowded
+        ap (λ x. is_some (option_or x (if m.crowded then None else option_and_then (asked_by (now past)) (coming_now id m past)))) (none_of (call id past) e)
+        ∙ by_now (now past) (coming_now id m past) m.crowded
     by_came (Some x) o_is e =
         ap (λ y. is_some (option_or (call id past) (if m.crowded then None else option_and_then (asked_by (now past)) y))) (entering_none id m past x o_is)
         ∙ ap (λ y. is_some (option_or (call id past) y)) (nothing m.crowded)
         ∙ ap (λ y. is_some y) (or_none (call id past)) ∙ e
 
 -- a request that has come and has no entry is a call that is undecided
-pub waits : (id : CallId) (past : Past) (x : Entering × Bool) → came id past ≡ Some x → entry id past ≡ None → is_undecided id past ≡ true
+pub waits : (id : CallId) (past : Past) (x : Coming × Bool) → came id past ≡ Some x → entry id past ≡ None → is_undecided id past ≡ true
 waits id past x came_is none = by_what x came_is (sym (ap (λ o. option_and_then (entry_by id past) o) came_is) ∙ none)
   where
-    by_call : (d : Option CallEvent) (c : Option Asked) → is_some c ≡ true → (if is_some d then option_map (λ a. Calling (record_of a (own_events id past))) c else None) ≡ None
+    by_call : (d : Option CallEvent) (c : Option ArrivedCall) → is_some c ≡ true → (if is_some d then option_map (λ a. Calling (record_of a (own_events id past))) c else None) ≡ None
         → (is_some c && is_none d) ≡ true
     by_call None (Some c) on e = refl
     by_call None None on e = absurd (cc)
     by_call (Some d) None on e = absurd (cc)
     by_call (Some d) (Some c) on e = absurd (cc)
 
-    by_what : (x : Entering × Bool) → came id past ≡ Some x → entry_by id past x ≡ None → is_undecided id past ≡ true
+    by_what : (x : Coming × Bool) → came id past ≡ Some x → entry_by id past x ≡ None → is_undecided id past ≡ true
     by_what (Refused r, crowded) x_is e = absurd (cc)
     by_what (Request q (Judged v), crowded) x_is e = absurd (cc)
     by_what (Request q (Asks plan timeout request_id), true) x_is e = absurd (cc)
@@ -153,7 +153,7 @@ undecided_waits id past e =
     none_of None e = refl
     none_of (Some a) e = absurd (cc)
 
-    by_came : (o : Option (Entering × Bool)) → asks o ≡ true → is_some (decided id past) ≡ false → option_and_then (entry_by id past) o ≡ None
+    by_came : (o : Option (Coming × Bool)) → asks o ≡ true → is_some (decided id past) ≡ false → option_and_then (entry_by id past) o ≡ None
     by_came None on off = absurd (cc)
     by_came (Some (Refused r, crowded)) on off = absurd (cc)
     by_came (Some (Request q (Judged v), crowded)) on off = absurd (cc)

@@ -1,19 +1,20 @@
 -- A piece that is fed in parts.
 use Rattle.std.proofs.Common.{◌≡◌, ℕ, ◌-◌, Bool, true, false, List, [], ◌∷◌, ◌++◌, take, drop, length, refl, sym, ap, ◌∙◌, subst, arith, inl, inr, append-nil, append_assoc}
 use Rattle.std.specs.Prelude.{◌==◌, ◌↔◌, ◌⊎◌, ◌+◌, ◌<◌, ◌≤◌, filter, OnOk, Result, Ok, Err, IsErr, IsErrAnd}
-use Rattle.gateway_model.specs.declared.fault.StepFault.{StepFault}
-use Rattle.gateway_model.specs.declared.fault.StepFault.TheVariants.{Exhausted, Gone, Memory}
+use Rattle.gateway_theory.specs.declared.fault.StepFault.{StepFault}
+use Rattle.gateway_theory.specs.declared.fault.StepFault.TheVariants.{Exhausted, Gone, Memory}
 use Rattle.std.proofs.lemmas.Bool.{cases_lt, eqb-true}
 use Rattle.std.proofs.lemmas.List.Elements.{filter-append}
 use Rattle.std.proofs.lemmas.List.{length-drop, take-append-drop, take_all}
 use Rattle.gateway_model.specs.declared.entry.ReplyEntry.{ReplyEntry}
-use Rattle.gateway_model.specs.Events.{Before, Piece}
-use Rattle.gateway_model.specs.Breaks.{is_of}
-use Rattle.gateway_model.specs.Gateway.{GatewayValue, is_broken_conn, untaken_of}
+use Rattle.gateway_model.specs.Events.{Before}
+use Rattle.gateway_model.specs.declared.event.Event.TheVariants.{Piece}
+use Rattle.gateway_model.specs.Known.{is_of}
+use Rattle.gateway_theory.specs.Gateway.{GatewayValue, is_broken_conn, untaken_of}
 use Rattle.gateway_model.specs.Job.{JobValue}
-use Rattle.gateway_model.specs.Served.{Served, ServedUpTo}
-use Rattle.gateway_model.specs.Serving.{CountsCalls, IsDeaf, Keeps, TellsStep, most_begun}
-use Rattle.gateway_model.specs.Store.{MachineValue}
+use Rattle.gateway_theory.specs.Served.{Served, ServedUpTo}
+use Rattle.gateway_theory.specs.Serving.{CountsCalls, IsDeaf, Keeps, TellsStep, most_begun}
+use Rattle.gateway_theory.specs.Store.{MachineValue}
 
 -- nothing was fed yet, or the connection is heard, and was
 pub data Hearing (conn : ℕ) (v w : GatewayValue) : Type 0 where

@@ -9,7 +9,7 @@ use Rattle.std.proofs.lemmas.Grind.{common_steps, flat_map-append}
 use Rattle.std.proofs.KnownBytes.{Appends-trans}
 use Rattle.std.specs.Io.KnownBytes.{Appends}
 use Rattle.gateway_run.specs.RunText.{AppendsSome, start_line, connection_text, connections_text}
-use Rattle.gateway_run.specs.declared.outcome.Start.{Start}
+use Rattle.gateway_model.specs.declared.run.Start.{Start}
 
 -- a write took k more bytes
 pub Appends-more : (old mid new : Option (List ℕ)) (n k : ℕ) (text : List ℕ)

@@ -1,31 +1,37 @@
 -- How a run goes on with one event more.
 use Rattle.std.proofs.Common.{◌≡◌, ℕ, ◌+◌, ◌<◌, ◌≤◌, Bool, true, false, List, [], ◌∷◌, ◌++◌, length, map, Option, None, Some, refl, sym, ap, ◌∙◌, subst, arith, append-nil, append_assoc}
-use Rattle.std.specs.Prelude.{if◌then◌else◌, ◌&&◌, ◌||◌, not, filter, is_some, nat_lt, option_to_list}
+use Rattle.std.specs.Prelude.{if◌then◌else◌, ◌&&◌, ◌==◌, ◌||◌, not, filter, is_some, nat_lt, option_to_list}
 use Rattle.std.specs.Option.{option_map_or}
 use Rattle.std.proofs.lemmas.Bool.{lt-ltb, ltb-true, ltb-false}
 use Rattle.std.proofs.lemmas.List.{append_cancel_left, length-append, map-append}
 use Rattle.std.proofs.lemmas.List.Elements.{filter-append}
 use Rattle.gateway_model.specs.declared.entry.ReplyEntry.{ReplyEntry}
-use Rattle.gateway_model.specs.Breaking.{BrokeNow, can_break}
-use Rattle.gateway_model.specs.Breaks.{is_of}
-use Rattle.gateway_model.specs.Conn.{ConnValue}
-use Rattle.gateway_model.specs.EventAdds.{EventAdds, IsShut}
-use Rattle.gateway_model.specs.Events.{Before, GatewayEvent, Opening, Piece, HangUp, Moment, BranchResult, Drain, Closing, IsOpened, Occurs, connections, is_closing_of, is_open}
-use Rattle.gateway_model.specs.Gateway.{GatewayValue, is_broken_conn, untaken_of}
+use Rattle.gateway_theory.specs.Breaking.{BrokeNow}
+use Rattle.gateway_model.specs.Concerns.{can_break}
+use Rattle.gateway_model.specs.Known.{is_of}
+use Rattle.gateway_theory.specs.Conn.{ConnValue}
+use Rattle.gateway_theory.specs.EventAdds.{EventAdds, IsShut}
+use Rattle.gateway_model.specs.Events.{Before, IsOpened, Occurs, connections, is_closing_of, is_open, listens}
+use Rattle.gateway_model.specs.declared.event.Event.{Event}
+use Rattle.gateway_model.specs.declared.event.Event.TheVariants.{Opening, Piece, HangUp, Moment, BranchResult, Drain, Closing}
+use Rattle.gateway_theory.specs.Gateway.{GatewayValue, is_broken_conn, untaken_of}
 use Rattle.gateway_model.specs.Job.{JobValue}
 use Rattle.gateway_model.specs.Past.{Past, marked}
 use Rattle.gateway_model.specs.Queue.{IsPrefixOf, front, queued_entries}
-use Rattle.gateway_model.specs.Served.{HasConns, JobsAre, QueueIs, Served}
-use Rattle.gateway_model.specs.declared.fault.Seen.{Seen}
-use Rattle.gateway_model.specs.Serving.{KeepsBut, is_silent}
+use Rattle.gateway_theory.specs.Served.{HasConns, JobsAre, QueueIs, Served}
+use Rattle.gateway_model.specs.declared.seen.Seen.{Seen}
+use Rattle.gateway_theory.specs.Serving.{KeepsBut, is_silent}
 use Rattle.gateway_model.specs.Starts.{Placed, job_started, jobs, occurrences, start, starts}
-use Rattle.gateway_model.specs.Store.{conn_of}
+use Rattle.gateway_theory.specs.Store.{conn_of}
 use Rattle.gateway_run.specs.Log.{BrokeSo, HasRun, LogValue, StartsAll, flag_at, is_flagged, is_open_conn, is_started_on, queue_at}
-use Rattle.gateway_run.specs.Run.{run_start, start_at}
+use Rattle.gateway_model.specs.Run.{IsSublist, run_start, start_at}
 use Rattle.gateway_run.specs.Stepping.{BreaksAt}
 use Rattle.gateway_run.proofs.CoreLaws.{BreakingLaw, EventLaws, StandingLaws}
-use Rattle.gateway_run.proofs.Flags.{beyond, jobs_again, jobs_on, or_false_left, or_false_right, same_jobs, starts_at, starts_on}
-use Rattle.gateway_model.specs.lemmas.CutLemmas.{open_known}
+use Rattle.gateway_run.proofs.Flags.{all_here, beyond, jobs_again, jobs_on, none_else, or_false_left, or_false_right, same_jobs, starts_at, starts_on}
+use Rattle.gateway_run.proofs.Sublists.{sub_append, sub_map, sub_prefix}
+use Rattle.gateway_theory.specs.lemmas.CutLemmas.{open_known}
+use Rattle.gateway_theory.specs.lemmas.PastLemmas.{prefix-refl}
+use Rattle.gateway_theory.specs.lemmas.Standings.{filter_prefix, jobs_grow}
 
 -- ---- what an event leaves as it was
 
@@ -50,10 +56,21 @@ no_more xs ys zs (rest, is) same = empty ys rest (append_cancel_left xs (ys ++ r
     empty [] b e = refl
     empty (x ∷ a) b e = absurd (cc)
 
+-- an event can break the same connections, where the same ones listen before it
+break_same : (c : ℕ) (opened later : List ℕ) (e : Event) (before : Before) (p : Past) → ((n : ℕ) → listens later n before ≡ listens opened n before)
+    → can_break c opened e before p ≡ true → can_break c later e before p ≡ true
+break_same c opened later Opening before p same h = h
+break_same c opened later (Piece n bytes) before p same h = ap (λ b. (c == n) && b) (same n) ∙ h
+break_same c opened later (HangUp n) before p same h = ap (λ b. (c == n) && b) (same n) ∙ h
+break_same c opened later (Moment m) before p same h = h
+break_same c opened later (BranchResult n k i r) before p same h = h
+break_same c opened later Drain before p same h = h
+break_same c opened later (Closing n) before p same h = h
+
 -- ---- one event
 
 -- what the step of an event comes to
-pub record Steps (e : GatewayEvent) (es : Before) (v w : GatewayValue) (opened later : List ℕ) : Type 0 where
+pub record Steps (e : Event) (es : Before) (v w : GatewayValue) (opened later : List ℕ) : Type 0 where
   pub served : (taken : ℕ → List ReplyEntry) (handed : List JobValue) → Served v opened es taken handed → Served w later (e ∷ es) taken handed
   pub seen : List Seen
   pub keeps : KeepsBut (λ c. is_closing_of c e) (λ c. true) seen v w
@@ -61,10 +78,11 @@ pub record Steps (e : GatewayEvent) (es : Before) (v w : GatewayValue) (opened l
   pub opened_are : IsOpened opened es → HasConns v opened es → IsOpened later (e ∷ es)
   pub same_count : HasConns v opened es → connections later es ≡ connections opened es
   pub same_open : HasConns v opened es → (c : ℕ) → is_open later c es ≡ is_open opened c es
+  pub same_listens : (earlier : Before) → length earlier ≤ length es → HasConns v opened es → (c : ℕ) → listens later c earlier ≡ listens opened c earlier
   pub before : (occurred : List Placed) → HasConns v opened es → Occurs v.plans later es occurred → Occurs v.plans opened es occurred
   pub after : (earlier : Before) (occurred : List Placed) → length earlier ≤ length es → HasConns v opened es → Occurs v.plans opened earlier occurred → Occurs v.plans later earlier occurred
 
-module _ (event : EventLaws) (standing : StandingLaws) (breaking : BreakingLaw) (e : GatewayEvent) (es : Before) (v w : GatewayValue) (log next : LogValue) (h : HasRun (λ c. is_closing_of c e) v log es) (s : Steps e es v w log.opened next.opened)
+module _ (event : EventLaws) (standing : StandingLaws) (breaking : BreakingLaw) (e : Event) (es : Before) (v w : GatewayValue) (log next : LogValue) (h : HasRun (λ c. is_closing_of c e) v log es) (s : Steps e es v w log.opened next.opened)
     (queued_are : (c : ℕ) → queue_at c next ≡ queue_at c log) (flags_are : (c : ℕ) → flag_at c next ≡ flag_at c log) (starts_same : next.starts ≡ log.starts) where
   served : Served w next.opened (e ∷ es) h.taken (map job_started h.started)
   served = s.served h.taken (map job_started h.started) h.served
@@ -286,7 +304,8 @@ module _ (event : EventLaws) (standing : StandingLaws) (breaking : BreakingLaw) 
           events_are = ap (λ xs. e ∷ xs) b.events_are;
           past = b.past;
           past_is = s.after b.before b.past (shorter b.later b.event b.before b.events_are).0 h.served.conns b.past_is;
-          concerned = b.concerned;
+          concerned = break_same c log.opened next.opened b.event b.before (marked (occurrences b.past))
+              (s.same_listens b.before (shorter b.later b.event b.before b.events_are).0 h.served.conns) b.concerned;
           newer = b.newer;
           at = b.at;
           more = b.more;
@@ -301,14 +320,14 @@ module _ (event : EventLaws) (standing : StandingLaws) (breaking : BreakingLaw) 
             ∙ append-nil (filter (is_started_on c) h.started) ∙ was_so.2,
       )
     where
-      shorter : (later : Before) (x : GatewayEvent) (before : Before) → es ≡ later ++ x ∷ before → (length before ≤ length es) × (length (x ∷ before) ≤ length es)
+      shorter : (later : Before) (x : Event) (before : Before) → es ≡ later ++ x ∷ before → (length before ≤ length es) × (length (x ∷ before) ≤ length es)
       shorter later x before is =
           let whole : length es ≡ length later + length (x ∷ before) = ap (λ (xs : Before). length xs) is ∙ length-append later (x ∷ before) in
           (omega (arith, whole), omega (arith, whole))
 
   -- one that breaks now was open, and does not close
-  was_open : (c : ℕ) (p : Past) → can_break c e p ≡ true → is_open_conn c w ≡ true → (is_open_conn c v ≡ true) × (is_closing_of c e ≡ false)
-  was_open c p breaks there = by_event e refl
+  was_open : (c : ℕ) (opened : List ℕ) (p : Past) → can_break c opened e es p ≡ true → is_open_conn c w ≡ true → (is_open_conn c v ≡ true) × (is_closing_of c e ≡ false)
+  was_open c opened p breaks there = by_event e refl
     where
       by_known : connections next.opened (e ∷ es) ≡ connections next.opened es → (b : Bool) → nat_lt c (connections next.opened es) ≡ b → (is_open_conn c v ≡ true) × (is_closing_of c e ≡ false)
       by_known same true y =
@@ -324,63 +343,84 @@ module _ (event : EventLaws) (standing : StandingLaws) (breaking : BreakingLaw) 
       plainly : connections next.opened (e ∷ es) ≡ connections next.opened es → (is_open_conn c v ≡ true) × (is_closing_of c e ≡ false)
       plainly same = by_known same (nat_lt c (connections next.opened es)) refl
 
-      count : (f : GatewayEvent) → e ≡ f → connections next.opened (f ∷ es) ≡ connections next.opened es → (is_open_conn c v ≡ true) × (is_closing_of c e ≡ false)
+      count : (f : Event) → e ≡ f → connections next.opened (f ∷ es) ≡ connections next.opened es → (is_open_conn c v ≡ true) × (is_closing_of c e ≡ false)
       count f f_is same = plainly (ap (λ x. connections next.opened (x ∷ es)) f_is ∙ same)
 
-      by_event : (f : GatewayEvent) → e ≡ f → (is_open_conn c v ≡ true) × (is_closing_of c e ≡ false)
-      by_event Opening f_is = absurd (let clash : true ≡ false = sym breaks ∙ ap (λ x. can_break c x p) f_is in cc)
+      by_event : (f : Event) → e ≡ f → (is_open_conn c v ≡ true) × (is_closing_of c e ≡ false)
+      by_event Opening f_is = absurd (let clash : true ≡ false = sym breaks ∙ ap (λ x. can_break c opened x es p) f_is in cc)
       by_event (Piece n bytes) f_is = count (Piece n bytes) f_is refl
       by_event (HangUp n) f_is = count (HangUp n) f_is refl
       by_event (Moment m) f_is = count (Moment m) f_is refl
       by_event (BranchResult n k i r) f_is = count (BranchResult n k i r) f_is refl
       by_event Drain f_is = count Drain f_is refl
-      by_event (Closing n) f_is = absurd (let clash : true ≡ false = sym breaks ∙ ap (λ x. can_break c x p) f_is in cc)
+      by_event (Closing n) f_is = absurd (let clash : true ≡ false = sym breaks ∙ ap (λ x. can_break c opened x es p) f_is in cc)
 
-  new_broke : (c : ℕ) → is_flagged c v log ≡ false → is_broken_conn c w ≡ true → (occurred : List Placed) → Occurs w.plans next.opened (e ∷ es) occurred
-      → BrokeSo c v.plans next.opened (h.taken c ++ untaken_of c w) (h.started ++ map (start (length es)) new) (e ∷ es) occurred
-  new_broke c off on occurred o = by_conns (conn_of c v.machine.conns) refl (conn_of c w.machine.conns) refl
-    where
-      whole : is_broken_conn c v ≡ false
-      whole = or_false_right (flag_at c log) (is_broken_conn c v) off
+  module _ (c : ℕ) (off : is_flagged c v log ≡ false) (on : is_broken_conn c w ≡ true) (occurred : List Placed) (o : Occurs w.plans next.opened (e ∷ es) occurred) where
+    whole : is_broken_conn c v ≡ false
+    whole = or_false_right (flag_at c log) (is_broken_conn c v) off
 
-      concerned : can_break c e (marked (occurrences (past occurred o))) ≡ true
-      concerned = s.concerned log.opened es h.taken (map job_started h.started) (past occurred o) h.served (was occurred o) c on whole
+    concerned : can_break c log.opened e es (marked (occurrences (past occurred o))) ≡ true
+    concerned = s.concerned log.opened es h.taken (map job_started h.started) (past occurred o) h.served (was occurred o) c on whole
 
-      by_conns : (k : Option ConnValue) → conn_of c v.machine.conns ≡ k → (l : Option ConnValue) → conn_of c w.machine.conns ≡ l
-          → BrokeSo c v.plans next.opened (h.taken c ++ untaken_of c w) (h.started ++ map (start (length es)) new) (e ∷ es) occurred
-      by_conns k k_is None l_is = absurd (let clash : true ≡ false = sym on ∙ ap (λ x. option_map_or (λ (y : ConnValue). y.broken) x false) l_is in cc)
-      by_conns None k_is (Some l) l_is = absurd (
-          let there = (was_open c (marked (occurrences (past occurred o))) concerned (ap (λ x. is_some x) l_is)).0 in
-          let clash : true ≡ false = sym there ∙ ap (λ x. is_some x) k_is in cc)
-      by_conns (Some k) k_is (Some l) l_is =
-          let unclosed : is_closing_of c e ≡ false = (was_open c (marked (occurrences (past occurred o))) concerned (ap (λ x. is_some x) l_is)).1 in
-          let b : BrokeNow c (length es) (h.taken c ++ untaken_of c w) s.keeps.jobs (past occurred o) occurred =
-          breaking c (length es) v w log.opened next.opened e es h.taken (map job_started h.started) s.keeps.jobs (now occurred o).2.0 (past occurred o) occurred h.served served (was occurred o) o
-          (now occurred o).2.2 s.keeps.jobs_are (s.keeps.replies_stay c unclosed) k l k_is (sym (ap (λ x. option_map_or (λ (y : ConnValue). y.broken) x false) k_is) ∙ whole) l_is
-          (sym (ap (λ x. option_map_or (λ (y : ConnValue). y.broken) x false) l_is) ∙ on) in (
-            record {
-              later = [];
-              event = e;
-              before = es;
-              events_are = refl;
-              past = past occurred o;
-              past_is = was_next occurred o;
-              concerned = concerned;
-              newer = b.newer;
-              at = b.at;
-              more = b.more;
-              event_is = subst (λ xs. Occurs v.plans next.opened (e ∷ es) xs) b.after_is (now occurred o);
-              breaks = b.breaks;
-              since = [];
-              occurred_is = b.after_is;
-            },
-            b.queue_is,
-            started_now c ∙ ap (λ xs. xs ++ map (start (length es)) (filter (is_of c) s.keeps.jobs)) (h.unbroken c off (past occurred o) (was occurred o))
-                ∙ ap (λ js. filter (is_started_on c) (starts (past occurred o)) ++ map (start (length es)) js) b.added_are
-                ∙ ap (λ xs. filter (is_started_on c) (starts (past occurred o)) ++ xs) (sym (starts_on c (length es) b.started))
-                ∙ sym (filter-append (is_started_on c) (starts (past occurred o)) (map (start (length es)) b.started))
-                ∙ ap (filter (is_started_on c)) (sym b.starts_are),
-          )
+    broke_now : BrokeNow c (length es) (h.taken c ++ untaken_of c w) s.keeps.jobs (past occurred o) occurred
+    broke_now = by_conns (conn_of c v.machine.conns) refl (conn_of c w.machine.conns) refl
+      where
+        by_conns : (k : Option ConnValue) → conn_of c v.machine.conns ≡ k → (l : Option ConnValue) → conn_of c w.machine.conns ≡ l
+            → BrokeNow c (length es) (h.taken c ++ untaken_of c w) s.keeps.jobs (past occurred o) occurred
+        by_conns k k_is None l_is = absurd (let clash : true ≡ false = sym on ∙ ap (λ x. option_map_or (λ (y : ConnValue). y.broken) x false) l_is in cc)
+        by_conns None k_is (Some l) l_is = absurd (
+            let there = (was_open c log.opened (marked (occurrences (past occurred o))) concerned (ap (λ x. is_some x) l_is)).0 in
+            let clash : true ≡ false = sym there ∙ ap (λ x. is_some x) k_is in cc)
+        by_conns (Some k) k_is (Some l) l_is =
+            let unclosed : is_closing_of c e ≡ false = (was_open c log.opened (marked (occurrences (past occurred o))) concerned (ap (λ x. is_some x) l_is)).1 in
+            breaking c (length es) v w log.opened next.opened e es h.taken (map job_started h.started) s.keeps.jobs (now occurred o).2.0 (past occurred o) occurred h.served served (was occurred o) o
+            (now occurred o).2.2 s.keeps.jobs_are (s.keeps.replies_stay c unclosed) k l k_is (sym (ap (λ x. option_map_or (λ (y : ConnValue). y.broken) x false) k_is) ∙ whole) l_is
+            (sym (ap (λ x. option_map_or (λ (y : ConnValue). y.broken) x false) l_is) ∙ on)
+
+    new_broke : BrokeSo c v.plans next.opened (h.taken c ++ untaken_of c w) (h.started ++ map (start (length es)) new) (e ∷ es) occurred
+    new_broke = let b = broke_now in (
+      record {
+        later = [];
+        event = e;
+        before = es;
+        events_are = refl;
+        past = past occurred o;
+        past_is = was_next occurred o;
+        concerned = break_same c log.opened next.opened e es (marked (occurrences (past occurred o))) (s.same_listens es (omega arith) h.served.conns) concerned;
+        newer = b.newer;
+        at = b.at;
+        more = b.more;
+        event_is = subst (λ xs. Occurs v.plans next.opened (e ∷ es) xs) b.after_is (now occurred o);
+        breaks = b.breaks;
+        since = [];
+        occurred_is = b.after_is;
+      },
+      b.queue_is,
+      started_now c ∙ ap (λ xs. xs ++ map (start (length es)) (filter (is_of c) s.keeps.jobs)) (h.unbroken c off (past occurred o) (was occurred o))
+          ∙ ap (λ js. filter (is_started_on c) (starts (past occurred o)) ++ map (start (length es)) js) b.added_are
+          ∙ ap (λ xs. filter (is_started_on c) (starts (past occurred o)) ++ xs) (sym (starts_on c (length es) b.started))
+          ∙ sym (filter-append (is_started_on c) (starts (past occurred o)) (map (start (length es)) b.started))
+          ∙ ap (filter (is_started_on c)) (sym b.starts_are),
+    )
+
+    -- what it started as it broke begins what it would have started
+    fewer : IsPrefixOf (filter (is_of c) new) (filter (is_of c) (adds occurred o).started)
+    fewer = let b = broke_now in let a = adds occurred o in let before = past occurred o in
+        let at_break : jobs (marked (occurrences (b.newer ++ before))) ≡ jobs (marked (occurrences before)) ++ b.started =
+        sym (event.started (b.newer ++ before)) ∙ ap (map job_started) b.starts_are ∙ map-append job_started (starts before) (map (start (length es)) b.started)
+        ∙ ap (λ js. js ++ map job_started (map (start (length es)) b.started)) (event.started before)
+        ∙ ap (λ js. jobs (marked (occurrences before)) ++ js) (jobs_again (length es) b.started) in
+        let grown : IsPrefixOf (jobs (marked (occurrences (b.newer ++ before)))) (jobs (marked (occurrences occurred))) =
+        subst (λ os. IsPrefixOf (jobs (marked (occurrences (b.newer ++ before)))) (jobs (marked os)))
+        (sym (ap occurrences (b.after_is ∙ regrouped b.more (option_to_list b.at) b.newer before) ∙ map-append (λ (p : Placed). p.1) (b.more ++ option_to_list b.at) (b.newer ++ before)))
+        (jobs_grow (occurrences (b.more ++ option_to_list b.at)) (occurrences (b.newer ++ before))) in
+        let rest_is : jobs (marked (occurrences before)) ++ a.started ≡ jobs (marked (occurrences before)) ++ (b.started ++ grown.0) =
+        sym (jobs_then occurred o) ∙ grown.1 ∙ ap (λ js. js ++ grown.0) at_break ∙ append_assoc (jobs (marked (occurrences before))) b.started grown.0 in
+        let started_is : a.started ≡ b.started ++ grown.0 = append_cancel_left (jobs (marked (occurrences before))) a.started (b.started ++ grown.0) rest_is in
+        subst (λ js. IsPrefixOf js (filter (is_of c) a.started)) (sym (ap (filter (is_of c)) new_is ∙ b.added_are)) (filter_prefix c b.started a.started (grown.0, started_is))
+      where
+        regrouped : (a b d f : List Placed) → a ++ b ++ d ++ f ≡ (a ++ b) ++ (d ++ f)
+        regrouped a b d f = append_assoc (a ++ b) d f
 
   all_broke : (c : ℕ) → (flag_at c next || is_broken_conn c w) ≡ true → (occurred : List Placed) → Occurs w.plans next.opened (e ∷ es) occurred
       → BrokeSo c w.plans next.opened (h.taken c ++ untaken_of c w) (h.started ++ map (start (length es)) new) (e ∷ es) occurred
@@ -398,6 +438,39 @@ module _ (event : EventLaws) (standing : StandingLaws) (breaking : BreakingLaw) 
       by_flag : (b : Bool) → is_flagged c v log ≡ b → BrokeSo c v.plans next.opened (h.taken c ++ untaken_of c w) (h.started ++ map (start (length es)) new) (e ∷ es) occurred
       by_flag true x = still_broke c x occurred o
       by_flag false x = new_broke c x (now_broken x) occurred o
+
+  -- ---- the order of all starts
+
+  -- of each connection, what starts at the event begins what starts at it by the definitions
+  new_begins : (occurred : List Placed) (o : Occurs w.plans next.opened (e ∷ es) occurred) (c : ℕ) → IsPrefixOf (filter (is_of c) new) (filter (is_of c) (adds occurred o).started)
+  new_begins occurred o c = by_flag (is_flagged c v log) refl
+    where
+      by_break : is_flagged c v log ≡ false → (b : Bool) → is_broken_conn c w ≡ b → IsPrefixOf (filter (is_of c) new) (filter (is_of c) (adds occurred o).started)
+      by_break off true y = fewer c off y occurred o
+      by_break off false y = subst (λ js. IsPrefixOf js (filter (is_of c) (adds occurred o).started)) (sym (new_are occurred o c (h.unbroken c off (past occurred o) (was occurred o)) y))
+          (prefix-refl (filter (is_of c) (adds occurred o).started))
+
+      by_flag : (b : Bool) → is_flagged c v log ≡ b → IsPrefixOf (filter (is_of c) new) (filter (is_of c) (adds occurred o).started)
+      by_flag true x = subst (λ js. IsPrefixOf js (filter (is_of c) (adds occurred o).started)) (sym (ap (filter (is_of c)) new_is ∙ s.keeps.no_jobs c (flag_silent c x)))
+          (filter (is_of c) (adds occurred o).started, refl)
+      by_flag false x = by_break x (is_broken_conn c w) refl
+
+  new_in_order : (occurred : List Placed) (o : Occurs w.plans next.opened (e ∷ es) occurred) → IsSublist new (adds occurred o).started
+  new_in_order occurred o = let a = adds occurred o in
+      let mine : filter (is_of a.conn) new ≡ new = all_here a.conn new (λ c ne. nothing (filter (is_of c) new)
+      (subst (λ js. IsPrefixOf (filter (is_of c) new) js) (none_else a.conn a.started a.of_one c ne) (new_begins occurred o c))) in
+      let begins : IsPrefixOf new a.started = subst (λ js. IsPrefixOf js a.started) mine (subst (λ js. IsPrefixOf (filter (is_of a.conn) new) js) a.of_one (new_begins occurred o a.conn)) in
+      subst (IsSublist new) (sym begins.1) (sub_prefix new begins.0)
+    where
+      nothing : {A : Type 0} (xs : List A) → IsPrefixOf xs [] → xs ≡ []
+      nothing [] h = refl
+      nothing (x ∷ xs) (rest, is) = absurd (cc)
+
+  all_in_order : (occurred : List Placed) → Occurs w.plans next.opened (e ∷ es) occurred → IsSublist (h.started ++ map (start (length es)) new) (starts occurred)
+  all_in_order occurred o = let a = adds occurred o in
+      subst (IsSublist (h.started ++ map (start (length es)) new)) (sym a.starts_are)
+      (sub_append h.started (starts (past occurred o)) (map (start (length es)) new) (map (start (length es)) a.started) (h.in_order (past occurred o) (was occurred o))
+      (sub_map (start (length es)) new a.started (new_in_order occurred o)))
 
   -- ---- the whole
 
@@ -423,6 +496,7 @@ module _ (event : EventLaws) (standing : StandingLaws) (breaking : BreakingLaw) 
     broke_are = λ c on occurred o. all_broke c on occurred o;
     shut = λ c lt off occurred o. subst (λ b. QueueIs c (h.taken c) b occurred) (sym (flags_are c)) (queue_shut c lt off occurred o);
     unbroken = λ c off occurred o. then_are occurred o c (h.unbroken c (was_unflagged c (flag_off c off) (broken_off c off)) (past occurred o) (was occurred o)) (broken_off c off);
+    in_order = λ occurred o. all_in_order occurred o;
     all_unbroken = λ off occurred o. all_starts off occurred o;
   }))
     where

@@ -5,7 +5,7 @@ use Rattle.call_plan.specs.Plan.{PlanRecord}
 use Rattle.call_plan.specs.PlanFile.{plans_of}
 use Rattle.call_plan.specs.declared.error.PlanError.{PlanError}
 use Rattle.call_plan.specs.declared.error.PlanError.TheVariants as plan
-use Rattle.gateway_run.specs.declared.event.Event.{Event}
+use Rattle.gateway_model.specs.declared.event.Event.{Event}
 use Rattle.gateway_run.specs.declared.fault.ScriptError.{ScriptError}
 use Rattle.gateway_run.specs.declared.fault.ScriptError.TheVariants.{Memory, NotAScript, Plans}
 use Rattle.gateway_run.specs.Script.{IsOfPlans, script_of, plan_list_of, entries_of, events_from}

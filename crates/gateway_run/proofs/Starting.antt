@@ -2,22 +2,23 @@
 use Rattle.std.proofs.Common.{◌≡◌, ℕ, Bool, true, false, List, [], ◌∷◌, ◌++◌, refl, sym, ap, ◌∙◌, subst, append-nil, append_assoc}
 use Rattle.std.proofs.lemmas.Bool.{eq-eqb, ne_eqb}
 use Rattle.std.specs.Prelude.{◌==◌, ◌^◌, ◌≤◌, ⊤, OnOk, IfOk, IfErr, OnErr, length, MatchResult, Option, Result, Ok, Err, option_map, option_to_list}
-use Rattle.gateway_model.specs.declared.fault.OpenError.{OpenError}
-use Rattle.gateway_model.specs.declared.fault.Seen.{Seen}
-use Rattle.gateway_model.specs.declared.fault.StepFault.{StepFault}
+use Rattle.gateway_theory.specs.declared.fault.OpenError.{OpenError}
+use Rattle.gateway_model.specs.declared.seen.Seen.{Seen}
+use Rattle.gateway_theory.specs.declared.fault.StepFault.{StepFault}
 use Rattle.gateway_run.specs.Stepping.{TellsBreaks, TellsConn, TellsOpening, done_of, opened_by, opening_of, seen_in, taken_of}
 use Rattle.gateway_run.specs.declared.stepping.Stepped.{Stepped}
-use Rattle.gateway_run.specs.declared.stepping.Stepped.TheVariants.{NotOpened, Opened}
+use Rattle.gateway_run.specs.declared.stepping.Stepped.TheVariants.{Fault, NotOpened, Opened}
 use Rattle.gateway_model.specs.declared.entry.ReplyEntry.{ReplyEntry}
 use Rattle.gateway_model.specs.Events.{Before, most_open}
-use Rattle.gateway_model.specs.Refused.{RefusesOpening}
-use Rattle.gateway_model.specs.Gateway.{GatewayValue, is_broken_conn}
-use Rattle.gateway_model.specs.Serving.{Breaks, KeepsBut, TellsStep}
-use Rattle.gateway_model.specs.declared.fault.StepFault.TheVariants.{Exhausted, Gone, Memory}
-use Rattle.gateway_model.specs.Job.{HandedJob, JobValue}
-use Rattle.gateway_model.specs.Served.{Served}
+use Rattle.gateway_theory.specs.Refused.{RefusesOpening}
+use Rattle.gateway_theory.specs.Gateway.{GatewayValue, is_broken_conn}
+use Rattle.gateway_theory.specs.Serving.{Breaks, KeepsBut, TellsStep}
+use Rattle.gateway_theory.specs.declared.fault.StepFault.TheVariants.{Exhausted, Gone, Memory}
+use Rattle.gateway_theory.specs.Task.{HandedJob}
+use Rattle.gateway_model.specs.Job.{JobValue}
+use Rattle.gateway_theory.specs.Served.{Served}
 use Rattle.gateway_run.specs.Log.{log_value}
-use Rattle.gateway_run.specs.declared.outcome.Start.{Start}
+use Rattle.gateway_model.specs.declared.run.Start.{Start}
 
 abbrev pub with_jobs : List JobValue → GatewayValue → GatewayValue
 with_jobs js v = record v { machine = record v.machine { jobs = js } }
@@ -85,6 +86,12 @@ module _ {H : Type 0} where
   few_told Q (Err refused) stepped conn is told q = absurd (cc)
 
 -- ---- what is told
+
+pub none_begins : {H : Type 0} → (answer : Result ⊤ StepFault) → (answer ≡ Err Exhausted → ⊥) → done_of {H = H} answer ≡ Fault Exhausted → ⊥
+none_begins (Ok all) none is = cc
+none_begins (Err Gone) none is = cc
+none_begins (Err Exhausted) none is = none refl
+none_begins (Err Memory) none is = cc
 
 pub conn_told : (H : Type 0) (n : ℕ) (answer : Result ⊤ StepFault) (w : GatewayValue) → (v : GatewayValue) → TellsStep n v w answer → TellsConn n (done_of {H = H} answer) v w
 conn_told H n (Ok all) w v tells = (tells.unbroken, λ deaf. let clash : Ok all ≡ Err Gone = tells.gone.1 deaf in absurd (cc))

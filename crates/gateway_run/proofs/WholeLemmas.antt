@@ -10,10 +10,11 @@ use Rattle.std.specs.Prelude.{◌↔◌, Result, Ok, Err, length, reverse}
 use Rattle.std.specs.Result.{IsErrAnd}
 use Rattle.std.proofs.lemmas.List.{length-map, length-reverse, map-append, reverse-append}
 use Rattle.std.proofs.lemmas.List.Sums.{sum_by-cons}
-use Rattle.gateway_run.specs.declared.event.Event.{Event}
-use Rattle.gateway_run.specs.declared.outcome.RunError.{RunError}
-use Rattle.gateway_run.specs.declared.outcome.RunError.TheVariants.{Memory, Stocks}
-use Rattle.gateway_run.specs.Run.{gateway_event, is_listed, is_opening, newest_first, openings_at}
+use Rattle.gateway_model.specs.declared.event.Event.{Event}
+use Rattle.gateway_model.specs.declared.run.RunError.{RunError}
+use Rattle.gateway_model.specs.declared.run.RunError.TheVariants.{Memory, Stocks}
+use Rattle.gateway_model.specs.Run.{is_listed, is_opening, newest_first}
+use Rattle.gateway_run.specs.Running.{openings_at}
 
 range_more : (a n : ℕ) → range_with_len a (n + 1) ≡ range_with_len a n ++ (a + n) ∷ []
 range_more a n =
@@ -108,11 +109,11 @@ listed_at p k (suc n) c le lt = ⊎_elim
 
 -- ---- the events, newest first
 
-pub newest_more : (es : List Event) (e : Event) → newest_first (es ++ e ∷ []) ≡ gateway_event e ∷ newest_first es
-newest_more es e = ap reverse (map-append gateway_event es (e ∷ [])) ∙ reverse-append (map gateway_event es) (gateway_event e ∷ [])
+pub newest_more : (es : List Event) (e : Event) → newest_first (es ++ e ∷ []) ≡ e ∷ newest_first es
+newest_more es e = reverse-append es (e ∷ [])
 
 pub newest_size : (es : List Event) → length (newest_first es) ≡ length es
-newest_size es = length-reverse (map gateway_event es) ∙ length-map es gateway_event
+newest_size es = length-reverse es
 
 -- ---- one stock for each opening
 

@@ -1,6 +1,5 @@
-pub mod Run
+pub mod Running
 pub mod Log
 pub mod Stepping
 pub mod RunText
 pub mod Script
-pub mod Headline

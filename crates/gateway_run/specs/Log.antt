@@ -2,19 +2,19 @@
 use Rattle.std.specs.Prelude.{◌≡◌, ℕ, ◌<◌, ◌≤◌, Bool, true, false, ◌||◌, if◌then◌else◌, ◌==◌, List, [], ◌++◌, length, map, filter, is_some, slice_index_or, slice_set}
 use Rattle.gateway_model.specs.declared.entry.ReplyEntry.{ReplyEntry}
 use Rattle.call_plan.specs.Plan.{PlanRecord}
-use Rattle.gateway_model.specs.Breaks.{is_of}
+use Rattle.gateway_model.specs.Known.{is_of}
 use Rattle.gateway_model.specs.Events.{Before, IsOpened, Occurs}
-use Rattle.gateway_model.specs.Gateway.{GatewayValue, is_broken_conn, untaken_of}
+use Rattle.gateway_theory.specs.Gateway.{GatewayValue, is_broken_conn, untaken_of}
 use Rattle.gateway_model.specs.Job.{JobValue}
 use Rattle.gateway_model.specs.Past.{marked}
 use Rattle.gateway_model.specs.Queue.{queued_entries}
-use Rattle.gateway_model.specs.Served.{QueueIs, Served}
-use Rattle.gateway_model.specs.Serving.{TakesOnly}
+use Rattle.gateway_theory.specs.Served.{QueueIs, Served}
+use Rattle.gateway_theory.specs.Serving.{TakesOnly}
 use Rattle.gateway_model.specs.Starts.{Placed, job_started, occurrences, starts}
 use Rattle.gateway_model.specs.Starts as core
-use Rattle.gateway_model.specs.Store.{conn_of}
-use Rattle.gateway_run.specs.declared.outcome.Start.{Start}
-use Rattle.gateway_run.specs.Run.{Broken, bytes_of, run_start, start_at}
+use Rattle.gateway_theory.specs.Store.{conn_of}
+use Rattle.gateway_model.specs.declared.run.Start.{Start}
+use Rattle.gateway_model.specs.Run.{Breakage, IsSublist, bytes_of, run_start, start_at}
 
 pub record LogValue : Type 0 where
   -- the places of the openings that succeeded
@@ -66,20 +66,20 @@ is_open_conn c v = is_some (conn_of c v.machine.conns)
 abbrev pub is_flagged : ℕ → GatewayValue → LogValue → Bool
 is_flagged c v log = flag_at c log || is_broken_conn c v
 
-abbrev pub is_started_on : ℕ → core.Start → Bool
+abbrev pub is_started_on : ℕ → core.StartedJob → Bool
 is_started_on c s = is_of c s.job
 
 -- what is queued for a connection that broke, and what has started, is by what had occurred before it did
-abbrev pub BrokeSo : ℕ → List PlanRecord → List ℕ → List ReplyEntry → List core.Start → Before → List Placed → Type 0
+abbrev pub BrokeSo : ℕ → List PlanRecord → List ℕ → List ReplyEntry → List core.StartedJob → Before → List Placed → Type 0
 BrokeSo c plans opened queue started es occurred =
-    (b : Broken c plans opened es occurred)
+    (b : Breakage c plans opened es occurred)
     × (queue ≡ queued_entries c (marked (occurrences (b.newer ++ b.past))))
     × (filter (is_started_on c) started ≡ filter (is_started_on c) (starts (b.newer ++ b.past)))
 
 -- how far a run is after these events, newest first, where what is queued was taken for those of the open connections of which this is so
 pub record HasRun (gathered : ℕ → Bool) (v : GatewayValue) (log : LogValue) (es : Before) : Type 0 where
   pub taken : ℕ → List ReplyEntry
-  pub started : List core.Start
+  pub started : List core.StartedJob
   pub served : Served v log.opened es taken (map job_started started)
   pub no_jobs : v.machine.jobs ≡ []
   pub opened_are : IsOpened log.opened es
@@ -99,4 +99,5 @@ pub record HasRun (gathered : ℕ → Bool) (v : GatewayValue) (log : LogValue) 
       → BrokeSo c v.plans log.opened (taken c ++ untaken_of c v) started es occurred
   pub unbroken : (c : ℕ) → is_flagged c v log ≡ false → (occurred : List Placed) → Occurs v.plans log.opened es occurred
       → filter (is_started_on c) started ≡ filter (is_started_on c) (starts occurred)
+  pub in_order : (occurred : List Placed) → Occurs v.plans log.opened es occurred → IsSublist started (starts occurred)
   pub all_unbroken : ((c : ℕ) → is_flagged c v log ≡ false) → (occurred : List Placed) → Occurs v.plans log.opened es occurred → started ≡ starts occurred

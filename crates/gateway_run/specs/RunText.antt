@@ -2,8 +2,8 @@
 use Rattle.std.specs.Prelude.{ℕ, ◌<◌, List, ◌++◌, length, take, codes, decimal, flat_map, Option}
 use Rattle.std.specs.List.{enumerate_from}
 use Rattle.std.specs.Io.KnownBytes.{Appends}
-use Rattle.gateway_run.specs.declared.outcome.Run.{Run}
-use Rattle.gateway_run.specs.declared.outcome.Start.{Start}
+use Rattle.gateway_model.specs.declared.run.Run.{Run}
+use Rattle.gateway_model.specs.declared.run.Start.{Start}
 
 -- of the text, known bytes grew by the first few, and not by the whole
 abbrev pub AppendsSome : Option (List ℕ) → Option (List ℕ) → List ℕ → Type 0

@@ -12,8 +12,8 @@ use Rattle.json_values.specs.Json.{json_of}
 use Rattle.call_plan.specs.PlanFile.{whole_number, plans_of}
 use Rattle.call_plan.specs.declared.error.PlanError.{PlanError}
 use Rattle.call_plan.specs.declared.error.PlanError.TheVariants as plan
-use Rattle.gateway_run.specs.declared.event.Event.{Event}
-use Rattle.gateway_run.specs.declared.event.Event.TheVariants.{Opening, Piece, HangUp, Moment, BranchResult, Drain, Closing}
+use Rattle.gateway_model.specs.declared.event.Event.{Event}
+use Rattle.gateway_model.specs.declared.event.Event.TheVariants.{Opening, Piece, HangUp, Moment, BranchResult, Drain, Closing}
 use Rattle.gateway_run.specs.declared.fault.ScriptError.{ScriptError}
 use Rattle.gateway_run.specs.declared.fault.ScriptError.TheVariants.{Memory, NotAScript, Plans, BadEvent}
 

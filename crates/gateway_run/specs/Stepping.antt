@@ -1,20 +1,24 @@
 -- What a step answers, and what a run takes down of it.
 use Rattle.std.specs.Prelude.{◌≡◌, ◌≤◌, ◌^◌, ⊤, ℕ, Bool, true, false, List, [], ◌∷◌, ◌++◌, length, Result, Ok, Err}
 use Rattle.gateway_model.specs.declared.entry.ReplyEntry.{ReplyEntry}
-use Rattle.gateway_model.specs.Breaking.{can_break}
+use Rattle.gateway_model.specs.Concerns.{can_break}
 use Rattle.gateway_model.specs.Job.{JobValue}
-use Rattle.gateway_model.specs.Past.{marked}
-use Rattle.gateway_model.specs.Served.{Served}
+use Rattle.connect_codec.specs.declared.answer.Outcome.{Outcome}
+use Rattle.gateway_model.specs.declared.id.CallId.{CallId}
+use Rattle.gateway_model.specs.Past.{call_id, marked}
+use Rattle.gateway_theory.specs.Served.{Served}
 use Rattle.gateway_model.specs.Starts.{Placed, occurrences}
-use Rattle.gateway_model.specs.Events.{Before, GatewayEvent, Occurs, most_open, Opening, Piece, HangUp, Moment, BranchResult, Drain, Closing}
-use Rattle.gateway_model.specs.declared.fault.Seen.{Seen}
-use Rattle.gateway_model.specs.declared.fault.Seen.TheVariants.{Counted}
-use Rattle.gateway_model.specs.declared.fault.OpenError.{OpenError}
-use Rattle.gateway_model.specs.Refused.{RefusesOpening}
-use Rattle.gateway_model.specs.declared.fault.StepFault.{StepFault}
-use Rattle.gateway_model.specs.declared.fault.StepFault.TheVariants.{Exhausted, Gone, Memory}
-use Rattle.gateway_model.specs.Gateway.{GatewayValue, is_broken_conn}
-use Rattle.gateway_model.specs.Serving.{Breaks, IsDeaf, most_begun}
+use Rattle.gateway_model.specs.Events.{Before, Occurs, most_open}
+use Rattle.gateway_model.specs.declared.event.Event.{Event}
+use Rattle.gateway_model.specs.declared.event.Event.TheVariants.{Opening, Piece, HangUp, Moment, BranchResult, Drain, Closing}
+use Rattle.gateway_model.specs.declared.seen.Seen.{Seen}
+use Rattle.gateway_theory.specs.Told.{TellsTook}
+use Rattle.gateway_theory.specs.declared.fault.OpenError.{OpenError}
+use Rattle.gateway_theory.specs.Refused.{RefusesOpening}
+use Rattle.gateway_theory.specs.declared.fault.StepFault.{StepFault}
+use Rattle.gateway_theory.specs.declared.fault.StepFault.TheVariants.{Exhausted, Gone, Memory}
+use Rattle.gateway_theory.specs.Gateway.{GatewayValue, is_broken_conn}
+use Rattle.gateway_theory.specs.Serving.{Breaks, IsDeaf, most_begun}
 use Rattle.gateway_run.specs.Log.{Collects, LogValue, log_value}
 use Rattle.gateway_run.specs.declared.stepping.Stepped.{Stepped}
 use Rattle.gateway_run.specs.declared.stepping.Stepped.TheVariants.{Broke, Done, Fault, NotOpened, Opened, Saw}
@@ -35,7 +39,7 @@ log_after (Opened conn) place log = log_value (log.opened ++ place ∷ []) (log.
 log_after _ place log = log
 
 -- what is queued for a connection was taken before it closes
-abbrev pub CollectsFor : GatewayEvent → GatewayValue → GatewayValue → LogValue → LogValue → Type 0
+abbrev pub CollectsFor : Event → GatewayValue → GatewayValue → LogValue → LogValue → Type 0
 CollectsFor (Closing n) v w log later = Collects n v w log later
 CollectsFor _ v w log later = (w ≡ v) × (later ≡ log)
 
@@ -79,23 +83,23 @@ TellsBreaks Done v w = Breaks v w false
 TellsBreaks Broke v w = Breaks v w true
 TellsBreaks _ v w = ⊥
 
--- a connection breaks only by a result that counts, which is told exactly where it does
-abbrev pub TellsResult : {H : Type 0} → Stepped H → GatewayValue → GatewayValue → Type 0
-TellsResult (Saw took) v w = (took.broke ≡ true → took.seen ≡ Counted) × Breaks v w took.broke
-TellsResult _ v w = ⊥
+-- how a result was seen is told, and that a connection broke by it
+abbrev pub TellsResult : {H : Type 0} → CallId → ℕ → Outcome → Stepped H → GatewayValue → GatewayValue → Type 0
+TellsResult id branch outcome (Saw took) v w = TellsTook id branch outcome took v w
+TellsResult id branch outcome _ v w = ⊥
 
-abbrev pub Tells : {H : Type 0} → GatewayEvent → Stepped H → GatewayValue → GatewayValue → Type 0
+abbrev pub Tells : {H : Type 0} → Event → Stepped H → GatewayValue → GatewayValue → Type 0
 Tells Opening stepped v w = TellsOpening stepped v w
 Tells (Piece conn bytes) stepped v w = TellsConn conn stepped v w
-Tells (HangUp conn) stepped v w = TellsConn conn stepped v w
+Tells (HangUp conn) stepped v w = TellsConn conn stepped v w × (stepped ≡ Fault Exhausted → ⊥)
 Tells (Moment m) stepped v w = TellsBreaks stepped v w
-Tells (BranchResult conn request branch outcome) stepped v w = TellsResult stepped v w
+Tells (BranchResult conn request branch outcome) stepped v w = TellsResult (call_id conn request) branch outcome stepped v w
 Tells Drain stepped v w = TellsBreaks stepped v w
 Tells (Closing conn) stepped v w = stepped ≡ Done
 
 -- a connection that breaks in the step is one that the event can break
-abbrev pub BreaksAt : GatewayEvent → GatewayValue → GatewayValue → Type 0
+abbrev pub BreaksAt : Event → GatewayValue → GatewayValue → Type 0
 BreaksAt e v w =
     (opened : List ℕ) (es : Before) (taken : ℕ → List ReplyEntry) (handed : List JobValue) (occurred : List Placed)
     → Served v opened es taken handed → Occurs v.plans opened es occurred
-    → (c : ℕ) → is_broken_conn c w ≡ true → is_broken_conn c v ≡ false → can_break c e (marked (occurrences occurred)) ≡ true
+    → (c : ℕ) → is_broken_conn c w ≡ true → is_broken_conn c v ≡ false → can_break c opened e es (marked (occurrences occurred)) ≡ true

@@ -1,12 +1,13 @@
 ghost use Rattle.std.specs.Prelude.{◌==◌, ◌∷◌, ℕ, List};
 ghost use Rattle.gateway_model.specs.declared.entry.ReplyEntry.{ReplyEntry};
-ghost use Rattle.gateway_model.specs.Events.{GatewayEvent, Piece};
+ghost use Rattle.gateway_model.specs.declared.event.Event.{Event};
+ghost use Rattle.gateway_model.specs.declared.event.Event.TheVariants.{Piece};
 ghost use Rattle.gateway_model.specs.Job.{JobValue};
-ghost use Rattle.gateway_model.specs.Served.{Served};
-ghost use Rattle.gateway_model.specs.Serving.{CountsCalls, Keeps, TellsStep};
+ghost use Rattle.gateway_theory.specs.Served.{Served};
+ghost use Rattle.gateway_theory.specs.Serving.{CountsCalls, Keeps, TellsStep};
 
 use gateway_core::{ConnId, Core, ReplyHook, StepFault};
-use gateway_model::served_laws::parts_law;
+use gateway_theory::served_laws::parts_law;
 
 /// Feeds a whole piece of a connection's stream to the core, request by request.
 ///
@@ -17,7 +18,7 @@ pub fn deliver<H: ReplyHook + Drop>(
     conn: ConnId,
     piece: &[u8],
 ) -> Result<(), StepFault>
-    ensures stands { (opened : List ℕ) (es : List GatewayEvent) (taken : ℕ → List ReplyEntry) (handed : List JobValue)
+    ensures stands { (opened : List ℕ) (es : List Event) (taken : ℕ → List ReplyEntry) (handed : List JobValue)
         → Served core.old opened es taken handed → Served core.new opened (Piece conn piece.now ∷ es) taken handed }
     ensures tells { TellsStep conn core.old core.new result }
     ensures counts { CountsCalls core.old core.new }

@@ -3,21 +3,18 @@
 #![tactic(auto)]
 
 mod delivery;
-mod event;
 mod fault;
 pub mod laws;
 mod log;
-mod outcome;
 mod script;
 mod stepping;
 mod text;
 mod whole;
 
 pub use delivery::deliver;
-pub use event::{Event, openings};
 pub use fault::ScriptError;
-pub use outcome::{Run, RunError, Start};
+pub use gateway_model::{Event, Run, RunError, Start};
 pub use script::read_script;
 pub use stepping::{Stepped, step};
 pub use text::{WriteFault, write_run};
-pub use whole::run;
+pub use whole::{openings, run};

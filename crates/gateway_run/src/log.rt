@@ -1,10 +1,10 @@
 ghost use Rattle.std.specs.Prelude.{◌≡◌, ◌++◌, ◌∷◌, OnOk, [], false};
-ghost use Rattle.gateway_model.specs.Gateway.{untaken_of};
+ghost use Rattle.gateway_theory.specs.Gateway.{untaken_of};
 ghost use Rattle.gateway_run.specs.Log.{Collects, StartsAll, Took, log_value};
-ghost use Rattle.gateway_run.specs.Run.{bytes_of};
+ghost use Rattle.gateway_model.specs.Run.{bytes_of};
 
-use crate::outcome::Start;
 use gateway_core::{ConnId, Core, ReplyHook};
+use gateway_model::Start;
 use http_pieces::Bytes;
 use std::alloc::{AllocError, Global};
 use std::marker::Model;

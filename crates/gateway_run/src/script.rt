@@ -3,10 +3,10 @@ ghost use Rattle.serde_json.specs.View.{view, items_view};
 ghost use Rattle.gateway_run.specs.Script.{are_arrays, has_length, has_form, text_at, number_at, status_at, content_type_at, piece_of, branch_result_of, reply_of, result_of, event_of, events_from, entries_of, plan_list_of, script_of, script_in};
 ghost use Rattle.gateway_run.specs.declared.fault.ScriptError.TheVariants.{Memory};
 
-use crate::event::Event;
 use crate::fault::ScriptError;
 use call_plan::{Plans, plans_of};
 use connect_codec::outcome;
+use gateway_model::Event;
 use http::StatusCode;
 use http_pieces::{Bytes, HttpReply};
 use json_values::json_value;

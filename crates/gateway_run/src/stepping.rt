@@ -1,15 +1,16 @@
 ghost use Rattle.std.specs.Prelude.{◌≡◌, ◌<◌, ◌∷◌, ℕ, List, Some, is_some, length, true};
 ghost use Rattle.gateway_model.specs.declared.entry.ReplyEntry.{ReplyEntry};
-ghost use Rattle.gateway_model.specs.Events.{GatewayEvent, is_closing_of, most_open, open_connections};
+ghost use Rattle.gateway_model.specs.declared.event.Event.{Event};
+ghost use Rattle.gateway_model.specs.Events.{is_closing_of, most_open, open_connections};
 ghost use Rattle.gateway_model.specs.Job.{JobValue};
-ghost use Rattle.gateway_model.specs.Served.{Served};
-ghost use Rattle.gateway_model.specs.Serving.{KeepsBut};
-ghost use Rattle.gateway_run.specs.Run.{gateway_event, is_opening};
+ghost use Rattle.gateway_theory.specs.Served.{Served};
+ghost use Rattle.gateway_theory.specs.Serving.{KeepsBut};
+ghost use Rattle.gateway_model.specs.Run.{is_opening};
 ghost use Rattle.gateway_run.specs.Stepping.{BreaksAt, Tells, done_of, opened_by, opening_of, seen_in, taken_of};
 
 use crate::delivery::deliver;
-use crate::event::Event;
 use gateway_core::{CallId, ConnId, Core, OpenError, ReplyHook, StepFault, Stock, Took};
+use gateway_model::Event;
 
 /// What one event came to.
 #[derive(Drop)]
@@ -35,16 +36,16 @@ pub fn step<H: ReplyHook + Drop>(
     stock: Option<Stock<H>>,
 ) -> Stepped<H>
     requires { is_some stock ≡ is_opening event }
-    ensures stands { (opened : List ℕ) (es : List GatewayEvent) (taken : ℕ → List ReplyEntry) (handed : List JobValue)
+    ensures stands { (opened : List ℕ) (es : List Event) (taken : ℕ → List ReplyEntry) (handed : List JobValue)
         → Served core.old opened es taken handed
-        → Served core.new (opened_by result (length es) opened) (gateway_event event ∷ es) taken handed }
-    ensures tells { Tells (gateway_event event) result core.old core.new }
+        → Served core.new (opened_by result (length es) opened) (event ∷ es) taken handed }
+    ensures tells { Tells event result core.old core.new }
     ensures opens { (conn : ℕ) → result ≡ Stepped.Opened conn → event ≡ Event.Opening }
-    ensures few { (conn : ℕ) (opened : List ℕ) (es : List GatewayEvent) (taken : ℕ → List ReplyEntry) (handed : List JobValue)
+    ensures few { (conn : ℕ) (opened : List ℕ) (es : List Event) (taken : ℕ → List ReplyEntry) (handed : List JobValue)
         → result ≡ Stepped.Opened conn → Served core.old opened es taken handed → open_connections opened es < most_open }
     ensures back { (hooks : List H) (error : _) → result ≡ Stepped.NotOpened hooks error → stock ≡ Some hooks }
-    ensures concerned { BreaksAt (gateway_event event) core.old core.new }
-    ensures keeps { KeepsBut (λ c. is_closing_of c (gateway_event event)) (λ c. true) (seen_in result) core.old core.new }
+    ensures concerned { BreaksAt event core.old core.new }
+    ensures keeps { KeepsBut (λ c. is_closing_of c event) (λ c. true) (seen_in result) core.old core.new }
 {
     match event {
         Event::Opening => match stock {

@@ -2,26 +2,34 @@ ghost use Rattle.std.specs.Prelude.{◌≡◌, ◌∷◌, ◌<◌, ◌≤◌, �
 ghost use Rattle.std.specs.List.{count_by, range_with_len};
 ghost use Rattle.std.specs.Vec.Iter.{into_iter_items};
 ghost use Rattle.gateway_model.specs.Events.{Before, IsOpened, IsRising, Occurs};
-ghost use Rattle.gateway_model.specs.Served.{Served};
+ghost use Rattle.gateway_theory.specs.Served.{Served};
 ghost use Rattle.gateway_model.specs.Past.{marked};
 ghost use Rattle.gateway_model.specs.Queue.{queued};
 ghost use Rattle.gateway_model.specs.Starts.{Placed, occurrences};
 ghost use Rattle.gateway_run.specs.Log.{HasRun, log_value};
-ghost use Rattle.gateway_run.specs.Run.{BrokeAs, IsRun, gateway_event, is_listed, is_opening, is_start_of};
-ghost use Rattle.gateway_run.specs.Run.{newest_first, openings_at, starts_of};
+ghost use Rattle.gateway_model.specs.Run.{BrokeAs, IsSublist, is_listed, is_opening, is_start_of};
+ghost use Rattle.gateway_run.specs.Running.{IsRun};
+ghost use Rattle.gateway_model.specs.Run.{newest_first, starts_of};
+ghost use Rattle.gateway_run.specs.Running.{openings_at};
 ghost use Rattle.gateway_run.specs.Stepping.{CollectsFor, log_after};
 
-use crate::event::{Event, openings};
 use crate::log::Log;
-use crate::outcome::{Run, RunError};
 use crate::stepping::{Stepped, step};
 use call_plan::Plans;
 use gateway_core::{Core, ReplyHook, Stock};
-use gateway_model::event_laws::openings_law;
-use gateway_model::laws::event_law;
-use gateway_model::served_laws::{breaking_law, standing_law};
+use gateway_model::{Event, Run, RunError};
+use gateway_theory::event_laws::openings_law;
+use gateway_theory::laws::event_law;
+use gateway_theory::served_laws::{breaking_law, standing_law};
 use std::alloc::{AllocError, Global};
 use std::vec::IntoIter;
+
+/// How many of the events are openings: so many stocks of hooks a run of them takes.
+pub fn openings(events: &[Event]) -> usize
+    ensures { result ≡ count_by is_opening events.now }
+{
+    events.iter().filter(|event| event.is_opening()).count()
+}
 
 /// Runs a whole list of events on a new gateway that serves these plans, with a stock of hooks for each opening.
 ///
@@ -52,7 +60,9 @@ pub fn run<H: ReplyHook + Drop>(
         → Occurs plans run.opened.items (newest_first events.items) occurred → (c : ℕ)
         → is_listed c run.broken.items ≡ true
         → BrokeAs c plans run.opened.items (slice_index_or run.queued.items c []) run.starts.items (newest_first events.items) occurred) }
-    // Where none broke, all that starts, in order.
+    // All that starts, in order: less what was lost where one broke, and all of it where none did.
+    ensures order { IfOk result (λ run. (occurred : List Placed)
+        → Occurs plans run.opened.items (newest_first events.items) occurred → IsSublist run.starts.items (starts_of occurred)) }
     ensures unbroken { IfOk result (λ run. (occurred : List Placed)
         → Occurs plans run.opened.items (newest_first events.items) occurred
         → run.broken.items ≡ [] → run.starts.items ≡ starts_of occurred) }
@@ -138,7 +148,7 @@ fn take_event<H: ReplyHook + Drop>(
 ) -> Result<(), AllocError>
     requires { is_some stock ≡ is_opening event }
     ensures ran { (es : Before) → length es ≡ place → HasRun (λ c. false) core.old log.old es
-        → OnOk result (HasRun (λ c. false) core.new log.new (gateway_event event ∷ es)) }
+        → OnOk result (HasRun (λ c. false) core.new log.new (event ∷ es)) }
     ensures plans { OnOk result (core.new.plans ≡ core.old.plans) }
 {
     event_law();
@@ -157,7 +167,7 @@ fn collect_for<H: ReplyHook + Drop>(
     log: &mut Log,
     event: &Event,
 ) -> Result<(), AllocError>
-    ensures { OnOk result (CollectsFor (gateway_event event.now) core.old core.new log.old log.new) }
+    ensures { OnOk result (CollectsFor event.now core.old core.new log.old log.new) }
 {
     match event {
         Event::Closing(conn) => log.collect(core, *conn),

@@ -8,7 +8,7 @@ use Rattle.connect_codec.specs.Reply.{bare_reply}
 use Rattle.connect_codec.specs.declared.verdict.Verdict.TheVariants.{Bare}
 use Rattle.gateway_model.specs.declared.reply_bytes.ReplyBytes.{ReplyBytes}
 use Rattle.gateway_model.specs.Reply.{reply_of}
-use Rattle.gateway_model.specs.Past.{Mark, Past, call_id, entries, mark_of, marked}
+use Rattle.gateway_model.specs.Past.{Mark, Past, call_id, arrivals, mark_of, marked}
 use Rattle.gateway_model.specs.declared.entry.ReplyEntry.{ReplyEntry}
 use Rattle.gateway_model.specs.declared.id.CallId.{CallId}
 use Rattle.gateway_model.specs.declared.entry.ReplyEntry.TheVariants.{Judged as Judging}
@@ -37,7 +37,7 @@ front_more f g stays k (suc n) a all here =
 abbrev get_reply : ℕ → ReplyBytes
 get_reply k = reply_of (bare_reply 405 (closes (get_request k))) (closes (get_request k))
 
-gets_entries : (n : ℕ) → entries 0 (marked (after_gets n)) ≡ n
+gets_entries : (n : ℕ) → arrivals 0 (marked (after_gets n)) ≡ n
 unfolding after_gets
 gets_entries zero = refl
 gets_entries (suc n) = ap suc (gets_entries n)
@@ -46,7 +46,7 @@ gets_entries (suc n) = ap suc (gets_entries n)
 not_come : (n k : ℕ) → n ≤ k → came (call_id 0 k) (marked (after_gets n)) ≡ None
 unfolding after_gets
 not_come zero k le = ⊎_elim (λ (first : (0 == k) ≡ true). rw first refl) (λ (later : (0 == k) ≡ false). rw later refl) (cases_Bool (0 == k))
-not_come (suc n) k le = rw (not_come n k (omega (arith, le)), ne_eqb (entries 0 (marked (after_gets n))) k (λ same. omega (arith, le, same, gets_entries n))) refl
+not_come (suc n) k le = rw (not_come n k (omega (arith, le)), ne_eqb (arrivals 0 (marked (after_gets n))) k (λ same. omega (arith, le, same, gets_entries n))) refl
 
 -- what a request is answered by stays
 abbrev pub EntryStays : Type 0
@@ -61,9 +61,9 @@ gets_queued stays (suc n) =
     let e : ReplyEntry = Judging (Bare 405) (closes (get_request n)) in
     let f : ℕ → Option ReplyEntry = λ k. entry (call_id 0 k) past in
     let g : ℕ → Option ReplyEntry = λ k. entry (call_id 0 k) (m ∷ past) in
-    let count : entries 0 past ≡ n = gets_entries n in
+    let count : arrivals 0 past ≡ n = gets_entries n in
     let none : came (call_id 0 n) past ≡ None = not_come n n (omega arith) in
-    let here : g n ≡ Some e = rw (none, eq-eqb (entries 0 past) n count) refl in
+    let here : g n ≡ Some e = rw (none, eq-eqb (arrivals 0 past) n count) refl in
     let before : front (map f (range_with_len 0 n)) ≡ map (λ k. Judging (Bare 405) (closes (get_request k))) (range_with_len 0 n) =
     ap (λ c. front (map f (range_with_len 0 c))) (sym count) ∙ gets_queued stays n in
     let full : length (front (map f (range_with_len 0 n))) ≡ n = ap length before ∙ length-map-range_with_len (λ k. Judging (Bare 405) (closes (get_request k))) 0 n in

@@ -2,7 +2,8 @@
 use Rattle.std.proofs.Common.{◌≡◌, ℕ, suc, ◌<◌, [], ◌∷◌, ◌++◌, length, replicate, sym, ap, subst, ◌∙◌, arith, length-append}
 use Rattle.std.specs.List.{range_with_len}
 use Rattle.std.proofs.lemmas.List.{length-replicate}
-use Rattle.gateway_model.specs.Events.{Before, Opening, OpensAt, open_connections, most_open}
+use Rattle.gateway_model.specs.Events.{Before, OpensAt, open_connections, most_open}
+use Rattle.gateway_model.specs.declared.event.Event.TheVariants.{Opening}
 
 -- what stands behind the last of some events that are one more than those before it
 all_but_last : (n : ℕ) (later before : Before) → replicate (suc n) Opening ≡ later ++ Opening ∷ before → length before ≡ n → before ≡ replicate n Opening

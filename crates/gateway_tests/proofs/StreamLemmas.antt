@@ -22,7 +22,7 @@ use Rattle.http_pieces.specs.Cut.{Body, Refused, Complete, IsBlock, most_head, H
 use Rattle.http_pieces.specs.Fields.{NamedValue}
 use Rattle.http_pieces.specs.Head.{request_asks, request_kind, most_fields}
 use Rattle.http_pieces.specs.Request.{HttpRequest, closes}
-use Rattle.http_pieces.specs.Requests.{Open, Broken, Closed, broken, unfinished, Requests}
+use Rattle.http_pieces.specs.Requests.{Open, RefusedBy, Closed, broken, unfinished, Requests}
 use Rattle.connect_codec.specs.Headers.{is_visible}
 use Rattle.gateway_tests.specs.Rows.{get_request, head_text, text_of}
 use Rattle.gateway_tests.proofs.OnLiterals.{replies_on_literals}
@@ -190,7 +190,7 @@ body_taken n message after le =
 
 -- a refusal stays, whatever follows
 abbrev pub RefusedStays : Type 0
-RefusedStays = (k : ℕ) (text more : List ℕ) (given : List HttpRequest) (r : Refusal) → Requests k text given (Broken r) → Requests k (text ++ more) given (Broken r)
+RefusedStays = (k : ℕ) (text more : List ℕ) (given : List HttpRequest) (r : Refusal) → Requests k text given (RefusedBy r) → Requests k (text ++ more) given (RefusedBy r)
 
 -- so does a request that closes
 abbrev pub ClosedStays : Type 0
@@ -213,7 +213,7 @@ last_request stays text q cut last more =
     stays 0 text more (q ∷ []) ([], cut, subst (λ b. MatchBool b ((◌≡◌ {A = List HttpRequest} [] []) × (Closed ≡ Closed)) (Requests 1 [] [] Closed)) (sym last) (refl, refl))
 
 -- a refusal, and whatever follows
-pub refused_stream : RefusedStays → (text : List ℕ) (r : Refusal) → IsCut (request_kind 0) text (Refused r) → (more : List ℕ) → Requests 0 (text ++ more) [] (Broken r)
+pub refused_stream : RefusedStays → (text : List ℕ) (r : Refusal) → IsCut (request_kind 0) text (Refused r) → (more : List ℕ) → Requests 0 (text ++ more) [] (RefusedBy r)
 refused_stream stays text r cut more = stays 0 text more [] r (broken r cut refl)
 
 -- ---- a hundred requests

@@ -20,20 +20,20 @@ use Rattle.call_plan.specs.Plan.{PlanRecord}
 use Rattle.gateway_model.specs.Arrival.{Arrival, Judged, Asks, arrival_of}
 use Rattle.gateway_model.specs.declared.reply_bytes.ReplyBytes.{ReplyBytes}
 use Rattle.gateway_model.specs.Reply.{reply_of}
-use Rattle.gateway_model.specs.Occurrence.{Occurrence, Opening, Entry, Result, Request, Refused}
+use Rattle.gateway_model.specs.Occurrence.{Occurrence, Opening, Comes, Result, Request, Refused}
 use Rattle.gateway_model.specs.declared.entry.ReplyEntry.{ReplyEntry}
 use Rattle.gateway_model.specs.declared.entry.ReplyEntry.TheVariants.{Call}
-use Rattle.gateway_model.specs.declared.event.CallEvent.{CallEvent}
+use Rattle.gateway_model.specs.declared.call_event.CallEvent.{CallEvent}
 use Rattle.gateway_model.specs.CallRecord.{CallRecord}
 use Rattle.gateway_model.specs.Past.{call_id, past_of}
 use Rattle.gateway_model.specs.Queue.{entry, queued}
 use Rattle.gateway_model.specs.Record.{is_lawful, is_decided}
 use Rattle.std.specs.Option.{option_map_or}
 use Rattle.gateway_model.specs.Job.{job_with}
-use Rattle.gateway_model.specs.Starts.{Start, start, starts}
+use Rattle.gateway_model.specs.Starts.{StartedJob, start, starts}
 
 -- what starts, where each occurrence is an event of its own
-abbrev pub row_starts : List Occurrence → List Start
+abbrev pub row_starts : List Occurrence → List StartedJob
 row_starts os = starts (reverse (enumerate_from 0 os))
 
 -- ---- the plans
@@ -138,12 +138,12 @@ text_of q = head_text q ++ q.body
 
 -- request number k of that connection asks for a call of the plan, with that timeout and that request id
 abbrev pub asks_on : ℕ → PlanRecord → Option ℕ → Option (List ℕ) → ℕ → Occurrence
-asks_on conn plan timeout id k = Entry conn (Request (request_for plan.path k) (Asks plan timeout id))
+asks_on conn plan timeout id k = Comes conn (Request (request_for plan.path k) (Asks plan timeout id))
 
 -- ---- what occurs on connection 0
 
 -- the branch of that request's call on connection 0 starts at that place, with all of its plan's time left
-abbrev pub starts_then : PlanRecord → ℕ → ℕ → ℕ → Start
+abbrev pub starts_then : PlanRecord → ℕ → ℕ → ℕ → StartedJob
 starts_then plan place request branch = start place (job_with (call_id 0 request) branch plan (request_for plan.path request) None plan.timeout)
 
 -- request number k asks for a call of the plan, with that timeout
@@ -156,11 +156,11 @@ arrives q = arrival_of (ping ∷ quote ∷ []) q
 
 -- the request comes, where they are
 abbrev pub comes : HttpRequest → Occurrence
-comes q = Entry 0 (Request q (arrives q))
+comes q = Comes 0 (Request q (arrives q))
 
 -- request number k comes, and is no call
 abbrev pub gets : ℕ → Occurrence
-gets k = Entry 0 (Request (get_request k) (Judged (Bare 405)))
+gets k = Comes 0 (Request (get_request k) (Judged (Bare 405)))
 
 -- so many of them, newest first
 unfoldable pub after_gets : ℕ → List Occurrence
@@ -169,7 +169,7 @@ after_gets (suc n) = gets n ∷ after_gets n
 
 -- the stream is refused
 abbrev pub refuses : Refusal → Occurrence
-refuses r = Entry 0 (Refused r)
+refuses r = Comes 0 (Refused r)
 
 -- a branch of the call of request k answers
 abbrev pub answers : ℕ → ℕ → List ℕ → Occurrence

@@ -4,16 +4,16 @@ ghost use Rattle.std.specs.List.{range_with_len};
 ghost use Rattle.connect_codec.specs.Reply.{bare_reply, success_reply};
 ghost use Rattle.gateway_model.specs.Reply.{reply_of};
 ghost use Rattle.error_document.specs.declared.code.Code.{Code};
-ghost use Rattle.gateway_model.specs.declared.fault.Seen.{Seen};
+ghost use Rattle.gateway_model.specs.declared.seen.Seen.{Seen};
 ghost use Rattle.http_pieces.specs.declared.refusal.Refusal.{Refusal};
 ghost use Rattle.gateway_model.specs.Occurrence.{Opening, HangUp, Moment, Drain, Closing};
-ghost use Rattle.gateway_model.specs.declared.event.CallEvent.TheVariants.{Answer as Answered, Expired, HungUp};
-ghost use Rattle.gateway_model.specs.Past.{call_id, judged, marked, past_of};
+ghost use Rattle.gateway_model.specs.declared.call_event.CallEvent.TheVariants.{Answer as Answered, Expired, HungUp};
+ghost use Rattle.gateway_model.specs.Past.{call_id, how_seen, marked, past_of};
 ghost use Rattle.gateway_model.specs.Queue.{replies, queued};
 ghost use Rattle.gateway_model.specs.Record.{is_lawful, is_decided};
 ghost use Rattle.gateway_tests.specs.Rows.{row_starts, starts_then, is_lawful_row, quote_record, ping, quote, asks, gets, after_gets, refuses, answers, fails, succeeded, failed, document, bytes_queued, flooded};
 
-use gateway_model::laws::{entry_law, unknown_law};
+use gateway_theory::laws::{entry_law, unknown_law};
 
 /// One call, answered.
 fn ping_answered()
@@ -93,17 +93,17 @@ fn zero_timeout_and_drained()
 
 /// Results of branches that are not out are not counted.
 fn stray_results()
-    ensures not_started { judged (call_id 0 0) 2 (past_of (Opening ∷ asks quote None 0 ∷ []))
+    ensures not_started { how_seen (call_id 0 0) 2 (past_of (Opening ∷ asks quote None 0 ∷ []))
         ≡ Seen.Unknown }
-    ensures counted { judged (call_id 0 0) 1 (past_of (Opening ∷ asks quote None 0 ∷ answers 0 2 (codes "3") ∷ []))
+    ensures counted { how_seen (call_id 0 0) 1 (past_of (Opening ∷ asks quote None 0 ∷ answers 0 2 (codes "3") ∷ []))
         ≡ Seen.Counted }
-    ensures again { judged (call_id 0 0) 1 (past_of (Opening ∷ asks quote None 0 ∷ answers 0 2 (codes "3") ∷ answers 0 1 (codes "2") ∷ []))
+    ensures again { how_seen (call_id 0 0) 1 (past_of (Opening ∷ asks quote None 0 ∷ answers 0 2 (codes "3") ∷ answers 0 1 (codes "2") ∷ []))
         ≡ Seen.Unknown }
-    ensures failure { judged (call_id 0 0) 0 (past_of (Opening ∷ asks quote None 0 ∷ answers 0 2 (codes "3") ∷ answers 0 1 (codes "2") ∷ answers 0 1 (codes "9") ∷ []))
+    ensures failure { how_seen (call_id 0 0) 0 (past_of (Opening ∷ asks quote None 0 ∷ answers 0 2 (codes "3") ∷ answers 0 1 (codes "2") ∷ answers 0 1 (codes "9") ∷ []))
         ≡ Seen.Counted }
-    ensures late { judged (call_id 0 0) 2 (past_of (Opening ∷ asks quote None 0 ∷ answers 0 2 (codes "3") ∷ answers 0 1 (codes "2") ∷ answers 0 1 (codes "9") ∷ fails 0 0 Code.Unavailable (codes "HTTP status 503") ∷ []))
+    ensures late { how_seen (call_id 0 0) 2 (past_of (Opening ∷ asks quote None 0 ∷ answers 0 2 (codes "3") ∷ answers 0 1 (codes "2") ∷ answers 0 1 (codes "9") ∷ fails 0 0 Code.Unavailable (codes "HTTP status 503") ∷ []))
         ≡ Seen.Late }
-    ensures late_again { judged (call_id 0 0) 2 (past_of (Opening ∷ asks quote None 0 ∷ answers 0 2 (codes "3") ∷ answers 0 1 (codes "2") ∷ answers 0 1 (codes "9") ∷ fails 0 0 Code.Unavailable (codes "HTTP status 503") ∷ answers 0 2 (codes "3") ∷ []))
+    ensures late_again { how_seen (call_id 0 0) 2 (past_of (Opening ∷ asks quote None 0 ∷ answers 0 2 (codes "3") ∷ answers 0 1 (codes "2") ∷ answers 0 1 (codes "9") ∷ fails 0 0 Code.Unavailable (codes "HTTP status 503") ∷ answers 0 2 (codes "3") ∷ []))
         ≡ Seen.Unknown }
     ensures replies { replies 0 (past_of (Opening ∷ asks quote None 0 ∷ answers 0 2 (codes "3") ∷ answers 0 1 (codes "2") ∷ answers 0 1 (codes "9") ∷ fails 0 0 Code.Unavailable (codes "HTTP status 503") ∷ answers 0 2 (codes "3") ∷ answers 0 2 (codes "3") ∷ []))
         ≡ failed Code.Unavailable (codes "flight: HTTP status 503") ∷ [] }
@@ -137,9 +137,9 @@ fn answered_before_deadline()
 
 /// A result after the deadline is late, and one of a call decided at its arrival is unknown.
 fn deadline_after_start()
-    ensures late { judged (call_id 0 0) 0 (past_of (Opening ∷ Moment 1000 ∷ asks ping (Some 100) 0 ∷ Moment 1099 ∷ Moment 1100 ∷ []))
+    ensures late { how_seen (call_id 0 0) 0 (past_of (Opening ∷ Moment 1000 ∷ asks ping (Some 100) 0 ∷ Moment 1099 ∷ Moment 1100 ∷ []))
         ≡ Seen.Late }
-    ensures unknown { judged (call_id 0 0) 0 (past_of (Opening ∷ asks ping (Some 0) 0 ∷ []))
+    ensures unknown { how_seen (call_id 0 0) 0 (past_of (Opening ∷ asks ping (Some 0) 0 ∷ []))
         ≡ Seen.Unknown }
 {}
 
@@ -180,9 +180,9 @@ fn hundred_requests()
 
 /// A new connection has another number: a result for the old one's call is late, and nothing is queued for the new one.
 fn stale_connection()
-    ensures late { judged (call_id 0 0) 0 (past_of (Opening ∷ asks ping None 0 ∷ Closing 0 ∷ Opening ∷ []))
+    ensures late { how_seen (call_id 0 0) 0 (past_of (Opening ∷ asks ping None 0 ∷ Closing 0 ∷ Opening ∷ []))
         ≡ Seen.Late }
-    ensures unknown { judged (call_id 0 0) 0 (past_of (Opening ∷ asks ping None 0 ∷ Closing 0 ∷ Opening ∷ answers 0 0 (codes "1") ∷ []))
+    ensures unknown { how_seen (call_id 0 0) 0 (past_of (Opening ∷ asks ping None 0 ∷ Closing 0 ∷ Opening ∷ answers 0 0 (codes "1") ∷ []))
         ≡ Seen.Unknown }
     ensures replies { replies 1 (past_of (Opening ∷ asks ping None 0 ∷ Closing 0 ∷ Opening ∷ answers 0 0 (codes "1") ∷ answers 0 0 (codes "1") ∷ []))
         ≡ [] }
@@ -190,11 +190,11 @@ fn stale_connection()
 
 /// A flood of stale and strange results changes nothing; the drain decides.
 fn flood()
-    ensures late { judged (call_id 0 0) 0 (past_of (Opening ∷ asks quote None 0 ∷ answers 0 1 (codes "2") ∷ answers 0 1 (codes "9") ∷ answers 7 0 (codes "9") ∷ Drain ∷ []))
+    ensures late { how_seen (call_id 0 0) 0 (past_of (Opening ∷ asks quote None 0 ∷ answers 0 1 (codes "2") ∷ answers 0 1 (codes "9") ∷ answers 7 0 (codes "9") ∷ Drain ∷ []))
         ≡ Seen.Late }
-    ensures late_too { judged (call_id 0 0) 2 (past_of (Opening ∷ asks quote None 0 ∷ answers 0 1 (codes "2") ∷ answers 0 1 (codes "9") ∷ answers 7 0 (codes "9") ∷ Drain ∷ answers 0 0 (codes "1") ∷ []))
+    ensures late_too { how_seen (call_id 0 0) 2 (past_of (Opening ∷ asks quote None 0 ∷ answers 0 1 (codes "2") ∷ answers 0 1 (codes "9") ∷ answers 7 0 (codes "9") ∷ Drain ∷ answers 0 0 (codes "1") ∷ []))
         ≡ Seen.Late }
-    ensures unknown { judged (call_id 0 0) 0 (past_of (Opening ∷ asks quote None 0 ∷ answers 0 1 (codes "2") ∷ answers 0 1 (codes "9") ∷ answers 7 0 (codes "9") ∷ Drain ∷ answers 0 0 (codes "1") ∷ answers 0 2 (codes "3") ∷ []))
+    ensures unknown { how_seen (call_id 0 0) 0 (past_of (Opening ∷ asks quote None 0 ∷ answers 0 1 (codes "2") ∷ answers 0 1 (codes "9") ∷ answers 7 0 (codes "9") ∷ Drain ∷ answers 0 0 (codes "1") ∷ answers 0 2 (codes "3") ∷ []))
         ≡ Seen.Unknown }
     ensures replies { replies 0 (past_of (Opening ∷ asks quote None 0 ∷ answers 0 1 (codes "2") ∷ answers 0 1 (codes "9") ∷ answers 7 0 (codes "9") ∷ Drain ∷ answers 0 0 (codes "1") ∷ answers 0 2 (codes "3") ∷ answers 0 0 (codes "1") ∷ []))
         ≡ failed Code.Unavailable (codes "gateway is draining") ∷ [] }
@@ -202,9 +202,9 @@ fn flood()
 
 /// However many results come of a branch that answered, or of a call of another connection, the first call goes on as before.
 fn floods()
-    ensures again { (strangers repeats : ℕ) → judged (call_id 0 0) 1 (marked (flooded strangers repeats)) ≡ Seen.Unknown }
-    ensures strange { (strangers repeats : ℕ) → judged (call_id 7 0) 0 (marked (flooded strangers repeats)) ≡ Seen.Unknown }
-    ensures goes_on { (strangers repeats : ℕ) → judged (call_id 0 0) 0 (marked (flooded strangers repeats)) ≡ Seen.Counted }
+    ensures again { (strangers repeats : ℕ) → how_seen (call_id 0 0) 1 (marked (flooded strangers repeats)) ≡ Seen.Unknown }
+    ensures strange { (strangers repeats : ℕ) → how_seen (call_id 7 0) 0 (marked (flooded strangers repeats)) ≡ Seen.Unknown }
+    ensures goes_on { (strangers repeats : ℕ) → how_seen (call_id 0 0) 0 (marked (flooded strangers repeats)) ≡ Seen.Counted }
     ensures replies { (strangers repeats : ℕ) → replies 0 (marked (flooded strangers repeats)) ≡ [] }
 {
     unknown_law();
@@ -232,7 +232,7 @@ fn unlawful_records()
 
 /// A closed connection's call is never decided.
 fn closing()
-    ensures late { judged (call_id 0 0) 0 (past_of (Opening ∷ asks ping None 0 ∷ Closing 0 ∷ []))
+    ensures late { how_seen (call_id 0 0) 0 (past_of (Opening ∷ asks ping None 0 ∷ Closing 0 ∷ []))
         ≡ Seen.Late }
     ensures replies { replies 0 (past_of (Opening ∷ asks ping None 0 ∷ Closing 0 ∷ answers 0 0 (codes "1") ∷ Drain ∷ []))
         ≡ [] }

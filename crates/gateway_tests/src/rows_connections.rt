@@ -1,7 +1,8 @@
 //! The worked rows of connections: what the definitions give for them. The functions do nothing.
 ghost use Rattle.std.specs.Prelude.{◌≡◌, ◌∷◌, ◌++◌, [], codes, false, true, replicate};
 ghost use Rattle.std.specs.List.{range_with_len};
-ghost use Rattle.gateway_model.specs.Events.{Closing, HangUp, Opening, OpensAt, Piece, connections, has_no_effect, is_open, open_connections, stream};
+ghost use Rattle.gateway_model.specs.declared.event.Event.TheVariants.{Closing, HangUp, Opening, Piece};
+ghost use Rattle.gateway_model.specs.Events.{OpensAt, connections, has_no_effect, is_open, open_connections, stream};
 
 /// With 64 connections open no more is opened; when one was closed, the next has a number of its own.
 fn connections_full()

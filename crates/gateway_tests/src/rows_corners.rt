@@ -4,12 +4,12 @@ ghost use Rattle.std.specs.Prelude.{◌≡◌, ◌^◌, ◌+◌, ◌++◌, ◌�
 ghost use Rattle.std.specs.List.{range_with_len};
 ghost use Rattle.error_document.specs.declared.code.Code.{Code};
 ghost use Rattle.gateway_model.specs.declared.entry.ReplyEntry.{ReplyEntry};
-ghost use Rattle.gateway_model.specs.declared.event.CallEvent.{CallEvent};
-ghost use Rattle.gateway_model.specs.declared.fault.Seen.{Seen};
+ghost use Rattle.gateway_model.specs.declared.call_event.CallEvent.{CallEvent};
+ghost use Rattle.gateway_model.specs.declared.seen.Seen.{Seen};
 ghost use Rattle.gateway_model.specs.Job.{job_with};
 ghost use Rattle.gateway_model.specs.Occurrence.{Opening, HangUp, Moment, Result, Drain, Closing};
 ghost use Rattle.gateway_model.specs.CallRecord.{record_with};
-ghost use Rattle.gateway_model.specs.Past.{call_id, judged, now, past_of};
+ghost use Rattle.gateway_model.specs.Past.{call_id, how_seen, now, past_of};
 ghost use Rattle.gateway_model.specs.Queue.{entry, replies};
 ghost use Rattle.gateway_model.specs.Record.{is_lawful};
 ghost use Rattle.gateway_model.specs.Starts.{start};
@@ -41,8 +41,8 @@ fn drained_before_expired()
 /// What happens to another connection is nothing to this one.
 fn other_connection()
     ensures hang_up { replies 0 (past_of (Opening ∷ Opening ∷ asks ping None 0 ∷ HangUp 1 ∷ [])) ≡ [] }
-    ensures hung_up { judged (call_id 0 0) 0 (past_of (Opening ∷ Opening ∷ asks ping None 0 ∷ HangUp 1 ∷ [])) ≡ Seen.Counted }
-    ensures closing { judged (call_id 0 0) 0 (past_of (Opening ∷ Opening ∷ asks ping None 0 ∷ Closing 1 ∷ [])) ≡ Seen.Counted }
+    ensures hung_up { how_seen (call_id 0 0) 0 (past_of (Opening ∷ Opening ∷ asks ping None 0 ∷ HangUp 1 ∷ [])) ≡ Seen.Counted }
+    ensures closing { how_seen (call_id 0 0) 0 (past_of (Opening ∷ Opening ∷ asks ping None 0 ∷ Closing 1 ∷ [])) ≡ Seen.Counted }
     ensures calls { entry (call_id 1 0) (past_of (Opening ∷ Opening ∷ map (asks ping None) (range_with_len 0 8) ++ asks_on 1 ping (Some 0) None 0 ∷ []))
         ≡ Some (ReplyEntry.Call (record_with ping 0 (Some 0) false (CallEvent.Expired 0 ∷ []))) }
 {}
@@ -51,7 +51,7 @@ fn other_connection()
 fn ninth_call()
     ensures crowded { entry (call_id 1 8) (past_of (Opening ∷ Opening ∷ map (asks_on 1 ping None None) (range_with_len 0 9)))
         ≡ Some (ReplyEntry.Crowded false) }
-    ensures after_one { judged (call_id 0 8) 0 (past_of (Opening ∷ map (asks ping None) (range_with_len 0 8) ++ answers 3 0 (codes "1") ∷ asks ping None 8 ∷ []))
+    ensures after_one { how_seen (call_id 0 8) 0 (past_of (Opening ∷ map (asks ping None) (range_with_len 0 8) ++ answers 3 0 (codes "1") ∷ asks ping None 8 ∷ []))
         ≡ Seen.Counted }
 {}
 

@@ -1,7 +1,7 @@
 //! The worked rows of streams: which requests their bytes are, where they end, and what is queued then. The functions do nothing.
 ghost use Rattle.std.specs.Prelude.{◌≡◌, ℕ, List, ◌∷◌, [], ◌++◌, map, length, replicate, codes, true, None};
 ghost use Rattle.std.specs.List.{flat_map, range_with_len};
-ghost use Rattle.http_pieces.specs.Requests.{Requests, Open, Broken, Closed};
+ghost use Rattle.http_pieces.specs.Requests.{Requests, Open, RefusedBy, Closed};
 ghost use Rattle.http_pieces.specs.declared.refusal.Refusal.{Refusal};
 ghost use Rattle.connect_codec.specs.Reply.{bare_reply, error_reply, success_reply};
 ghost use Rattle.connect_codec.specs.declared.verdict.Verdict.{Verdict};
@@ -57,7 +57,7 @@ fn old_request()
 
 /// Two lengths, and whatever follows.
 fn two_lengths()
-    ensures ends { (more : List ℕ) → Requests 0 (text_of (ping_adding (codes "Content-Length") (codes "2")) ++ more) [] (Broken Refusal.BadLength) }
+    ensures ends { (more : List ℕ) → Requests 0 (text_of (ping_adding (codes "Content-Length") (codes "2")) ++ more) [] (RefusedBy Refusal.BadLength) }
     ensures replies { replies 0 (past_of (Opening ∷ refuses Refusal.BadLength ∷ [])) ≡ reply_of (bare_reply 400 true) true ∷ [] }
     ensures reply { bare_reply 400 true ≡ codes "HTTP/1.1 400 Bad Request\r\nContent-Length: 0\r\nConnection: close\r\n\r\n" }
     ensures bytes { bytes_queued (Opening ∷ refuses Refusal.BadLength ∷ []) ≡ 66 }
@@ -67,7 +67,7 @@ fn two_lengths()
 
 /// A chunked body.
 fn chunked_body()
-    ensures ends { (more : List ℕ) → Requests 0 (text_of (ping_adding (codes "Transfer-Encoding") (codes "chunked")) ++ more) [] (Broken Refusal.LengthRequired) }
+    ensures ends { (more : List ℕ) → Requests 0 (text_of (ping_adding (codes "Transfer-Encoding") (codes "chunked")) ++ more) [] (RefusedBy Refusal.LengthRequired) }
     ensures replies { replies 0 (past_of (Opening ∷ refuses Refusal.LengthRequired ∷ [])) ≡ reply_of (bare_reply 411 true) true ∷ [] }
     ensures reply { bare_reply 411 true ≡ codes "HTTP/1.1 411 Length Required\r\nContent-Length: 0\r\nConnection: close\r\n\r\n" }
     ensures bytes { bytes_queued (Opening ∷ refuses Refusal.LengthRequired ∷ []) ≡ 70 }
@@ -77,7 +77,7 @@ fn chunked_body()
 
 /// HTTP/1.1 without `Host`.
 fn without_host()
-    ensures ends { (more : List ℕ) → Requests 0 (text_of ping_hostless ++ more) [] (Broken Refusal.BadHost) }
+    ensures ends { (more : List ℕ) → Requests 0 (text_of ping_hostless ++ more) [] (RefusedBy Refusal.BadHost) }
     ensures replies { replies 0 (past_of (Opening ∷ refuses Refusal.BadHost ∷ [])) ≡ reply_of (bare_reply 400 true) true ∷ [] }
     ensures reply { bare_reply 400 true ≡ codes "HTTP/1.1 400 Bad Request\r\nContent-Length: 0\r\nConnection: close\r\n\r\n" }
     ensures bytes { bytes_queued (Opening ∷ refuses Refusal.BadHost ∷ []) ≡ 66 }
@@ -87,7 +87,7 @@ fn without_host()
 
 /// A body of one byte more than may be; one that is no larger is taken.
 fn large_body()
-    ensures ends { (more : List ℕ) → Requests 0 (text_of (ping_of_length (codes "65537") []) ++ more) [] (Broken Refusal.BodyTooLarge) }
+    ensures ends { (more : List ℕ) → Requests 0 (text_of (ping_of_length (codes "65537") []) ++ more) [] (RefusedBy Refusal.BodyTooLarge) }
     ensures within { (body : List ℕ) → length body ≡ 65536 → Requests 0 (text_of (ping_of_length (codes "65536") body)) (ping_of_length (codes "65536") body ∷ []) (Open []) }
     ensures replies { replies 0 (past_of (Opening ∷ refuses Refusal.BodyTooLarge ∷ []))
         ≡ reply_of (error_reply (error Code.ResourceExhausted (codes "body larger than 65536 bytes")) true) true ∷ [] }
@@ -105,7 +105,7 @@ fn large_head()
     ensures length { length (head_text (ping_filled 8089)) ≡ 8192 }
     ensures within { Requests 0 (text_of (ping_filled 8089)) (ping_filled 8089 ∷ []) (Open []) }
     ensures ends_length { length (codes "GET / HTTP/1.1\r\nX-A: " ++ replicate 8171 97) ≡ 8192 }
-    ensures ends { (more : List ℕ) → Requests 0 (codes "GET / HTTP/1.1\r\nX-A: " ++ replicate 8171 97 ++ more) [] (Broken Refusal.HeadTooLarge) }
+    ensures ends { (more : List ℕ) → Requests 0 (codes "GET / HTTP/1.1\r\nX-A: " ++ replicate 8171 97 ++ more) [] (RefusedBy Refusal.HeadTooLarge) }
     ensures replies { replies 0 (past_of (Opening ∷ refuses Refusal.HeadTooLarge ∷ [])) ≡ reply_of (bare_reply 431 true) true ∷ [] }
     ensures reply { bare_reply 431 true ≡ codes "HTTP/1.1 431 Request Header Fields Too Large\r\nContent-Length: 0\r\nConnection: close\r\n\r\n" }
     ensures bytes { bytes_queued (Opening ∷ refuses Refusal.HeadTooLarge ∷ []) ≡ 86 }
@@ -116,7 +116,7 @@ fn large_head()
 /// A head of 64 fields is taken, and one of 65 is none.
 fn many_fields()
     ensures within { Requests 0 (text_of (ping_crowded 61)) (ping_crowded 61 ∷ []) (Open []) }
-    ensures ends { (more : List ℕ) → Requests 0 (text_of (ping_crowded 62) ++ more) [] (Broken Refusal.NotAHead) }
+    ensures ends { (more : List ℕ) → Requests 0 (text_of (ping_crowded 62) ++ more) [] (RefusedBy Refusal.NotAHead) }
     ensures replies { replies 0 (past_of (Opening ∷ refuses Refusal.NotAHead ∷ [])) ≡ reply_of (bare_reply 400 true) true ∷ [] }
     ensures reply { bare_reply 400 true ≡ codes "HTTP/1.1 400 Bad Request\r\nContent-Length: 0\r\nConnection: close\r\n\r\n" }
     ensures bytes { bytes_queued (Opening ∷ refuses Refusal.NotAHead ∷ []) ≡ 66 }

@@ -6,7 +6,7 @@ use Rattle.std.proofs.lemmas.List.{take_all, length-append, length-take, length-
 use Rattle.http_pieces.specs.Cut.{Cut, Incomplete, Refused, Complete, Refusal, Body, Kind, IsBlock, EndsInEmptyLine, IsCut, IsCutText, without_block, without_head, with_head, cut_unblocked, cut_after, most_head, skip_pairs}
 use Rattle.http_pieces.specs.Head.{request_kind}
 use Rattle.http_pieces.specs.Request.{HttpRequest, closes}
-use Rattle.http_pieces.specs.Requests.{Ending, Open, Broken, Closed, unfinished, broken, Requests}
+use Rattle.http_pieces.specs.Requests.{StreamEnd, Open, RefusedBy, Closed, unfinished, broken, Requests}
 use Rattle.http_pieces.specs.declared.refusal.Refusal.{Refusal as RequestRefusal}
 use Rattle.http_pieces.proofs.CutLemmas.{skip_shorter}
 
@@ -68,7 +68,7 @@ nothing = []
 
 -- no list of requests is that of the text
 abbrev HasNone : ℕ → List ℕ → Type 0
-HasNone k text = (given : List HttpRequest) (ending : Ending) → Requests k text given ending → ⊥
+HasNone k text = (given : List HttpRequest) (ending : StreamEnd) → Requests k text given ending → ⊥
 
 requests_below : (bound k : ℕ) (text : List ℕ) → length text < bound → HasNone k text → ⊥
 requests_below zero k text lt none = absurd (omega arith)
@@ -78,7 +78,7 @@ requests_below (suc bound) k text lt none =
   where
     by_cut : ((rest : List ℕ) → length rest < length text → HasNone (suc k) rest → ⊥) → (c : Cut RequestRefusal HttpRequest) → IsCut (request_kind k) text c → ⊥
     by_cut more Incomplete cut = none [] (Open (skip_pairs text)) (unfinished cut refl)
-    by_cut more (Refused r) cut = none [] (Broken r) (broken r cut refl)
+    by_cut more (Refused r) cut = none [] (RefusedBy r) (broken r cut refl)
     by_cut more (Complete q rest) cut = by_closing (closes q) refl
       where
         by_closing : (b : Bool) → closes q ≡ b → ⊥

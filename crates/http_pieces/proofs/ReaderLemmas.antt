@@ -4,7 +4,7 @@ use Rattle.http_pieces.specs.declared.refusal.Refusal.{Refusal}
 use Rattle.http_pieces.specs.Cut.{Incomplete, Refused, Complete, skip_pairs, IsCut}
 use Rattle.http_pieces.specs.Head.{request_kind}
 use Rattle.http_pieces.specs.Request.{HttpRequest}
-use Rattle.http_pieces.specs.Requests.{Ending, Open, Broken, Closed, unfinished, broken, Requests}
+use Rattle.http_pieces.specs.Requests.{StreamEnd, Open, RefusedBy, Closed, unfinished, broken, Requests}
 use Rattle.http_pieces.specs.Reader.{Reading, Partial, Waiting, Stopped, Done, ending_after, HasReadTo}
 use Rattle.http_pieces.proofs.RequestsLemmas.{requests_more, requests_stay, requests_one}
 
@@ -13,7 +13,7 @@ pub record ReadsTo (taken : ℕ) (reading : Reading) (bytes : List ℕ) (given :
   pub count : taken ≡ length given
   pub reads : HasReadTo reading bytes given
 
-more_of : (n : ℕ) (left bytes more : List ℕ) (given requests : List HttpRequest) (ending : Ending) → ReadsTo n (Partial left) bytes given
+more_of : (n : ℕ) (left bytes more : List ℕ) (given requests : List HttpRequest) (ending : StreamEnd) → ReadsTo n (Partial left) bytes given
     → Requests n (left ++ more) requests ending → Requests 0 (bytes ++ more) (given ++ requests) ending
 more_of n left bytes more given requests ending h later =
     let from : Requests (0 + length given) (left ++ more) requests ending = subst (λ k. Requests k (left ++ more) requests ending) (h.count ∙ sym (zero-add (length given))) later in
@@ -30,7 +30,7 @@ pub read_refusal : (n : ℕ) (left bytes more : List ℕ) (given : List HttpRequ
     → ReadsTo n (Partial left) bytes given → ReadsTo n (Stopped r) (bytes ++ more) given
 read_refusal n left bytes more given r cut h = record {
   count = h.count;
-  reads = rw append-nil at (more_of n left bytes more given [] (Broken r) h (broken r cut refl));
+  reads = rw append-nil at (more_of n left bytes more given [] (RefusedBy r) h (broken r cut refl));
 }
 
 pub read_request : (n : ℕ) (left bytes more : List ℕ) (given : List HttpRequest) (q : HttpRequest) → IsCut (request_kind n) (left ++ more) (Complete q [])
@@ -42,7 +42,7 @@ read_request n left bytes more given q cut h = record {
 
 pub read_stopped : (n : ℕ) (bytes more : List ℕ) (given : List HttpRequest) (r : Refusal) → ReadsTo n (Stopped r) bytes given
     → ReadsTo n (Stopped r) (bytes ++ more) given
-read_stopped n bytes more given r h = record { count = h.count; reads = requests_stay 0 bytes more given (Broken r) tt h.reads }
+read_stopped n bytes more given r h = record { count = h.count; reads = requests_stay 0 bytes more given (RefusedBy r) tt h.reads }
 
 pub read_done : (n : ℕ) (bytes more : List ℕ) (given : List HttpRequest) → ReadsTo n Done bytes given
     → ReadsTo n Done (bytes ++ more) given

@@ -5,7 +5,7 @@ use Rattle.http_pieces.specs.declared.refusal.Refusal.{Refusal}
 use Rattle.http_pieces.specs.Cut.{Cut, Incomplete, Refused, Complete, skip_pairs, IsCut}
 use Rattle.http_pieces.specs.Head.{request_kind}
 use Rattle.http_pieces.specs.Request.{HttpRequest, closes}
-use Rattle.http_pieces.specs.Requests.{Ending, Open, Broken, Closed, EndsAt, unfinished, broken, Requests}
+use Rattle.http_pieces.specs.Requests.{StreamEnd, Open, RefusedBy, Closed, EndsAt, unfinished, broken, Requests}
 use Rattle.http_pieces.specs.Reader.{ending_after}
 use Rattle.http_pieces.specs.Layout.{request_single}
 use Rattle.http_pieces.proofs.CutLemmas.{skip_append, kind_unique, kind_complete_append, kind_refused_append, kind_empty}
@@ -29,7 +29,7 @@ cut_refused_append k = kind_refused_append (request_kind k)
 -- ---- requests
 
 -- texts that differ in the pairs that lead them alone have the same requests
-pub requests_skip : (k : ℕ) (s t : List ℕ) → skip_pairs s ≡ skip_pairs t → (requests : List HttpRequest) (ending : Ending) → Requests k s requests ending → Requests k t requests ending
+pub requests_skip : (k : ℕ) (s t : List ℕ) → skip_pairs s ≡ skip_pairs t → (requests : List HttpRequest) (ending : StreamEnd) → Requests k s requests ending → Requests k t requests ending
 requests_skip k s t e [] ending (unfinished cut is) = unfinished (rw (← e) cut) (is ∙ ap Open e)
 requests_skip k s t e [] ending (broken r cut is) = broken r (rw (← e) cut) is
 requests_skip k s t e (q ∷ requests) ending h = (h.0, rw (← e) h.1, h.2)
@@ -42,7 +42,7 @@ cons_same q p xs ys e f = cc
 
 -- what more bytes add to the bytes left over, they add to the whole
 pub requests_more : (k : ℕ) (s : List ℕ) (given : List HttpRequest) (left : List ℕ) → Requests k s given (Open left)
-    → (more : List ℕ) (requests : List HttpRequest) (ending : Ending) → Requests (k + length given) (left ++ more) requests ending → Requests k (s ++ more) (given ++ requests) ending
+    → (more : List ℕ) (requests : List HttpRequest) (ending : StreamEnd) → Requests (k + length given) (left ++ more) requests ending → Requests k (s ++ more) (given ++ requests) ending
 requests_more k s [] left (unfinished cut is) more requests ending h =
     let left_is : left ≡ skip_pairs s = cc in
     let same : skip_pairs (left ++ more) ≡ skip_pairs (s ++ more) = rw left_is (sym (skip_append s more)) in
@@ -60,12 +60,12 @@ requests_more k s (q ∷ given) left h more requests ending later =
     by_close go false next = go next
 
 -- what was refused or closed stays so
-abbrev pub IsFinal : Ending → Type 0
+abbrev pub IsFinal : StreamEnd → Type 0
 IsFinal (Open left) = ⊥
-IsFinal (Broken r) = Unit {0}
+IsFinal (RefusedBy r) = Unit {0}
 IsFinal Closed = Unit {0}
 
-pub requests_stay : (k : ℕ) (s more : List ℕ) (given : List HttpRequest) (ending : Ending) → IsFinal ending
+pub requests_stay : (k : ℕ) (s more : List ℕ) (given : List HttpRequest) (ending : StreamEnd) → IsFinal ending
     → Requests k s given ending → Requests k (s ++ more) given ending
 requests_stay k s more [] ending final (unfinished cut is) = absurd (subst IsFinal is final)
 requests_stay k s more [] ending final (broken r cut is) = broken r (cut_refused_append k s more r cut) is
@@ -91,14 +91,14 @@ requests_one k s q cut = ([], cut, by_close (closes q))
     by_close false = unfinished (cut_empty (suc k)) refl
 
 -- a text has one list of requests
-pub requests_unique : (k : ℕ) (s : List ℕ) (given other : List HttpRequest) (a b : Ending) → Requests k s given a → Requests k s other b → (given ≡ other) × (a ≡ b)
+pub requests_unique : (k : ℕ) (s : List ℕ) (given other : List HttpRequest) (a b : StreamEnd) → Requests k s given a → Requests k s other b → (given ≡ other) × (a ≡ b)
 requests_unique k s [] [] a b (unfinished cut is) (unfinished also too) = (refl, is ∙ sym too)
 requests_unique k s [] [] a b (unfinished cut is) (broken r also too) = absurd (let e = cut_unique k s _ _ cut also in cc)
 requests_unique k s [] [] a b (broken r cut is) (unfinished also too) = absurd (let e = cut_unique k s _ _ cut also in cc)
 requests_unique k s [] [] a b (broken r cut is) (broken r' also too) =
     let e = cut_unique k s _ _ cut also in
     let same : r ≡ r' = cc in
-    (refl, is ∙ ap Broken same ∙ sym too)
+    (refl, is ∙ ap RefusedBy same ∙ sym too)
 requests_unique k s [] (p ∷ other) a b (unfinished cut is) h = absurd (let e = cut_unique k s _ _ cut h.1 in cc)
 requests_unique k s [] (p ∷ other) a b (broken r cut is) h = absurd (let e = cut_unique k s _ _ cut h.1 in cc)
 requests_unique k s (q ∷ given) [] a b h (unfinished cut is) = absurd (let e = cut_unique k s _ _ cut h.1 in cc)

@@ -7,7 +7,7 @@ use Rattle.http_pieces.specs.Cut.{Complete, IsCut}
 use Rattle.http_pieces.specs.Head.{request_kind}
 use Rattle.http_pieces.specs.Looked.{HasLooked}
 use Rattle.http_pieces.specs.Request.{HttpRequest, closes}
-use Rattle.http_pieces.specs.Requests.{Ending, Open, Broken, Closed, Requests}
+use Rattle.http_pieces.specs.Requests.{StreamEnd, Open, RefusedBy, Closed, Requests}
 
 -- how far a reader is: bytes of a request that is not whole, a request that waits to be taken, a refusal, or the end
 pub data Reading : Type 0 where
@@ -50,7 +50,7 @@ left_of Done = None
 abbrev pub after_request : HttpRequest → Reading
 after_request q = if closes q then Done else Partial []
 
-abbrev pub ending_after : HttpRequest → Ending
+abbrev pub ending_after : HttpRequest → StreamEnd
 ending_after q = if closes q then Closed else Open []
 
 -- how far the reader is, where these bytes were taken and these requests given: the requests of the bytes are those
@@ -58,7 +58,7 @@ ending_after q = if closes q then Closed else Open []
 abbrev pub HasReadTo : Reading → List ℕ → List HttpRequest → Type 0
 HasReadTo (Partial left) bytes given = Requests 0 bytes given (Open left)
 HasReadTo (Waiting q) bytes given = Requests 0 bytes (given ++ q ∷ []) (ending_after q)
-HasReadTo (Stopped r) bytes given = Requests 0 bytes given (Broken r)
+HasReadTo (Stopped r) bytes given = Requests 0 bytes given (RefusedBy r)
 HasReadTo Done bytes given = Requests 0 bytes given Closed
 
 -- the reader stands where it does after pushes that took these bytes and takes that gave these requests

@@ -7,7 +7,7 @@ ghost use Rattle.http_pieces.specs.Reader.{HasRead, reader_value, Partial};
 ghost use Rattle.http_pieces.specs.ReplyHead.{reply_kind};
 ghost use Rattle.http_pieces.specs.ReplyReader.{HasReadReply, reply_reader_value, Partial as ReplyPartial};
 ghost use Rattle.http_pieces.specs.Request.{HttpRequest};
-ghost use Rattle.http_pieces.specs.Requests.{Ending, Open, Broken, Closed, Requests};
+ghost use Rattle.http_pieces.specs.Requests.{StreamEnd, Open, RefusedBy, Closed, Requests};
 ghost use Rattle.http_pieces.specs.declared.refusal.Refusal.{Refusal};
 ghost use Rattle.http_pieces.specs.declared.reply.HttpReply.{HttpReply};
 ghost use Rattle.http_pieces.specs.declared.reply_fault.ReplyFault.{ReplyFault};
@@ -41,16 +41,16 @@ pub fn reply_cut_law()
 
 /// A text has one list of requests, and more bytes add to it what they add to the bytes left over.
 pub fn requests_law()
-    ensures unique { (k : ℕ) (text : List ℕ) (given other : List HttpRequest) (a b : Ending)
+    ensures unique { (k : ℕ) (text : List ℕ) (given other : List HttpRequest) (a b : StreamEnd)
         → Requests k text given a → Requests k text other b → (given ≡ other) × (a ≡ b) }
     ensures more { (k : ℕ) (text : List ℕ) (given : List HttpRequest) (left : List ℕ)
-        → Requests k text given (Open left) → (more : List ℕ) (requests : List HttpRequest) (ending : Ending)
+        → Requests k text given (Open left) → (more : List ℕ) (requests : List HttpRequest) (ending : StreamEnd)
         → Requests (k + length given) (left ++ more) requests ending
         → Requests k (text ++ more) (given ++ requests) ending }
 
     // A stream that was refused, or whose last request closes, gains nothing.
     ensures refused_stays { (k : ℕ) (text more : List ℕ) (given : List HttpRequest) (r : Refusal)
-        → Requests k text given (Broken r) → Requests k (text ++ more) given (Broken r) }
+        → Requests k text given (RefusedBy r) → Requests k (text ++ more) given (RefusedBy r) }
     ensures closed_stays { (k : ℕ) (text more : List ℕ) (given : List HttpRequest)
         → Requests k text given Closed → Requests k (text ++ more) given Closed }
 {}
@@ -72,5 +72,5 @@ pub fn fresh_law()
 pub fn existence_law()
     ensures cut { (k : ℕ) (text : List ℕ) → ¬ ((c : Cut Refusal HttpRequest) → ¬ (IsCut (request_kind k) text c)) }
     ensures reply_cut { (text : List ℕ) → ¬ ((c : Cut ReplyFault HttpReply) → ¬ (IsCut reply_kind text c)) }
-    ensures requests { (k : ℕ) (text : List ℕ) → ¬ ((given : List HttpRequest) (ending : Ending) → ¬ (Requests k text given ending)) }
+    ensures requests { (k : ℕ) (text : List ℕ) → ¬ ((given : List HttpRequest) (ending : StreamEnd) → ¬ (Requests k text given ending)) }
 {}

@@ -1,4 +1,4 @@
-use gateway_replies::{Asked, Reply};
+use gateway_replies::{ArrivedCall, Reply};
 
 /// What a request comes to as it comes.
 #[derive(Drop)]
@@ -6,5 +6,5 @@ pub enum Arriving {
     /// It is answered at once.
     Answered(Reply),
     /// It begins a call.
-    Begins(Asked),
+    Begins(ArrivedCall),
 }

@@ -8,13 +8,17 @@ use crate::machine::live::Live;
 use crate::machine::task::Task;
 use err_group::Group;
 use gateway_model::CallId;
-use gateway_replies::Asked;
+use gateway_replies::ArrivedCall;
 use std::alloc::{AllocError, Global};
 use std::collections::VecDeque;
 use std::sync::Arc;
 
 /// A call as it begins, and the branches that start at once: those below the plan's limit. The others wait.
-pub fn begin(alloc: Global, id: CallId, asked: Asked) -> Result<(Kept, VecDeque<Task>), AllocError>
+pub fn begin(
+    alloc: Global,
+    id: CallId,
+    asked: ArrivedCall,
+) -> Result<(Kept, VecDeque<Task>), AllocError>
     ensures { IfOk result (λ made. IsBegun id asked made.0 made.1.items) }
 {
     let plan = Arc::try_clone(&asked.plan)?;
@@ -46,7 +50,7 @@ pub fn begin(alloc: Global, id: CallId, asked: Asked) -> Result<(Kept, VecDeque<
 fn give(
     alloc: Global,
     id: &CallId,
-    asked: &Arc<Asked>,
+    asked: &Arc<ArrivedCall>,
     group: &mut Group<Task, ()>,
 ) -> Result<VecDeque<Task>, AllocError>
     requires { HasGone id.now (arc_value asked.now) 0 group.old [] }

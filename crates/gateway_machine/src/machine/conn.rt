@@ -1,10 +1,10 @@
 ghost use Rattle.std.specs.Prelude.{◌≡◌, ◌+◌, ◌<◌, ◌==◌, length, IfOk, IfSome, OnErr, [], false, if◌then◌else◌, option_map, is_some};
-ghost use Rattle.gateway_model.specs.Conn.{added, entry_in, filled, next_of, without_first, conn_value};
-ghost use Rattle.gateway_model.specs.Machine.{is_full, slot_at};
-ghost use Rattle.gateway_model.specs.Gateway.{are_all_there};
+ghost use Rattle.gateway_theory.specs.Conn.{added, entry_in, filled, next_of, without_first, conn_value};
+ghost use Rattle.gateway_theory.specs.Machine.{is_full, slot_at};
+ghost use Rattle.gateway_theory.specs.Gateway.{are_all_there};
 ghost use Rattle.gateway_model.specs.Past.{call_id};
 ghost use Rattle.gateway_model.specs.Queue.{front};
-ghost use Rattle.gateway_model.specs.Store.{broken_if, hung_if};
+ghost use Rattle.gateway_theory.specs.Store.{broken_if, hung_if};
 
 use gateway_model::{CallId, ConnId};
 use gateway_replies::Reply;
@@ -32,7 +32,7 @@ pub struct Conn {
 
 impl Model for Conn {
     ghost use Rattle.std.specs.Prelude.{◌+◌, ◌≤◌, length};
-    ghost use Rattle.gateway_model.specs.Conn.{ConnValue, conn_value, AreInPlace};
+    ghost use Rattle.gateway_theory.specs.Conn.{ConnValue, conn_value, AreInPlace};
     ghost use Rattle.http_pieces.specs.Request.{most_requests};
 
     ghost Value = { ConnValue };

@@ -1,11 +1,11 @@
 ghost use Rattle.std.specs.Prelude.{◌≡◌, ◌<◌, length};
 ghost use Rattle.gateway_machine.specs.Linked.{Over, linked, linked_by, over_by};
-ghost use Rattle.gateway_model.specs.Heads.{conn_heads};
-ghost use Rattle.gateway_model.specs.Ends.{AreApart, CallsEnd, EndedAt, IsSettled, settled_at, SettledBelow};
+ghost use Rattle.gateway_theory.specs.Heads.{conn_heads};
+ghost use Rattle.gateway_theory.specs.Ends.{AreApart, CallsEnd, EndedAt, IsSettled, settled_at, SettledBelow};
 
 use crate::machine::store::Machine;
-use gateway_model::Cause;
 use gateway_replies::{Contexts, ReplyHook};
+use gateway_theory::Cause;
 use std::alloc::Global;
 
 impl Machine {

@@ -1,18 +1,19 @@
 ghost use Rattle.std.specs.Prelude.{[], ◌≡◌, ◌+◌, ◌<◌, ◌≤◌, ◌++◌, Some, None as Nothing, IfErr, IfOk, OnOk, OnErr, false, length, map};
 ghost use Rattle.std.specs.VecDeque.{deque_capacity};
 ghost use Rattle.gateway_model.specs.Arrival.{arrival_of};
-ghost use Rattle.gateway_model.specs.Begins.{begins};
-ghost use Rattle.gateway_model.specs.Conn.{next_of};
+ghost use Rattle.gateway_theory.specs.Begins.{begins};
+ghost use Rattle.gateway_theory.specs.Conn.{next_of};
 ghost use Rattle.gateway_replies.specs.Contexts.{KeepsOthers, is_ended_peer, is_life};
-ghost use Rattle.gateway_model.specs.Enters.{arriving_at, asking_at, entered_at, Enters};
+ghost use Rattle.gateway_theory.specs.Enters.{arriving_at, asking_at, entered_at, Enters};
 ghost use Rattle.gateway_machine.specs.Comes.{ComesTo};
-ghost use Rattle.gateway_model.specs.Job.{job_at};
+ghost use Rattle.gateway_theory.specs.Task.{job_at};
 ghost use Rattle.gateway_machine.specs.Linked.{ComesWith, IsLinkedBut, linked};
-ghost use Rattle.gateway_model.specs.Occurrence.{Entering, calls_in};
-ghost use Rattle.gateway_model.specs.Serving.{IsFault, IsMade, most_begun};
-ghost use Rattle.gateway_model.specs.Step.{gone, step_to};
-ghost use Rattle.gateway_model.specs.Store.{broken_at, conn_at, waiting};
-ghost use Rattle.gateway_model.specs.declared.fault.StepFault.TheVariants as fault;
+ghost use Rattle.gateway_model.specs.Occurrence.{Coming};
+ghost use Rattle.gateway_theory.specs.Arrivals.{calls_in};
+ghost use Rattle.gateway_theory.specs.Serving.{IsFault, IsMade, most_begun};
+ghost use Rattle.gateway_theory.specs.Step.{gone, step_to};
+ghost use Rattle.gateway_theory.specs.Store.{broken_at, conn_at, waiting};
+ghost use Rattle.gateway_theory.specs.declared.fault.StepFault.TheVariants as fault;
 
 use crate::job::Job;
 use crate::machine::arriving::Arriving;
@@ -23,8 +24,8 @@ use crate::machine::task::Task;
 use call_plan::Plans;
 use connect_codec::laws::timeout_law;
 use connect_codec::{Verdict, judge, target_path};
-use gateway_model::StepFault;
-use gateway_replies::{Asked, Contexts, Reply, ReplyHook, reply_to};
+use gateway_replies::{ArrivedCall, Contexts, Reply, ReplyHook, reply_to};
+use gateway_theory::StepFault;
 use http_pieces::{Refusal, Request};
 use std::alloc::{AllocError, Global};
 use std::collections::VecDeque;
@@ -49,7 +50,7 @@ impl Machine {
         requires heard { is_ended_peer (conn_at index self.old.conns).number contexts.old.conns ≡ self.old.drained }
         requires fresh { is_life (next_of (conn_at index self.old.conns)) contexts.old.calls ≡ false }
         requires linked { contexts.old ≡ linked self.old }
-        ensures made { IsMade index (Entering.Request request (arrival_of plans.now request)) begun.old self.old begun.new self.new result }
+        ensures made { IsMade index (Coming.Request request (arrival_of plans.now request)) begun.old self.old begun.new self.new result }
         ensures linked { contexts.new ≡ linked self.new }
     {
         let came = self.take_in(alloc, contexts, plans, index, request, begun);
@@ -70,7 +71,7 @@ impl Machine {
     ) -> Result<(), StepFault>
         requires there { index < length self.old.conns }
         requires linked { contexts.old ≡ linked self.old }
-        ensures ok { OnOk result (self.new ≡ entered_at index (arriving_at index (Entering.Refused refusal) self.old) self.old) }
+        ensures ok { OnOk result (self.new ≡ entered_at index (arriving_at index (Coming.Refused refusal) self.old) self.old) }
         ensures err { OnErr result (self.new ≡ broken_at (conn_at index self.old.conns).number self.old) }
         ensures fault { IfErr result (λ f. f ≡ fault.Memory) }
         ensures linked { contexts.new ≡ linked self.new }
@@ -99,7 +100,7 @@ impl Machine {
         requires fresh { is_life (next_of (conn_at index self.old.conns)) contexts.old.calls ≡ false }
         requires linked { contexts.old ≡ linked self.old }
         ensures ok { OnOk result (self.new
-            ≡ entered_at index (arriving_at index (Entering.Request request (arrival_of plans.now request)) self.old) self.old) }
+            ≡ entered_at index (arriving_at index (Coming.Request request (arrival_of plans.now request)) self.old) self.old) }
         ensures linked { OnOk result (contexts.new ≡ linked self.new) }
         ensures err { OnErr result (self.new ≡ self.old) }
         ensures others { OnErr result (IsLinkedBut (conn_at index self.old.conns).number contexts.new self.new) }
@@ -107,7 +108,7 @@ impl Machine {
         ensures grows { begun.old ≤ begun.new }
         ensures counts { begun.new + length self.old.calls ≡ begun.old + length self.new.calls }
         ensures few { begun.old < begun.new → begun.new ≤ most_begun }
-        ensures bound { begun.new ≤ begun.old + calls_in (Entering.Request request (arrival_of plans.now request)) }
+        ensures bound { begun.new ≤ begun.old + calls_in (Coming.Request request (arrival_of plans.now request)) }
     {
         match self.arriving(alloc, contexts, plans, index, request)? {
             Arriving::Answered(reply) => self.answer(index, reply)?,
@@ -121,7 +122,7 @@ impl Machine {
         &mut self,
         alloc: Global,
         index: usize,
-        asked: Asked,
+        asked: ArrivedCall,
         begun: &mut u64,
     ) -> Result<(), StepFault>
         requires { index < length self.old.conns }
@@ -155,7 +156,7 @@ impl Machine {
         requires fresh { is_life (next_of (conn_at index self.now.conns)) contexts.old.calls ≡ false }
         requires linked { contexts.old ≡ linked self.now }
         ensures ok { IfOk result (λ arriving. ComesTo arriving (next_of (conn_at index self.now.conns)) self.now.moment
-            (arriving_at index (Entering.Request request (arrival_of plans.now request)) self.now)) }
+            (arriving_at index (Coming.Request request (arrival_of plans.now request)) self.now)) }
         ensures contexts { IfOk result (λ arriving. ComesWith arriving (next_of (conn_at index self.now.conns)) contexts.old contexts.new) }
         ensures others { OnErr result (KeepsOthers (conn_at index self.now.conns).number contexts.old contexts.new) }
     {
@@ -170,7 +171,14 @@ impl Machine {
                 request_id,
             } => match plan {
                 Some(plan) => {
-                    let asked = Asked::new(alloc, plan, request, timeout, request_id, self.moment)?;
+                    let asked = ArrivedCall::new(
+                        alloc,
+                        plan,
+                        request,
+                        timeout,
+                        request_id,
+                        self.moment,
+                    )?;
                     self.asking(alloc, contexts, index, asked)
                 }
                 None => unreachable!(),
@@ -189,7 +197,7 @@ impl Machine {
         alloc: Global,
         contexts: &mut Contexts<H>,
         index: usize,
-        asked: Asked,
+        asked: ArrivedCall,
     ) -> Result<Arriving, AllocError>
         requires there { index < length self.now.conns }
         requires on { (conn_at index self.now.conns).broken ≡ false }
@@ -219,7 +227,7 @@ impl Machine {
     /// The stream of the connection at that place is refused.
     fn refuse(&mut self, alloc: Global, index: usize, refusal: Refusal) -> Result<(), StepFault>
         requires { index < length self.old.conns }
-        ensures ok { OnOk result (self.new ≡ entered_at index (arriving_at index (Entering.Refused refusal) self.old) self.old) }
+        ensures ok { OnOk result (self.new ≡ entered_at index (arriving_at index (Coming.Refused refusal) self.old) self.old) }
         ensures err { OnErr result (self.new ≡ self.old) }
         ensures fault { IfErr result (λ f. f ≡ fault.Memory) }
     {
@@ -243,7 +251,7 @@ impl Machine {
         &mut self,
         alloc: Global,
         index: usize,
-        asked: Asked,
+        asked: ArrivedCall,
     ) -> Result<(), AllocError>
         requires { index < length self.old.conns }
         ensures ok { OnOk result (self.new

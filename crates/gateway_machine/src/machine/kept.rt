@@ -2,20 +2,21 @@ ghost use Rattle.std.specs.Prelude.{◌≡◌, ℕ, OnOk, OnErr, true, false, if
 ghost use Rattle.std.specs.List.{count_by, list_any};
 ghost use Rattle.gateway_replies.specs.Contexts.{KeepsOthers, is_life, without};
 ghost use Rattle.gateway_machine.specs.KeptCall.{IsStep};
-ghost use Rattle.gateway_model.specs.Ends.{ended_call, ended_kept, unanswered, without_reply};
-ghost use Rattle.gateway_model.specs.Reply.{reply_with};
-ghost use Rattle.gateway_model.specs.Results.{back_kept, is_spent};
+ghost use Rattle.gateway_theory.specs.Ends.{ended_call, ended_kept, unanswered, without_reply};
+ghost use Rattle.gateway_theory.specs.Replies.{reply_with};
+ghost use Rattle.gateway_theory.specs.Results.{back_kept, is_spent};
 ghost use Rattle.gateway_model.specs.Past.{is_call};
-ghost use Rattle.gateway_model.specs.Store.{given_up_if, waiting_in};
-ghost use Rattle.gateway_model.specs.declared.fault.Seen.{Seen};
-ghost use Rattle.gateway_model.specs.Step.{has_out, next_out, result_on};
+ghost use Rattle.gateway_theory.specs.Store.{given_up_if, waiting_in};
+ghost use Rattle.gateway_model.specs.declared.seen.Seen.{Seen};
+ghost use Rattle.gateway_theory.specs.Step.{has_out, next_out, result_on};
 
 use crate::machine::live::Live;
 use crate::machine::task::Task;
 use connect_codec::Outcome;
 use err_group::Group;
-use gateway_model::{CallEvent, CallId, CallRecord, Cause, Seen};
+use gateway_model::{CallEvent, CallId, CallRecord, Seen};
 use gateway_replies::{Contexts, Reply, ReplyHook, reply_to};
+use gateway_theory::Cause;
 use std::alloc::{AllocError, Global};
 use std::marker::Model;
 
@@ -43,8 +44,8 @@ pub struct Taken {
 
 impl Model for Kept {
     ghost use Rattle.std.specs.Prelude.{◌≡◌, IfSome};
-    ghost use Rattle.gateway_model.specs.Conn.{entry_in};
-    ghost use Rattle.gateway_model.specs.Kept.{KeptValue};
+    ghost use Rattle.gateway_theory.specs.Conn.{entry_in};
+    ghost use Rattle.gateway_theory.specs.Kept.{KeptValue};
     ghost use Rattle.gateway_machine.specs.KeptCall.{kept_value, IsKept};
 
     ghost Value = { KeptValue };

@@ -5,14 +5,14 @@ ghost use Rattle.gateway_model.specs.Queue.{record_of};
 
 use call_plan::Plan;
 use gateway_model::{CallEvent, CallRecord};
-use gateway_replies::Asked;
+use gateway_replies::ArrivedCall;
 use std::marker::Model;
 use std::sync::Arc;
 
 /// A call that can still be decided.
 #[derive(Drop)]
 pub struct Live {
-    pub(crate) asked: Arc<Asked>,
+    pub(crate) asked: Arc<ArrivedCall>,
     /// The plan again, for the record.
     pub(crate) plan: Arc<Plan>,
     /// Its own events so far, all of them answers, and room for one of each branch.
@@ -24,7 +24,7 @@ impl Model for Live {
     ghost use Rattle.std.specs.Vec.{vec_capacity};
     ghost use Rattle.std.specs.Arc.{arc_value};
     ghost use Rattle.gateway_machine.specs.KeptCall.{LiveValue, live_value};
-    ghost use Rattle.gateway_model.specs.Past.{Asked as Asks};
+    ghost use Rattle.gateway_model.specs.Past.{ArrivedCall as Asks};
 
     ghost Value = { LiveValue };
 

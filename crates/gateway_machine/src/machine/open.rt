@@ -1,7 +1,7 @@
 ghost use Rattle.std.specs.Prelude.{◌≡◌, ◌<◌, ◌==◌, IfErr, IsTrue, None as Nothing, OnOk, OnErr, length, map, filter, not, is_some};
-ghost use Rattle.gateway_model.specs.Opens.{closed_at, opened_as, JobTaken, ReplyTaken};
+ghost use Rattle.gateway_theory.specs.Opens.{closed_at, opened_as, JobTaken, ReplyTaken};
 ghost use Rattle.gateway_machine.specs.Linked.{linked};
-ghost use Rattle.gateway_model.specs.Store.{call_at, conn_of};
+ghost use Rattle.gateway_theory.specs.Store.{call_at, conn_of};
 
 use crate::job::Job;
 use crate::machine::conn::Conn;

@@ -1,22 +1,23 @@
 ghost use Rattle.std.specs.Prelude.{◌≡◌, ◌+◌, ◌<◌, ◌≤◌, ◌++◌, None as Nothing, false, true, if◌then◌else◌, filter, length, map, not, option_to_list};
 ghost use Rattle.gateway_model.specs.Past.{is_call};
 ghost use Rattle.std.specs.VecDeque.{deque_capacity};
-ghost use Rattle.gateway_model.specs.Ends.{AreApart};
-ghost use Rattle.gateway_model.specs.Job.{job_at};
+ghost use Rattle.gateway_theory.specs.Ends.{AreApart};
+ghost use Rattle.gateway_theory.specs.Task.{job_at};
 ghost use Rattle.gateway_machine.specs.Linked.{IsLinkedWith, linked};
-ghost use Rattle.gateway_model.specs.Orderly.{IsOrderly};
-ghost use Rattle.gateway_model.specs.Results.{back_at, DecidedBy, Forgets, NoneSpent, ResultTaken, Starved};
-ghost use Rattle.gateway_model.specs.Step.{has_out};
-ghost use Rattle.gateway_model.specs.Store.{MachineValue, broken_at, kept_at};
-ghost use Rattle.gateway_model.specs.declared.fault.Seen.{Seen};
+ghost use Rattle.gateway_theory.specs.Orderly.{IsOrderly};
+ghost use Rattle.gateway_theory.specs.Results.{back_at, DecidedBy, Forgets, NoneSpent, ResultTaken, Starved};
+ghost use Rattle.gateway_theory.specs.Step.{has_out};
+ghost use Rattle.gateway_theory.specs.Store.{MachineValue, broken_at, kept_at};
+ghost use Rattle.gateway_model.specs.declared.seen.Seen.{Seen};
 
 use crate::job::Job;
 use crate::machine::kept::Kept;
 use crate::machine::store::Machine;
 use crate::machine::task::Task;
 use connect_codec::Outcome;
-use gateway_model::{CallId, CallRecord, Seen, Took};
+use gateway_model::{CallId, CallRecord, Seen};
 use gateway_replies::{Contexts, ReplyHook, reply_to};
+use gateway_theory::Took;
 use std::alloc::{AllocError, Global};
 use std::collections::VecDeque;
 

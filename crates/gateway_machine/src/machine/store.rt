@@ -1,17 +1,18 @@
 ghost use Rattle.std.specs.Prelude.{◌≡◌, ◌==◌, ◌<◌, false, not, true, length, map, []};
 ghost use Rattle.std.specs.List.{count_by};
-ghost use Rattle.gateway_model.specs.Gateway.{are_all_there};
+ghost use Rattle.gateway_theory.specs.Gateway.{are_all_there};
 ghost use Rattle.gateway_model.specs.Queue.{front};
-ghost use Rattle.gateway_model.specs.Ends.{is_stopped_in, noted};
+ghost use Rattle.gateway_theory.specs.Ends.{is_stopped_in, noted};
 ghost use Rattle.gateway_replies.specs.Contexts.{closed};
-ghost use Rattle.gateway_model.specs.Step.{moment_after};
-ghost use Rattle.gateway_model.specs.Store.{IsFound, call_at, conn_at, broken_at, broken_count, broken_if, given_up_if, fill_first, filled_in, hung_if, machine_value};
+ghost use Rattle.gateway_theory.specs.Step.{moment_after};
+ghost use Rattle.gateway_theory.specs.Store.{IsFound, call_at, conn_at, broken_at, broken_count, broken_if, given_up_if, fill_first, filled_in, hung_if, machine_value};
 
 use crate::job::Job;
 use crate::machine::conn::Conn;
 use crate::machine::kept::Kept;
-use gateway_model::{CallId, Cause};
+use gateway_model::CallId;
 use gateway_replies::{Contexts, Reply, ReplyHook};
+use gateway_theory::Cause;
 use std::alloc::Global;
 use std::collections::VecDeque;
 use std::marker::Model;
@@ -35,7 +36,7 @@ pub struct Machine {
 impl Model for Machine {
     ghost use Rattle.std.specs.Prelude.{◌+◌, ◌≤◌, ◌^◌, map, length};
     ghost use Rattle.std.specs.VecDeque.{deque_capacity};
-    ghost use Rattle.gateway_model.specs.Store.{MachineValue, machine_value, waiting};
+    ghost use Rattle.gateway_theory.specs.Store.{MachineValue, machine_value, waiting};
 
     ghost Value = { MachineValue };
 
@@ -86,7 +87,7 @@ impl Machine {
     }
 
     /// Whether the connection of that number is open and broken.
-    #[tactic(auto, using(gateway_model::specs::lemmas::StoreLemmas::none_stopped))]
+    #[tactic(auto, using(gateway_theory::specs::lemmas::StoreLemmas::none_stopped))]
     pub(crate) fn is_stopped(&self, number: u64) -> bool
         ensures { result ≡ is_stopped_in number self.now.conns }
     {

@@ -1,9 +1,10 @@
 ghost use Rattle.std.specs.Prelude.{◌≡◌};
 ghost use Rattle.std.specs.Arc.{arc_value};
-ghost use Rattle.gateway_model.specs.Job.{left_at, task_of};
+ghost use Rattle.gateway_model.specs.Job.{left_at};
+ghost use Rattle.gateway_theory.specs.Task.{task_of};
 
 use gateway_model::CallId;
-use gateway_replies::Asked;
+use gateway_replies::ArrivedCall;
 use std::marker::Model;
 use std::sync::Arc;
 
@@ -12,13 +13,13 @@ use std::sync::Arc;
 pub struct Task {
     pub(crate) call: CallId,
     pub(crate) branch: u32,
-    pub(crate) asked: Arc<Asked>,
+    pub(crate) asked: Arc<ArrivedCall>,
 }
 
 impl Model for Task {
     ghost use Rattle.std.specs.Prelude.{◌<◌, length};
     ghost use Rattle.std.specs.Arc.{arc_value};
-    ghost use Rattle.gateway_model.specs.Job.{TaskValue, task_of};
+    ghost use Rattle.gateway_theory.specs.Task.{TaskValue, task_of};
 
     ghost Value = { TaskValue };
 

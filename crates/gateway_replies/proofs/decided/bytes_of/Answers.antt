@@ -1,6 +1,6 @@
 use Rattle.std.proofs.Common.{subst, sym}
 use Rattle.gateway_replies.specs.Contexts.{KeepsOthers}
-use Rattle.gateway_model.specs.lemmas.Cases.{err_if}
+use Rattle.gateway_theory.specs.lemmas.Cases.{err_if}
 use Rattle.gateway_replies.proofs.ContextLemmas.{without_others}
 use Rattle.gateway_replies.proofs.decided.bytes_of.Goals as goal
 

@@ -1,6 +1,6 @@
 use Rattle.std.proofs.Common.{List, ℕ, Option, ap, ◌∙◌}
 use Rattle.std.specs.Option.{unwrap_or}
-use Rattle.gateway_model.specs.lemmas.ReplyLemmas.{later_step}
+use Rattle.gateway_theory.specs.lemmas.ReplyLemmas.{later_step}
 use Rattle.gateway_replies.proofs.joined.answer_of.Goals as goal
 use Rattle.gateway_replies.proofs.joined.answer_of.Goals.{in-Some+in_ok-answer, in_default}
 

@@ -1,23 +1,25 @@
-use Rattle.std.specs.Prelude.{◌==◌}
+use Rattle.std.specs.Prelude.{◌==◌, ◌&&◌}
 use Rattle.std.proofs.Common.{ap, ◌∙◌, ◌≡◌, true, false, refl, [], ◌∷◌, length, ◌<◌, sym, subst}
-use Rattle.gateway_model.specs.Events.{is_closing_of, BranchResult, Closing, Drain, HangUp, Moment, Opening, Piece, most_open, open_connections}
-use Rattle.gateway_model.specs.Served.{Served}
-use Rattle.gateway_model.specs.Serving.{BreaksBy, KeepsBut, TellsStep}
+use Rattle.gateway_model.specs.Events.{is_closing_of, listens, most_open, open_connections}
+use Rattle.gateway_model.specs.declared.event.Event.TheVariants.{BranchResult, Closing, Drain, HangUp, Moment, Opening, Piece}
+use Rattle.gateway_theory.specs.Served.{Served}
+use Rattle.gateway_theory.specs.Told.{TellsTook}
+use Rattle.gateway_theory.specs.Serving.{BreaksBy, KeepsBut, TellsStep}
 use Rattle.gateway_model.specs.Occurrence as occurs
 use Rattle.gateway_model.specs.Past.{call_id}
-use Rattle.gateway_run.specs.Run.{gateway_event}
 use Rattle.gateway_run.specs.Stepping.{BreaksAt, Tells, TellsBreaks, TellsConn, TellsOpening, opened_by, seen_in}
 use Rattle.gateway_run.specs.declared.stepping.Stepped.TheVariants.{Done, Saw}
-use Rattle.gateway_run.proofs.Starting.{breaks_told, by_done, by_opening, by_taken, conn_told, few_told, keeps_closing, keeps_for, none_done, none_opening, none_taken, opening_told}
+use Rattle.gateway_run.proofs.Hearing.{has_effect}
+use Rattle.gateway_run.proofs.Starting.{breaks_told, by_done, by_opening, by_taken, conn_told, few_told, keeps_closing, keeps_for, none_begins, none_done, none_opening, none_taken, opening_told}
 use Rattle.gateway_run.proofs.stepping.step.Goals as goal
 
 pub returns-in-Some-clause-stands : goal.returns-in-Some-clause-stands
 returns-in-Some-clause-stands g c = λ opened es taken handed h.
-    subst (λ e. Served c.open_conn.new.self (opened_by c.opened.result (length es) opened) (gateway_event e ∷ es) taken handed) (sym c.in-Opening.is)
+    subst (λ e. Served c.open_conn.new.self (opened_by c.opened.result (length es) opened) (e ∷ es) taken handed) (sym c.in-Opening.is)
     (by_opening (λ o. Served c.open_conn.new.self o (Opening ∷ es) taken handed) c.open_conn.result c.opened.result (length es) opened c.opened.ensures (c.open_conn.ensures.stands opened es taken handed h))
 
 pub returns-in-Some-clause-tells : goal.returns-in-Some-clause-tells
-returns-in-Some-clause-tells g c = subst (λ e. Tells (gateway_event e) c.opened.result c.args.core.now c.open_conn.new.self) (sym c.in-Opening.is)
+returns-in-Some-clause-tells g c = subst (λ e. Tells e c.opened.result c.args.core.now c.open_conn.new.self) (sym c.in-Opening.is)
     (subst (λ s. TellsOpening s c.args.core.now c.open_conn.new.self) (sym c.opened.ensures)
     (opening_told _ c.open_conn.result c.args.core.now c.open_conn.new.self c.open_conn.ensures.number c.open_conn.ensures.refused c.open_conn.ensures.unchanged))
 
@@ -27,119 +29,123 @@ returns-in-Some-clause-few g c = λ conn opened es taken handed told h.
 
 pub returns-in-Piece-clause-stands : goal.returns-in-Piece-clause-stands
 returns-in-Piece-clause-stands g c = λ opened es taken handed h.
-    subst (λ e. Served c.deliver.new.core (opened_by c.done.result (length es) opened) (gateway_event e ∷ es) taken handed) (sym c.in-Piece.is)
+    subst (λ e. Served c.deliver.new.core (opened_by c.done.result (length es) opened) (e ∷ es) taken handed) (sym c.in-Piece.is)
     (subst (λ o. Served c.deliver.new.core o (Piece c.in-Piece.conn c.in-Piece.bytes ∷ es) taken handed) (sym (by_done c.deliver.result c.done.result (length es) opened c.done.ensures))
     (subst (λ n. Served c.deliver.new.core opened (Piece n c.in-Piece.bytes ∷ es) taken handed) c.of.ensures
     (subst (λ bytes. Served c.deliver.new.core opened (Piece c.of.result bytes ∷ es) taken handed) c.as_slice.ensures (c.deliver.ensures.stands opened es taken handed h))))
 
 pub returns-in-HangUp-clause-stands : goal.returns-in-HangUp-clause-stands
 returns-in-HangUp-clause-stands g c = λ opened es taken handed h.
-    subst (λ e. Served c.hang_up.new.self (opened_by c.done-in-HangUp.result (length es) opened) (gateway_event e ∷ es) taken handed) (sym c.in-HangUp.is)
+    subst (λ e. Served c.hang_up.new.self (opened_by c.done-in-HangUp.result (length es) opened) (e ∷ es) taken handed) (sym c.in-HangUp.is)
     (subst (λ o. Served c.hang_up.new.self o (HangUp c.in-HangUp.conn ∷ es) taken handed) (sym (by_done c.hang_up.result c.done-in-HangUp.result (length es) opened c.done-in-HangUp.ensures))
     (subst (λ n. Served c.hang_up.new.self opened (HangUp n ∷ es) taken handed) c.of-in-HangUp.ensures (c.hang_up.ensures.stands opened es taken handed h)))
 
 pub returns-in-Moment-clause-stands : goal.returns-in-Moment-clause-stands
 returns-in-Moment-clause-stands g c = λ opened es taken handed h.
-    subst (λ e. Served c.moment.new.self (opened_by c.taken.result (length es) opened) (gateway_event e ∷ es) taken handed) (sym c.in-Moment.is)
+    subst (λ e. Served c.moment.new.self (opened_by c.taken.result (length es) opened) (e ∷ es) taken handed) (sym c.in-Moment.is)
     (subst (λ o. Served c.moment.new.self o (Moment c.in-Moment.moment ∷ es) taken handed) (sym (by_taken c.moment.result c.taken.result (length es) opened c.taken.ensures)) (c.moment.ensures.stands opened es taken handed h))
 
 pub returns-in-BranchResult-clause-stands : goal.returns-in-BranchResult-clause-stands
 returns-in-BranchResult-clause-stands g c = λ opened es taken handed h.
-    subst (λ e. Served c.result.new.self opened (gateway_event e ∷ es) taken handed) (sym c.in-BranchResult.is)
+    subst (λ e. Served c.result.new.self opened (e ∷ es) taken handed) (sym c.in-BranchResult.is)
     (subst (λ n. Served c.result.new.self opened (BranchResult n c.in-BranchResult.request c.in-BranchResult.branch c.in-BranchResult.outcome ∷ es) taken handed) c.of-in-BranchResult.ensures
     (c.result.ensures.stands opened es taken handed h))
 
 pub returns-in-Drain-clause-stands : goal.returns-in-Drain-clause-stands
 returns-in-Drain-clause-stands g c = λ opened es taken handed h.
-    subst (λ e. Served c.drain.new.self (opened_by c.taken-in-Drain.result (length es) opened) (gateway_event e ∷ es) taken handed) (sym c.in-Drain.is)
+    subst (λ e. Served c.drain.new.self (opened_by c.taken-in-Drain.result (length es) opened) (e ∷ es) taken handed) (sym c.in-Drain.is)
     (subst (λ o. Served c.drain.new.self o (Drain ∷ es) taken handed) (sym (by_taken c.drain.result c.taken-in-Drain.result (length es) opened c.taken-in-Drain.ensures)) (c.drain.ensures.stands opened es taken handed h))
 
 pub returns-in-Closing-clause-stands : goal.returns-in-Closing-clause-stands
 returns-in-Closing-clause-stands g c = λ opened es taken handed h.
-    subst (λ e. Served c.close.new.self opened (gateway_event e ∷ es) taken handed) (sym c.in-Closing.is)
+    subst (λ e. Served c.close.new.self opened (e ∷ es) taken handed) (sym c.in-Closing.is)
     (subst (λ n. Served c.close.new.self opened (Closing n ∷ es) taken handed) c.of-in-Closing.ensures (c.close.ensures.stands opened es taken handed h))
 
 pub returns-in-Piece-clause-tells : goal.returns-in-Piece-clause-tells
-returns-in-Piece-clause-tells g c = subst (λ e. Tells (gateway_event e) c.done.result c.args.core.now c.deliver.new.core) (sym c.in-Piece.is)
+returns-in-Piece-clause-tells g c = subst (λ e. Tells e c.done.result c.args.core.now c.deliver.new.core) (sym c.in-Piece.is)
     (subst (λ s. TellsConn c.in-Piece.conn s c.args.core.now c.deliver.new.core) (sym c.done.ensures) (conn_told _ c.in-Piece.conn c.deliver.result c.deliver.new.core c.args.core.now (subst (λ n. TellsStep n c.args.core.now c.deliver.new.core c.deliver.result) c.of.ensures c.deliver.ensures.tells)))
 
 pub returns-in-HangUp-clause-tells : goal.returns-in-HangUp-clause-tells
-returns-in-HangUp-clause-tells g c = subst (λ e. Tells (gateway_event e) c.done-in-HangUp.result c.args.core.now c.hang_up.new.self) (sym c.in-HangUp.is)
-    (subst (λ s. TellsConn c.in-HangUp.conn s c.args.core.now c.hang_up.new.self) (sym c.done-in-HangUp.ensures) (conn_told _ c.in-HangUp.conn c.hang_up.result c.hang_up.new.self c.args.core.now (subst (λ n. TellsStep n c.args.core.now c.hang_up.new.self c.hang_up.result) c.of-in-HangUp.ensures c.hang_up.ensures.tells)))
+returns-in-HangUp-clause-tells g c = subst (λ e. Tells e c.done-in-HangUp.result c.args.core.now c.hang_up.new.self) (sym c.in-HangUp.is) (
+  subst (λ s. TellsConn c.in-HangUp.conn s c.args.core.now c.hang_up.new.self) (sym c.done-in-HangUp.ensures) (conn_told _ c.in-HangUp.conn c.hang_up.result c.hang_up.new.self c.args.core.now (subst (λ n. TellsStep n c.args.core.now c.hang_up.new.self c.hang_up.result) c.of-in-HangUp.ensures c.hang_up.ensures.tells)),
+  λ is. none_begins c.hang_up.result c.hang_up.ensures.begins (sym c.done-in-HangUp.ensures ∙ is),
+)
 
 pub returns-in-Moment-clause-tells : goal.returns-in-Moment-clause-tells
-returns-in-Moment-clause-tells g c = subst (λ e. Tells (gateway_event e) c.taken.result c.args.core.now c.moment.new.self) (sym c.in-Moment.is)
+returns-in-Moment-clause-tells g c = subst (λ e. Tells e c.taken.result c.args.core.now c.moment.new.self) (sym c.in-Moment.is)
     (subst (λ s. TellsBreaks s c.args.core.now c.moment.new.self) (sym c.taken.ensures) (breaks_told _ c.moment.result c.args.core.now c.moment.new.self c.moment.ensures.broke))
 
 pub returns-in-BranchResult-clause-tells : goal.returns-in-BranchResult-clause-tells
-returns-in-BranchResult-clause-tells g c = subst (λ e. Tells (gateway_event e) (Saw c.result.result) c.args.core.now c.result.new.self) (sym c.in-BranchResult.is)
-    (c.result.ensures.counted, c.result.ensures.broke)
+returns-in-BranchResult-clause-tells g c = subst (λ e. Tells e (Saw c.result.result) c.args.core.now c.result.new.self) (sym c.in-BranchResult.is)
+    (subst (λ m. TellsTook (call_id m c.in-BranchResult.request) c.in-BranchResult.branch c.in-BranchResult.outcome c.result.result c.args.core.now c.result.new.self) c.of-in-BranchResult.ensures c.result.ensures.tells)
 
 pub returns-in-Drain-clause-tells : goal.returns-in-Drain-clause-tells
-returns-in-Drain-clause-tells g c = subst (λ e. Tells (gateway_event e) c.taken-in-Drain.result c.args.core.now c.drain.new.self) (sym c.in-Drain.is)
+returns-in-Drain-clause-tells g c = subst (λ e. Tells e c.taken-in-Drain.result c.args.core.now c.drain.new.self) (sym c.in-Drain.is)
     (subst (λ s. TellsBreaks s c.args.core.now c.drain.new.self) (sym c.taken-in-Drain.ensures) (breaks_told _ c.drain.result c.args.core.now c.drain.new.self c.drain.ensures.broke))
 
 pub returns-in-Closing-clause-tells : goal.returns-in-Closing-clause-tells
-returns-in-Closing-clause-tells g c = subst (λ e. Tells (gateway_event e) Done c.args.core.now c.close.new.self) (sym c.in-Closing.is)
+returns-in-Closing-clause-tells g c = subst (λ e. Tells e Done c.args.core.now c.close.new.self) (sym c.in-Closing.is)
     (refl)
 
 pub returns-in-Some-clause-concerned : goal.returns-in-Some-clause-concerned
-returns-in-Some-clause-concerned g c = subst (λ e. BreaksAt (gateway_event e) c.args.core.now c.open_conn.new.self) (sym c.in-Opening.is)
+returns-in-Some-clause-concerned g c = subst (λ e. BreaksAt e c.args.core.now c.open_conn.new.self) (sym c.in-Opening.is)
     (λ opened es taken handed occurred h o n now before. c.open_conn.ensures.keeps.broken_are n now before)
 
 pub returns-in-Some-clause-keeps : goal.returns-in-Some-clause-keeps
-returns-in-Some-clause-keeps g c = subst (λ e. KeepsBut (λ n. is_closing_of n (gateway_event e)) (λ n. true) (seen_in c.opened.result) c.args.core.now c.open_conn.new.self) (sym c.in-Opening.is)
+returns-in-Some-clause-keeps g c = subst (λ e. KeepsBut (λ n. is_closing_of n e) (λ n. true) (seen_in c.opened.result) c.args.core.now c.open_conn.new.self) (sym c.in-Opening.is)
     (subst (λ seen. KeepsBut (λ n. is_closing_of n (Opening)) (λ n. true) seen c.args.core.now c.open_conn.new.self) (sym (none_opening c.open_conn.result c.opened.result c.opened.ensures))
     (keeps_for (λ n. is_closing_of n (Opening)) (λ n. false) [] c.args.core.now c.open_conn.new.self c.open_conn.ensures.keeps))
 
 pub returns-in-Piece-clause-concerned : goal.returns-in-Piece-clause-concerned
-returns-in-Piece-clause-concerned g c = subst (λ e. BreaksAt (gateway_event e) c.args.core.now c.deliver.new.core) (sym c.in-Piece.is)
-    (λ opened es taken handed occurred h o n now before. ap (λ m. n == m) (sym c.of.ensures) ∙ c.deliver.ensures.keeps.broken_are n now before)
+returns-in-Piece-clause-concerned g c = subst (λ e. BreaksAt e c.args.core.now c.deliver.new.core) (sym c.in-Piece.is)
+    (λ opened es taken handed occurred h o n now before. subst (λ m. ((n == m) && listens opened m es) ≡ true) c.of.ensures
+    (has_effect c.of.result n c.args.core.now c.deliver.new.core c.deliver.result opened es h.conns c.deliver.ensures.tells (c.deliver.ensures.keeps.broken_are n now before) now before))
 
 pub returns-in-Piece-clause-keeps : goal.returns-in-Piece-clause-keeps
-returns-in-Piece-clause-keeps g c = subst (λ e. KeepsBut (λ n. is_closing_of n (gateway_event e)) (λ n. true) (seen_in c.done.result) c.args.core.now c.deliver.new.core) (sym c.in-Piece.is)
+returns-in-Piece-clause-keeps g c = subst (λ e. KeepsBut (λ n. is_closing_of n e) (λ n. true) (seen_in c.done.result) c.args.core.now c.deliver.new.core) (sym c.in-Piece.is)
     (subst (λ seen. KeepsBut (λ n. is_closing_of n (Piece c.in-Piece.conn c.in-Piece.bytes)) (λ n. true) seen c.args.core.now c.deliver.new.core) (sym (none_done c.deliver.result c.done.result c.done.ensures))
     (keeps_for (λ n. is_closing_of n (Piece c.in-Piece.conn c.in-Piece.bytes)) (λ n. n == c.of.result) [] c.args.core.now c.deliver.new.core c.deliver.ensures.keeps))
 
 pub returns-in-HangUp-clause-concerned : goal.returns-in-HangUp-clause-concerned
-returns-in-HangUp-clause-concerned g c = subst (λ e. BreaksAt (gateway_event e) c.args.core.now c.hang_up.new.self) (sym c.in-HangUp.is)
-    (λ opened es taken handed occurred h o n now before. ap (λ m. n == m) (sym c.of-in-HangUp.ensures) ∙ c.hang_up.ensures.keeps.broken_are n now before)
+returns-in-HangUp-clause-concerned g c = subst (λ e. BreaksAt e c.args.core.now c.hang_up.new.self) (sym c.in-HangUp.is)
+    (λ opened es taken handed occurred h o n now before. subst (λ m. ((n == m) && listens opened m es) ≡ true) c.of-in-HangUp.ensures
+    (has_effect c.of-in-HangUp.result n c.args.core.now c.hang_up.new.self c.hang_up.result opened es h.conns c.hang_up.ensures.tells (c.hang_up.ensures.keeps.broken_are n now before) now before))
 
 pub returns-in-HangUp-clause-keeps : goal.returns-in-HangUp-clause-keeps
-returns-in-HangUp-clause-keeps g c = subst (λ e. KeepsBut (λ n. is_closing_of n (gateway_event e)) (λ n. true) (seen_in c.done-in-HangUp.result) c.args.core.now c.hang_up.new.self) (sym c.in-HangUp.is)
+returns-in-HangUp-clause-keeps g c = subst (λ e. KeepsBut (λ n. is_closing_of n e) (λ n. true) (seen_in c.done-in-HangUp.result) c.args.core.now c.hang_up.new.self) (sym c.in-HangUp.is)
     (subst (λ seen. KeepsBut (λ n. is_closing_of n (HangUp c.in-HangUp.conn)) (λ n. true) seen c.args.core.now c.hang_up.new.self) (sym (none_done c.hang_up.result c.done-in-HangUp.result c.done-in-HangUp.ensures))
     (keeps_for (λ n. is_closing_of n (HangUp c.in-HangUp.conn)) (λ n. n == c.of-in-HangUp.result) [] c.args.core.now c.hang_up.new.self c.hang_up.ensures.keeps))
 
 pub returns-in-Moment-clause-concerned : goal.returns-in-Moment-clause-concerned
-returns-in-Moment-clause-concerned g c = subst (λ e. BreaksAt (gateway_event e) c.args.core.now c.moment.new.self) (sym c.in-Moment.is)
+returns-in-Moment-clause-concerned g c = subst (λ e. BreaksAt e c.args.core.now c.moment.new.self) (sym c.in-Moment.is)
     (c.moment.ensures.concerned)
 
 pub returns-in-Moment-clause-keeps : goal.returns-in-Moment-clause-keeps
-returns-in-Moment-clause-keeps g c = subst (λ e. KeepsBut (λ n. is_closing_of n (gateway_event e)) (λ n. true) (seen_in c.taken.result) c.args.core.now c.moment.new.self) (sym c.in-Moment.is)
+returns-in-Moment-clause-keeps g c = subst (λ e. KeepsBut (λ n. is_closing_of n e) (λ n. true) (seen_in c.taken.result) c.args.core.now c.moment.new.self) (sym c.in-Moment.is)
     (subst (λ seen. KeepsBut (λ n. is_closing_of n (Moment c.in-Moment.moment)) (λ n. true) seen c.args.core.now c.moment.new.self) (sym (none_taken c.moment.result c.taken.result c.taken.ensures))
     (keeps_for (λ n. is_closing_of n (Moment c.in-Moment.moment)) (λ n. true) [] c.args.core.now c.moment.new.self c.moment.ensures.keeps))
 
 pub returns-in-BranchResult-clause-concerned : goal.returns-in-BranchResult-clause-concerned
-returns-in-BranchResult-clause-concerned g c = subst (λ e. BreaksAt (gateway_event e) c.args.core.now c.result.new.self) (sym c.in-BranchResult.is)
-    (subst (λ m. BreaksBy (occurs.Result (call_id m c.in-BranchResult.request) c.in-BranchResult.branch c.in-BranchResult.outcome) c.args.core.now c.result.new.self) c.of-in-BranchResult.ensures c.result.ensures.concerned)
+returns-in-BranchResult-clause-concerned g c = subst (λ e. BreaksAt e c.args.core.now c.result.new.self) (sym c.in-BranchResult.is)
+    (subst (λ m. BreaksBy (occurs.Result (call_id m c.in-BranchResult.request) c.in-BranchResult.branch c.in-BranchResult.outcome) c.args.core.now c.result.new.self) c.of-in-BranchResult.ensures c.result.ensures.tells.concerned)
 
 pub returns-in-BranchResult-clause-keeps : goal.returns-in-BranchResult-clause-keeps
-returns-in-BranchResult-clause-keeps g c = subst (λ e. KeepsBut (λ n. is_closing_of n (gateway_event e)) (λ n. true) (c.result.result.seen ∷ []) c.args.core.now c.result.new.self) (sym c.in-BranchResult.is)
+returns-in-BranchResult-clause-keeps g c = subst (λ e. KeepsBut (λ n. is_closing_of n e) (λ n. true) (c.result.result.seen ∷ []) c.args.core.now c.result.new.self) (sym c.in-BranchResult.is)
     (keeps_for (λ n. is_closing_of n (BranchResult c.in-BranchResult.conn c.in-BranchResult.request c.in-BranchResult.branch c.in-BranchResult.outcome)) (λ n. n == c.of-in-BranchResult.result) (c.result.result.seen ∷ []) c.args.core.now c.result.new.self c.result.ensures.keeps)
 
 pub returns-in-Drain-clause-concerned : goal.returns-in-Drain-clause-concerned
-returns-in-Drain-clause-concerned g c = subst (λ e. BreaksAt (gateway_event e) c.args.core.now c.drain.new.self) (sym c.in-Drain.is)
+returns-in-Drain-clause-concerned g c = subst (λ e. BreaksAt e c.args.core.now c.drain.new.self) (sym c.in-Drain.is)
     (c.drain.ensures.concerned)
 
 pub returns-in-Drain-clause-keeps : goal.returns-in-Drain-clause-keeps
-returns-in-Drain-clause-keeps g c = subst (λ e. KeepsBut (λ n. is_closing_of n (gateway_event e)) (λ n. true) (seen_in c.taken-in-Drain.result) c.args.core.now c.drain.new.self) (sym c.in-Drain.is)
+returns-in-Drain-clause-keeps g c = subst (λ e. KeepsBut (λ n. is_closing_of n e) (λ n. true) (seen_in c.taken-in-Drain.result) c.args.core.now c.drain.new.self) (sym c.in-Drain.is)
     (subst (λ seen. KeepsBut (λ n. is_closing_of n (Drain)) (λ n. true) seen c.args.core.now c.drain.new.self) (sym (none_taken c.drain.result c.taken-in-Drain.result c.taken-in-Drain.ensures))
     (keeps_for (λ n. is_closing_of n (Drain)) (λ n. true) [] c.args.core.now c.drain.new.self c.drain.ensures.keeps))
 
 pub returns-in-Closing-clause-concerned : goal.returns-in-Closing-clause-concerned
-returns-in-Closing-clause-concerned g c = subst (λ e. BreaksAt (gateway_event e) c.args.core.now c.close.new.self) (sym c.in-Closing.is)
+returns-in-Closing-clause-concerned g c = subst (λ e. BreaksAt e c.args.core.now c.close.new.self) (sym c.in-Closing.is)
     (λ opened es taken handed occurred h o n now before. c.close.ensures.keeps.broken_are n now before)
 
 pub returns-in-Closing-clause-keeps : goal.returns-in-Closing-clause-keeps
-returns-in-Closing-clause-keeps g c = subst (λ e. KeepsBut (λ n. is_closing_of n (gateway_event e)) (λ n. true) [] c.args.core.now c.close.new.self) (sym c.in-Closing.is)
+returns-in-Closing-clause-keeps g c = subst (λ e. KeepsBut (λ n. is_closing_of n e) (λ n. true) [] c.args.core.now c.close.new.self) (sym c.in-Closing.is)
     (keeps_closing c.in-Closing.conn c.args.core.now c.close.new.self (subst (λ m. KeepsBut (λ n. n == m) (λ n. false) [] c.args.core.now c.close.new.self) c.of-in-Closing.ensures c.close.ensures.keeps))

@@ -1,7 +1,7 @@
 use Rattle.std.proofs.Common.{◌≡◌, ◌∙◌, length, sym, ap, subst}
 use Rattle.std.specs.Prelude.{nat_lt}
 use Rattle.gateway_run.specs.Log.{HasRun, LogValue, log_value}
-use Rattle.gateway_run.specs.Run.{newest_first}
+use Rattle.gateway_model.specs.Run.{newest_first}
 use Rattle.gateway_run.proofs.Finally.{run_first, run_is}
 use Rattle.gateway_run.proofs.whole.whole_run.Goals as goal
 

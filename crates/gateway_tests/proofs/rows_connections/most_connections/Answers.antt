@@ -1,5 +1,5 @@
 use Rattle.std.proofs.Common.{refl, lit<, [], replicate}
-use Rattle.gateway_model.specs.Events.{Opening}
+use Rattle.gateway_model.specs.declared.event.Event.TheVariants.{Opening}
 use Rattle.gateway_tests.proofs.RunLemmas.{none_beside_64}
 use Rattle.gateway_tests.proofs.rows_connections.most_connections.Goals as goal
 

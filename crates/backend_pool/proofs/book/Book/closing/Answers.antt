@@ -1,6 +1,7 @@
-use Rattle.std.proofs.Common.{[], refl, arith}
-use Rattle.gateway_model.specs.Events.{Closing}
-use Rattle.backend_pool.proofs.BookLemmas.{reached_by, takes_event}
+use Rattle.std.proofs.Common.{[], refl, arith, false, true, ◌∷◌}
+use Rattle.gateway_model.specs.declared.event.Event.TheVariants.{Closing}
+use Rattle.backend_pool.proofs.BookLemmas.{reached_by, takes_event, core_keeps}
+use Rattle.std.specs.Prelude.{◌==◌}
 use Rattle.backend_pool.proofs.book.Book.closing.Goals as goal
 
 pub invariant_of-self : goal.invariant_of-self
@@ -13,3 +14,8 @@ returns-clause-stands g c =
     let book = c.self.inside in
     takes_event (Closing c.args.conn) c.args.self.now book.core c.close.new.self book.bytes book.jobs book.results book.bytes book.results c.self.view_is c.close.ensures.stands ([], refl, c.close.ensures.keeps.tally_is) (omega arith)
     (omega arith)
+
+pub returns-clause-keeps : goal.returns-clause-keeps
+returns-clause-keeps g c =
+    let book = c.self.inside in
+    core_keeps (λ n. n == c.args.conn) (λ n. false) [] c.args.self.now book.core c.close.new.self book.bytes book.jobs book.results c.self.view_is c.close.ensures.keeps

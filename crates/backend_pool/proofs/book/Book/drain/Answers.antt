@@ -1,9 +1,9 @@
-use Rattle.std.proofs.Common.{[], refl, arith, subst}
-use Rattle.gateway_model.specs.Events.{Drain}
+use Rattle.std.proofs.Common.{[], refl, arith, subst, false, true, ◌∷◌}
+use Rattle.gateway_model.specs.declared.event.Event.TheVariants.{Drain}
 use Rattle.gateway_model.specs.Occurrence as concerning
-use Rattle.gateway_model.specs.Serving.{BreaksBy}
+use Rattle.gateway_theory.specs.Serving.{BreaksBy}
 use Rattle.backend_pool.specs.Book.{BookValue}
-use Rattle.backend_pool.proofs.BookLemmas.{reached_by, takes_event}
+use Rattle.backend_pool.proofs.BookLemmas.{reached_by, takes_event, core_keeps}
 use Rattle.backend_pool.proofs.book.Book.drain.Goals as goal
 
 pub invariant_of-self : goal.invariant_of-self
@@ -19,3 +19,8 @@ returns-clause-stands g c =
 
 pub returns-clause-concerned : goal.returns-clause-concerned
 returns-clause-concerned g c = subst (λ (x : BookValue). BreaksBy concerning.Drain x.core c.drain.new.self) c.self.view_is c.drain.ensures.concerned
+
+pub returns-clause-keeps : goal.returns-clause-keeps
+returns-clause-keeps g c =
+    let book = c.self.inside in
+    core_keeps (λ n. false) (λ n. true) [] c.args.self.now book.core c.drain.new.self book.bytes book.jobs book.results c.self.view_is c.drain.ensures.keeps

@@ -1,5 +1,5 @@
-use Rattle.std.proofs.Common.{[], refl}
-use Rattle.backend_pool.proofs.BookLemmas.{book_opens, reached_by_opening, served_in}
+use Rattle.std.proofs.Common.{[], refl, false, true, ◌∷◌}
+use Rattle.backend_pool.proofs.BookLemmas.{book_opens, reached_by_opening, served_in, core_keeps}
 use Rattle.backend_pool.proofs.book.Book.opening.Goals as goal
 
 pub invariant_of-self : goal.invariant_of-self
@@ -16,3 +16,8 @@ pub returns-clause-few : goal.returns-clause-few
 returns-clause-few g c = λ opened es taken handed h.
     let book = c.self.inside in
     c.open_conn.ensures.few opened es taken handed (served_in c.args.self.now book.core book.bytes book.jobs book.results opened es taken handed c.self.view_is h)
+
+pub returns-clause-keeps : goal.returns-clause-keeps
+returns-clause-keeps g c =
+    let book = c.self.inside in
+    core_keeps (λ n. false) (λ n. false) [] c.args.self.now book.core c.open_conn.new.self book.bytes book.jobs book.results c.self.view_is c.open_conn.ensures.keeps

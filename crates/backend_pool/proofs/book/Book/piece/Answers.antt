@@ -1,6 +1,7 @@
-use Rattle.std.proofs.Common.{[], refl, arith}
-use Rattle.gateway_model.specs.Events.{Piece}
-use Rattle.backend_pool.proofs.BookLemmas.{reached_by, takes_event}
+use Rattle.std.proofs.Common.{[], refl, arith, false, true, ◌∷◌}
+use Rattle.gateway_model.specs.declared.event.Event.TheVariants.{Piece}
+use Rattle.backend_pool.proofs.BookLemmas.{reached_by, takes_event, core_keeps}
+use Rattle.std.specs.Prelude.{◌==◌}
 use Rattle.backend_pool.proofs.book.Book.piece.Goals as goal
 
 pub invariant_of-self : goal.invariant_of-self
@@ -14,3 +15,8 @@ returns-clause-stands g c =
     let book = c.self.inside in
     takes_event (Piece c.args.conn c.args.bytes.now) c.args.self.now book.core c.deliver.new.core book.bytes book.jobs book.results c.add.new.self book.results c.self.view_is
     c.deliver.ensures.stands ([], refl, c.deliver.ensures.keeps.tally_is) (omega arith) (omega arith)
+
+pub returns-clause-keeps : goal.returns-clause-keeps
+returns-clause-keeps g c =
+    let book = c.self.inside in
+    core_keeps (λ n. false) (λ n. n == c.args.conn) [] c.args.self.now book.core c.deliver.new.core book.bytes book.jobs book.results c.self.view_is c.deliver.ensures.keeps

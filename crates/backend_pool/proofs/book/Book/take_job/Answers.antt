@@ -1,5 +1,5 @@
 use Rattle.std.proofs.Common.{ap, arith, [], ◌∷◌}
-use Rattle.gateway_model.specs.Gateway.{GatewayValue}
+use Rattle.gateway_theory.specs.Gateway.{GatewayValue}
 use Rattle.backend_pool.proofs.BookLemmas.{book_hands, no_result, reached_by_job}
 use Rattle.backend_pool.proofs.book.Book.take_job.Goals as goal
 

@@ -1,5 +1,5 @@
 use Rattle.std.proofs.Common.{◌≡◌, ◌+◌, ◌≤◌, ap, ◌∙◌, subst}
-use Rattle.gateway_model.specs.declared.tally.Tally.{Tally}
+use Rattle.gateway_theory.specs.declared.tally.Tally.{Tally}
 use Rattle.backend_pool.specs.Book.{BookValue, most_total}
 use Rattle.backend_pool.proofs.BookLemmas.{reached_tallied, tally_sums}
 use Rattle.backend_pool.proofs.book.Book.tally.Goals as goal

@@ -1,11 +1,11 @@
 use Rattle.std.proofs.Common.{◌≡◌, false, sym, subst, []}
-use Rattle.gateway_model.specs.Gateway.{GatewayValue}
-use Rattle.gateway_model.specs.Served.{Served}
-use Rattle.gateway_model.specs.Serving.{KeepsBut, Closes}
-use Rattle.gateway_model.specs.Store.{conn_of}
+use Rattle.gateway_theory.specs.Gateway.{GatewayValue}
+use Rattle.gateway_theory.specs.Served.{Served}
+use Rattle.gateway_theory.specs.Serving.{KeepsBut, Closes}
+use Rattle.gateway_theory.specs.Store.{conn_of}
 use Rattle.std.specs.Prelude.{is_some, ◌==◌}
-use Rattle.gateway_model.specs.lemmas.ServedOpens.{closed_served}
-use Rattle.gateway_model.specs.lemmas.Keeping.{closing_keeps, was_open}
+use Rattle.gateway_theory.specs.lemmas.ServedOpens.{closed_served}
+use Rattle.gateway_theory.specs.lemmas.Keeping.{closing_keeps, was_open}
 use Rattle.gateway_core.proofs.gateway.Core.close.Goals as goal
 
 pub returns : goal.returns

@@ -1,12 +1,12 @@
 use Rattle.std.proofs.Common.{true, refl, sym, subst}
 use Rattle.gateway_model.specs.Occurrence.{Drain}
-use Rattle.gateway_model.specs.lemmas.EndingSteps.{drain_ends}
-use Rattle.gateway_model.specs.Gateway.{GatewayValue}
-use Rattle.gateway_model.specs.Served.{Served}
-use Rattle.gateway_model.specs.Serving.{Keeps, Breaks, BreaksBy}
-use Rattle.gateway_model.specs.declared.cause.Cause.TheVariants.{Drained}
-use Rattle.gateway_model.specs.lemmas.ServedLemmas.{drain_served}
-use Rattle.gateway_model.specs.lemmas.Keeping.{ended_concerns, ended_keeps}
+use Rattle.gateway_theory.specs.lemmas.EndingSteps.{drain_ends}
+use Rattle.gateway_theory.specs.Gateway.{GatewayValue}
+use Rattle.gateway_theory.specs.Served.{Served}
+use Rattle.gateway_theory.specs.Serving.{Keeps, Breaks, BreaksBy}
+use Rattle.gateway_theory.specs.declared.cause.Cause.TheVariants.{Drained}
+use Rattle.gateway_theory.specs.lemmas.ServedLemmas.{drain_served}
+use Rattle.gateway_theory.specs.lemmas.Keeping.{ended_concerns, ended_keeps}
 use Rattle.gateway_core.proofs.gateway.Core.drain.Goals as goal
 
 pub returns : goal.returns

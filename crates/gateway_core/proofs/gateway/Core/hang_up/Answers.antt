@@ -1,10 +1,10 @@
 use Rattle.std.specs.Prelude.{◌==◌}
 use Rattle.std.proofs.Common.{sym, subst, []}
-use Rattle.gateway_model.specs.Gateway.{GatewayValue}
-use Rattle.gateway_model.specs.Served.{Served}
-use Rattle.gateway_model.specs.Serving.{Keeps, HangsUp, TellsStep}
-use Rattle.gateway_model.specs.lemmas.ServedMore.{hang_up_served}
-use Rattle.gateway_model.specs.lemmas.Keeping.{hung_exhausted, hung_keeps, hung_tells}
+use Rattle.gateway_theory.specs.Gateway.{GatewayValue}
+use Rattle.gateway_theory.specs.Served.{Served}
+use Rattle.gateway_theory.specs.Serving.{Keeps, HangsUp, TellsStep}
+use Rattle.gateway_theory.specs.lemmas.ServedMore.{hang_up_served}
+use Rattle.gateway_theory.specs.lemmas.Keeping.{hung_exhausted, hung_keeps, hung_tells}
 use Rattle.gateway_core.proofs.gateway.Core.hang_up.Goals as goal
 
 pub returns : goal.returns

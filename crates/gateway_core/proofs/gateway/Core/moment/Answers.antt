@@ -1,13 +1,13 @@
 use Rattle.std.proofs.Common.{true, refl, sym, subst}
 use Rattle.gateway_model.specs.Occurrence.{Moment}
-use Rattle.gateway_model.specs.lemmas.EndingSteps.{moment_ends}
-use Rattle.gateway_model.specs.Gateway.{GatewayValue}
-use Rattle.gateway_model.specs.Served.{Served}
-use Rattle.gateway_model.specs.Serving.{Keeps, Breaks, BreaksBy}
-use Rattle.gateway_model.specs.Step.{moment_after}
-use Rattle.gateway_model.specs.declared.cause.Cause.TheVariants.{Reached}
-use Rattle.gateway_model.specs.lemmas.ServedLemmas.{moment_served}
-use Rattle.gateway_model.specs.lemmas.Keeping.{ended_concerns, ended_keeps}
+use Rattle.gateway_theory.specs.lemmas.EndingSteps.{moment_ends}
+use Rattle.gateway_theory.specs.Gateway.{GatewayValue}
+use Rattle.gateway_theory.specs.Served.{Served}
+use Rattle.gateway_theory.specs.Serving.{Keeps, Breaks, BreaksBy}
+use Rattle.gateway_theory.specs.Step.{moment_after}
+use Rattle.gateway_theory.specs.declared.cause.Cause.TheVariants.{Reached}
+use Rattle.gateway_theory.specs.lemmas.ServedLemmas.{moment_served}
+use Rattle.gateway_theory.specs.lemmas.Keeping.{ended_concerns, ended_keeps}
 use Rattle.gateway_core.proofs.gateway.Core.moment.Goals as goal
 
 pub returns : goal.returns

@@ -1,4 +1,4 @@
-use Rattle.gateway_model.specs.lemmas.ServedFirst.{first_served}
+use Rattle.gateway_theory.specs.lemmas.ServedFirst.{first_served}
 use Rattle.gateway_core.proofs.gateway.Core.new.Goals as goal
 
 pub returns-clause-stands : goal.returns-clause-stands

@@ -1,12 +1,12 @@
 use Rattle.std.proofs.Common.{◌≡◌, false, sym, subst}
-use Rattle.gateway_model.specs.Gateway.{GatewayValue}
-use Rattle.gateway_model.specs.Served.{Served, HasConns}
-use Rattle.gateway_model.specs.Serving.{Keeps}
+use Rattle.gateway_theory.specs.Gateway.{GatewayValue}
+use Rattle.gateway_theory.specs.Served.{Served, HasConns}
+use Rattle.gateway_theory.specs.Serving.{Keeps}
 use Rattle.std.specs.Prelude.{IfOk, IfErr, OnErr}
-use Rattle.gateway_model.specs.Refused.{RefusesOpening}
-use Rattle.gateway_model.specs.lemmas.ServedOpens.{opening_stands}
-use Rattle.gateway_model.specs.lemmas.OpenCount.{few_open}
-use Rattle.gateway_model.specs.lemmas.Keeping.{opened_number, opening_keeps}
+use Rattle.gateway_theory.specs.Refused.{RefusesOpening}
+use Rattle.gateway_theory.specs.lemmas.ServedOpens.{opening_stands}
+use Rattle.gateway_theory.specs.lemmas.OpenCount.{few_open}
+use Rattle.gateway_theory.specs.lemmas.Keeping.{opened_number, opening_keeps}
 use Rattle.gateway_core.proofs.gateway.Core.open_conn.Goals as goal
 
 pub returns : goal.returns

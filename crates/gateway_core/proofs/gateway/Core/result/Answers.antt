@@ -1,14 +1,16 @@
 use Rattle.std.specs.Prelude.{◌==◌}
 use Rattle.std.proofs.Common.{Some, ◌≡◌, [], ◌∷◌, false, sym, ap, ◌∙◌, subst}
-use Rattle.gateway_model.specs.Gateway.{GatewayValue}
-use Rattle.gateway_model.specs.Served.{Served}
-use Rattle.gateway_model.specs.Serving.{Breaks, BreaksBy, KeepsBut}
-use Rattle.gateway_model.specs.lemmas.ServedLemmas.{result_served}
-use Rattle.gateway_model.specs.lemmas.Keeping.{result_concerns, result_keeps, unknown_kept}
-use Rattle.gateway_model.specs.lemmas.SeenResults.{breaks_of, result_breaks_are, result_broke, result_seen, seen_stands}
+use Rattle.gateway_theory.specs.Gateway.{GatewayValue}
+use Rattle.gateway_theory.specs.Served.{Served}
+use Rattle.gateway_theory.specs.Serving.{Breaks, BreaksBy, KeepsBut}
+use Rattle.gateway_theory.specs.lemmas.ServedLemmas.{result_served}
+use Rattle.gateway_theory.specs.lemmas.Keeping.{result_concerns, result_keeps, unknown_kept}
+use Rattle.gateway_theory.specs.Told.{IsSeen}
+use Rattle.gateway_theory.specs.lemmas.Telling.{seen_told}
+use Rattle.gateway_theory.specs.lemmas.SeenResults.{breaks_of, result_breaks_are, result_broke, result_seen}
 use Rattle.gateway_model.specs.Events.{Occurs}
 use Rattle.gateway_model.specs.Occurrence.{Result}
-use Rattle.gateway_model.specs.Store.{conn_of}
+use Rattle.gateway_theory.specs.Store.{conn_of}
 use Rattle.gateway_core.proofs.gateway.Core.result.Goals as goal
 
 pub returns : goal.returns
@@ -16,16 +18,17 @@ returns g c = record {
   stands = λ opened es taken handed h.
       let e = c.result.ensures.taken in
       result_served c.self.inside.streams c.result.new.self opened es taken handed c.serving_law.ensures (subst (λ (x : GatewayValue). Served x opened es taken handed) (sym c.self.view_is) h) c.args.call.now c.args.branch c.args.outcome e.0 c.result.result c.result.ensures.rest e.2 e.1;
-  seen = λ opened es taken handed occurred h o k k_is on.
-      result_seen c.args.call.now c.args.branch c.self.inside.streams.machine c.result.ensures.taken.0 c.result.result c.args.outcome c.result.ensures.taken.1
-      ∙ seen_stands c.args.call.now c.args.branch c.self.inside.streams opened es taken handed occurred (subst (λ (x : GatewayValue). Served x opened es taken handed) (sym c.self.view_is) h)
-      (subst (λ (x : GatewayValue). Occurs x.plans opened es occurred) (sym c.self.view_is) o) k (subst (λ (x : GatewayValue). conn_of c.args.call.now.conn x.machine.conns ≡ Some k) (sym c.self.view_is) k_is) on;
-  counted = λ e. result_broke c.args.call.now c.args.branch c.self.inside.streams.machine c.result.ensures.taken.0 c.result.result c.args.outcome c.result.ensures.taken.1 e;
-  broke = subst (λ (x : GatewayValue). Breaks x c.result.new.self c.result.result.broke) c.self.view_is (breaks_of c.self.inside.streams c.result.new.self c.result.result.broke
-      (result_breaks_are c.args.call.now c.args.branch c.self.inside.streams.machine c.result.ensures.taken.0 c.result.new.self.machine c.result.result c.serving_law.ensures.orderly c.result.ensures.taken.2 c.args.outcome c.result.ensures.taken.1));
-  unknown = λ e. unknown_kept c.self.inside.streams c.result.new.self c.result.ensures.rest (c.result.ensures.unknown e) ∙ ap (λ (x : GatewayValue). record x { tally = c.result.new.self.tally }) c.self.view_is;
-  none_spent = c.result.ensures.none_spent;
-  concerned = subst (λ (x : GatewayValue). BreaksBy (Result c.args.call.now c.args.branch c.args.outcome) x c.result.new.self) c.self.view_is
-      (result_concerns c.args.call.now c.args.branch c.args.outcome c.result.ensures.taken.0 c.result.result c.self.inside.streams c.result.new.self c.serving_law.ensures.orderly c.result.ensures.taken.2 c.result.ensures.taken.1);
+  tells = record {
+    seen = subst (λ (x : GatewayValue). IsSeen c.args.call.now c.args.branch x c.result.result.seen) c.self.view_is
+        (seen_told c.args.call.now c.self.inside.streams c.serving_law.ensures.orderly c.args.branch c.result.result.seen
+        (result_seen c.args.call.now c.args.branch c.self.inside.streams.machine c.result.ensures.taken.0 c.result.result c.args.outcome c.result.ensures.taken.1));
+    counted = λ e. result_broke c.args.call.now c.args.branch c.self.inside.streams.machine c.result.ensures.taken.0 c.result.result c.args.outcome c.result.ensures.taken.1 e;
+    broke = subst (λ (x : GatewayValue). Breaks x c.result.new.self c.result.result.broke) c.self.view_is (breaks_of c.self.inside.streams c.result.new.self c.result.result.broke
+        (result_breaks_are c.args.call.now c.args.branch c.self.inside.streams.machine c.result.ensures.taken.0 c.result.new.self.machine c.result.result c.serving_law.ensures.orderly c.result.ensures.taken.2 c.args.outcome c.result.ensures.taken.1));
+    unknown = λ e. unknown_kept c.self.inside.streams c.result.new.self c.result.ensures.rest (c.result.ensures.unknown e) ∙ ap (λ (x : GatewayValue). record x { tally = c.result.new.self.tally }) c.self.view_is;
+    none_spent = c.result.ensures.none_spent;
+    concerned = subst (λ (x : GatewayValue). BreaksBy (Result c.args.call.now c.args.branch c.args.outcome) x c.result.new.self) c.self.view_is
+        (result_concerns c.args.call.now c.args.branch c.args.outcome c.result.ensures.taken.0 c.result.result c.self.inside.streams c.result.new.self c.serving_law.ensures.orderly c.result.ensures.taken.2 c.result.ensures.taken.1);
+  };
   keeps = subst (λ (x : GatewayValue). KeepsBut (λ n. false) (λ n. n == c.args.call.now.conn) (c.result.result.seen ∷ []) x c.result.new.self) c.self.view_is (result_keeps c.args.call.now c.args.branch c.result.ensures.taken.0 c.result.result c.self.inside.streams c.result.new.self c.serving_law.ensures.orderly c.result.ensures.rest c.result.ensures.taken.2 c.result.ensures.tally c.args.outcome c.result.ensures.taken.1);
 }

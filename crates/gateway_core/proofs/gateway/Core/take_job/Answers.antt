@@ -1,17 +1,20 @@
 use Rattle.std.specs.Prelude.{is_some}
-use Rattle.gateway_model.specs.Store.{call_at}
+use Rattle.gateway_theory.specs.Store.{call_at}
 use Rattle.std.proofs.Common.{sym, ap, ◌∙◌, subst}
-use Rattle.gateway_model.specs.Gateway.{GatewayValue}
-use Rattle.gateway_model.specs.Served.{Served}
-use Rattle.gateway_model.specs.lemmas.ServedTakes.{job_served}
-use Rattle.gateway_model.specs.lemmas.Keeping.{job_rest}
+use Rattle.gateway_theory.specs.Gateway.{GatewayValue}
+use Rattle.gateway_theory.specs.Served.{Served}
+use Rattle.gateway_theory.specs.Told.{IsWanted}
+use Rattle.gateway_theory.specs.lemmas.Telling.{wanted_told}
+use Rattle.gateway_theory.specs.lemmas.ServedTakes.{job_served}
+use Rattle.gateway_theory.specs.lemmas.Keeping.{job_rest}
 use Rattle.gateway_core.proofs.gateway.Core.take_job.Goals as goal
 
 pub returns : goal.returns
 returns g c = record {
   stands = λ opened es taken handed h. job_served c.self.inside.streams c.take_job.new.self opened es taken handed c.serving_law.ensures (subst (λ (x : GatewayValue). Served x opened es taken handed) (sym c.self.view_is) h) c.take_job.result c.take_job.ensures.taken c.take_job.ensures.rest;
   first = ap (λ (x : GatewayValue). x.machine.jobs) (sym c.self.view_is) ∙ c.take_job.ensures.taken.first;
-  wanted = λ j e. c.take_job.ensures.taken.wanted j e ∙ ap (λ (x : GatewayValue). is_some (call_at j.job.call x.machine.calls).live) c.self.view_is;
+  wanted = λ j e. subst (λ (x : GatewayValue). IsWanted j.job.call x j.wanted) c.self.view_is
+      (wanted_told j.job.call c.self.inside.streams c.serving_law.ensures.orderly j.wanted (c.take_job.ensures.taken.wanted j e));
   none = λ e. ap (λ (x : GatewayValue). x.machine.jobs) (sym c.self.view_is) ∙ c.take_job.ensures.taken.none e;
   rest = job_rest c.self.inside.streams c.take_job.new.self c.take_job.result c.take_job.ensures.taken c.take_job.ensures.rest ∙ ap (λ (x : GatewayValue). record x { machine = record x.machine { jobs = c.take_job.new.self.machine.jobs } }) c.self.view_is;
 }

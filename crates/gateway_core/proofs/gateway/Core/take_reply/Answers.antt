@@ -1,11 +1,11 @@
 use Rattle.std.specs.Prelude.{IfSome}
-use Rattle.gateway_model.specs.Gateway.{next_reply}
+use Rattle.gateway_theory.specs.Gateway.{next_reply}
 use Rattle.std.proofs.Common.{◌≡◌, sym, ap, ◌∙◌, subst}
-use Rattle.gateway_model.specs.Gateway.{untaken_of, GatewayValue}
-use Rattle.gateway_model.specs.Served.{Served}
-use Rattle.gateway_model.specs.Serving.{TakesOnly, TakesReply}
-use Rattle.gateway_model.specs.lemmas.ServedTakes.{reply_served}
-use Rattle.gateway_model.specs.lemmas.Keeping.{reply_first, reply_its, reply_none, reply_only}
+use Rattle.gateway_theory.specs.Gateway.{untaken_of, GatewayValue}
+use Rattle.gateway_theory.specs.Served.{Served}
+use Rattle.gateway_theory.specs.Serving.{TakesOnly, TakesReply}
+use Rattle.gateway_theory.specs.lemmas.ServedTakes.{reply_served}
+use Rattle.gateway_theory.specs.lemmas.Keeping.{reply_first, reply_its, reply_none, reply_only}
 use Rattle.gateway_core.proofs.gateway.Core.take_reply.Goals as goal
 
 pub returns : goal.returns

@@ -1,10 +1,10 @@
 use Rattle.std.proofs.Common.{sym, subst, ap, ◌∙◌}
-use Rattle.gateway_model.specs.Gateway.{GatewayValue}
-use Rattle.gateway_model.specs.Serving.{gateway_value}
-use Rattle.gateway_model.specs.lemmas.ServingLemmas.{Keeps, keeps_broken, machine_kept}
-use Rattle.gateway_model.specs.lemmas.HeadLemmas.{heads_broken}
-use Rattle.gateway_model.specs.Heads.{conn_heads}
-use Rattle.gateway_model.specs.Store.{MachineValue}
+use Rattle.gateway_theory.specs.Gateway.{GatewayValue}
+use Rattle.gateway_theory.specs.Serving.{gateway_value}
+use Rattle.gateway_theory.specs.lemmas.ServingLemmas.{Keeps, keeps_broken, machine_kept}
+use Rattle.gateway_theory.specs.lemmas.HeadLemmas.{heads_broken}
+use Rattle.gateway_theory.specs.Heads.{conn_heads}
+use Rattle.gateway_theory.specs.Store.{MachineValue}
 use Rattle.gateway_core.proofs.streams.Streams.break_conn.Goals as goal
 
 pub invariant_of-self : goal.invariant_of-self

@@ -3,14 +3,14 @@ use Rattle.std.specs.Prelude.{Option}
 use Rattle.http_pieces.specs.Reader.{state_of}
 use Rattle.http_pieces.specs.Request.{HttpRequest}
 use Rattle.gateway_model.specs.Arrival.{arrival_of}
-use Rattle.gateway_model.specs.Gateway.{GatewayValue, StreamValue, stream_at}
+use Rattle.gateway_theory.specs.Gateway.{GatewayValue, StreamValue, stream_at}
 use Rattle.gateway_model.specs.Occurrence.{Request, Refused}
-use Rattle.gateway_model.specs.Serving.{gateway_value, BringsAt}
-use Rattle.gateway_model.specs.Store.{conn_at}
-use Rattle.gateway_model.specs.lemmas.BringLemmas.{stops_by, stops_none}
-use Rattle.gateway_model.specs.lemmas.Bringing.{brings_nothing, brings_refusal, brings_request, enters_by}
-use Rattle.gateway_model.specs.lemmas.ServingLemmas.{entered_serving, same_size, stream_is_at}
-use Rattle.gateway_model.specs.lemmas.HeadLemmas.{heads_entered}
+use Rattle.gateway_theory.specs.Serving.{gateway_value, BringsAt}
+use Rattle.gateway_theory.specs.Store.{conn_at}
+use Rattle.gateway_theory.specs.lemmas.BringLemmas.{stops_by, stops_none}
+use Rattle.gateway_theory.specs.lemmas.Bringing.{brings_nothing, brings_refusal, brings_request, enters_by}
+use Rattle.gateway_theory.specs.lemmas.ServingLemmas.{entered_serving, same_size, stream_is_at}
+use Rattle.gateway_theory.specs.lemmas.HeadLemmas.{heads_entered}
 use Rattle.gateway_core.proofs.streams.Streams.bring.Goals as goal
 
 pub invariant_of-self : goal.invariant_of-self

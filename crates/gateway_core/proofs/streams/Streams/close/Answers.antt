@@ -1,11 +1,11 @@
 use Rattle.std.proofs.Common.{refl, sym, subst, ap, ◌∙◌}
 use Rattle.std.specs.Prelude.{true}
-use Rattle.gateway_model.specs.Gateway.{GatewayValue}
-use Rattle.gateway_model.specs.Serving.{gateway_value, Closes, IsPlaced, IsServing}
-use Rattle.gateway_model.specs.lemmas.ServingLemmas.{closed_serving, closed_value, none_placed, not_placed, was_placed}
-use Rattle.gateway_model.specs.lemmas.HeadLemmas.{closed_heard}
-use Rattle.gateway_model.specs.Heads.{conn_heads, stream_heads}
-use Rattle.gateway_model.specs.Store.{MachineValue}
+use Rattle.gateway_theory.specs.Gateway.{GatewayValue}
+use Rattle.gateway_theory.specs.Serving.{gateway_value, Closes, IsPlaced, IsServing}
+use Rattle.gateway_theory.specs.lemmas.ServingLemmas.{closed_serving, closed_value, none_placed, not_placed, was_placed}
+use Rattle.gateway_theory.specs.lemmas.HeadLemmas.{closed_heard}
+use Rattle.gateway_theory.specs.Heads.{conn_heads, stream_heads}
+use Rattle.gateway_theory.specs.Store.{MachineValue}
 use Rattle.gateway_core.proofs.streams.Streams.close.Goals as goal
 
 pub returns-then-is_none : goal.returns-then-is_none

@@ -2,16 +2,16 @@ use Rattle.std.proofs.lemmas.Result.{err_from_is_err_and}
 use Rattle.std.proofs.Common.{◌≡◌, Ok, Err, true, false, inl, refl, sym, ap, ◌∙◌, ℕ, subst, slice_index_or}
 use Rattle.std.specs.Prelude.{if◌then◌else◌}
 use Rattle.http_pieces.specs.Reader.{is_over}
-use Rattle.gateway_model.specs.declared.fault.StepFault.TheVariants.{Memory}
-use Rattle.gateway_model.specs.Ends.{is_stopped_in}
-use Rattle.gateway_model.specs.Gateway.{GatewayValue, StreamValue, stream_at}
-use Rattle.gateway_model.specs.Serving.{came, dropped, unread, IsServing}
-use Rattle.gateway_model.specs.Store.{broken_at, conn_at}
-use Rattle.gateway_model.specs.lemmas.BringLemmas.{fed}
-use Rattle.gateway_model.specs.lemmas.Bringing.{counts_read}
-use Rattle.gateway_model.specs.lemmas.ServingLemmas.{read_at, stream_is_at}
-use Rattle.gateway_model.specs.Heads.{IsHeard}
-use Rattle.gateway_model.specs.lemmas.HeadLemmas.{heard_at}
+use Rattle.gateway_theory.specs.declared.fault.StepFault.TheVariants.{Memory}
+use Rattle.gateway_theory.specs.Ends.{is_stopped_in}
+use Rattle.gateway_theory.specs.Gateway.{GatewayValue, StreamValue, stream_at}
+use Rattle.gateway_theory.specs.Serving.{came, dropped, unread, IsServing}
+use Rattle.gateway_theory.specs.Store.{broken_at, conn_at}
+use Rattle.gateway_theory.specs.lemmas.BringLemmas.{fed}
+use Rattle.gateway_theory.specs.lemmas.Bringing.{counts_read}
+use Rattle.gateway_theory.specs.lemmas.ServingLemmas.{read_at, stream_is_at}
+use Rattle.gateway_theory.specs.Heads.{IsHeard}
+use Rattle.gateway_theory.specs.lemmas.HeadLemmas.{heard_at}
 use Rattle.gateway_core.proofs.streams.Streams.feed.Goals as goal
 
 pub returns-then-is_over : goal.returns-then-is_over

@@ -1,10 +1,10 @@
 use Rattle.std.proofs.Common.{◌≡◌, ℕ, true, Ok, Err, sym, ap, ◌∙◌, subst}
 use Rattle.std.specs.Prelude.{if◌then◌else◌, slice_set}
-use Rattle.gateway_model.specs.declared.fault.StepFault.TheVariants.{Memory}
-use Rattle.gateway_model.specs.Gateway.{GatewayValue, StreamValue, stream_at}
-use Rattle.gateway_model.specs.Serving.{HangsUp, ListensAt, gateway_value}
-use Rattle.gateway_model.specs.lemmas.HeardLemmas.{hangs_up, hung_serving, hung_streams}
-use Rattle.gateway_model.specs.lemmas.ServingLemmas.{stream_is_at}
+use Rattle.gateway_theory.specs.declared.fault.StepFault.TheVariants.{Memory}
+use Rattle.gateway_theory.specs.Gateway.{GatewayValue, StreamValue, stream_at}
+use Rattle.gateway_theory.specs.Serving.{HangsUp, ListensAt, gateway_value}
+use Rattle.gateway_theory.specs.lemmas.HeardLemmas.{hangs_up, hung_serving, hung_streams}
+use Rattle.gateway_theory.specs.lemmas.ServingLemmas.{stream_is_at}
 use Rattle.gateway_core.proofs.streams.Streams.hang_up.Goals as goal
 
 pub invariant_of-self : goal.invariant_of-self

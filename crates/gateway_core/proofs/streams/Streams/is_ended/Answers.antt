@@ -1,11 +1,11 @@
 use Rattle.std.proofs.Common.{◌≡◌, ℕ, true, false, sym, ap, ◌∙◌, subst}
 use Rattle.std.specs.Prelude.{◌&&◌, ◌||◌, slice_index_or}
 use Rattle.std.specs.Option.{option_map_or}
-use Rattle.gateway_model.specs.Conn.{ConnValue}
-use Rattle.gateway_model.specs.Gateway.{GatewayValue, StreamValue, are_all_there, has_ended, is_broken_conn, is_done, stream_at, stream_of}
-use Rattle.gateway_model.specs.Serving.{IsServing}
-use Rattle.gateway_model.specs.Store.{conn_at}
-use Rattle.gateway_model.specs.lemmas.ServingLemmas.{ended_is, none_placed, stopped_is, stream_is_at}
+use Rattle.gateway_theory.specs.Conn.{ConnValue}
+use Rattle.gateway_theory.specs.Gateway.{GatewayValue, StreamValue, are_all_there, has_ended, is_broken_conn, is_done, stream_at, stream_of}
+use Rattle.gateway_theory.specs.Serving.{IsServing}
+use Rattle.gateway_theory.specs.Store.{conn_at}
+use Rattle.gateway_theory.specs.lemmas.ServingLemmas.{ended_is, none_placed, stopped_is, stream_is_at}
 use Rattle.gateway_core.proofs.streams.Streams.is_ended.Goals as goal
 
 pub returns-in-None : goal.returns-in-None

@@ -1,8 +1,8 @@
 use Rattle.std.proofs.Common.{◌≡◌, sym, ap, ◌∙◌, inl, inr, subst, slice_index_or}
-use Rattle.gateway_model.specs.Ends.{is_stopped_in}
-use Rattle.gateway_model.specs.Gateway.{GatewayValue, StreamValue, stream_at}
-use Rattle.gateway_model.specs.Serving.{IsServing}
-use Rattle.gateway_model.specs.lemmas.ServingLemmas.{deaf_none, deaf_off, listens_on, stream_is_at}
+use Rattle.gateway_theory.specs.Ends.{is_stopped_in}
+use Rattle.gateway_theory.specs.Gateway.{GatewayValue, StreamValue, stream_at}
+use Rattle.gateway_theory.specs.Serving.{IsServing}
+use Rattle.gateway_theory.specs.lemmas.ServingLemmas.{deaf_none, deaf_off, listens_on, stream_is_at}
 use Rattle.gateway_core.proofs.streams.Streams.listening.Goals as goal
 
 pub returns-in_default : goal.returns-in_default

@@ -1,9 +1,9 @@
 use Rattle.std.proofs.Common.{ap, ◌∙◌}
-use Rattle.gateway_model.specs.Gateway.{GatewayValue}
-use Rattle.gateway_model.specs.Serving.{gateway_value}
-use Rattle.gateway_model.specs.Store.{MachineValue}
-use Rattle.gateway_model.specs.lemmas.ServingLemmas.{keeps_same, machine_kept}
-use Rattle.gateway_model.specs.Heads.{conn_heads}
+use Rattle.gateway_theory.specs.Gateway.{GatewayValue}
+use Rattle.gateway_theory.specs.Serving.{gateway_value}
+use Rattle.gateway_theory.specs.Store.{MachineValue}
+use Rattle.gateway_theory.specs.lemmas.ServingLemmas.{keeps_same, machine_kept}
+use Rattle.gateway_theory.specs.Heads.{conn_heads}
 use Rattle.gateway_core.proofs.streams.Streams.moment.Goals as goal
 
 pub invariant_of-self : goal.invariant_of-self

@@ -1,9 +1,9 @@
 use Rattle.std.proofs.Common.{arith, sym, ap, ◌++◌, ◌∷◌, [], ◌∙◌}
-use Rattle.gateway_model.specs.Serving.{gateway_value}
-use Rattle.gateway_model.specs.lemmas.ServingLemmas.{opened_serving}
-use Rattle.gateway_model.specs.lemmas.HeadLemmas.{opened_heard}
-use Rattle.gateway_model.specs.Heads.{conn_heads, stream_heads}
-use Rattle.gateway_model.specs.Store.{MachineValue}
+use Rattle.gateway_theory.specs.Serving.{gateway_value}
+use Rattle.gateway_theory.specs.lemmas.ServingLemmas.{opened_serving}
+use Rattle.gateway_theory.specs.lemmas.HeadLemmas.{opened_heard}
+use Rattle.gateway_theory.specs.Heads.{conn_heads, stream_heads}
+use Rattle.gateway_theory.specs.Store.{MachineValue}
 use Rattle.gateway_core.proofs.streams.Streams.open.Goals as goal
 
 pub invariant_of-self-2 : goal.invariant_of-self-2

@@ -1,6 +1,6 @@
 use Rattle.std.proofs.Common.{◌≡◌, ℕ, ◌<◌, false}
 use Rattle.std.specs.Prelude.{◌==◌}
-use Rattle.gateway_model.specs.Gateway.{stream_at}
+use Rattle.gateway_theory.specs.Gateway.{stream_at}
 use Rattle.gateway_core.proofs.streams.Streams.place.Given as goal
 
 abbrev pub invariant-loop-index : goal.invariant-loop-index

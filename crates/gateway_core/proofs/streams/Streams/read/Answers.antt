@@ -1,10 +1,10 @@
 use Rattle.std.proofs.Common.{◌≡◌, ◌<◌, sym, ap, ◌∙◌, length, subst}
 use Rattle.std.specs.Prelude.{IfOk, OnErr, slice_set}
-use Rattle.gateway_model.specs.Gateway.{GatewayValue, StreamValue, stream_at}
-use Rattle.gateway_model.specs.Serving.{gateway_value, ReadsAt, ReadsOn}
-use Rattle.gateway_model.specs.lemmas.BringLemmas.{read_number, read_settled, reads_at, unread_at, read_hung}
-use Rattle.gateway_model.specs.lemmas.ServingLemmas.{read_at, stream_is_at, stream_kept, IsRead}
-use Rattle.gateway_model.specs.lemmas.HeadLemmas.{stream_heads_set}
+use Rattle.gateway_theory.specs.Gateway.{GatewayValue, StreamValue, stream_at}
+use Rattle.gateway_theory.specs.Serving.{gateway_value, ReadsAt, ReadsOn}
+use Rattle.gateway_theory.specs.lemmas.BringLemmas.{read_number, read_settled, reads_at, unread_at, read_hung}
+use Rattle.gateway_theory.specs.lemmas.ServingLemmas.{read_at, stream_is_at, stream_kept, IsRead}
+use Rattle.gateway_theory.specs.lemmas.HeadLemmas.{stream_heads_set}
 use Rattle.gateway_core.proofs.streams.Streams.read.Goals as goal
 
 pub invariant_of-self : goal.invariant_of-self

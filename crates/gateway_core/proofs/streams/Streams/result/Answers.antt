@@ -1,8 +1,8 @@
-use Rattle.gateway_model.specs.Gateway.{GatewayValue}
-use Rattle.gateway_model.specs.Serving.{gateway_value}
-use Rattle.gateway_model.specs.lemmas.ServingLemmas.{keeps_result, machine_kept}
+use Rattle.gateway_theory.specs.Gateway.{GatewayValue}
+use Rattle.gateway_theory.specs.Serving.{gateway_value}
+use Rattle.gateway_theory.specs.lemmas.ServingLemmas.{keeps_result, machine_kept}
 use Rattle.std.proofs.Common.{◌∙◌}
-use Rattle.gateway_model.specs.lemmas.HeadLemmas.{heads_result}
+use Rattle.gateway_theory.specs.lemmas.HeadLemmas.{heads_result}
 use Rattle.gateway_core.proofs.streams.Streams.result.Goals as goal
 
 pub invariant_of-self : goal.invariant_of-self

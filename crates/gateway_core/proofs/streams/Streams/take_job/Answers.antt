@@ -1,8 +1,8 @@
-use Rattle.gateway_model.specs.Gateway.{GatewayValue}
-use Rattle.gateway_model.specs.Serving.{gateway_value}
-use Rattle.gateway_model.specs.lemmas.ServingLemmas.{keeps_job, machine_kept}
+use Rattle.gateway_theory.specs.Gateway.{GatewayValue}
+use Rattle.gateway_theory.specs.Serving.{gateway_value}
+use Rattle.gateway_theory.specs.lemmas.ServingLemmas.{keeps_job, machine_kept}
 use Rattle.std.proofs.Common.{◌∙◌}
-use Rattle.gateway_model.specs.lemmas.HeadLemmas.{heads_job}
+use Rattle.gateway_theory.specs.lemmas.HeadLemmas.{heads_job}
 use Rattle.gateway_core.proofs.streams.Streams.take_job.Goals as goal
 
 pub invariant_of-self : goal.invariant_of-self

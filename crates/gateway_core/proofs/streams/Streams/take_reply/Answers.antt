@@ -1,8 +1,8 @@
 use Rattle.std.proofs.Common.{Some, refl, sym, subst, ◌∙◌}
-use Rattle.gateway_model.specs.Gateway.{GatewayValue}
-use Rattle.gateway_model.specs.Serving.{gateway_value, absent, taken, IsPlaced, IsServing, TakesReply}
-use Rattle.gateway_model.specs.lemmas.ServingLemmas.{conn_numbered, conn_there, keeps_reply, machine_kept, none_placed}
-use Rattle.gateway_model.specs.lemmas.HeadLemmas.{heads_reply}
+use Rattle.gateway_theory.specs.Gateway.{GatewayValue}
+use Rattle.gateway_theory.specs.Serving.{gateway_value, absent, taken, IsPlaced, IsServing, TakesReply}
+use Rattle.gateway_theory.specs.lemmas.ServingLemmas.{conn_numbered, conn_there, keeps_reply, machine_kept, none_placed}
+use Rattle.gateway_theory.specs.lemmas.HeadLemmas.{heads_reply}
 use Rattle.gateway_core.proofs.streams.Streams.take_reply.Goals as goal
 
 pub returns-in_default : goal.returns-in_default

@@ -1,12 +1,12 @@
 use Rattle.std.proofs.Common.{ℕ, List, [], Option, length, sym, ap, ◌∙◌, subst}
 use Rattle.std.specs.Option.{option_map_or}
 use Rattle.gateway_model.specs.declared.entry.ReplyEntry.{ReplyEntry}
-use Rattle.gateway_model.specs.Conn.{ConnValue}
-use Rattle.gateway_model.specs.Gateway.{GatewayValue}
+use Rattle.gateway_theory.specs.Conn.{ConnValue}
+use Rattle.gateway_theory.specs.Gateway.{GatewayValue}
 use Rattle.gateway_model.specs.Queue.{front}
-use Rattle.gateway_model.specs.Serving.{IsServing}
-use Rattle.gateway_model.specs.Store.{conn_at}
-use Rattle.gateway_model.specs.lemmas.ServingLemmas.{none_placed, untaken_is}
+use Rattle.gateway_theory.specs.Serving.{IsServing}
+use Rattle.gateway_theory.specs.Store.{conn_at}
+use Rattle.gateway_theory.specs.lemmas.ServingLemmas.{none_placed, untaken_is}
 use Rattle.gateway_core.proofs.streams.Streams.untaken.Goals as goal
 
 pub returns-in-Some : goal.returns-in-Some

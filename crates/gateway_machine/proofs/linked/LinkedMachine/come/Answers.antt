@@ -1,8 +1,8 @@
 use Rattle.std.proofs.Common.{◌≡◌, ◌<◌, ap, ◌∙◌, false, length, subst, sym}
-use Rattle.gateway_model.specs.Conn.{next_of}
+use Rattle.gateway_theory.specs.Conn.{next_of}
 use Rattle.gateway_replies.specs.Contexts.{ContextsValue, is_ended_peer, is_life}
-use Rattle.gateway_model.specs.Orderly.{IsOrderly}
-use Rattle.gateway_model.specs.Store.{MachineValue, conn_at}
+use Rattle.gateway_theory.specs.Orderly.{IsOrderly}
+use Rattle.gateway_theory.specs.Store.{MachineValue, conn_at}
 use Rattle.gateway_machine.specs.Linked.{none_over}
 use Rattle.gateway_machine.proofs.LinkedLemmas.{heard_peer, next_fresh}
 use Rattle.gateway_machine.proofs.linked.LinkedMachine.come.Goals as goal

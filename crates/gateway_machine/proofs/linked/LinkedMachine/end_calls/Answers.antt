@@ -1,8 +1,8 @@
 use Rattle.std.proofs.Common.{ap, sym, ◌∙◌, subst}
-use Rattle.gateway_model.specs.Ends.{AreApart, CallsEnd, IsSettled, noted}
-use Rattle.gateway_model.specs.Heads.{conn_heads, noted_heads}
-use Rattle.gateway_model.specs.Store.{MachineValue}
-use Rattle.gateway_model.specs.lemmas.HeadLemmas.{noted_apart, noted_conns, noted_settled}
+use Rattle.gateway_theory.specs.Ends.{AreApart, CallsEnd, IsSettled, noted}
+use Rattle.gateway_theory.specs.Heads.{conn_heads, noted_heads}
+use Rattle.gateway_theory.specs.Store.{MachineValue}
+use Rattle.gateway_theory.specs.lemmas.HeadLemmas.{noted_apart, noted_conns, noted_settled}
 use Rattle.gateway_machine.proofs.LinkedLemmas.{told_linked}
 use Rattle.gateway_machine.specs.Linked.{linked_by, over_by}
 use Rattle.gateway_machine.proofs.linked.LinkedMachine.end_calls.Goals as goal

@@ -1,5 +1,5 @@
 use Rattle.std.proofs.Common.{◌<◌, length, subst, sym, ◌∙◌}
-use Rattle.gateway_model.specs.Store.{MachineValue}
+use Rattle.gateway_theory.specs.Store.{MachineValue}
 use Rattle.gateway_machine.proofs.LinkedLemmas.{taken_linked}
 use Rattle.gateway_machine.proofs.linked.LinkedMachine.take_reply.Goals as goal
 

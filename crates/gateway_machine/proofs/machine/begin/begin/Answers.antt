@@ -2,22 +2,22 @@ use Rattle.std.proofs.Common.{◌≡◌, ap, sym, ◌∙◌, length, min, subst,
 use Rattle.std.specs.Arc.{arc_value}
 use Rattle.call_plan.specs.Plan.{PlanRecord}
 use Rattle.gateway_machine.specs.KeptCall.{IsKept, HasGone, live_value}
-use Rattle.gateway_model.specs.Past.{Asked}
+use Rattle.gateway_model.specs.Past.{ArrivedCall}
 use Rattle.gateway_machine.proofs.GroupLemmas.{begun_kept, is_begun}
 use Rattle.gateway_machine.proofs.machine.begin.begin.Goals as goal
 
 pub invariant_of-result : goal.invariant_of-result
 invariant_of-result c =
-    let a : Asked = c.args.asked in
+    let a : ArrivedCall = c.args.asked in
     let asked : arc_value c.in_ok-asked.asked ≡ a = c.in_ok-asked.ensures.ok in
-    let plan : arc_value c.in_ok-plan.plan ≡ a.plan = c.in_ok-plan.ensures ∙ ap (λ (x : Asked). x.plan) c.asked.view_is in
+    let plan : arc_value c.in_ok-plan.plan ≡ a.plan = c.in_ok-plan.ensures ∙ ap (λ (x : ArrivedCall). x.plan) c.asked.view_is in
     let n : length c.branches-count.result.now ≡ length a.plan.branches =
     ap length c.branches-count.ensures.branches ∙ ap (λ (p : PlanRecord). length p.branches) (c.deref.ensures ∙ plan) in
     let limit : c.limit.result ≡ a.plan.limit = c.limit.ensures.limit ∙ ap (λ (p : PlanRecord). p.limit) (c.deref-2.ensures ∙ plan) in
     let gone : HasGone c.args.id a (length c.branches-count.result.now) c.give.new.group c.in_ok-first.first.items =
     subst (λ m. HasGone c.args.id a m c.give.new.group c.in_ok-first.first.items) (sym n)
-    (subst (λ (x : Asked). HasGone c.args.id x (length x.plan.branches) c.give.new.group c.in_ok-first.first.items) asked c.in_ok-first.ensures) in (
-      subst (λ (x : Asked). IsKept c.args.id c.in_ok-out.out.items c.give.new.group (Some (live_value x c.in_ok-events.events.items))) (sym asked)
+    (subst (λ (x : ArrivedCall). HasGone c.args.id x (length x.plan.branches) c.give.new.group c.in_ok-first.first.items) asked c.in_ok-first.ensures) in (
+      subst (λ (x : ArrivedCall). IsKept c.args.id c.in_ok-out.out.items c.give.new.group (Some (live_value x c.in_ok-events.events.items))) (sym asked)
           (begun_kept c.args.id a (length c.branches-count.result.now) c.min.result c.in_ok-out.out.items c.give.new.group c.in_ok-first.first.items c.in_ok-events.events.items n
           (c.min.ensures ∙ ap (λ k. min (length c.branches-count.result.now) k) limit) c.in_ok-out.ensures gone c.in_ok-events.ensures.items),
       tt,
@@ -25,14 +25,14 @@ invariant_of-result c =
 
 pub returns : goal.returns
 returns c =
-    let a : Asked = c.args.asked in
+    let a : ArrivedCall = c.args.asked in
     let asked : arc_value c.in_ok-asked.asked ≡ a = c.in_ok-asked.ensures.ok in
-    let plan : arc_value c.in_ok-plan.plan ≡ a.plan = c.in_ok-plan.ensures ∙ ap (λ (x : Asked). x.plan) c.asked.view_is in
+    let plan : arc_value c.in_ok-plan.plan ≡ a.plan = c.in_ok-plan.ensures ∙ ap (λ (x : ArrivedCall). x.plan) c.asked.view_is in
     let n : length c.branches-count.result.now ≡ length a.plan.branches =
     ap length c.branches-count.ensures.branches ∙ ap (λ (p : PlanRecord). length p.branches) (c.deref.ensures ∙ plan) in
     let limit : c.limit.result ≡ a.plan.limit = c.limit.ensures.limit ∙ ap (λ (p : PlanRecord). p.limit) (c.deref-2.ensures ∙ plan) in
     let gone : HasGone c.args.id a (length c.branches-count.result.now) c.give.new.group c.in_ok-first.first.items =
     subst (λ m. HasGone c.args.id a m c.give.new.group c.in_ok-first.first.items) (sym n)
-    (subst (λ (x : Asked). HasGone c.args.id x (length x.plan.branches) c.give.new.group c.in_ok-first.first.items) asked c.in_ok-first.ensures) in
+    (subst (λ (x : ArrivedCall). HasGone c.args.id x (length x.plan.branches) c.give.new.group c.in_ok-first.first.items) asked c.in_ok-first.ensures) in
     is_begun c.args.id a (arc_value c.in_ok-asked.asked) (length c.branches-count.result.now) c.min.result c.in_ok-out.out.items c.give.new.group c.in_ok-first.first.items c.in_ok-events.events.items
     asked n (c.min.ensures ∙ ap (λ k. min (length c.branches-count.result.now) k) limit) c.in_ok-out.ensures gone c.in_ok-events.ensures.items

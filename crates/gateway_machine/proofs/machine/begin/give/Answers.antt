@@ -1,6 +1,6 @@
 use Rattle.std.proofs.Common.{ap, refl}
 use Rattle.std.specs.Arc.{arc_value}
-use Rattle.gateway_model.specs.Job.{task_of}
+use Rattle.gateway_theory.specs.Task.{task_of}
 use Rattle.gateway_machine.proofs.GroupLemmas.{gone_more, ok_is}
 use Rattle.gateway_machine.proofs.machine.begin.give.Goals as goal
 

@@ -1,6 +1,6 @@
 use Rattle.std.proofs.Common.{◌++◌, [], ◌∷◌, map, sym, ap, ◌∙◌, arith, append_assoc}
 use Rattle.std.proofs.lemmas.List.{map-append, length-append}
-use Rattle.gateway_model.specs.Job.{job_at, HandedJob}
+use Rattle.gateway_theory.specs.Task.{job_at, HandedJob}
 use Rattle.gateway_machine.proofs.machine.enter.start_all.Goals as goal
 
 pub loop-task-preserved : goal.loop-task-preserved

@@ -1,6 +1,6 @@
 use Rattle.std.proofs.Common.{◌≡◌, ◌+◌, ◌++◌, map, length, List}
 use Rattle.std.specs.VecDeque.{deque_capacity}
-use Rattle.gateway_model.specs.Job.{job_at, TaskValue}
+use Rattle.gateway_theory.specs.Task.{job_at, TaskValue}
 use Rattle.gateway_machine.proofs.machine.enter.start_all.Given as goal
 
 -- those before the first that is left were queued

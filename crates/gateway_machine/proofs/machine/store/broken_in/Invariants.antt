@@ -1,5 +1,5 @@
 use Rattle.std.proofs.Common.{◌≡◌, ◌≤◌, take}
-use Rattle.gateway_model.specs.Store.{broken_count}
+use Rattle.gateway_theory.specs.Store.{broken_count}
 use Rattle.gateway_machine.proofs.machine.store.broken_in.Given as goal
 
 abbrev pub invariant-loop-index : goal.invariant-loop-index

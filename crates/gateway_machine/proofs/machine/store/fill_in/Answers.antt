@@ -1,9 +1,9 @@
 use Rattle.std.proofs.Common.{◌≡◌, ℕ, ◌<◌, sym, ap, ◌∙◌, arith, length, slice_set}
 use Rattle.std.proofs.lemmas.Bool.{eqb-true}
 use Rattle.gateway_model.specs.declared.id.CallId.{CallId}
-use Rattle.gateway_model.specs.Conn.{ConnValue, filled}
-use Rattle.gateway_model.specs.Store.{no_conn}
-use Rattle.gateway_model.specs.lemmas.StoreLemmas.{filled_at, filled_none, conn_is}
+use Rattle.gateway_theory.specs.Conn.{ConnValue, filled}
+use Rattle.gateway_theory.specs.Store.{no_conn}
+use Rattle.gateway_theory.specs.lemmas.StoreLemmas.{filled_at, filled_none, conn_is}
 use Rattle.gateway_machine.proofs.machine.store.fill_in.Goals as goal
 
 pub returns-then-is_of : goal.returns-then-is_of

@@ -1,6 +1,6 @@
 use Rattle.std.proofs.Common.{◌≡◌, ℕ, ◌<◌}
 use Rattle.std.specs.Prelude.{slice_index_or}
-use Rattle.gateway_model.specs.Conn.{ConnValue}
+use Rattle.gateway_theory.specs.Conn.{ConnValue}
 use Rattle.gateway_machine.proofs.machine.store.fill_in.Given as goal
 
 abbrev pub invariant-loop-index : goal.invariant-loop-index

@@ -1,6 +1,6 @@
 use Rattle.std.proofs.Common.{ap, ◌∙◌, arith, slice_set}
 use Rattle.std.proofs.lemmas.List.Edits.{map_over_more}
-use Rattle.gateway_model.specs.Store.{given_up_if}
+use Rattle.gateway_theory.specs.Store.{given_up_if}
 use Rattle.gateway_machine.proofs.machine.store.give_up.Goals as goal
 
 pub loop-index-preserved : goal.loop-index-preserved

@@ -1,7 +1,7 @@
 use Rattle.std.proofs.Common.{◌≡◌, ◌∙◌, ◌++◌, ◌∷◌, [], Some, None, true, false, ap, sym}
 use Rattle.std.specs.Arc.{arc_value}
 use Rattle.call_contexts.specs.Standing.{WithHooks}
-use Rattle.gateway_model.specs.Past.{Asked}
+use Rattle.gateway_model.specs.Past.{ArrivedCall}
 use Rattle.gateway_replies.specs.Contexts.{ContextsValue, ctx_of}
 use Rattle.gateway_replies.specs.Ties.{life_ties, peer_ties}
 use Rattle.gateway_replies.proofs.ContextLemmas.{begun_tied, begun_value, known_conn, no_such, not_known}
@@ -39,5 +39,5 @@ returns-clause-ok g c =
     c.begin.new.self.standing c.args.self.now c.args.asked.now (record { id = c.args.id.now; ctx = c.in-Ok.ctx }) c.in-Some.conn _ _ _ c.take_hook.ensures
     (c.push_reserved.ensures.items ∙ ap (λ ls. ls ++ record { id = c.args.id.now; ctx = c.in-Ok.ctx } ∷ []) c.in_ok-reserve.ensures.items)
     (ap (λ (v : WithHooks _ _). v.standing) c.in-Ok.ensures.stands) c.self.invariant at c.self.view_is
-    (ap (λ (a : Asked). a.deadline) c.asked.view_is)
-    (c.in_ok-request_id.ensures ∙ ap (λ (a : Asked). a.request_id) c.asked.view_is)
+    (ap (λ (a : ArrivedCall). a.deadline) c.asked.view_is)
+    (c.in_ok-request_id.ensures ∙ ap (λ (a : ArrivedCall). a.request_id) c.asked.view_is)

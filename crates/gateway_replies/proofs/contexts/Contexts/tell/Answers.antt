@@ -4,7 +4,7 @@ use Rattle.std.specs.Arc.{arc_value}
 use Rattle.context_tree.specs.Context.{same}
 use Rattle.context_tree.specs.Frames.{is_due}
 use Rattle.call_contexts.specs.Standing.{Conn, WithHooks}
-use Rattle.gateway_model.specs.declared.cause.Cause.{Cause}
+use Rattle.gateway_theory.specs.declared.cause.Cause.{Cause}
 use Rattle.gateway_replies.specs.Contexts.{ctx_of, told}
 use Rattle.gateway_replies.specs.Ties.{life_ties, peer_ties}
 use Rattle.gateway_replies.proofs.ContextLemmas.{conns_ended, drained_value, hung_value, known_conn, reached_value, told_tied, untold_value}

@@ -1,7 +1,7 @@
 use Rattle.std.proofs.Common.{ap, ◌∙◌, arith}
 use Rattle.gateway_model.specs.declared.id.CallId.{CallId}
-use Rattle.gateway_model.specs.Conn.{conn_value, filled}
-use Rattle.gateway_model.specs.lemmas.StoreLemmas.{fill_view, none_of}
+use Rattle.gateway_theory.specs.Conn.{conn_value, filled}
+use Rattle.gateway_theory.specs.lemmas.StoreLemmas.{fill_view, none_of}
 use Rattle.gateway_machine.proofs.machine.conn.Conn.fill.Goals as goal
 
 pub returns-then-is_none : goal.returns-then-is_none

@@ -2,9 +2,9 @@ use Rattle.std.proofs.Common.{◌≡◌, List, Option, length, sym, ap, ◌∙�
 use Rattle.std.specs.Prelude.{◌==◌}
 use Rattle.std.proofs.lemmas.List.{length-map}
 use Rattle.gateway_model.specs.declared.entry.ReplyEntry.{ReplyEntry}
-use Rattle.gateway_model.specs.Conn.{ConnValue, entry_in}
+use Rattle.gateway_theory.specs.Conn.{ConnValue, entry_in}
 use Rattle.gateway_model.specs.Queue.{front}
-use Rattle.gateway_model.specs.lemmas.SlotLemmas.{front_all}
+use Rattle.gateway_theory.specs.lemmas.SlotLemmas.{front_all}
 use Rattle.gateway_machine.proofs.machine.conn.Conn.is_idle.Goals as goal
 
 pub returns : goal.returns

@@ -3,10 +3,10 @@ use Rattle.std.specs.Prelude.{is_some, nat_lt}
 use Rattle.std.proofs.lemmas.Bool.{cases_Bool, ltb-true, ltb-false}
 use Rattle.std.proofs.lemmas.List.{length-map}
 use Rattle.gateway_model.specs.declared.entry.ReplyEntry.{ReplyEntry}
-use Rattle.gateway_model.specs.Conn.{ConnValue, entry_in}
-use Rattle.gateway_model.specs.Machine.{slot_at}
+use Rattle.gateway_theory.specs.Conn.{ConnValue, entry_in}
+use Rattle.gateway_theory.specs.Machine.{slot_at}
 use Rattle.gateway_model.specs.Queue.{front}
-use Rattle.gateway_model.specs.lemmas.SlotLemmas.{entry_here, front_size, slot_behind, slot_none, slot_some}
+use Rattle.gateway_theory.specs.lemmas.SlotLemmas.{entry_here, front_size, slot_behind, slot_none, slot_some}
 use Rattle.gateway_machine.proofs.machine.conn.Conn.untaken.Goals as goal
 
 pub returns-then-is_none : goal.returns-then-is_none

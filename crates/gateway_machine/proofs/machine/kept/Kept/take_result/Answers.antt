@@ -1,6 +1,6 @@
 use Rattle.std.proofs.Common.{sym, ap, ◌∙◌}
-use Rattle.gateway_model.specs.Kept.{KeptValue}
-use Rattle.gateway_model.specs.Step.{has_out}
+use Rattle.gateway_theory.specs.Kept.{KeptValue}
+use Rattle.gateway_theory.specs.Step.{has_out}
 use Rattle.gateway_machine.proofs.KeptLemmas.{fail_kept, answer_last_kept, answer_going_kept, last_step, going_step}
 use Rattle.gateway_machine.proofs.machine.kept.Kept.take_result.Goals as goal
 

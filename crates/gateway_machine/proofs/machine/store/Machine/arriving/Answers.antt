@@ -1,6 +1,6 @@
 use Rattle.std.proofs.Common.{ap, ◌∙◌}
 use Rattle.std.specs.Prelude.{is_some}
-use Rattle.gateway_model.specs.lemmas.ArrivalLemmas.{no_call, timely}
+use Rattle.gateway_theory.specs.lemmas.ArrivalLemmas.{no_call, timely}
 use Rattle.gateway_machine.proofs.machine.store.Machine.arriving.Goals as goal
 
 pub new-requires-clause-timely : goal.new-requires-clause-timely

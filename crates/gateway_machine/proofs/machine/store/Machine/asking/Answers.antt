@@ -1,11 +1,11 @@
 use Rattle.std.proofs.Common.{◌≡◌, ap, sym, ◌∙◌, subst}
-use Rattle.gateway_model.specs.Conn.{next_of}
+use Rattle.gateway_theory.specs.Conn.{next_of}
 use Rattle.gateway_replies.specs.Contexts.{ContextsValue, KeepsOthers, is_life, is_peer, without}
 use Rattle.gateway_model.specs.declared.id.CallId.{CallId}
-use Rattle.gateway_model.specs.Store.{MachineValue, conn_at, no_conn}
+use Rattle.gateway_theory.specs.Store.{MachineValue, conn_at, no_conn}
 use Rattle.gateway_machine.proofs.LinkedLemmas.{begun_gone, begun_is, begun_others, known_peer, others_then}
-use Rattle.gateway_model.specs.lemmas.Cases.{err_if}
-use Rattle.gateway_model.specs.lemmas.StoreLemmas.{conn_is}
+use Rattle.gateway_theory.specs.lemmas.Cases.{err_if}
+use Rattle.gateway_theory.specs.lemmas.StoreLemmas.{conn_is}
 use Rattle.gateway_machine.proofs.machine.store.Machine.asking.Goals as goal
 
 pub begin-requires-clause-known : goal.begin-requires-clause-known

@@ -1,12 +1,12 @@
 use Rattle.std.proofs.Common.{◌≡◌, ◌++◌, [], ◌∷◌, None, ap, ◌∙◌, map}
 use Rattle.std.specs.Prelude.{slice_set, slice_index_or}
-use Rattle.gateway_model.specs.Begins.{begins}
-use Rattle.gateway_model.specs.Conn.{ConnValue, added, next_of}
-use Rattle.gateway_model.specs.Enters.{entered_at}
-use Rattle.gateway_model.specs.Job.{job_at, HandedJob}
-use Rattle.gateway_model.specs.Store.{MachineValue, machine_value, conn_at, no_conn}
+use Rattle.gateway_theory.specs.Begins.{begins}
+use Rattle.gateway_theory.specs.Conn.{ConnValue, added, next_of}
+use Rattle.gateway_theory.specs.Enters.{entered_at}
+use Rattle.gateway_theory.specs.Task.{job_at, HandedJob}
+use Rattle.gateway_theory.specs.Store.{MachineValue, machine_value, conn_at, no_conn}
 use Rattle.gateway_machine.proofs.EnterLemmas.{begun_at}
-use Rattle.gateway_model.specs.lemmas.StoreLemmas.{conn_is}
+use Rattle.gateway_theory.specs.lemmas.StoreLemmas.{conn_is}
 use Rattle.gateway_machine.proofs.machine.store.Machine.begin.Goals as goal
 
 pub returns-clause-ok : goal.returns-clause-ok

@@ -1,9 +1,9 @@
 use Rattle.std.proofs.Common.{◌≡◌, sym, ap, ◌∙◌}
 use Rattle.std.specs.List.{count_by}
-use Rattle.gateway_model.specs.Kept.{KeptValue}
-use Rattle.gateway_model.specs.Step.{CallState}
-use Rattle.gateway_model.specs.Store.{MachineValue, kept_at}
-use Rattle.gateway_model.specs.lemmas.StoreLemmas.{call_found, call_missing, item_is}
+use Rattle.gateway_theory.specs.Kept.{KeptValue}
+use Rattle.gateway_theory.specs.Step.{CallState}
+use Rattle.gateway_theory.specs.Store.{MachineValue, kept_at}
+use Rattle.gateway_theory.specs.lemmas.StoreLemmas.{call_found, call_missing, item_is}
 use Rattle.gateway_machine.proofs.machine.store.Machine.branches_out.Goals as goal
 
 pub returns-in-Some : goal.returns-in-Some

@@ -1,6 +1,6 @@
 use Rattle.std.proofs.Common.{ap, arith}
-use Rattle.gateway_model.specs.Store.{waiting}
-use Rattle.gateway_model.specs.lemmas.StoreLemmas.{waiting_less}
+use Rattle.gateway_theory.specs.Store.{waiting}
+use Rattle.gateway_theory.specs.lemmas.StoreLemmas.{waiting_less}
 use Rattle.gateway_machine.proofs.machine.store.Machine.break_conn.Goals as goal
 
 pub invariant_of-self : goal.invariant_of-self

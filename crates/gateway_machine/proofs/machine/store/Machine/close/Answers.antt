@@ -1,11 +1,11 @@
 use Rattle.std.proofs.Common.{ap, ◌∙◌, arith, map}
 use Rattle.std.specs.Prelude.{◌==◌, filter, not}
-use Rattle.gateway_model.specs.Conn.{ConnValue}
-use Rattle.gateway_model.specs.Job.{HandedJob}
-use Rattle.gateway_model.specs.Opens.{closed_at}
-use Rattle.gateway_model.specs.Store.{machine_value, waiting}
+use Rattle.gateway_theory.specs.Conn.{ConnValue}
+use Rattle.gateway_theory.specs.Task.{HandedJob}
+use Rattle.gateway_theory.specs.Opens.{closed_at}
+use Rattle.gateway_theory.specs.Store.{machine_value, waiting}
 use Rattle.gateway_machine.proofs.LinkedLemmas.{closed_linked}
-use Rattle.gateway_model.specs.lemmas.StoreLemmas.{waiting_less}
+use Rattle.gateway_theory.specs.lemmas.StoreLemmas.{waiting_less}
 use Rattle.gateway_machine.proofs.machine.store.Machine.close.Goals as goal
 
 pub invariant_of-self : goal.invariant_of-self

@@ -1,9 +1,9 @@
 use Rattle.std.proofs.Common.{◌≡◌, ◌<◌, ap, sym, ◌∙◌, length, subst}
-use Rattle.gateway_model.specs.Conn.{ConnValue}
-use Rattle.gateway_model.specs.Store.{MachineValue, conn_at, no_conn}
+use Rattle.gateway_theory.specs.Conn.{ConnValue}
+use Rattle.gateway_theory.specs.Store.{MachineValue, conn_at, no_conn}
 use Rattle.gateway_machine.specs.Linked.{IsLinkedBut, none_over}
 use Rattle.gateway_machine.proofs.LinkedLemmas.{broken_linked}
-use Rattle.gateway_model.specs.lemmas.StoreLemmas.{conn_is, on_err}
+use Rattle.gateway_theory.specs.lemmas.StoreLemmas.{conn_is, on_err}
 use Rattle.gateway_machine.proofs.machine.store.Machine.come.Goals as goal
 
 pub returns-then-is_err-clause-linked : goal.returns-then-is_err-clause-linked

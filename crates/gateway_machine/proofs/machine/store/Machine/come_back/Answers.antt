@@ -1,13 +1,13 @@
 use Rattle.std.proofs.Common.{◌≡◌, ℕ, true, refl, sym, ap, ◌∙◌, inl, inr}
 use Rattle.std.specs.Prelude.{if◌then◌else◌, is_some}
-use Rattle.gateway_model.specs.declared.fault.Seen.TheVariants.{Counted, Late, Unknown}
-use Rattle.gateway_model.specs.Kept.{KeptValue}
-use Rattle.gateway_model.specs.Step.{has_out}
-use Rattle.gateway_model.specs.Results.{back_at}
-use Rattle.gateway_model.specs.Store.{MachineValue, broken_at, kept_at}
-use Rattle.gateway_model.specs.lemmas.StoreLemmas.{call_missing, item_is}
+use Rattle.gateway_model.specs.declared.seen.Seen.TheVariants.{Counted, Late, Unknown}
+use Rattle.gateway_theory.specs.Kept.{KeptValue}
+use Rattle.gateway_theory.specs.Step.{has_out}
+use Rattle.gateway_theory.specs.Results.{back_at}
+use Rattle.gateway_theory.specs.Store.{MachineValue, broken_at, kept_at}
+use Rattle.gateway_theory.specs.lemmas.StoreLemmas.{call_missing, item_is}
 use Rattle.gateway_machine.proofs.ResultLemmas.{found_out}
-use Rattle.gateway_model.specs.lemmas.StarveSteps.{back_ready}
+use Rattle.gateway_theory.specs.lemmas.StarveSteps.{back_ready}
 use Rattle.gateway_machine.proofs.machine.store.Machine.come_back.Goals as goal
 
 pub returns-in_default-clause-taken : goal.returns-in_default-clause-taken

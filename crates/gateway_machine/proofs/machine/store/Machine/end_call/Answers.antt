@@ -1,15 +1,15 @@
 use Rattle.std.proofs.Common.{◌≡◌, ℕ, ◌<◌, sym, ap, ◌∙◌, inr, true, length, map, subst, slice_set}
 use Rattle.std.specs.Prelude.{is_some}
 use Rattle.std.proofs.lemmas.List.{get_or-set_same}
-use Rattle.gateway_model.specs.Job.{HandedJob}
-use Rattle.gateway_model.specs.Kept.{KeptValue}
+use Rattle.gateway_theory.specs.Task.{HandedJob}
+use Rattle.gateway_theory.specs.Kept.{KeptValue}
 use Rattle.gateway_model.specs.declared.id.CallId.{CallId}
-use Rattle.gateway_model.specs.Ends.{ended_call, unanswered}
-use Rattle.gateway_model.specs.Store.{MachineValue, machine_value, kept_at, broken_at}
+use Rattle.gateway_theory.specs.Ends.{ended_call, unanswered}
+use Rattle.gateway_theory.specs.Store.{MachineValue, machine_value, kept_at, broken_at}
 use Rattle.gateway_replies.specs.Contexts.{ContextsValue, KeepsOthers, contexts_value, is_life}
 use Rattle.gateway_machine.specs.Linked.{linked_calls, linked_conns, over_by}
 use Rattle.gateway_machine.proofs.LinkedLemmas.{broken_linked, ended_linked, live_has_life, refused_linked}
-use Rattle.gateway_model.specs.lemmas.StoreLemmas.{item_is, broke_at, on_err, on_ok}
+use Rattle.gateway_theory.specs.lemmas.StoreLemmas.{item_is, broke_at, on_err, on_ok}
 use Rattle.gateway_machine.proofs.machine.store.Machine.end_call.Goals as goal
 
 pub returns-then-is_err-clause-ended : goal.returns-then-is_err-clause-ended

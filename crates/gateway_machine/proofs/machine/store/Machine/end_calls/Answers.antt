@@ -1,7 +1,7 @@
 use Rattle.std.proofs.Common.{ap, refl, sym, ◌∙◌, arith, length}
-use Rattle.gateway_model.specs.Store.{MachineValue}
-use Rattle.gateway_model.specs.lemmas.EndLemmas.{ends_start, ends_next, ends_all}
-use Rattle.gateway_model.specs.lemmas.HeadLemmas.{heads_ended_at}
+use Rattle.gateway_theory.specs.Store.{MachineValue}
+use Rattle.gateway_theory.specs.lemmas.EndLemmas.{ends_start, ends_next, ends_all}
+use Rattle.gateway_theory.specs.lemmas.HeadLemmas.{heads_ended_at}
 use Rattle.gateway_machine.specs.Linked.{over_by}
 use Rattle.gateway_machine.proofs.LinkedLemmas.{ended_all_linked}
 use Rattle.gateway_machine.proofs.machine.store.Machine.end_calls.Goals as goal

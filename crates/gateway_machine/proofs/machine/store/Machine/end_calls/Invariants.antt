@@ -1,6 +1,6 @@
 use Rattle.std.proofs.Common.{◌≡◌}
-use Rattle.gateway_model.specs.Ends.{EndedBelow}
-use Rattle.gateway_model.specs.Heads.{conn_heads}
+use Rattle.gateway_theory.specs.Ends.{EndedBelow}
+use Rattle.gateway_theory.specs.Heads.{conn_heads}
 use Rattle.gateway_machine.specs.Linked.{linked_by, over_by}
 use Rattle.gateway_machine.proofs.machine.store.Machine.end_calls.Given as goal
 

@@ -1,16 +1,16 @@
 use Rattle.std.proofs.Common.{◌≡◌, sym, ap, ◌∙◌, arith, inr, map, subst}
 use Rattle.std.specs.Prelude.{filter, not}
-use Rattle.gateway_model.specs.Kept.{KeptValue}
+use Rattle.gateway_theory.specs.Kept.{KeptValue}
 use Rattle.gateway_model.specs.Past.{is_call}
 use Rattle.gateway_replies.specs.Contexts.{contexts_value}
-use Rattle.gateway_model.specs.Job.{HandedJob}
+use Rattle.gateway_theory.specs.Task.{HandedJob}
 use Rattle.gateway_machine.specs.Linked.{linked_calls, linked_conns, none_over}
 use Rattle.gateway_machine.proofs.LinkedLemmas.{forgot_linked, spent_dead}
-use Rattle.gateway_model.specs.Results.{NoneSpent, is_spent, without_call}
-use Rattle.gateway_model.specs.Store.{MachineValue, machine_value, kept_at, waiting}
-use Rattle.gateway_model.specs.lemmas.Forgetting.{none_left}
-use Rattle.gateway_model.specs.lemmas.StoreLemmas.{call_found, item_is}
-use Rattle.gateway_model.specs.lemmas.StoreMore.{waiting_filtered}
+use Rattle.gateway_theory.specs.Results.{NoneSpent, is_spent, without_call}
+use Rattle.gateway_theory.specs.Store.{MachineValue, machine_value, kept_at, waiting}
+use Rattle.gateway_theory.specs.lemmas.Forgetting.{none_left}
+use Rattle.gateway_theory.specs.lemmas.StoreLemmas.{call_found, item_is}
+use Rattle.gateway_theory.specs.lemmas.StoreMore.{waiting_filtered}
 use Rattle.gateway_machine.proofs.machine.store.Machine.forget.Goals as goal
 
 pub invariant_of-self : goal.invariant_of-self

@@ -1,8 +1,8 @@
 use Rattle.std.proofs.Common.{ap, sym, ◌∙◌, map, slice_set}
-use Rattle.gateway_model.specs.Job.{HandedJob}
-use Rattle.gateway_model.specs.Kept.{KeptValue}
+use Rattle.gateway_theory.specs.Task.{HandedJob}
+use Rattle.gateway_theory.specs.Kept.{KeptValue}
 use Rattle.gateway_machine.specs.Linked.{linked_conns, none_over}
-use Rattle.gateway_model.specs.Store.{MachineValue, machine_value, kept_at}
+use Rattle.gateway_theory.specs.Store.{MachineValue, machine_value, kept_at}
 use Rattle.gateway_machine.proofs.LinkedLemmas.{alike_linked, dead_life}
 use Rattle.gateway_machine.proofs.machine.store.Machine.give_back.Goals as goal
 

@@ -1,6 +1,6 @@
 use Rattle.std.proofs.Common.{◌≡◌, ◌<◌, sym, ap, ◌∙◌, arith, length, subst, slice_index_or}
-use Rattle.gateway_model.specs.Store.{MachineValue}
-use Rattle.gateway_model.specs.lemmas.StoreLemmas.{stopped_here}
+use Rattle.gateway_theory.specs.Store.{MachineValue}
+use Rattle.gateway_theory.specs.lemmas.StoreLemmas.{stopped_here}
 use Rattle.gateway_machine.proofs.machine.store.Machine.is_stopped.Goals as goal
 
 pub returns-then-is_of : goal.returns-then-is_of

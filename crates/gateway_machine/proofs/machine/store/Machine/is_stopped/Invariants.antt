@@ -1,6 +1,6 @@
 use Rattle.std.proofs.Common.{◌≡◌, ℕ, ◌<◌, false}
 use Rattle.std.specs.Prelude.{◌==◌}
-use Rattle.gateway_model.specs.Store.{conn_at}
+use Rattle.gateway_theory.specs.Store.{conn_at}
 use Rattle.gateway_machine.proofs.machine.store.Machine.is_stopped.Given as goal
 
 abbrev pub invariant-loop-index : goal.invariant-loop-index

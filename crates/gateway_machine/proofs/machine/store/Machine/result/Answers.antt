@@ -1,13 +1,13 @@
 use Rattle.std.proofs.Common.{◌≡◌, ℕ, ◌<◌, ◌++◌, false, true, refl, sym, ap, ◌∙◌, arith, inl, inr, length, map, subst, slice_set}
 use Rattle.std.specs.Prelude.{if◌then◌else◌, is_some, option_to_list}
-use Rattle.gateway_model.specs.declared.fault.Seen.TheVariants.{Counted, Late, Unknown}
-use Rattle.gateway_model.specs.Kept.{KeptValue}
-use Rattle.gateway_model.specs.Job.{job_at}
-use Rattle.gateway_model.specs.Step.{has_out}
-use Rattle.gateway_model.specs.Store.{MachineValue, machine_value, kept_at}
-use Rattle.gateway_model.specs.lemmas.LimitLemmas.{same_call}
+use Rattle.gateway_model.specs.declared.seen.Seen.TheVariants.{Counted, Late, Unknown}
+use Rattle.gateway_theory.specs.Kept.{KeptValue}
+use Rattle.gateway_theory.specs.Task.{job_at}
+use Rattle.gateway_theory.specs.Step.{has_out}
+use Rattle.gateway_theory.specs.Store.{MachineValue, machine_value, kept_at}
+use Rattle.gateway_theory.specs.lemmas.LimitLemmas.{same_call}
 use Rattle.gateway_machine.proofs.LinkedLemmas.{stepped_linked}
-use Rattle.gateway_model.specs.lemmas.StoreLemmas.{call_missing, item_is}
+use Rattle.gateway_theory.specs.lemmas.StoreLemmas.{call_missing, item_is}
 use Rattle.gateway_machine.proofs.ResultLemmas.{found_out, its_at, next_waits, waits_then, steps_at}
 use Rattle.gateway_machine.proofs.machine.store.Machine.result.Goals as goal
 

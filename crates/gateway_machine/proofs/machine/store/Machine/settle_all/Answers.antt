@@ -1,7 +1,7 @@
 use Rattle.std.proofs.Common.{ap, refl, ◌∙◌, arith, length}
-use Rattle.gateway_model.specs.Store.{MachineValue}
-use Rattle.gateway_model.specs.lemmas.EndLemmas.{settles_start, settles_next, settles_end}
-use Rattle.gateway_model.specs.lemmas.HeadLemmas.{heads_settled_at}
+use Rattle.gateway_theory.specs.Store.{MachineValue}
+use Rattle.gateway_theory.specs.lemmas.EndLemmas.{settles_start, settles_next, settles_end}
+use Rattle.gateway_theory.specs.lemmas.HeadLemmas.{heads_settled_at}
 use Rattle.gateway_machine.proofs.machine.store.Machine.settle_all.Goals as goal
 
 pub loop-index-init : goal.loop-index-init

@@ -1,6 +1,6 @@
 use Rattle.std.proofs.Common.{◌≡◌}
-use Rattle.gateway_model.specs.Ends.{SettledBelow}
-use Rattle.gateway_model.specs.Heads.{conn_heads}
+use Rattle.gateway_theory.specs.Ends.{SettledBelow}
+use Rattle.gateway_theory.specs.Heads.{conn_heads}
 use Rattle.gateway_machine.specs.Linked.{Over, linked_by}
 use Rattle.gateway_machine.proofs.machine.store.Machine.settle_all.Given as goal
 

@@ -1,6 +1,6 @@
 use Rattle.std.proofs.Common.{sym, ◌∙◌}
-use Rattle.gateway_model.specs.lemmas.OrderSteps.{starved_order}
-use Rattle.gateway_model.specs.lemmas.Keeping.{unknown_starved}
+use Rattle.gateway_theory.specs.lemmas.OrderSteps.{starved_order}
+use Rattle.gateway_theory.specs.lemmas.Keeping.{unknown_starved}
 use Rattle.gateway_machine.proofs.machine.store.Machine.starve.Goals as goal
 
 pub returns : goal.returns

@@ -1,7 +1,7 @@
 use Rattle.std.proofs.Common.{ap, sym, ◌∙◌}
 use Rattle.gateway_machine.specs.Linked.{linked, none_over}
 use Rattle.gateway_machine.proofs.LinkedLemmas.{answered_linked, broken_linked, linked_but}
-use Rattle.gateway_model.specs.lemmas.StoreLemmas.{on_err, on_ok}
+use Rattle.gateway_theory.specs.lemmas.StoreLemmas.{on_err, on_ok}
 use Rattle.gateway_machine.proofs.machine.store.Machine.stop.Goals as goal
 
 pub returns-else-is_err-clause-linked : goal.returns-else-is_err-clause-linked

@@ -1,20 +1,21 @@
 use Rattle.std.proofs.Common.{◌≡◌, ◌++◌, ◌∷◌, [], ap, false, sym, ◌∙◌, subst, arith}
 use Rattle.gateway_model.specs.declared.id.CallId.{CallId}
-use Rattle.gateway_model.specs.Past.{Asked}
+use Rattle.gateway_model.specs.Past.{ArrivedCall}
 use Rattle.gateway_model.specs.Arrival.{arrival_of}
-use Rattle.gateway_model.specs.Conn.{next_of}
+use Rattle.gateway_theory.specs.Conn.{next_of}
 use Rattle.gateway_replies.specs.Contexts.{ContextsValue, contexts_value, life_by}
 use Rattle.gateway_machine.specs.Linked.{ComesWith, linked}
 use Rattle.gateway_machine.proofs.LinkedLemmas.{answered_linked, begun_linked}
-use Rattle.gateway_model.specs.Enters.{arriving_at}
+use Rattle.gateway_theory.specs.Enters.{arriving_at}
 use Rattle.gateway_machine.specs.Comes.{ComesTo}
-use Rattle.gateway_model.specs.Machine.{is_full}
-use Rattle.gateway_model.specs.Occurrence.{Request, calls_in}
-use Rattle.gateway_model.specs.Store.{MachineValue, conn_at}
-use Rattle.gateway_model.specs.lemmas.Bringing.{asks_one}
+use Rattle.gateway_theory.specs.Machine.{is_full}
+use Rattle.gateway_model.specs.Occurrence.{Request}
+use Rattle.gateway_theory.specs.Arrivals.{calls_in}
+use Rattle.gateway_theory.specs.Store.{MachineValue, conn_at}
+use Rattle.gateway_theory.specs.lemmas.Bringing.{asks_one}
 use Rattle.gateway_machine.proofs.machine.store.Machine.take_in.Goals as goal
 
-abbrev begun_at : CallId → Asked → ContextsValue → ContextsValue
+abbrev begun_at : CallId → ArrivedCall → ContextsValue → ContextsValue
 begun_at id a x = contexts_value x.drained x.conns (x.calls ++ life_by false id a ∷ [])
 
 pub returns-in_ok-begin_counted-in-Begins-clause-bound : goal.returns-in_ok-begin_counted-in-Begins-clause-bound

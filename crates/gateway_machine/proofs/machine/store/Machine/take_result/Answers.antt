@@ -1,6 +1,6 @@
 use Rattle.std.proofs.Common.{sym, ◌∙◌}
-use Rattle.gateway_model.specs.lemmas.OrderSteps.{result_order}
-use Rattle.gateway_model.specs.lemmas.Keeping.{unknown_result}
+use Rattle.gateway_theory.specs.lemmas.OrderSteps.{result_order}
+use Rattle.gateway_theory.specs.lemmas.Keeping.{unknown_result}
 use Rattle.gateway_machine.proofs.machine.store.Machine.take_result.Goals as goal
 
 pub returns : goal.returns

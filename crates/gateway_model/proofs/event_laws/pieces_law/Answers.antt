@@ -1,5 +1,0 @@
-use Rattle.gateway_model.specs.lemmas.CutLemmas.{any_cut}
-use Rattle.gateway_model.proofs.event_laws.pieces_law.Goals as goal
-
-pub returns : goal.returns
-returns c = any_cut c.request_laws.ensures

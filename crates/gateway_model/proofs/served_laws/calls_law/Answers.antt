@@ -1,5 +1,0 @@
-use Rattle.gateway_model.specs.lemmas.KeptCalls.{outs_kept, record_kept}
-use Rattle.gateway_model.proofs.served_laws.calls_law.Goals as goal
-
-pub returns : goal.returns
-returns c = record { records = record_kept; limit = outs_kept }

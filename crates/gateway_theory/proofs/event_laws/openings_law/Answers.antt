@@ -1,0 +1,17 @@
+use Rattle.std.proofs.Common.{◌∷◌, ◌++◌, []}
+use Rattle.gateway_theory.specs.lemmas.CutLemmas.{listens_same}
+use Rattle.gateway_theory.specs.lemmas.LaterOpenings.{same_count, same_openings, shrunk}
+use Rattle.gateway_theory.specs.lemmas.ServedOpens.{grown, occurs_before}
+use Rattle.gateway_theory.proofs.event_laws.openings_law.Goals as goal
+
+pub returns : goal.returns
+returns c = record {
+  occurs = λ plans opened place es occurred below le. (
+    occurs_before plans opened (opened ++ place ∷ []) place es occurred le (grown opened place below),
+    occurs_before plans (opened ++ place ∷ []) opened place es occurred le (shrunk opened place below),
+  );
+  connections = λ opened place es below le. (same_openings opened place es below le).connections_are;
+  is_open = λ opened place es below le. (same_openings opened place es below le).open_is;
+  listens = λ opened place es below le c. listens_same opened (opened ++ place ∷ []) es es c (same_openings opened place es below le);
+  open_connections = same_count;
+}

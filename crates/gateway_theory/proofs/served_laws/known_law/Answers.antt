@@ -1,0 +1,5 @@
+use Rattle.gateway_theory.specs.lemmas.Knowing.{known}
+use Rattle.gateway_theory.proofs.served_laws.known_law.Goals as goal
+
+pub returns : goal.returns
+returns c = known

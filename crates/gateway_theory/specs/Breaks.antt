@@ -1,0 +1,116 @@
+-- What an occurrence makes of the machine, where connections can break at it.
+use Rattle.std.specs.Prelude.{◌≡◌, ℕ, max, Bool, true, false, ◌&&◌, ◌||◌, not, if◌then◌else◌, ◌==◌, List, [], ◌++◌, Option, None, option_to_list, option_map, is_some}
+use Rattle.gateway_model.specs.declared.id.CallId.{CallId}
+use Rattle.gateway_model.specs.Job.{JobValue}
+use Rattle.gateway_model.specs.Occurrence.{Occurrence, Comes, Coming}
+use Rattle.gateway_model.specs.Past.{is_call, is_drain, is_result_of, moment_of, marked}
+use Rattle.gateway_model.specs.declared.entry.ReplyEntry.{ReplyEntry}
+use Rattle.gateway_model.specs.Queue.{queued_entries}
+use Rattle.gateway_model.specs.Starts.{Placed, occurrences}
+use Rattle.gateway_theory.specs.Step.{CallState, Step, call_state, has_out}
+use Rattle.gateway_theory.specs.Machine.{ConnState, MachineState, ConnAfter, step_of, starting, next_id, arriving, with_slot}
+use Rattle.gateway_model.specs.Past.{how_seen}
+use Rattle.gateway_model.specs.declared.seen.Seen.{Seen}
+use Rattle.gateway_model.specs.declared.seen.Seen.TheVariants.{Counted, Late, Unknown}
+use Rattle.gateway_theory.specs.Fate.{Unbroken, BrokenAt, still_out, Fate, is_broken, starting_conn}
+use Rattle.gateway_model.specs.Concerns.{breaks_at, concerns}
+
+-- the connection is broken, or breaks now
+abbrev pub is_stopped : (ℕ → Bool) → (ℕ → Fate) → ℕ → Bool
+is_stopped breaks fates c = is_broken (fates c) || breaks c
+
+-- a call that stays, but for the branch that a result is of
+pub record CallStays (id : CallId) (o : Occurrence) (old new : CallState) : Type 0 where
+  pub outs_are : (i : ℕ) → has_out new i ≡ (has_out old i && not (is_result_of id i o))
+
+pub record ConnStays (old new : ConnState) : Type 0 where
+  pub taken_is : new.taken ≡ old.taken
+  pub slots_are : new.slots ≡ old.slots
+
+-- a call, where its connection stops
+abbrev pub CallAfter : Bool → CallId → Occurrence → CallState → CallState → CallState → Type 0
+CallAfter true id o old new stepped = CallStays id o old new
+CallAfter false id o old new stepped = new ≡ stepped
+
+-- a connection, where it stops
+abbrev pub ConnOn : Bool → Occurrence → MachineState → ℕ → ConnState → ConnState → Type 0
+ConnOn true o s c old new = ConnStays old new
+ConnOn false o s c old new = ConnAfter o s c old new
+
+-- a connection, where it stops, or something comes on it
+abbrev pub ConnBy : Bool → Bool → Option ReplyEntry → ConnState → ConnState → Type 0
+ConnBy true comes reply old new = ConnStays old new
+ConnBy false comes reply old new = new ≡ (if comes then with_slot reply old else old)
+
+-- each connection that breaks now is one that the occurrence concerns
+abbrev pub AreConcerned : (ℕ → Bool) → (ℕ → Fate) → Occurrence → List Occurrence → Type 0
+AreConcerned breaks fates o os = (c : ℕ) → is_broken (fates c) ≡ false → breaks c ≡ true → concerns c o (marked os) ≡ true
+
+-- the machine after an occurrence at which nothing comes on a stream
+pub record AfterBreaks (breaks : ℕ → Bool) (fates : ℕ → Fate) (o : Occurrence) (s t : MachineState) : Type 0 where
+  pub moment_is : t.moment ≡ max s.moment (moment_of o)
+  pub drained_is : t.drained ≡ (is_drain o || s.drained)
+  pub calls_are : (id : CallId) → CallAfter (is_stopped breaks fates id.conn) id o (s.calls id) (t.calls id) (step_of id o s).call
+  pub conns_are : (c : ℕ) → ConnOn (is_stopped breaks fates c) o s c (s.conns c) (t.conns c)
+  pub jobs_are : t.jobs ≡ s.jobs ++ (if is_stopped breaks fates (starting_conn o) then [] else starting o s)
+
+-- the machine after something came on that connection's stream
+pub record EntryBreaks (breaks : ℕ → Bool) (fates : ℕ → Fate) (c : ℕ) (x : Coming) (s t : MachineState) : Type 0 where
+  pub moment_is : t.moment ≡ s.moment
+  pub drained_is : t.drained ≡ s.drained
+  pub calls_are : (id : CallId) → CallAfter (is_stopped breaks fates id.conn) id (Comes c x) (s.calls id) (t.calls id)
+      (if is_call (next_id c s) id then (arriving c x s).call else s.calls id)
+  pub conns_are : (d : ℕ) → ConnBy (is_stopped breaks fates d) (d == c) (arriving c x s).reply (s.conns d) (t.conns d)
+  pub jobs_are : t.jobs ≡ s.jobs ++ (if is_stopped breaks fates c then [] else (arriving c x s).jobs)
+
+-- the machine after memory was refused to a piece of that connection's stream that brings no request
+pub record AfterRefusal (c : ℕ) (s t : MachineState) : Type 0 where
+  pub moment_is : t.moment ≡ s.moment
+  pub drained_is : t.drained ≡ s.drained
+  pub jobs_are : t.jobs ≡ s.jobs
+  pub outs_are : (id : CallId) (i : ℕ) → has_out (t.calls id) i ≡ has_out (s.calls id) i
+  pub others_are : (id : CallId) → (id.conn == c) ≡ false → t.calls id ≡ s.calls id
+  pub conn_is : ConnStays (s.conns c) (t.conns c)
+  pub conns_are : (d : ℕ) → (d == c) ≡ false → t.conns d ≡ s.conns d
+
+-- what is queued for a connection that broke: all of the past before that, and no more
+abbrev pub BrokeWith : ℕ → List ReplyEntry → List Occurrence → Type 0
+BrokeWith c queue os =
+    (since : List Occurrence) × (at : Option Occurrence) × (older : List Occurrence)
+    × (os ≡ since ++ option_to_list at ++ older) × (breaks_at c at (marked older) ≡ true) × (queue ≡ queued_entries c (marked older))
+
+-- a call at an occurrence that nothing follows from: it stays, and neither a reply nor a job comes of it
+pub record NothingOf (id : CallId) (o : Occurrence) (c : CallState) (s : Step) : Type 0 where
+  pub stays : CallStays id o c s.call
+  pub live_is : s.call.live ≡ c.live
+  pub no_reply : s.reply ≡ None
+  pub no_jobs : s.jobs ≡ []
+
+-- the machine, in which the calls of these connections can't be decided any more
+pub record GivenUp (breaks : ℕ → Bool) (s u : MachineState) : Type 0 where
+  pub moment_is : u.moment ≡ s.moment
+  pub drained_is : u.drained ≡ s.drained
+  pub jobs_are : u.jobs ≡ s.jobs
+  pub conns_are : (c : ℕ) → u.conns c ≡ s.conns c
+  pub calls_are : (id : CallId) → u.calls id ≡ (if breaks id.conn then call_state (s.calls id).out None else s.calls id)
+
+-- no call of a connection that stops can be decided
+abbrev pub NoneLive : (ℕ → Bool) → MachineState → Type 0
+NoneLive stopped s = (id : CallId) → stopped id.conn ≡ true → (s.calls id).live ≡ None
+
+-- the same over events with their places: what is queued is all of the past before an occurrence of one of them, which concerned
+-- the connection; or memory was refused to a piece that brought no request
+abbrev pub BrokeAtEvent : ℕ → List ReplyEntry → List Placed → Type 0
+BrokeAtEvent c queue placed =
+    (since : List Placed) × (at : Option Placed) × (older : List Placed)
+    × (placed ≡ since ++ option_to_list at ++ older) × (breaks_at c (option_map (λ o. o.1) at) (marked (occurrences older)) ≡ true)
+    × (queue ≡ queued_entries c (marked (occurrences older)))
+
+-- how a result of that branch is seen: late, if it comes for a broken connection's branch that is still out
+abbrev pub how_seen_fated : CallId → ℕ → Fate → List Occurrence → Seen
+how_seen_fated id i Unbroken os = how_seen id i (marked os)
+how_seen_fated id i (BrokenAt since at older) os = if still_out id i (BrokenAt since at older) os then Late else Unknown
+
+-- how it is seen by what is kept
+abbrev pub seen_by : CallState → ℕ → Seen
+seen_by c i = if has_out c i then (if is_some c.live then Counted else Late) else Unknown

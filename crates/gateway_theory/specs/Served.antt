@@ -1,0 +1,77 @@
+-- What the gateway stands for after events.
+use Rattle.std.specs.Prelude.{◌≡◌, ◌⊎◌, ℕ, ◌<◌, ◌≤◌, Bool, true, false, filter, List, ◌∷◌, ◌++◌, ◌==◌, if◌then◌else◌, take, length, Option, Some, option_map, option_to_list, is_some, Result, Ok, Err}
+use Rattle.http_pieces.specs.Reader.{HasRead}
+use Rattle.http_pieces.specs.Request.{HttpRequest}
+use Rattle.http_pieces.specs.Requests.{StreamEnd, Requests}
+use Rattle.gateway_model.specs.declared.entry.ReplyEntry.{ReplyEntry}
+use Rattle.gateway_theory.specs.declared.fault.StepFault.{StepFault}
+use Rattle.gateway_theory.specs.Conn.{ConnValue}
+use Rattle.gateway_theory.specs.Ends.{is_stopped_in}
+use Rattle.gateway_model.specs.Events.{Before, Gains, Occurs, connections, hung_up, is_open, stream, succeeds}
+use Rattle.gateway_model.specs.declared.event.Event.TheVariants.{Piece}
+use Rattle.gateway_theory.specs.Gateway.{GatewayStands, GatewayValue, StreamValue, goes_on, stream_of}
+use Rattle.gateway_model.specs.Job.{JobValue}
+use Rattle.gateway_model.specs.Occurrence.{Coming}
+use Rattle.gateway_theory.specs.Replies.{ReplyValue}
+use Rattle.gateway_theory.specs.Breaks.{BrokeAtEvent}
+use Rattle.gateway_model.specs.Known.{is_of}
+use Rattle.gateway_model.specs.Past.{marked}
+use Rattle.gateway_model.specs.Queue.{IsPrefixOf, queued_entries}
+use Rattle.gateway_model.specs.Starts.{Placed, jobs, occurrences}
+use Rattle.gateway_theory.specs.Store.{conn_of}
+
+-- the connections of the gateway are those of these events, newest first, of which the openings at those places succeeded
+pub record HasConns (v : GatewayValue) (opened : List ℕ) (events : Before) : Type 0 where
+  pub below : (place : ℕ) → succeeds opened place ≡ true → place < length events
+  pub count_is : connections opened events ≡ v.opened
+  pub open_are : (c : ℕ) → is_open opened c events ≡ is_some (conn_of c v.machine.conns)
+  -- of one that is broken nobody asks any more whether its peer hung up
+  pub hung_are : (c : ℕ) (k : ConnValue) (s : StreamValue) → conn_of c v.machine.conns ≡ Some k → stream_of c v.streams ≡ Some s → k.broken ≡ false → s.hung_up ≡ hung_up opened c events
+  -- of one whose pieces are taken the text was read
+  pub reads_are : (c : ℕ) (k : ConnValue) (s : StreamValue) → conn_of c v.machine.conns ≡ Some k → stream_of c v.streams ≡ Some s → goes_on k s ≡ true
+      → (given : List HttpRequest) × HasRead s.reader (stream opened c events) given
+
+-- it stands for what occurs by them, where these replies and jobs were taken
+abbrev pub StandsBy : GatewayValue → List ℕ → Before → (ℕ → List ReplyEntry) → List JobValue → Type 0
+StandsBy v opened events taken handed =
+    (occurred : List Placed) → Occurs v.plans opened events occurred → GatewayStands v (λ c. stream opened c events) taken handed (occurrences occurred)
+
+-- the gateway after these events
+pub record Served (v : GatewayValue) (opened : List ℕ) (events : Before) (taken : ℕ → List ReplyEntry) (handed : List JobValue) : Type 0 where
+  pub conns : HasConns v opened events
+  pub stands : StandsBy v opened events taken handed
+
+-- the replies taken, and one of that connection more, if it is given
+abbrev pub with_reply : ℕ → Option ReplyValue → (ℕ → List ReplyEntry) → ℕ → List ReplyEntry
+with_reply n reply taken c = if c == n then taken c ++ option_to_list (option_map (λ r. r.entry) reply) else taken c
+
+-- what the gateway stands for once bytes were fed: those that were taken have come; at a fault all of them, or those up to what broke the connection
+abbrev pub ServedFed : ℕ → List ℕ → GatewayValue → List ℕ → Before → (ℕ → List ReplyEntry) → List JobValue → Result ℕ StepFault → Type 0
+ServedFed n bytes w opened es taken handed (Ok m) = Served w opened (Piece n (take m bytes) ∷ es) taken handed
+ServedFed n bytes w opened es taken handed (Err fault) =
+    Served w opened (Piece n bytes ∷ es) taken handed ⊎ ((m : ℕ) × (is_stopped_in n w.machine.conns ≡ true) × Served w opened (Piece n (take m bytes) ∷ es) taken handed)
+
+-- ---- a piece that is fed in parts
+
+-- the text has a list of requests, which is there
+abbrev pub IsKnown : List ℕ → Type 0
+IsKnown text = (given : List HttpRequest) × (ending : StreamEnd) × Requests 0 text given ending
+
+-- the gateway after these events and the first bytes of one more, a piece of that connection's stream
+pub record ServedUpTo (n : ℕ) (fed : List ℕ) (v : GatewayValue) (opened : List ℕ) (es : Before) (taken : ℕ → List ReplyEntry) (handed : List JobValue) : Type 0 where
+  pub below : (place : ℕ) → succeeds opened place ≡ true → place < length es
+  pub served : Served v opened (Piece n fed ∷ es) taken handed
+  pub known : (rest : List ℕ) (gained : List Coming) → Gains v.plans (stream opened n es) (stream opened n es ++ (fed ++ rest)) gained → IsKnown (stream opened n es ++ fed)
+
+-- ---- what is queued and what starts
+
+-- all that is queued for a connection by what occurred; for one that broke, all that was queued by what came before it did
+abbrev pub QueueIs : ℕ → List ReplyEntry → Bool → List Placed → Type 0
+QueueIs c queue false placed = queue ≡ queued_entries c (marked (occurrences placed))
+QueueIs c queue true placed = BrokeAtEvent c queue placed
+
+-- the jobs of a connection that is open and not broken, or was not opened, are those of all its branches that have started; of any other the first of those
+pub record JobsAre (v : GatewayValue) (all : List JobValue) (placed : List Placed) : Type 0 where
+  pub unbroken : (c : ℕ) (k : ConnValue) → conn_of c v.machine.conns ≡ Some k → k.broken ≡ false → filter (is_of c) all ≡ filter (is_of c) (jobs (marked (occurrences placed)))
+  pub unopened : (c : ℕ) → v.opened ≤ c → filter (is_of c) all ≡ filter (is_of c) (jobs (marked (occurrences placed)))
+  pub others : (c : ℕ) → IsPrefixOf (filter (is_of c) all) (filter (is_of c) (jobs (marked (occurrences placed))))

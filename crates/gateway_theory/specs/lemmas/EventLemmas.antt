@@ -1,0 +1,51 @@
+-- Events come to one list of occurrences.
+use Rattle.std.proofs.Common.{◌≡◌, ℕ, Bool, true, false, List, [], ◌∷◌, ◌++◌, map, refl, sym, ap, ◌∙◌}
+use Rattle.std.specs.Prelude.{MatchBool}
+use Rattle.std.proofs.lemmas.List.{append_cancel_left}
+use Rattle.call_plan.specs.Plan.{PlanRecord}
+use Rattle.gateway_model.specs.Occurrence.{Occurrence, Coming, Comes}
+use Rattle.gateway_model.specs.Starts.{Placed}
+use Rattle.gateway_theory.specs.RequestLaws.{RequestLaws}
+use Rattle.gateway_model.specs.declared.event.Event.{Event}
+use Rattle.gateway_model.specs.declared.event.Event.TheVariants.{Opening, Piece, HangUp, Moment, BranchResult, Drain, Closing}
+use Rattle.gateway_model.specs.Events.{Before, Gains, OccursAt, Occurs, onto, listens, stream}
+
+pub gains_unique : RequestLaws → (plans : List PlanRecord) (text longer : List ℕ) (a b : List Coming) → Gains plans text longer a → Gains plans text longer b → a ≡ b
+gains_unique laws plans text longer a b g h =
+    let front = laws.unique 0 text g.given h.given g.ending h.ending g.text_is h.text_is in
+    let whole = laws.unique 0 longer (g.given ++ g.more) (h.given ++ h.more) g.later h.later g.longer_is h.longer_is in
+    let more : g.more ≡ h.more = append_cancel_left h.given g.more h.more (ap (λ xs. xs ++ g.more) (sym front.0) ∙ whole.0) in
+    g.gained_is ∙ rw (more, front.1, whole.1) (sym h.gained_is)
+
+pub both_ways : (b : Bool) (P Q : List Occurrence → Type 0) (x y : List Occurrence)
+    → (P x → P y → x ≡ y) → (Q x → Q y → x ≡ y) → MatchBool b (P x) (Q x) → MatchBool b (P y) (Q y) → x ≡ y
+both_ways true P Q x y p q h g = p h g
+both_ways false P Q x y p q h g = q h g
+
+pub at_unique : RequestLaws → (plans : List PlanRecord) (opened : List ℕ) (e : Event) (before : Before) (x y : List Occurrence)
+    → OccursAt plans opened e before x → OccursAt plans opened e before y → x ≡ y
+at_unique laws plans opened Opening before x y h g = h ∙ sym g
+at_unique laws plans opened (Piece conn bytes) before x y h g =
+    let P : List Occurrence → Type 0 = λ os.
+    (gained : List Coming) × Gains plans (stream opened conn before) (stream opened conn before ++ bytes) gained × (os ≡ map (Comes conn) gained) in
+    both_ways (listens opened conn before) P (λ os. os ≡ []) x y
+    (λ a b. a.2 ∙ ap (λ es. map (Comes conn) es) (gains_unique laws plans (stream opened conn before) (stream opened conn before ++ bytes) a.0 b.0 a.1 b.1) ∙ sym b.2)
+    (λ a b. a ∙ sym b) h g
+at_unique laws plans opened (HangUp conn) before x y h g = h ∙ sym g
+at_unique laws plans opened (Moment m) before x y h g = h ∙ sym g
+at_unique laws plans opened (BranchResult conn request branch outcome) before x y h g = h ∙ sym g
+at_unique laws plans opened Drain before x y h g = h ∙ sym g
+at_unique laws plans opened (Closing conn) before x y h g = h ∙ sym g
+
+-- events come to one list of occurrences
+pub occurs_unique : RequestLaws → (plans : List PlanRecord) (opened : List ℕ) (events : Before) (a b : List Placed)
+    → Occurs plans opened events a → Occurs plans opened events b → a ≡ b
+occurs_unique laws plans opened [] a b h g = h ∙ sym g
+occurs_unique laws plans opened (e ∷ before) a b h g =
+    let past : h.0 ≡ g.0 = occurs_unique laws plans opened before h.0 g.0 h.1 g.1 in
+    let os : h.2.0 ≡ g.2.0 = at_unique laws plans opened e before h.2.0 g.2.0 h.2.1 g.2.1 in
+    h.2.2 ∙ rw (past, os) (sym g.2.2)
+
+pub onto_front : (place : ℕ) (os : List Occurrence) (more past : List Placed) → onto place os (more ++ past) ≡ onto place os more ++ past
+onto_front place [] more past = refl
+onto_front place (o ∷ os) more past = onto_front place os ((place, o) ∷ more) past

@@ -1,0 +1,61 @@
+-- What the gateway keeps as what may end calls of all connections is noted.
+use Rattle.std.proofs.Common.{◌≡◌, ℕ, Bool, true, false, List, refl, sym, map, ap, ◌∙◌}
+use Rattle.std.specs.Prelude.{⊤, if◌then◌else◌, nat_lt, slice_set, Result, Ok, Err}
+use Rattle.gateway_theory.specs.declared.fault.StepFault.{StepFault}
+use Rattle.gateway_theory.specs.declared.fault.StepFault.TheVariants.{Memory}
+use Rattle.gateway_theory.specs.declared.cause.Cause.{Cause}
+use Rattle.gateway_theory.specs.declared.cause.Cause.TheVariants.{Reached, HungUp, Drained}
+use Rattle.gateway_theory.specs.Ends.{CallsEnd, is_stopped_in, noted}
+use Rattle.gateway_theory.specs.Gateway.{GatewayValue, StreamValue, is_waiting, stream_at}
+use Rattle.gateway_theory.specs.Heads.{Head, IsHeard, IsOfAll, conn_heads, hung_head, noted_heads, stream_heads}
+use Rattle.gateway_theory.specs.Serving.{Breaks, HangsUp, IsServing, ListensAt, gateway_value, hung}
+use Rattle.gateway_theory.specs.Store.{MachineValue, broken_count, hung_at}
+use Rattle.gateway_theory.specs.lemmas.BreakLemmas.{ends_breaks}
+use Rattle.gateway_theory.specs.lemmas.HeadLemmas.{hung_ends, hung_heard}
+use Rattle.gateway_theory.specs.lemmas.OrderSteps.{ends_order}
+use Rattle.gateway_theory.specs.lemmas.ServingLemmas.{keeps_ended, keeps_same, machine_kept, read_at, stream_kept, streams_apart}
+
+-- the gateway, whose machine took note
+abbrev pub noting : Cause → GatewayValue → GatewayValue
+noting cause v = gateway_value v.plans (noted cause v.machine) v.streams v.opened v.begun v.tally
+
+pub noted_serving : (cause : Cause) (v : GatewayValue) → IsOfAll cause → IsServing v → IsServing (noting cause v)
+noted_serving (Reached now) v all h = machine_kept v v.machine (keeps_same v.machine v.machine refl refl) h
+noted_serving (HungUp n) v all h = absurd all
+noted_serving Drained v all h = machine_kept v (record v.machine { drained = true }) (keeps_same v.machine (record v.machine { drained = true }) refl refl) h
+
+pub ended_serving : (cause : Cause) (v : GatewayValue) (m : MachineValue) → IsOfAll cause → IsServing v → CallsEnd cause (noted cause v.machine) m
+    → IsServing (gateway_value v.plans m v.streams v.opened v.begun v.tally)
+ended_serving cause v m all h ends = machine_kept (noting cause v) m (keeps_ended cause (noted cause v.machine) m ends) (noted_serving cause v all h)
+
+pub ended_heads : (cause : Cause) (heads : List Head) → IsOfAll cause → noted_heads cause heads ≡ heads
+ended_heads (Reached now) heads all = refl
+ended_heads (HungUp n) heads all = absurd all
+ended_heads Drained heads all = refl
+
+pub told_breaks : (cause : Cause) (v w : GatewayValue) (b : Bool) → IsOfAll cause → IsServing v → CallsEnd cause (noted cause v.machine) w.machine
+    → b ≡ nat_lt (broken_count v.machine.conns) (broken_count w.machine.conns) → Breaks v w b
+told_breaks (Reached now) v w b all h ends b_is =
+    ends_breaks (Reached now) v w b h.orderly.conns_apart (ends_order (Reached now) v.machine w.machine ends h.orderly).conns_apart ends b_is
+told_breaks (HungUp n) v w b all h ends b_is = absurd all
+told_breaks Drained v w b all h ends b_is = by b (ends_breaks Drained (noting Drained v) w b h.orderly.conns_apart
+    (ends_order Drained (noted Drained v.machine) w.machine ends (noted_serving Drained v all h).orderly).conns_apart ends b_is)
+  where
+    by : (b : Bool) → Breaks (noting Drained v) w b → Breaks v w b
+    by true x = x
+    by false x = x
+
+-- the peer of a connection hangs up, and its calls have ended
+module _ (n i : ℕ) (v : GatewayValue) (t : StreamValue) (m : MachineValue) (h : IsServing v) (l : ListensAt n v i) (t_is : t ≡ record (stream_at i v.streams) { hung_up = true })
+    (ends : CallsEnd (HungUp n) (hung_at n v.machine) m) where
+  pub hung_serving : IsServing (gateway_value v.plans m (slice_set v.streams i t) v.opened v.begun v.tally)
+  hung_serving = machine_kept (gateway_value v.plans v.machine (slice_set v.streams i t) v.opened v.begun v.tally) m (keeps_ended (HungUp n) v.machine m (hung_ends n v.machine m ends))
+      (stream_kept i t v l.stream_there (ap (λ (s : StreamValue). s.number) t_is) (ap (λ (s : StreamValue). is_waiting s.reader.reading) t_is ∙ read_at i v l.stream_there h) h)
+
+  pub hung_streams : IsHeard v → conn_heads m.conns ≡ map (hung_head n) (conn_heads v.machine.conns) → conn_heads m.conns ≡ stream_heads (slice_set v.streams i t)
+  hung_streams heard heads = heads ∙ ap (map (hung_head n)) heard ∙ hung_heard n i v.streams l.stream_there l.stream_is (streams_apart v h)
+      ∙ ap (λ s. stream_heads (slice_set v.streams i s)) (sym t_is)
+
+  pub hangs_up : (result : Result ⊤ StepFault) → result ≡ (if is_stopped_in n m.conns then Err Memory else Ok tt)
+      → HangsUp n v (gateway_value v.plans m (slice_set v.streams i t) v.opened v.begun v.tally) result
+  hangs_up result is = hung i l (hung_ends n v.machine m ends) (ap (λ s. gateway_value v.plans m (slice_set v.streams i s) v.opened v.begun v.tally) t_is) is

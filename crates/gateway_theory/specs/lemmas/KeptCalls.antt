@@ -1,0 +1,201 @@
+-- What is kept of a call, by the events that a gateway stands for: its record so far, and how many of its branches are out.
+use Rattle.std.proofs.Common.{◌≡◌, ℕ, zero, suc, ◌≤◌, ◌<◌, Bool, true, false, List, [], ◌∷◌, ◌++◌, length, Option, None, Some, refl, sym, ap, ◌∙◌, subst, arith, append_assoc, append-nil, ⊎_elim}
+use Rattle.std.specs.Prelude.{is_none, not, option_to_list, slice_index_or}
+use Rattle.std.specs.List.{count_by}
+use Rattle.std.specs.Option.{option_map_or}
+use Rattle.std.proofs.lemmas.Bool.{cases_Bool, cases_eq, cond_both, and_parts}
+use Rattle.std.proofs.lemmas.List.{take_all}
+use Rattle.gateway_model.specs.declared.entry.ReplyEntry.{ReplyEntry}
+use Rattle.gateway_model.specs.declared.call_event.CallEvent.{CallEvent}
+use Rattle.gateway_model.specs.declared.call_event.CallEvent.TheVariants.{Answer as Answered, Failed, Expired, HungUp, Drained}
+use Rattle.gateway_model.specs.declared.id.CallId.{CallId}
+use Rattle.gateway_model.specs.CallRecord.{CallRecord, last_event}
+use Rattle.gateway_theory.specs.Conn.{ConnValue}
+use Rattle.gateway_model.specs.Events.{Before, Occurs, stream}
+use Rattle.gateway_theory.specs.Fate.{BrokenAt, Fate, HasFate, Unbroken, has_result, is_broken}
+use Rattle.gateway_theory.specs.Fated.{CallFated}
+use Rattle.gateway_theory.specs.Gateway.{GatewayStands, GatewayValue, outs_of}
+use Rattle.gateway_model.specs.Job.{JobValue}
+use Rattle.gateway_theory.specs.LiveStands.{LiveStands, MayLive}
+use Rattle.gateway_model.specs.Occurrence.{Occurrence}
+use Rattle.gateway_model.specs.Past.{ArrivedCall, Past, began, branches, call, can_be_decided, count_below, decided, decides, is_closed, is_out, mark_of, marked, outs, started}
+use Rattle.gateway_model.specs.Queue.{own_events, record_of}
+use Rattle.gateway_model.specs.Record.{answers_among, is_decided, is_ending, is_lawful}
+use Rattle.gateway_theory.specs.Served.{Served}
+use Rattle.gateway_model.specs.Starts.{Placed, occurrences}
+use Rattle.gateway_theory.specs.Step.{CallState, Live}
+use Rattle.gateway_theory.specs.Store.{call_at, conn_of}
+use Rattle.gateway_theory.specs.lemmas.LimitLemmas.{count_less, out_started, outs_limit}
+use Rattle.gateway_theory.specs.lemmas.PastLemmas.{call_stays}
+use Rattle.gateway_theory.specs.lemmas.RecordLemmas.{Going, among_more, goes_on, lawful, same_follow}
+use Rattle.gateway_theory.specs.lemmas.SlotLemmas.{count_take}
+use Rattle.gateway_theory.specs.lemmas.StandsLemmas.{last_is}
+
+-- ---- counting
+
+grows : (m n : ℕ) (p : ℕ → Bool) → m ≤ n → count_below m p ≤ count_below n p
+grows zero n p le = omega arith
+grows (suc m) zero p le = absurd (omega (arith, le))
+grows (suc m) (suc n) p le =
+    ⊎_elim (λ (same : m ≡ n). rw same (omega arith))
+    (λ (other : m ≡ n → ⊥).
+    let before : count_below (suc m) p ≤ count_below n p = grows (suc m) n p (omega (arith, le, other)) in
+    cond_both (p n) (suc (count_below n p)) (count_below n p) (λ k. count_below (suc m) p ≤ k) (λ _. omega (arith, before)) (λ _. before))
+    (cases_eq m n)
+
+-- those that pass lie below n
+within : (m n : ℕ) (p : ℕ → Bool) → ((i : ℕ) → p i ≡ true → i < n) → count_below m p ≤ count_below n p
+within zero n p h = omega arith
+within (suc m) n p h =
+    ⊎_elim (λ (yes : p m ≡ true). let lt : m < n = h m yes in grows (suc m) n p (omega (arith, lt)))
+    (λ (no : p m ≡ false). rw no (within m n p h))
+    (cases_Bool (p m))
+
+-- ---- branches that are out
+
+out_within : (id : CallId) (i : ℕ) (past : Past) → is_out id i past ≡ true → i < branches id past
+out_within id i past out = by_call (call id past) refl (began id past) refl (out_started id i past out)
+  where
+    by_call : (o : Option ArrivedCall) → call id past ≡ o → (b : Bool) → began id past ≡ b → i < started id past → i < branches id past
+    by_call (Some a) o_is true b_is lt = let least = rw (b_is, o_is) at lt in rw o_is (omega (arith, least))
+    by_call (Some a) o_is false b_is lt = let none = rw b_is at lt in absurd (omega (arith, none))
+    by_call None o_is true b_is lt = let none = rw (b_is, o_is) at lt in absurd (omega (arith, none))
+    by_call None o_is false b_is lt = let none = rw b_is at lt in absurd (omega (arith, none))
+
+outs_at_most : (id : CallId) (out : List Bool) (past : Past) → ((i : ℕ) → slice_index_or out i false ≡ true → is_out id i past ≡ true) → count_by (λ b. b) out ≤ outs id past
+outs_at_most id out past h =
+    let all : count_by (λ b. b) out ≡ count_below (length out) (λ k. slice_index_or out k false) =
+    ap (count_by (λ b. b)) (sym (take_all (length out) out (omega arith))) ∙ count_take (λ b. b) false out (length out) (omega arith) in
+    let below : count_below (length out) (λ k. slice_index_or out k false) ≤ count_below (branches id past) (λ k. slice_index_or out k false) =
+    within (length out) (branches id past) (λ k. slice_index_or out k false) (λ i is. out_within id i past (h i is)) in
+    let less : count_below (branches id past) (λ k. slice_index_or out k false) ≤ outs id past =
+    count_less (branches id past) (λ k. slice_index_or out k false) (λ k. is_out id k past) (λ i lt is. h i is) in
+    omega (arith, all, below, less)
+
+index_in : (out : List Bool) (i : ℕ) → slice_index_or out i false ≡ true → i < length out
+index_in [] i is = absurd (cc)
+index_in (b ∷ out) zero is = omega arith
+index_in (b ∷ out) (suc i) is = let lt = index_in out i is in omega (arith, lt)
+
+outs_at_least : (id : CallId) (out : List Bool) (past : Past) → ((i : ℕ) → is_out id i past ≡ true → slice_index_or out i false ≡ true) → outs id past ≤ count_by (λ b. b) out
+outs_at_least id out past h =
+    let all : count_by (λ b. b) out ≡ count_below (length out) (λ k. slice_index_or out k false) =
+    ap (count_by (λ b. b)) (sym (take_all (length out) out (omega arith))) ∙ count_take (λ b. b) false out (length out) (omega arith) in
+    let below : count_below (branches id past) (λ k. slice_index_or out k false) ≤ count_below (length out) (λ k. slice_index_or out k false) =
+    within (branches id past) (length out) (λ k. slice_index_or out k false) (index_in out) in
+    let less : outs id past ≤ count_below (branches id past) (λ k. slice_index_or out k false) =
+    count_less (branches id past) (λ k. is_out id k past) (λ k. slice_index_or out k false) (λ i lt is. h i is) in
+    omega (arith, all, below, less)
+
+-- as many are out as the definitions say
+pub outs_same : (id : CallId) (out : List Bool) (past : Past) → ((i : ℕ) → slice_index_or out i false ≡ is_out id i past) → count_by (λ b. b) out ≡ outs id past
+outs_same id out past same =
+    let most = outs_at_most id out past (λ i is. sym (same i) ∙ is) in
+    let least = outs_at_least id out past (λ i is. same i ∙ is) in
+    omega (arith, most, least)
+
+still_called : (id : CallId) (a : ArrivedCall) (since older : List Occurrence) → call id (marked older) ≡ Some a → call id (marked (since ++ older)) ≡ Some a
+still_called id a [] older is = is
+still_called id a (o ∷ since) older is = call_stays id (mark_of (marked (since ++ older)) o) (marked (since ++ older)) a (still_called id a since older is)
+
+pub outs_kept : (id : CallId) (a : ArrivedCall) (v : GatewayValue) (opened : List ℕ) (es : Before) (taken : ℕ → List ReplyEntry) (handed : List JobValue) (occurred : List Placed)
+    → Served v opened es taken handed → Occurs v.plans opened es occurred → call id (marked (occurrences occurred)) ≡ Some a → outs_of id v ≤ a.plan.limit
+outs_kept id a v opened es taken handed occurred h o a_is = by_fate (stands.fates id.conn) (stands.fated.fates_are id.conn) (stands.fated.calls_stand id)
+  where
+    os : List Occurrence
+    os = occurrences occurred
+
+    c : CallState
+    c = call_at id v.machine.calls
+
+    stands : GatewayStands v (λ d. stream opened d es) taken handed os
+    stands = h.stands occurred o
+
+    by_fate : (f : Fate) → HasFate id.conn f os → CallFated id c f os → count_by (λ b. b) c.out ≤ a.plan.limit
+    by_fate Unbroken fate is =
+        let most : outs id (marked os) ≤ a.plan.limit = outs_limit id os a a_is in
+        let few : count_by (λ b. b) c.out ≤ outs id (marked os) = outs_at_most id c.out (marked os) (λ i out. sym (is.out_is i) ∙ out) in
+        omega (arith, most, few)
+    by_fate (BrokenAt since at older) fate is = by_call (call id (marked older)) refl
+      where
+        few : count_by (λ b. b) c.out ≤ outs id (marked older)
+        few = outs_at_most id c.out (marked older)
+            (λ i out. (and_parts (is_out id i (marked older)) (not (has_result id i (since ++ option_to_list at))) (sym (is.out_is i) ∙ out)).0)
+
+        by_call : (b : Option ArrivedCall) → call id (marked older) ≡ b → count_by (λ b. b) c.out ≤ a.plan.limit
+        by_call (Some b) b_is =
+            let most : outs id (marked older) ≤ b.plan.limit = outs_limit id older b b_is in
+            let same : Some b ≡ Some a = sym (still_called id b (since ++ option_to_list at) older b_is) ∙ ap (λ xs. call id (marked xs)) (sym fate.0) ∙ a_is in
+            let limits : b.plan.limit ≡ a.plan.limit = ap (λ x. option_map_or (λ (y : ArrivedCall). y.plan.limit) x 0) same in
+            omega (arith, most, few, limits)
+        by_call None b_is = let none : outs id (marked older) ≡ 0 = rw b_is refl in omega (arith, none, few)
+
+-- ---- the record of a call that goes on
+
+abbrev ends : CallRecord → List CallEvent → Bool
+ends r es = option_map_or (is_ending (answers_among es) (length r.plan.branches)) (last_event es) false
+
+goes_behind : (r : CallRecord) (before : List CallEvent) (e : CallEvent) → not (decides (answers_among before) (length r.plan.branches) e) ≡ true → ends r (before ++ e ∷ []) ≡ false
+goes_behind r before e on = rw (last_is before e) (by_event e on)
+  where
+    by_not : (b : Bool) → not b ≡ true → b ≡ false
+    by_not false e = refl
+    by_not true e = absurd (cc)
+
+    by_event : (x : CallEvent) → not (decides (answers_among before) (length r.plan.branches) x) ≡ true
+        → is_ending (answers_among (before ++ x ∷ [])) (length r.plan.branches) x ≡ false
+    by_event (Answered i body) on = rw (among_more before (Answered i body)) (by_not _ on)
+    by_event (Failed i error) on = absurd (cc)
+    by_event (Expired t) on = absurd (cc)
+    by_event HungUp on = absurd (cc)
+    by_event Drained on = absurd (cc)
+
+ends_never : (r : CallRecord) (before es : List CallEvent) → goes_on r before es ≡ true → ends r before ≡ false → ends r (before ++ es) ≡ false
+ends_never r before [] on so_far = subst (λ xs. ends r xs ≡ false) (sym (append-nil before)) so_far
+ends_never r before (e ∷ es) on so_far =
+    let parts = and_parts (not (decides (answers_among before) (length r.plan.branches) e)) (goes_on r (before ++ e ∷ []) es) on in
+    subst (λ xs. ends r xs ≡ false) (append_assoc before (e ∷ []) es) (ends_never r (before ++ e ∷ []) es parts.1 (goes_behind r before e parts.0))
+
+-- so it is of any call that can be decided
+pub record_lawful : (id : CallId) (a : ArrivedCall) (os : List Occurrence) → call id (marked os) ≡ Some a → can_be_decided id (marked os) ≡ true
+    → (is_lawful (record_of a (own_events id (marked os))) ≡ true) × (is_decided (record_of a (own_events id (marked os))) ≡ false)
+record_lawful id a os a_is on =
+    let parts = and_parts (is_none (decided id (marked os))) (not (is_closed id.conn (marked os))) on in
+    let going : Going id a (marked os) = (lawful id os a a_is).going (undecided (decided id (marked os)) parts.0) (unclosed (is_closed id.conn (marked os)) parts.1) in (
+      rw (same_follow a (own_events id (marked os)) [] (own_events id (marked os)) ∙ going.follow, going.early) refl,
+      ends_never (record_of a []) [] (own_events id (marked os)) going.on refl,
+    )
+  where
+    undecided : (d : Option CallEvent) → is_none d ≡ true → d ≡ None
+    undecided None is = refl
+    undecided (Some e) is = absurd (cc)
+
+    unclosed : (b : Bool) → not b ≡ true → b ≡ false
+    unclosed false is = refl
+    unclosed true is = absurd (cc)
+
+pub record_kept : (id : CallId) (k : ConnValue) (l : Live) (v : GatewayValue) (opened : List ℕ) (es : Before) (taken : ℕ → List ReplyEntry) (handed : List JobValue)
+    (occurred : List Placed) → Served v opened es taken handed → Occurs v.plans opened es occurred → conn_of id.conn v.machine.conns ≡ Some k → k.broken ≡ false
+    → (call_at id v.machine.calls).live ≡ Some l → (is_lawful (record_of l.asked l.events) ≡ true) × (is_decided (record_of l.asked l.events) ≡ false)
+record_kept id k l v opened es taken handed occurred h o k_is on l_is = by_fate (stands.fates id.conn) (sym (stands.fates_are id.conn k k_is) ∙ on) (stands.fated.calls_stand id)
+  where
+    os : List Occurrence
+    os = occurrences occurred
+
+    c : CallState
+    c = call_at id v.machine.calls
+
+    stands : GatewayStands v (λ d. stream opened d es) taken handed os
+    stands = h.stands occurred o
+
+    by_live : LiveStands id l c.out (marked os) → (is_lawful (record_of l.asked l.events) ≡ true) × (is_decided (record_of l.asked l.events) ≡ false)
+    by_live s =
+        let going : Going id l.asked (marked os) = (lawful id os l.asked s.call_is).going s.undecided s.unclosed in
+        rw s.events_are (
+          rw (same_follow l.asked (own_events id (marked os)) [] (own_events id (marked os)) ∙ going.follow, going.early) refl,
+          ends_never (record_of l.asked []) [] (own_events id (marked os)) going.on refl,
+        )
+
+    by_fate : (f : Fate) → is_broken f ≡ false → CallFated id c f os → (is_lawful (record_of l.asked l.events) ≡ true) × (is_decided (record_of l.asked l.events) ≡ false)
+    by_fate Unbroken unbroken is = by_live (subst (λ x. MayLive id x c.out (marked os)) l_is is.live_is)
+    by_fate (BrokenAt since at older) unbroken is = absurd (cc)

@@ -1,0 +1,30 @@
+-- One more opening that succeeds behind some events changes nothing of what these come to.
+use Rattle.std.proofs.Common.{◌≡◌, ℕ, suc, ◌<◌, ◌≤◌, true, false, List, [], ◌∷◌, ◌++◌, length, sym, ap, ◌∙◌, arith, ⊎_elim}
+use Rattle.std.specs.Prelude.{◌||◌, ◌==◌}
+use Rattle.std.proofs.lemmas.Bool.{cases_Bool, ne_eqb}
+use Rattle.gateway_model.specs.Events.{Before, IsShifted, connections, is_open, open_connections, succeeds}
+use Rattle.gateway_model.specs.Past.{count_below}
+use Rattle.gateway_theory.specs.lemmas.CutLemmas.{IsSame, same_before}
+use Rattle.gateway_theory.specs.lemmas.OpenCount.{count_same}
+use Rattle.gateway_theory.specs.lemmas.ServedOpens.{grown, succeeds_more}
+
+-- the openings without the last, which are those with it up to there
+pub shrunk : (opened : List ℕ) (n : ℕ) → ((place : ℕ) → succeeds opened place ≡ true → place < n) → IsShifted n (opened ++ n ∷ []) opened
+shrunk opened n below = record {
+  before = λ t lt. sym ((grown opened n below).before t lt);
+  after = λ t lt. none (suc t) (omega (arith, lt)) ∙ sym (succeeds_more opened n t ∙ ap (λ b. b || (n == t)) (none t (omega (arith, lt))) ∙ ne_eqb n t (λ same. absurd (omega (arith, lt, same))));
+}
+  where
+    none : (t : ℕ) → n ≤ t → succeeds opened t ≡ false
+    none t le = ⊎_elim (λ (its : succeeds opened t ≡ true). absurd (let lt = below t its in omega (arith, lt, le))) (λ (no : succeeds opened t ≡ false). no) (cases_Bool (succeeds opened t))
+
+pub same_openings : (opened : List ℕ) (place : ℕ) (es : Before) → ((other : ℕ) → succeeds opened other ≡ true → other < place) → length es ≤ place
+    → IsSame opened (opened ++ place ∷ []) es es
+same_openings opened place es below le = same_before opened (opened ++ place ∷ []) place es le (grown opened place below)
+
+pub same_count : (opened : List ℕ) (place : ℕ) (es : Before) → ((other : ℕ) → succeeds opened other ≡ true → other < place) → length es ≤ place
+    → open_connections (opened ++ place ∷ []) es ≡ open_connections opened es
+same_count opened place es below le =
+    let same : IsSame opened (opened ++ place ∷ []) es es = same_openings opened place es below le in
+    ap (λ n. count_below n (λ c. is_open (opened ++ place ∷ []) c es)) same.connections_are
+    ∙ count_same (connections opened es) (λ c. is_open (opened ++ place ∷ []) c es) (λ c. is_open opened c es) (λ c within. same.open_is c)

@@ -1,0 +1,473 @@
+-- The record of a decided call is lawful, and decided.
+use Rattle.std.proofs.Common.{◌≡◌, ℕ, suc, ◌+◌, ◌≤◌, ◌<◌, min, Bool, true, false, List, [], ◌∷◌, ◌++◌, length, Option, None, Some, refl, sym, ap, ◌∙◌, subst, arith, append_assoc, append-nil, ⊎_elim}
+use Rattle.std.specs.Prelude.{is_some, is_none, ◌&&◌, ◌||◌, not, ◌==◌, nat_lt, if◌then◌else◌, option_and_then, option_map}
+use Rattle.std.specs.Option.{option_or, option_map_or}
+use Rattle.std.proofs.lemmas.Bool.{cases_Bool, and_parts, lt-ltb, le-ltb, eq-eqb, ne_eqb, ltb-false}
+use Rattle.connect_codec.specs.declared.answer.Outcome.{Outcome}
+use Rattle.connect_codec.specs.declared.answer.Outcome.TheVariants.{Answer, Fail}
+use Rattle.gateway_model.specs.declared.entry.ReplyEntry.TheVariants.{Call as Calling}
+use Rattle.gateway_model.specs.declared.call_event.CallEvent.{CallEvent}
+use Rattle.gateway_model.specs.declared.call_event.CallEvent.TheVariants.{Answer as Answered, Failed, Expired, HungUp, Drained}
+use Rattle.gateway_model.specs.declared.id.CallId.{CallId}
+use Rattle.gateway_model.specs.Arrival.{Judged, Asks}
+use Rattle.gateway_model.specs.CallRecord.{CallRecord, answer_in, answer_of_branch}
+use Rattle.gateway_model.specs.Occurrence.{Occurrence, Opening, Comes, HangUp, Moment, Result, Drain, Closing, Coming, Request, Refused}
+use Rattle.gateway_model.specs.Past.{Mark, Past, ArrivedCall, call, answers, asked_by, asked_now, began, branches, counts, decided, decides, ends_at_arrival, coming_now, event_by, is_answer_to, is_call, is_closed, is_due, is_drained, can_be_decided, is_out, is_result_of, mark_of, marked, now, own_event, started}
+use Rattle.gateway_model.specs.Queue.{came, call_entry, entry, entry_by, own_events, record_of}
+use Rattle.gateway_model.specs.Record.{answers_among, started_after, is_out_after, may_come, may_follow, is_last, ends_at_start, is_lawful, is_ending, is_decided}
+use Rattle.gateway_theory.specs.lemmas.LimitLemmas.{out_started, same_call, started_grows, unanswered, unanswered_next}
+use Rattle.gateway_theory.specs.lemmas.PastLemmas.{call_stays}
+use Rattle.gateway_theory.specs.lemmas.StepLemmas.{entering_at, started_live}
+use Rattle.gateway_theory.specs.lemmas.StandsLemmas.{last_is}
+use Rattle.gateway_theory.specs.lemmas.Unborn.{Unborn, unborn}
+use Rattle.gateway_theory.specs.lemmas.Cases.{and_false, or_true}
+
+-- ---- lists of events
+
+-- no event of these decides, behind those
+abbrev pub goes_on : CallRecord → List CallEvent → List CallEvent → Bool
+goes_on r before [] = true
+goes_on r before (e ∷ es) = not (decides (answers_among before) (length r.plan.branches) e) && goes_on r (before ++ e ∷ []) es
+
+and_both : (a b : Bool) → a ≡ true → b ≡ true → (a && b) ≡ true
+and_both a b x y = rw (x, y) refl
+
+is_last_more : (es : List CallEvent) (e : CallEvent) → is_last (es ++ e ∷ []) ≡ false
+is_last_more [] e = refl
+is_last_more (x ∷ es) e = refl
+
+follow_more : (r : CallRecord) (before es : List CallEvent) (e : CallEvent) → may_follow r before es ≡ true → goes_on r before es ≡ true
+    → may_come r (before ++ es) e ≡ true → may_follow r before (es ++ e ∷ []) ≡ true
+follow_more r before [] e f g c =
+    let c0 : may_come r before e ≡ true = subst (λ xs. may_come r xs e ≡ true) (append-nil before) c in
+    rw c0 refl
+follow_more r before (x ∷ es) e f g c =
+    let fp = and_parts (may_come r before x && (is_last es || not (decides (answers_among before) (length r.plan.branches) x))) (may_follow r (before ++ x ∷ []) es) f in
+    let fq = and_parts (may_come r before x) (is_last es || not (decides (answers_among before) (length r.plan.branches) x)) fp.0 in
+    let gp = and_parts (not (decides (answers_among before) (length r.plan.branches) x)) (goes_on r (before ++ x ∷ []) es) g in
+    let rest : may_follow r (before ++ x ∷ []) (es ++ e ∷ []) ≡ true =
+    follow_more r (before ++ x ∷ []) es e fp.1 gp.1 (subst (λ xs. may_come r xs e ≡ true) (sym (append_assoc before (x ∷ []) es)) c) in
+    rw (fq.0, is_last_more es e, gp.0) rest
+
+on_more : (r : CallRecord) (before es : List CallEvent) (e : CallEvent) → goes_on r before es ≡ true
+    → decides (answers_among (before ++ es)) (length r.plan.branches) e ≡ false → goes_on r before (es ++ e ∷ []) ≡ true
+on_more r before [] e g d =
+    let d0 : decides (answers_among before) (length r.plan.branches) e ≡ false =
+    subst (λ xs. decides (answers_among xs) (length r.plan.branches) e ≡ false) (append-nil before) d in
+    rw d0 refl
+on_more r before (x ∷ es) e g d =
+    let gp = and_parts (not (decides (answers_among before) (length r.plan.branches) x)) (goes_on r (before ++ x ∷ []) es) g in
+    rw gp.0 (on_more r (before ++ x ∷ []) es e gp.1
+    (subst (λ xs. decides (answers_among xs) (length r.plan.branches) e ≡ false) (sym (append_assoc before (x ∷ []) es)) d))
+
+-- the events of a record are not looked at for what may follow
+pub same_follow : (a : ArrivedCall) (events before es : List CallEvent) → may_follow (record_of a events) before es ≡ may_follow (record_of a []) before es
+same_follow a events before [] = refl
+same_follow a events before (Answered i body ∷ es) =
+    ap (λ b. (is_out_after (record_of a []) before i) && (is_last es || not (answers_among before + 1 == length a.plan.branches)) && b) (same_follow a events (before ++ Answered i body ∷ []) es)
+same_follow a events before (Failed i error ∷ es) =
+    ap (λ b. (is_out_after (record_of a []) before i) && (is_last es || not true) && b) (same_follow a events (before ++ Failed i error ∷ []) es)
+same_follow a events before (Expired t ∷ es) =
+    ap (λ b. (is_due t a.deadline) && (is_last es || not true) && b) (same_follow a events (before ++ Expired t ∷ []) es)
+same_follow a events before (HungUp ∷ es) = ap (λ b. true && (is_last es || not true) && b) (same_follow a events (before ++ HungUp ∷ []) es)
+same_follow a events before (Drained ∷ es) = ap (λ b. true && (is_last es || not true) && b) (same_follow a events (before ++ Drained ∷ []) es)
+
+pub among_more : (es : List CallEvent) (e : CallEvent) → answers_among (es ++ e ∷ []) ≡ answers_among es + answers_among (e ∷ [])
+among_more [] e = omega arith
+among_more (Answered i body ∷ es) e = omega (arith, among_more es e)
+among_more (Failed i error ∷ es) e = among_more es e
+among_more (Expired t ∷ es) e = among_more es e
+among_more (HungUp ∷ es) e = among_more es e
+among_more (Drained ∷ es) e = among_more es e
+
+none_or : (x y : Option (List ℕ)) → is_none x ≡ true → is_none y ≡ true → is_none (option_or x y) ≡ true
+none_or None y hx hy = hy
+none_or (Some a) y hx hy = hx
+
+-- a branch that had no answer has none by an event of another one
+no_answer_more : (k : ℕ) (es : List CallEvent) (e : CallEvent) → is_none (answer_of_branch k es) ≡ true → is_none (answer_in k e) ≡ true
+    → is_none (answer_of_branch k (es ++ e ∷ [])) ≡ true
+no_answer_more k [] e h n = n
+no_answer_more k (x ∷ es) e h n =
+    let parts = none_parts (answer_of_branch k es) (answer_in k x) h in
+    none_or (answer_of_branch k (es ++ e ∷ [])) (answer_in k x) (no_answer_more k es e parts.0 n) parts.1
+  where
+    none_parts : (x y : Option (List ℕ)) → is_none (option_or x y) ≡ true → (is_none x ≡ true) × (is_none y ≡ true)
+    none_parts None y h = (refl, h)
+    none_parts (Some a) y h = absurd (cc)
+
+other_answer : (k i : ℕ) (body : List ℕ) → (i ≡ k → ⊥) → is_none (answer_in k (Answered i body)) ≡ true
+other_answer k i body ne = rw (ne_eqb i k ne) refl
+
+-- ---- a call that goes on
+
+abbrev blank : ArrivedCall → CallRecord
+blank a = record_of a []
+
+-- the events so far of a call that can be decided
+pub record Going (id : CallId) (a : ArrivedCall) (past : Past) : Type 0 where
+  pub early : is_due a.start a.deadline ≡ false
+  pub follow : may_follow (blank a) [] (own_events id past) ≡ true
+  pub on : goes_on (blank a) [] (own_events id past) ≡ true
+  pub counted : answers_among (own_events id past) ≡ answers id past
+  pub outs : (i : ℕ) → is_out id i past ≡ true → is_none (answer_of_branch i (own_events id past)) ≡ true
+  pub below : (i : ℕ) → nat_lt i (started id past) ≡ false → is_none (answer_of_branch i (own_events id past)) ≡ true
+
+-- the events of a call that is decided
+pub record Done (id : CallId) (a : ArrivedCall) (past : Past) : Type 0 where
+  pub follow : may_follow (blank a) [] (own_events id past) ≡ true
+  pub start : (not (is_due a.start a.deadline) || ends_at_start (own_events id past)) ≡ true
+  pub ending : is_decided (record_of a (own_events id past)) ≡ true
+
+pub record Lawful (id : CallId) (a : ArrivedCall) (past : Past) : Type 0 where
+  pub going : decided id past ≡ None → is_closed id.conn past ≡ false → Going id a past
+  pub done : (e : CallEvent) → decided id past ≡ Some e → Done id a past
+
+-- what is known of a call that goes on, at one occurrence more
+record Open (id : CallId) (a : ArrivedCall) (m : Mark) (past : Past) : Type 0 where
+  call_is : call id past ≡ Some a
+  undecided : decided id past ≡ None
+  unclosed : is_closed id.conn past ≡ false
+  going : Going id a past
+
+own_is : (id : CallId) (a : ArrivedCall) (m : Mark) (past : Past) → Open id a m past → own_event id m past ≡ event_by id a m.what m.counted past
+own_is id a m past h = rw (h.unclosed, h.call_is) refl
+
+events_then : (id : CallId) (a : ArrivedCall) (m : Mark) (past : Past) (e : CallEvent) → Open id a m past → own_event id m past ≡ Some e
+    → own_events id (m ∷ past) ≡ own_events id past ++ e ∷ []
+events_then id a m past e h own = rw (h.undecided, own) refl
+
+events_same : (id : CallId) (a : ArrivedCall) (m : Mark) (past : Past) → Open id a m past → own_event id m past ≡ None → own_events id (m ∷ past) ≡ own_events id past
+events_same id a m past h own = rw (h.undecided, own) (append-nil (own_events id past))
+
+decided_then : (id : CallId) (a : ArrivedCall) (m : Mark) (past : Past) (e : CallEvent) → Open id a m past → own_event id m past ≡ Some e
+    → decided id (m ∷ past) ≡ (if decides (answers id past) (length a.plan.branches) e then Some e else None)
+decided_then id a m past e h own = rw (h.undecided, own, h.call_is) refl
+
+began_out : (id : CallId) (i : ℕ) (past : Past) → is_out id i past ≡ true → began id past ≡ true
+began_out id i past out =
+    ⊎_elim (λ (yes : began id past ≡ true). yes)
+    (λ (above : began id past ≡ false). absurd (let lt : i < started id past = out_started id i past out in let none : started id past ≡ 0 = rw above refl in omega (arith, lt, none)))
+    (cases_Bool (began id past))
+
+-- a branch that is out is so by the record
+out_of_record : (id : CallId) (a : ArrivedCall) (m : Mark) (past : Past) (i : ℕ) → Open id a m past → is_out id i past ≡ true
+    → is_out_after (blank a) (own_events id past) i ≡ true
+out_of_record id a m past i h out =
+    let lt : i < started id past = out_started id i past out in
+    let is : started id past ≡ min (length a.plan.branches) (a.plan.limit + answers id past) = started_live id a past h.call_is (began_out id i past out) in
+    and_both (nat_lt i (started_after (blank a) (own_events id past))) (is_none (answer_of_branch i (own_events id past)))
+    (lt-ltb i (started_after (blank a) (own_events id past)) (omega (arith, lt, is, h.going.counted)))
+    (h.going.outs i out)
+
+-- nothing happens to it
+goes_quiet : (id : CallId) (a : ArrivedCall) (m : Mark) (past : Past) → Open id a m past → own_event id m past ≡ None → (m.counted && is_answer_to id m.what) ≡ false
+    → Lawful id a (m ∷ past)
+goes_quiet id a m past h own none = record {
+  going = λ _ _.
+      let events = events_same id a m past h own in
+      let same : answers id (m ∷ past) ≡ answers id past = rw none refl in
+      record {
+        early = h.going.early;
+        follow = rw events h.going.follow;
+        on = rw events h.going.on;
+        counted = ap answers_among events ∙ h.going.counted ∙ sym same;
+        outs = λ i out. rw events (by_out i out (nat_lt i (started id past)) refl);
+        below = λ i above. rw events (h.going.below i (was_below i above));
+      };
+  done = λ e dec. absurd (let none_yet : decided id (m ∷ past) ≡ None = rw (own, h.undecided) refl in let bad : Some e ≡ None = sym dec ∙ none_yet in cc);
+}
+  where
+    was_below : (i : ℕ) → nat_lt i (started id (m ∷ past)) ≡ false → nat_lt i (started id past) ≡ false
+    was_below i above = le-ltb i (started id past) (omega (arith, ltb-false i (started id (m ∷ past)) above, started_grows id m past))
+
+    by_out : (i : ℕ) → is_out id i (m ∷ past) ≡ true → (b : Bool) → nat_lt i (started id past) ≡ b → is_none (answer_of_branch i (own_events id past)) ≡ true
+    by_out i out true b_is = h.going.outs i (and_parts (is_out id i past) (not (is_result_of id i m.what)) (rw b_is at out)).0
+    by_out i out false b_is = h.going.below i b_is
+
+-- an event ends it
+goes_ends : (id : CallId) (a : ArrivedCall) (m : Mark) (past : Past) (e : CallEvent) → Open id a m past → own_event id m past ≡ Some e
+    → decides (answers id past) (length a.plan.branches) e ≡ true → may_come (blank a) (own_events id past) e ≡ true
+    → is_ending (answers_among (own_events id past ++ e ∷ [])) (length a.plan.branches) e ≡ true → Lawful id a (m ∷ past)
+goes_ends id a m past e h own dec come ends =
+    let events = events_then id a m past e h own in
+    let is : decided id (m ∷ past) ≡ Some e = decided_then id a m past e h own ∙ rw dec refl in
+    record {
+      going = λ none _. absurd (let bad : Some e ≡ None = sym is ∙ none in cc);
+      done = λ _ _. record {
+        follow = rw events (follow_more (blank a) [] (own_events id past) e h.going.follow h.going.on come);
+        start = rw h.going.early refl;
+        ending = rw events (rw (last_is (own_events id past) e) ends);
+      };
+    }
+
+-- an answer that leaves others open
+goes_on_answered : (id : CallId) (a : ArrivedCall) (past : Past) (o : Occurrence) (i : ℕ) (body : List ℕ) → Open id a (mark_of past o) past
+    → own_event id (mark_of past o) past ≡ Some (Answered i body) → is_out id i past ≡ true → (counts o past && is_answer_to id o) ≡ true
+    → ((k : ℕ) → is_result_of id k o ≡ (i == k))
+    → decides (answers id past) (length a.plan.branches) (Answered i body) ≡ false → Lawful id a (mark_of past o ∷ past)
+goes_on_answered id a past o i body h own out_i one of_it dec =
+    let m : Mark = mark_of past o in
+    let e : CallEvent = Answered i body in
+    let events = events_then id a m past e h own in
+    let is : decided id (m ∷ past) ≡ None = decided_then id a m past e h own ∙ rw dec refl in
+    let lt_i : i < started id past = out_started id i past out_i in
+    record {
+      going = λ _ _. record {
+        early = h.going.early;
+        follow = rw events (follow_more (blank a) [] (own_events id past) e h.going.follow h.going.on (out_of_record id a m past i h out_i));
+        on = rw events (on_more (blank a) [] (own_events id past) e h.going.on (rw h.going.counted dec));
+        counted = ap answers_among events ∙ among_more (own_events id past) e ∙ (let next : answers id (m ∷ past) ≡ suc (answers id past) = rw one refl in omega (arith, next, h.going.counted));
+        outs = λ k out. rw events (by_out m lt_i k out (nat_lt k (started id past)) refl);
+        below = λ k above. rw events (fresh lt_i k (was_below m k above));
+      };
+      done = λ x dec_is. absurd (let bad : Some x ≡ None = sym dec_is ∙ is in cc);
+    }
+  where
+    was_below : (m : Mark) (k : ℕ) → nat_lt k (started id (m ∷ past)) ≡ false → nat_lt k (started id past) ≡ false
+    was_below m k above = le-ltb k (started id past) (omega (arith, ltb-false k (started id (m ∷ past)) above, started_grows id m past))
+
+    fresh : i < started id past → (k : ℕ) → nat_lt k (started id past) ≡ false → is_none (answer_of_branch k (own_events id past ++ Answered i body ∷ [])) ≡ true
+    fresh lt_i k above =
+        no_answer_more k (own_events id past) (Answered i body) (h.going.below k above)
+        (other_answer k i body (λ same. let ge : started id past ≤ k = ltb-false k (started id past) above in omega (arith, ge, lt_i, same)))
+
+    by_out : (m : Mark) → i < started id past → (k : ℕ) → is_out id k (mark_of past o ∷ past) ≡ true → (b : Bool) → nat_lt k (started id past) ≡ b
+        → is_none (answer_of_branch k (own_events id past ++ Answered i body ∷ [])) ≡ true
+    by_out m lt_i k out false b_is = fresh lt_i k b_is
+    by_out m lt_i k out true b_is =
+        let p = and_parts (is_out id k past) (not (is_result_of id k o)) (rw b_is at out) in
+        let not_it : not (i == k) ≡ true = rw (of_it k) at p.1 in
+        no_answer_more k (own_events id past) (Answered i body) (h.going.outs k p.0)
+        (other_answer k i body (λ same. let bad : not true ≡ true = rw (eq-eqb i k same) at not_it in cc))
+
+-- ---- each occurrence
+
+resulted : (id of : CallId) (a : ArrivedCall) (i : ℕ) (outcome : Outcome) (past : Past) → Open id a (mark_of past (Result of i outcome)) past
+    → Lawful id a (mark_of past (Result of i outcome) ∷ past)
+resulted id of a i outcome past h = by_count (counts (Result of i outcome) past && is_call of id) outcome refl h
+  where
+    no_answer : (o : Outcome) (counted : Bool) → (counted && is_call of id) ≡ false → (counted && is_answer_to id (Result of i o)) ≡ false
+    no_answer (Answer body) counted e = e
+    no_answer (Fail error) counted e = and_false counted
+
+    by_count : (b : Bool) (o : Outcome) → (counts (Result of i o) past && is_call of id) ≡ b → Open id a (mark_of past (Result of i o)) past
+        → Lawful id a (mark_of past (Result of i o) ∷ past)
+    by_count false o b_is h =
+        goes_quiet id a (mark_of past (Result of i o)) past h (own_is id a (mark_of past (Result of i o)) past h ∙ rw b_is refl)
+        (no_answer o (counts (Result of i o) past) b_is)
+    by_count true (Fail error) b_is h =
+        let p = and_parts (counts (Result of i (Fail error)) past) (is_call of id) b_is in
+        let same : of ≡ id = same_call of id p.1 in
+        let out : is_out id i past ≡ true = subst (λ x. is_out x i past ≡ true) same (and_parts (is_out of i past) (can_be_decided of past) p.0).0 in
+        goes_ends id a (mark_of past (Result of i (Fail error))) past (Failed i error) h
+        (own_is id a (mark_of past (Result of i (Fail error))) past h ∙ rw b_is refl) refl
+        (out_of_record id a (mark_of past (Result of i (Fail error))) past i h out) refl
+    by_count true (Answer body) b_is h =
+        let p = and_parts (counts (Result of i (Answer body)) past) (is_call of id) b_is in
+        let same : of ≡ id = same_call of id p.1 in
+        let out : is_out id i past ≡ true = subst (λ x. is_out x i past ≡ true) same (and_parts (is_out of i past) (can_be_decided of past) p.0).0 in
+        let m : Mark = mark_of past (Result of i (Answer body)) in
+        let own : own_event id m past ≡ Some (Answered i body) = own_is id a m past h ∙ rw b_is refl in
+        ⊎_elim (λ (last : decides (answers id past) (length a.plan.branches) (Answered i body) ≡ true).
+        goes_ends id a m past (Answered i body) h own last (out_of_record id a m past i h out)
+        (let count : answers_among (own_events id past ++ Answered i body ∷ []) ≡ answers id past + 1 =
+        among_more (own_events id past) (Answered i body) ∙ omega (arith, h.going.counted) in rw count last))
+        (λ (more : decides (answers id past) (length a.plan.branches) (Answered i body) ≡ false).
+        goes_on_answered id a past (Result of i (Answer body)) i body h own out b_is (λ k. rw p.1 refl) more)
+        (cases_Bool (decides (answers id past) (length a.plan.branches) (Answered i body)))
+
+moved : (id : CallId) (a : ArrivedCall) (t : ℕ) (past : Past) → Open id a (mark_of past (Moment t)) past → Lawful id a (mark_of past (Moment t) ∷ past)
+moved id a t past h = by_event (event_by id a (Moment t) false past) refl
+  where
+    m : Mark
+    m = mark_of past (Moment t)
+
+    by_event : (o : Option CallEvent) → event_by id a (Moment t) false past ≡ o → Lawful id a (m ∷ past)
+    by_event None o_is = goes_quiet id a m past h (own_is id a m past h ∙ o_is) refl
+    by_event (Some e) o_is = by_due (is_due (now (m ∷ past)) a.deadline) refl
+      where
+        by_due : (b : Bool) → is_due (now (m ∷ past)) a.deadline ≡ b → Lawful id a (m ∷ past)
+        by_due true b_is =
+            goes_ends id a m past (Expired (now (m ∷ past))) h (own_is id a m past h ∙ rw b_is refl) refl b_is refl
+        by_due false b_is = goes_quiet id a m past h (own_is id a m past h ∙ rw b_is refl) refl
+
+hung : (id : CallId) (a : ArrivedCall) (conn : ℕ) (past : Past) → Open id a (mark_of past (HangUp conn)) past → Lawful id a (mark_of past (HangUp conn) ∷ past)
+hung id a conn past h =
+    let m : Mark = mark_of past (HangUp conn) in
+    ⊎_elim (λ (its : (conn == id.conn) ≡ true). goes_ends id a m past HungUp h (own_is id a m past h ∙ rw its refl) refl refl refl)
+    (λ (above : (conn == id.conn) ≡ false). goes_quiet id a m past h (own_is id a m past h ∙ rw above refl) refl)
+    (cases_Bool (conn == id.conn))
+
+opened_on : (id : CallId) (a : ArrivedCall) (o : Occurrence) (past : Past) → Open id a (mark_of past o) past → Lawful id a (mark_of past o ∷ past)
+opened_on id a Opening past h = goes_quiet id a (mark_of past Opening) past h (own_is id a (mark_of past Opening) past h) refl
+opened_on id a (Comes c x) past h =
+    goes_quiet id a (mark_of past (Comes c x)) past h (own_is id a (mark_of past (Comes c x)) past h) (and_false (counts (Comes c x) past))
+opened_on id a (HangUp conn) past h = hung id a conn past h
+opened_on id a (Moment t) past h = moved id a t past h
+opened_on id a (Result of i outcome) past h = resulted id of a i outcome past h
+opened_on id a Drain past h = goes_ends id a (mark_of past Drain) past Drained h (own_is id a (mark_of past Drain) past h) refl refl refl
+opened_on id a (Closing c) past h = goes_quiet id a (mark_of past (Closing c)) past h (own_is id a (mark_of past (Closing c)) past h) refl
+
+-- ---- a call that arrives
+
+starts_now : (moment : ℕ) (x : Coming) (a : ArrivedCall) → asked_by moment x ≡ Some a → a.start ≡ moment
+starts_now moment (Refused r) a e = absurd (cc)
+starts_now moment (Request q (Judged v)) a e = absurd (cc)
+starts_now moment (Request q (Asks plan timeout rid)) a e = ap (λ (o : Option ArrivedCall). option_map_or (λ b. b.start) o moment) (sym e)
+
+asked_start : (id : CallId) (m : Mark) (past : Past) (a : ArrivedCall) → asked_now id m past ≡ Some a → a.start ≡ now past
+asked_start id m past a e = by_each m.crowded (coming_now id m past) e
+  where
+    by_each : (c : Bool) (x : Option Coming) → (if c then None else option_and_then (asked_by (now past)) x) ≡ Some a → a.start ≡ now past
+    by_each true x e = absurd (cc)
+    by_each false None e = absurd (cc)
+    by_each false (Some x) e = starts_now (now past) x a e
+
+pub record Arriving (id : CallId) (a : ArrivedCall) (os : List Occurrence) (m : Mark) : Type 0 where
+  pub nothing : Unborn id (marked os)
+  pub asked : asked_now id m (marked os) ≡ Some a
+
+arrives_closed : (id : CallId) (a : ArrivedCall) (os : List Occurrence) (m : Mark) → Arriving id a os m → is_closed id.conn (marked os) ≡ true → Lawful id a (m ∷ marked os)
+arrives_closed id a os m h shut = record {
+  going = λ _ open_still. absurd (let bad : true ≡ false = sym (or_true_of _ (is_closed id.conn (marked os)) shut) ∙ open_still in cc);
+  done = λ e dec. absurd (let none : decided id (m ∷ marked os) ≡ None = rw (h.nothing.undecided, shut) refl in let bad : Some e ≡ None = sym dec ∙ none in cc);
+}
+  where
+    or_true_of : (a b : Bool) → b ≡ true → (a || b) ≡ true
+    or_true_of a b e = rw e (or_true a)
+
+arrives_open : (id : CallId) (a : ArrivedCall) (os : List Occurrence) (o : Occurrence) → Arriving id a os (mark_of (marked os) o) → is_closed id.conn (marked os) ≡ false
+    → answers id (mark_of (marked os) o ∷ marked os) ≡ 0 → Lawful id a (mark_of (marked os) o ∷ marked os)
+arrives_open id a os o h unclosed none = by_end (is_drained (marked os)) (is_due (now (marked os)) a.deadline) refl refl
+  where
+    past : Past
+    past = marked os
+
+    m : Mark
+    m = mark_of past o
+
+    own : own_event id m past ≡ ends_at_arrival past a
+    own = rw (unclosed, h.nothing.no_call, h.asked) refl
+
+    ended : (e : CallEvent) → ends_at_arrival past a ≡ Some e → decides (answers id past) (branches id past) e ≡ true → may_come (blank a) [] e ≡ true
+        → is_ending (answers_among (e ∷ [])) (length a.plan.branches) e ≡ true → ends_at_start (e ∷ []) ≡ true → Lawful id a (m ∷ past)
+    ended e is dec come ends at_start =
+        let events : own_events id (m ∷ past) ≡ e ∷ [] = rw (h.nothing.undecided, own, is, h.nothing.no_events) refl in
+        record {
+          going = λ none_yet _. absurd (let some : decided id (m ∷ past) ≡ Some e = rw (h.nothing.undecided, own, is, dec) refl in let bad : Some e ≡ None = sym some ∙ none_yet in cc);
+          done = λ _ _. record {
+            follow = rw (events, come) refl;
+            start = rw (events, at_start) (or_true (not (is_due a.start a.deadline)));
+            ending = rw events ends;
+          };
+        }
+
+    by_end : (d b : Bool) → is_drained past ≡ d → is_due (now past) a.deadline ≡ b → Lawful id a (m ∷ past)
+    by_end true b d_is b_is = ended Drained (rw d_is refl) refl refl refl refl
+    by_end false true d_is b_is = ended (Expired (now past)) (rw (d_is, b_is) refl) refl b_is refl refl
+    by_end false false d_is b_is =
+        let own_none : own_event id m past ≡ None = own ∙ rw (d_is, b_is) refl in
+        let events : own_events id (m ∷ past) ≡ [] = rw (h.nothing.undecided, own_none, h.nothing.no_events) refl in
+        record {
+          going = λ _ _. record {
+            early = rw (asked_start id m past a h.asked) b_is;
+            follow = rw events refl;
+            on = rw events refl;
+            counted = rw events (sym none);
+            outs = λ i out. rw events refl;
+            below = λ i above. rw events refl;
+          };
+          done = λ e dec. absurd (let none_yet : decided id (m ∷ past) ≡ None = rw (h.nothing.undecided, own_none) refl in let bad : Some e ≡ None = sym dec ∙ none_yet in cc);
+        }
+
+-- ---- every list of what occurs
+
+abbrev LawfulIf : CallId → List Occurrence → Type 0
+LawfulIf id os = (a : ArrivedCall) → call id (marked os) ≡ Some a → Lawful id a (marked os)
+
+-- a call that comes now had not come before
+nothing_before : (id : CallId) (os : List Occurrence) (o : Occurrence) (a : ArrivedCall) → asked_now id (mark_of (marked os) o) (marked os) ≡ Some a → Unborn id (marked os)
+nothing_before id os o a e = unborn id (marked os) (omega (arith, entering_at id (mark_of (marked os) o) (marked os) a e))
+
+-- no answer of it has come either
+none_answered : (id : CallId) (os : List Occurrence) (o : Occurrence) → Unborn id (marked os) → answers id (mark_of (marked os) o ∷ marked os) ≡ 0
+none_answered id os o u = unanswered_next id (marked os) o u.not_begun (unanswered id os u.not_begun)
+
+lawful_next : (id : CallId) (os : List Occurrence) (o : Occurrence) (a : ArrivedCall) → LawfulIf id os → call id (mark_of (marked os) o ∷ marked os) ≡ Some a
+    → Lawful id a (mark_of (marked os) o ∷ marked os)
+lawful_next id os o a before call_is = by_call (call id (marked os)) refl
+  where
+    past : Past
+    past = marked os
+
+    m : Mark
+    m = mark_of past o
+
+    decided_before : (b : ArrivedCall) → b ≡ a → call id past ≡ Some b → (e : CallEvent) → decided id past ≡ Some e → Lawful id b past → Lawful id a (m ∷ past)
+    decided_before b same b_is e dec l =
+        let d : Done id b past = l.done e dec in
+        let events : own_events id (m ∷ past) ≡ own_events id past = rw dec refl in
+        subst (λ x. Lawful id x (m ∷ past)) same (record {
+          going = λ none _. absurd (let some : decided id (m ∷ past) ≡ Some e = rw dec refl in let bad : Some e ≡ None = sym some ∙ none in cc);
+          done = λ _ _. record { follow = rw events d.follow; start = rw events d.start; ending = rw events d.ending };
+        })
+
+    shut_before : (b : ArrivedCall) → b ≡ a → call id past ≡ Some b → decided id past ≡ None → is_closed id.conn past ≡ true → Lawful id a (m ∷ past)
+    shut_before b same b_is none shut = record {
+      going = λ _ open_still. absurd (let bad : true ≡ false = sym (or_shut shut) ∙ open_still in cc);
+      done = λ e dec. absurd (let none_yet : decided id (m ∷ past) ≡ None = rw (none, shut) refl in let bad : Some e ≡ None = sym dec ∙ none_yet in cc);
+    }
+      where
+        or_shut : is_closed id.conn past ≡ true → is_closed id.conn (m ∷ past) ≡ true
+        or_shut e = rw e (or_true _)
+
+    called_before : (b : ArrivedCall) → call id past ≡ Some b → b ≡ a → Lawful id a (m ∷ past)
+    called_before b b_is same = by_each (decided id past) (is_closed id.conn past) refl refl
+      where
+        by_each : (d : Option CallEvent) (shut : Bool) → decided id past ≡ d → is_closed id.conn past ≡ shut → Lawful id a (m ∷ past)
+        by_each (Some e) shut d_is s_is = decided_before b same b_is e d_is (before b b_is)
+        by_each None true d_is s_is = shut_before b same b_is d_is s_is
+        by_each None false d_is s_is =
+            subst (λ x. Lawful id x (m ∷ past)) same
+            (opened_on id b o past (record { call_is = b_is; undecided = d_is; unclosed = s_is; going = (before b b_is).going d_is s_is }))
+
+    by_call : (c : Option ArrivedCall) → call id past ≡ c → Lawful id a (m ∷ past)
+    by_call (Some b) c_is =
+        called_before b c_is (let both : Some b ≡ Some a = sym (call_stays id m past b c_is) ∙ call_is in cc)
+    by_call None c_is =
+        let asked : asked_now id m past ≡ Some a = rw c_is at call_is in
+        let h : Arriving id a os m = record { nothing = nothing_before id os o a asked; asked = asked } in
+        ⊎_elim (λ (shut : is_closed id.conn past ≡ true). arrives_closed id a os m h shut)
+        (λ (unclosed : is_closed id.conn past ≡ false). arrives_open id a os o h unclosed (none_answered id os o h.nothing))
+        (cases_Bool (is_closed id.conn past))
+
+pub lawful : (id : CallId) (os : List Occurrence) → LawfulIf id os
+lawful id [] a e = absurd (cc)
+lawful id (o ∷ os) a e = lawful_next id os o a (lawful id os) e
+
+-- the record of an entry
+pub entry_lawful : (id : CallId) (os : List Occurrence) (r : CallRecord) → entry id (marked os) ≡ Some (Calling r) → (is_lawful r ≡ true) × (is_decided r ≡ true)
+entry_lawful id os r e = by_came (came id (marked os)) refl
+  where
+    past : Past
+    past = marked os
+
+    by_call : (d : Option CallEvent) (c : Option ArrivedCall) → decided id past ≡ d → call id past ≡ c
+        → (if is_some d then option_map (λ a. Calling (record_of a (own_events id past))) c else None) ≡ Some (Calling r) → (is_lawful r ≡ true) × (is_decided r ≡ true)
+    by_call None c d_is c_is x = absurd (cc)
+    by_call (Some v) None d_is c_is x = absurd (cc)
+    by_call (Some v) (Some a) d_is c_is x =
+        let l : Done id a past = (lawful id os a c_is).done v d_is in
+        let same : record_of a (own_events id past) ≡ r = cc in
+        subst (λ z. (is_lawful z ≡ true) × (is_decided z ≡ true)) same
+        (and_both _ _ (same_follow a (own_events id past) [] (own_events id past) ∙ l.follow) l.start, l.ending)
+
+    by_came : (y : Option (Coming × Bool)) → came id past ≡ y → (is_lawful r ≡ true) × (is_decided r ≡ true)
+    by_came None y_is = absurd (let bad : None ≡ Some (Calling r) = rw y_is at e in cc)
+    by_came (Some (Refused q, crowded)) y_is = absurd (let bad : entry_by id past (Refused q, crowded) ≡ Some (Calling r) = rw y_is at e in cc)
+    by_came (Some (Request q (Judged v), crowded)) y_is = absurd (let bad : entry_by id past (Request q (Judged v), crowded) ≡ Some (Calling r) = rw y_is at e in cc)
+    by_came (Some (Request q (Asks plan timeout rid), true)) y_is =
+        absurd (let bad : entry_by id past (Request q (Asks plan timeout rid), true) ≡ Some (Calling r) = rw y_is at e in cc)
+    by_came (Some (Request q (Asks plan timeout rid), false)) y_is =
+        by_call (decided id past) (call id past) refl refl (let x : call_entry id past ≡ Some (Calling r) = rw y_is at e in x)

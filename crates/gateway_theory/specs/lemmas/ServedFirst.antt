@@ -1,0 +1,38 @@
+-- What a gateway stands for at which nothing has come yet.
+use Rattle.std.proofs.Common.{◌≡◌, false, List, [], refl, sym, ap, subst, arith}
+use Rattle.call_plan.specs.Plan.{PlanRecord}
+use Rattle.gateway_theory.specs.Fate.{Unbroken}
+use Rattle.gateway_theory.specs.Gateway.{GatewayStands, GatewayValue}
+use Rattle.gateway_theory.specs.Machine.{new_conn}
+use Rattle.gateway_theory.specs.Served.{Served}
+use Rattle.gateway_theory.specs.Serving.{gateway_value}
+use Rattle.gateway_model.specs.Starts.{occurrences}
+use Rattle.gateway_theory.specs.Store.{machine_value}
+use Rattle.gateway_theory.specs.Tally.{tally_of}
+use Rattle.gateway_theory.specs.lemmas.Taking.{first_stands}
+
+abbrev first : List PlanRecord → GatewayValue
+first plans = gateway_value plans (machine_value 0 false [] [] []) [] 0 0 (tally_of [])
+
+stands_first : (plans : List PlanRecord) → GatewayStands (first plans) (λ c. []) (λ c. []) [] []
+stands_first plans = record {
+  closed = λ c. new_conn;
+  fates = λ c. Unbroken;
+  fated = first_stands;
+  fates_are = λ c k k_is. absurd (cc);
+  streams_stand = λ c k s k_is s_is going. absurd (cc);
+  unopened = λ c le. record { state_is = refl; unbroken = refl; no_conn = refl; no_stream_is = refl; no_call = λ j d lt. absurd (omega (arith, lt)) };
+  begun_is = omega arith;
+}
+
+pub first_served : (plans : List PlanRecord) (v : GatewayValue) → v ≡ first plans → Served v [] [] (λ c. []) []
+first_served plans v v_is = subst (λ x. Served x [] [] (λ c. []) []) (sym v_is) (record {
+  conns = record {
+    below = λ place its. absurd (cc);
+    count_is = refl;
+    open_are = λ c. refl;
+    hung_are = λ c k s k_is s_is on. absurd (cc);
+    reads_are = λ c k s k_is s_is going. absurd (cc);
+  };
+  stands = λ occurred none. subst (λ os. GatewayStands (first plans) (λ c. []) (λ c. []) [] os) (sym (ap occurrences none)) (stands_first plans);
+})

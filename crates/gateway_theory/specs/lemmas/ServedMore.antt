@@ -1,0 +1,240 @@
+-- What the gateway stands for after a hang-up, an opening and a closing.
+use Rattle.std.proofs.Common.{◌≡◌, ℕ, suc, ◌+◌, Bool, true, false, List, [], ◌∷◌, map, Option, None, Some, Result, refl, sym, ap, ◌∙◌, subst, arith, All}
+use Rattle.std.specs.Prelude.{⊤, if◌then◌else◌, ◌&&◌, ◌||◌, not, ◌==◌, is_some, slice_index_or}
+use Rattle.std.specs.List.{list_any}
+use Rattle.std.specs.Option.{option_map_or, option_or}
+use Rattle.std.proofs.lemmas.Bool.{eq-eqb, eqb-true, ne_eqb}
+use Rattle.http_pieces.specs.Reader.{HasRead}
+use Rattle.gateway_model.specs.declared.entry.ReplyEntry.{ReplyEntry}
+use Rattle.gateway_theory.specs.declared.fault.StepFault.{StepFault}
+use Rattle.gateway_model.specs.declared.id.CallId.{CallId}
+use Rattle.gateway_theory.specs.declared.cause.Cause.TheVariants.{HungUp}
+use Rattle.gateway_theory.specs.Conn.{ConnValue}
+use Rattle.gateway_theory.specs.Ends.{CallsEnd, MayEnd, ended_below, ended_call, is_stopped_in, without_reply}
+use Rattle.gateway_model.specs.Events.{Before, hung_up, is_hang_up_of, is_open, listens, once, stream}
+use Rattle.gateway_model.specs.declared.event.Event.TheVariants.{HangUp}
+use Rattle.gateway_theory.specs.Gateway.{GatewayValue, StreamValue, goes_on, stream_at, stream_of}
+use Rattle.gateway_model.specs.Job.{JobValue}
+use Rattle.gateway_theory.specs.Kept.{KeptValue}
+use Rattle.gateway_theory.specs.Machine.{slot_at}
+use Rattle.gateway_model.specs.Occurrence as occurs
+use Rattle.gateway_theory.specs.Orderly.{IsInOrder, IsOrderly}
+use Rattle.gateway_model.specs.Past.{call_id}
+use Rattle.gateway_theory.specs.Served.{HasConns, Served, StandsBy}
+use Rattle.gateway_theory.specs.Serving.{HangsUp, hung, silent, IsDeaf, IsServing, ListensAt, without_more}
+use Rattle.gateway_theory.specs.Step.{CallState, Live, call_state}
+use Rattle.gateway_theory.specs.Store.{MachineValue, call_at, conn_at, conn_of}
+use Rattle.gateway_theory.specs.lemmas.Cases.{or_true, or_none}
+use Rattle.gateway_theory.specs.lemmas.EndingSteps.{hang_up_ends}
+use Rattle.gateway_theory.specs.lemmas.FeedLemmas.{stream_found, stream_set}
+use Rattle.gateway_theory.specs.lemmas.GatewayEnds.{ended_stands}
+use Rattle.gateway_theory.specs.lemmas.OrderLemmas.{some_same}
+use Rattle.gateway_theory.specs.lemmas.ServedLemmas.{goes_ended, going_parts, hung_still, open_same, open_still, stands_none, stands_one, text_still}
+use Rattle.gateway_theory.specs.lemmas.ServingLemmas.{conn_by_number, stream_by_number, streams_apart}
+use Rattle.gateway_theory.specs.lemmas.StoreMore.{conn_found}
+
+-- ---- a hang-up of a connection that is broken does nothing
+
+map_still : {A : Type 0} (f : A → A) (xs : List A) → All (λ x. f x ≡ x) xs → map f xs ≡ xs
+map_still f [] all = refl
+map_still f (x ∷ xs) all = ap (λ y. y ∷ map f xs) (all 0 x (omega arith)) ∙ ap (λ ys. x ∷ ys) (map_still f xs (λ j d lt. all (suc j) d (omega (arith, lt))))
+
+number_of : (c : ℕ) (conns : List ConnValue) (k : ConnValue) → conn_of c conns ≡ Some k → k.number ≡ c
+number_of c [] k e = absurd (cc)
+number_of c (x ∷ conns) k e = by_it (x.number == c) refl e (λ f. number_of c conns k f)
+  where
+    by_it : (b : Bool) → (x.number == c) ≡ b → (if b then Some x else conn_of c conns) ≡ Some k → (conn_of c conns ≡ Some k → k.number ≡ c) → k.number ≡ c
+    by_it true its f rest = ap (λ (y : ConnValue). y.number) (sym (some_same f)) ∙ eqb-true x.number c its
+    by_it false its f rest = rest f
+
+module _ (n : ℕ) (s : MachineValue) (h : IsOrderly s) (stopped : is_stopped_in n s.conns ≡ true) where
+  -- a call of another connection is not ended by it
+  other_call : (id : CallId) (c : CallState) → (n == id.conn) ≡ false → (ended_call (HungUp n) id c).reply ≡ None
+  other_call id c ne = by_live c.live
+    where
+      by_live : (l : Option Live) → (ended_call (HungUp n) id (call_state c.out l)).reply ≡ None
+      by_live None = refl
+      by_live (Some l) = rw ne refl
+
+  call_still : (k : KeptValue) → IsInOrder s.conns k → without_reply (ended_below (HungUp n) (is_stopped_in k.id.conn s.conns) true k) ≡ k
+  call_still k o = by_stop (is_stopped_in k.id.conn s.conns) refl k.call.live refl
+    where
+      by_stop : (b : Bool) → is_stopped_in k.id.conn s.conns ≡ b → (l : Option Live) → k.call.live ≡ l → without_reply (ended_below (HungUp n) b true k) ≡ k
+      by_stop true x None l_is =
+          ap (λ l. record { id = k.id; call = call_state k.call.out l; reply = None }) (sym l_is) ∙ ap (λ r. record { id = k.id; call = k.call; reply = r }) (sym o.no_reply)
+      by_stop true x (Some l) l_is = absurd (
+          let c = o.goes_on (ap (λ y. is_some y) l_is) in
+          let clash : true ≡ false = sym x ∙ ap (λ y. option_map_or (λ (z : ConnValue). z.broken) y false) c.1 ∙ c.2 in cc)
+      by_stop false x l l_is =
+          let ne : (n == k.id.conn) ≡ false = ne_eqb n k.id.conn (λ same. let clash : true ≡ false = sym stopped ∙ ap (λ m. is_stopped_in m s.conns) same ∙ x in absurd (cc)) in
+          by_live ne l l_is
+        where
+          by_live : (n == k.id.conn) ≡ false → (l : Option Live) → k.call.live ≡ l → without_reply (ended_below (HungUp n) false true k) ≡ k
+          by_live ne None l_is =
+              ap (λ y. record { id = k.id; call = (ended_call (HungUp n) k.id (call_state k.call.out y)).call; reply = None }) l_is
+              ∙ ap (λ y. record { id = k.id; call = call_state k.call.out y; reply = None }) (sym l_is) ∙ ap (λ r. record { id = k.id; call = k.call; reply = r }) (sym o.no_reply)
+          by_live ne (Some l) l_is =
+              ap (λ y. record { id = k.id; call = (ended_call (HungUp n) k.id (call_state k.call.out y)).call; reply = None }) l_is
+              ∙ rw ne (ap (λ y. record { id = k.id; call = call_state k.call.out y; reply = None }) (sym l_is) ∙ ap (λ r. record { id = k.id; call = k.call; reply = r }) (sym o.no_reply))
+
+  quiet_hang_up : CallsEnd (HungUp n) s s
+  quiet_hang_up = record {
+    moment_is = refl;
+    drained_is = refl;
+    jobs_are = refl;
+    calls_are = sym (map_still (λ k. without_reply (ended_below (HungUp n) (is_stopped_in k.id.conn s.conns) true k)) s.calls (λ j d lt. call_still (slice_index_or s.calls j d) (h.calls_are j d lt)));
+    numbers_are = refl;
+    conns_are = λ c. by_conn c (conn_of c s.conns) refl;
+    breaks_are = λ c a b. absurd (let clash : true ≡ false = sym a ∙ b in cc);
+  }
+    where
+      by_conn : (c : ℕ) (o : Option ConnValue) → conn_of c s.conns ≡ o → MayEnd (HungUp n) s.calls o o
+      by_conn c None o_is = tt
+      by_conn c (Some k) o_is = record {
+        number_is = refl;
+        taken_is = refl;
+        stays_broken = λ b. b;
+        size_is = refl;
+        each = λ j lt. sym (by_break j k.broken refl);
+      }
+        where
+          by_break : (j : ℕ) (b : Bool) → k.broken ≡ b
+              → option_or (slot_at j k.slots) (if b then None else (ended_call (HungUp n) (call_id k.number (k.taken + j)) (call_at (call_id k.number (k.taken + j)) s.calls)).reply)
+              ≡ slot_at j k.slots
+          by_break j true x = or_none (slot_at j k.slots)
+          by_break j false x =
+              let number : k.number ≡ c = number_of c s.conns k o_is in
+              ap (λ r. option_or (slot_at j k.slots) r) (other_call (call_id k.number (k.taken + j)) (call_at (call_id k.number (k.taken + j)) s.calls)
+              (ne_eqb n k.number (λ same. let clash : true ≡ false = sym stopped ∙ ap (λ m. is_stopped_in m s.conns) (same ∙ number)
+              ∙ ap (λ y. option_map_or (λ (z : ConnValue). z.broken) y false) o_is ∙ x in absurd (cc)))) ∙ or_none (slot_at j k.slots)
+
+-- ---- a hang-up
+
+-- of a connection whose pieces are taken by the definitions, and are not by the gateway
+pub deaf_stopped : (n : ℕ) (v : GatewayValue) (opened : List ℕ) (es : Before) → IsServing v → HasConns v opened es → IsDeaf n v → listens opened n es ≡ true → is_stopped_in n v.machine.conns ≡ true
+deaf_stopped n v opened es serving h deaf on = by_conn (conn_of n v.machine.conns) refl (stream_of n v.streams) refl
+  where
+    parts : (a b : Bool) → (a && not b) ≡ true → (a ≡ true) × (b ≡ false)
+    parts true false e = (refl, refl)
+    parts true true e = absurd (cc)
+    parts false b e = absurd (cc)
+
+    both : (is_open opened n es ≡ true) × (hung_up opened n es ≡ false)
+    both = parts (is_open opened n es) (hung_up opened n es) on
+
+    by_conn : (k : Option ConnValue) → conn_of n v.machine.conns ≡ k → (s : Option StreamValue) → stream_of n v.streams ≡ s → is_stopped_in n v.machine.conns ≡ true
+    by_conn None k_is s s_is = absurd (let clash : true ≡ false = sym both.0 ∙ h.open_are n ∙ ap (λ o. is_some o) k_is in cc)
+    by_conn (Some k) k_is None s_is = absurd (
+        let clash : false ≡ true = sym (ap (λ o. is_some o) s_is) ∙ stream_by_number n v.streams ∙ ap (λ ns. list_any (λ m. m == n) ns) serving.numbers_are
+        ∙ sym (conn_by_number n v.machine.conns) ∙ ap (λ o. is_some o) k_is in cc)
+    by_conn (Some k) k_is (Some s) s_is = ap (λ o. option_map_or (λ (y : ConnValue). y.broken) o false) k_is ∙ by_break k.broken refl
+      where
+        by_break : (b : Bool) → k.broken ≡ b → k.broken ≡ true
+        by_break true x = x
+        by_break false x = absurd (
+            let going : goes_on k s ≡ true = rw (x, h.hung_are n k s k_is s_is x, both.1) refl in
+            let clash : true ≡ false = sym going ∙ deaf k s k_is s_is in cc)
+
+module _ (n : ℕ) (v : GatewayValue) (opened : List ℕ) (es : Before) (taken : ℕ → List ReplyEntry) (handed : List JobValue) (serving : IsServing v) (h : Served v opened es taken handed) where
+  -- the gateway does nothing
+  pub silent_served : IsDeaf n v → Served v opened (HangUp n ∷ es) taken handed
+  silent_served deaf = record {
+    conns = record {
+      below = λ place its. let lt = h.conns.below place its in omega (arith, lt);
+      count_is = h.conns.count_is;
+      open_are = λ c. open_still opened c (HangUp n) es refl refl ∙ h.conns.open_are c;
+      hung_are = λ c k s k_is s_is on. by_number c k s k_is s_is on (n == c) refl;
+      reads_are = λ c k s k_is s_is going.
+          let read = h.conns.reads_are c k s k_is s_is going in (read.0, subst (λ text. HasRead s.reader text read.0) (sym (text_still opened c (HangUp n) es refl)) read.1);
+    };
+    stands = by_listens (listens opened n es) refl;
+  }
+    where
+      by_number : (c : ℕ) (k : ConnValue) (s : StreamValue) → conn_of c v.machine.conns ≡ Some k → stream_of c v.streams ≡ Some s → k.broken ≡ false
+          → (b : Bool) → (n == c) ≡ b → s.hung_up ≡ hung_up opened c (HangUp n ∷ es)
+      by_number c k s k_is s_is on false x = h.conns.hung_are c k s k_is s_is on ∙ sym (hung_still opened c (HangUp n) es x)
+      by_number c k s k_is s_is on true x =
+          let off : goes_on k s ≡ false = deaf k s (ap (λ m. conn_of m v.machine.conns) (eqb-true n c x) ∙ k_is) (ap (λ m. stream_of m v.streams) (eqb-true n c x) ∙ s_is) in
+          let hung : s.hung_up ≡ true = by_it s.hung_up (sym (ap (λ b. not b && not s.hung_up) on) ∙ off) in
+          hung ∙ sym (ap (λ b. b || (is_open opened c es && is_hang_up_of c (HangUp n))) (sym (h.conns.hung_are c k s k_is s_is on) ∙ hung))
+        where
+          by_it : (b : Bool) → not b ≡ false → b ≡ true
+          by_it true e = refl
+          by_it false e = absurd (cc)
+
+      by_listens : (b : Bool) → listens opened n es ≡ b → StandsBy v opened (HangUp n ∷ es) taken handed
+      by_listens false x = stands_none v v opened (HangUp n) es taken handed refl (λ os at. at ∙ ap (λ b. once b (occurs.HangUp n)) x) (λ c. text_still opened c (HangUp n) es refl)
+          (λ os stands. stands) h.stands
+      by_listens true x = stands_one v v opened (HangUp n) es taken handed refl (occurs.HangUp n) (λ os at. at ∙ ap (λ b. once b (occurs.HangUp n)) x) (λ c. text_still opened c (HangUp n) es refl)
+          (λ os stands. ended_stands v v (λ c. stream opened c es) taken handed os (λ c t t_is on. t_is) (λ c none. none) refl refl serving.orderly stands (occurs.HangUp n) (HungUp n) v.machine
+          (hang_up_ends n v.machine) (quiet_hang_up n v.machine serving.orderly (deaf_stopped n v opened es serving h.conns deaf x))) h.stands
+
+  -- its calls end, or it breaks
+  pub hung_served : (i : ℕ) (w : GatewayValue) → ListensAt n v i → CallsEnd (HungUp n) v.machine w.machine → w ≡ record v { machine = w.machine; streams = without_more i v.streams }
+      → Served w opened (HangUp n ∷ es) taken handed
+  hung_served i w l ends rest = record {
+    conns = record {
+      below = λ place its. let lt = h.conns.below place its in omega (arith, lt);
+      count_is = h.conns.count_is ∙ sym opened_is;
+      open_are = λ c. open_still opened c (HangUp n) es refl refl ∙ h.conns.open_are c ∙ sym (open_same c w.machine.conns v.machine.conns ends.numbers_are);
+      hung_are = λ c k s k_is s_is on. by_number c k s k_is s_is on (n == c) refl;
+      reads_are = λ c k s k_is s_is going.
+          let parts = going_parts k.broken s.hung_up going in
+          let was = (goes_ended (HungUp n) v.machine w.machine ends).back c k k_is parts.0 in
+          let read = h.conns.reads_are c was.0 s was.1 (still c s s_is parts.1 (c == (stream_at i v.streams).number) refl) (rw (was.2, parts.1) refl) in
+          (read.0, subst (λ text. HasRead s.reader text read.0) (sym (text_still opened c (HangUp n) es refl)) read.1);
+    };
+    stands = stands_one v w opened (HangUp n) es taken handed (ap (λ (y : GatewayValue). y.plans) rest) (occurs.HangUp n) (λ os at. at ∙ ap (λ b. once b (occurs.HangUp n)) listening)
+        (λ c. text_still opened c (HangUp n) es refl)
+        (λ os stands. ended_stands v w (λ c. stream opened c es) taken handed os (λ c t t_is on. still c t t_is on (c == (stream_at i v.streams).number) refl)
+        (λ c none. no_more c none (c == (stream_at i v.streams).number) refl) opened_is (ap (λ (y : GatewayValue). y.begun) rest) serving.orderly stands (occurs.HangUp n) (HungUp n) v.machine (hang_up_ends n v.machine) ends) h.stands;
+  }
+    where
+      opened_is : w.opened ≡ v.opened
+      opened_is = ap (λ (y : GatewayValue). y.opened) rest
+
+      here : conn_of n v.machine.conns ≡ Some (conn_at i v.machine.conns)
+      here = ap (λ m. conn_of m v.machine.conns) (sym l.conn_is) ∙ conn_found i v.machine.conns l.conn_there serving.orderly.conns_apart
+
+      stream_here : stream_of n v.streams ≡ Some (stream_at i v.streams)
+      stream_here = ap (λ m. stream_of m v.streams) (sym l.stream_is) ∙ stream_found i v.streams l.stream_there (streams_apart v serving)
+
+      listening : listens opened n es ≡ true
+      listening = rw (h.conns.open_are n ∙ ap (λ o. is_some o) here, sym (h.conns.hung_are n (conn_at i v.machine.conns) (stream_at i v.streams) here stream_here l.unbroken) ∙ l.on) refl
+
+      new : StreamValue
+      new = record (stream_at i v.streams) { hung_up = true }
+
+      stream_is : (c : ℕ) → stream_of c w.streams ≡ (if c == (stream_at i v.streams).number then Some new else stream_of c v.streams)
+      stream_is c = ap (λ (y : GatewayValue). stream_of c y.streams) rest ∙ stream_set c i new v.streams l.stream_there (streams_apart v serving) refl
+
+      still : (c : ℕ) (t : StreamValue) → stream_of c w.streams ≡ Some t → t.hung_up ≡ false → (b : Bool) → (c == (stream_at i v.streams).number) ≡ b → stream_of c v.streams ≡ Some t
+      still c t t_is on true x = absurd (
+          let same : new ≡ t = some_same (sym (stream_is c ∙ ap (λ b. if b then Some new else stream_of c v.streams) x) ∙ t_is) in
+          let clash : true ≡ false = ap (λ (s : StreamValue). s.hung_up) same ∙ on in cc)
+      still c t t_is on false x = sym (stream_is c ∙ ap (λ b. if b then Some new else stream_of c v.streams) x) ∙ t_is
+
+      no_more : (c : ℕ) → stream_of c v.streams ≡ None → (b : Bool) → (c == (stream_at i v.streams).number) ≡ b → stream_of c w.streams ≡ None
+      no_more c none true x = absurd (
+          let clash : None ≡ Some (stream_at i v.streams) = sym none ∙ ap (λ m. stream_of m v.streams) (eqb-true c (stream_at i v.streams).number x)
+          ∙ stream_found i v.streams l.stream_there (streams_apart v serving) in cc)
+      no_more c none false x = stream_is c ∙ ap (λ b. if b then Some new else stream_of c v.streams) x ∙ none
+
+      by_number : (c : ℕ) (k : ConnValue) (s : StreamValue) → conn_of c w.machine.conns ≡ Some k → stream_of c w.streams ≡ Some s → k.broken ≡ false
+          → (b : Bool) → (n == c) ≡ b → s.hung_up ≡ hung_up opened c (HangUp n ∷ es)
+      by_number c k s k_is s_is on false x =
+          let was = (goes_ended (HungUp n) v.machine w.machine ends).back c k k_is on in
+          let ne : (c == (stream_at i v.streams).number) ≡ false = ne_eqb c (stream_at i v.streams).number
+          (λ same. let clash : true ≡ false = sym (eq-eqb n c (sym (same ∙ l.stream_is))) ∙ x in absurd (cc)) in
+          h.conns.hung_are c was.0 s was.1 (sym (stream_is c ∙ ap (λ b. if b then Some new else stream_of c v.streams) ne) ∙ s_is) was.2 ∙ sym (hung_still opened c (HangUp n) es x)
+      by_number c k s k_is s_is on true x =
+          let its : (c == (stream_at i v.streams).number) ≡ true = eq-eqb c (stream_at i v.streams).number (sym (eqb-true n c x) ∙ sym l.stream_is) in
+          let same : new ≡ s = some_same (sym (stream_is c ∙ ap (λ b. if b then Some new else stream_of c v.streams) its) ∙ s_is) in
+          let there : is_open opened c es ≡ true = ap (λ m. is_open opened m es) (sym (eqb-true n c x)) ∙ h.conns.open_are n ∙ ap (λ o. is_some o) here in
+          ap (λ (y : StreamValue). y.hung_up) (sym same) ∙ sym (ap (λ b. hung_up opened c es || (b && is_hang_up_of c (HangUp n))) there ∙ ap (λ b. hung_up opened c es || b) x ∙ or_true (hung_up opened c es))
+
+pub hang_up_served : (n : ℕ) (v w : GatewayValue) (result : Result ⊤ StepFault) (opened : List ℕ) (es : Before) (taken : ℕ → List ReplyEntry) (handed : List JobValue)
+    → IsServing v → Served v opened es taken handed → HangsUp n v w result → Served w opened (HangUp n ∷ es) taken handed
+hang_up_served n v w result opened es taken handed serving h (silent deaf r w_is) =
+    subst (λ x. Served x opened (HangUp n ∷ es) taken handed) (sym w_is) (silent_served n v opened es taken handed serving h deaf)
+hang_up_served n v w result opened es taken handed serving h (hung i l ends rest r) = hung_served n v opened es taken handed serving h i w l ends rest

@@ -1,0 +1,317 @@
+-- What the gateway stands for after an opening and a closing.
+use Rattle.std.proofs.Common.{◌≡◌, ℕ, suc, ◌+◌, ◌<◌, ◌≤◌, Bool, true, false, List, [], ◌∷◌, ◌++◌, length, Option, None, Some, Result, Ok, Err, refl, sym, ap, ◌∙◌, subst, arith, ⊎_elim}
+use Rattle.std.specs.Prelude.{IfOk, MatchResult, OnErr, if◌then◌else◌, ◌&&◌, ◌||◌, not, ◌==◌, is_some, nat_lt}
+use Rattle.std.specs.List.{list_any}
+use Rattle.std.specs.Option.{option_or}
+use Rattle.std.proofs.lemmas.Bool.{cases_Bool, eq-eqb, eqb-true, ltb-true, ltb-false, lt-ltb, le-ltb, ne_eqb}
+use Rattle.call_plan.specs.Plan.{PlanRecord}
+use Rattle.http_pieces.specs.Reader.{HasRead, Partial, reader_value}
+use Rattle.http_pieces.specs.Request.{HttpRequest}
+use Rattle.gateway_model.specs.declared.entry.ReplyEntry.{ReplyEntry}
+use Rattle.gateway_theory.specs.Conn.{ConnValue, conn_value}
+use Rattle.gateway_model.specs.Events.{Before, Occurs, connections, hung_up, is_hang_up_of, is_open, onto, once, piece_of, stream, succeeds, IsShifted}
+use Rattle.gateway_model.specs.declared.event.Event.TheVariants.{Closing, Opening}
+use Rattle.gateway_theory.specs.Gateway.{GatewayStands, GatewayValue, StreamValue, goes_on, new_stream, stream_of}
+use Rattle.gateway_model.specs.Job.{JobValue}
+use Rattle.gateway_model.specs.Occurrence as occurs
+use Rattle.gateway_theory.specs.Served.{Served, StandsBy}
+use Rattle.gateway_theory.specs.Serving.{Closes, IsServing, Opens}
+use Rattle.gateway_model.specs.Starts.{Placed, occurrences}
+use Rattle.gateway_theory.specs.Store.{MachineValue, conn_of}
+use Rattle.gateway_theory.specs.lemmas.Cases.{and_true, and_false, or_false, or_true}
+use Rattle.gateway_theory.specs.lemmas.CutLemmas.{IsSame, at_same, connections_grow, open_known, same_before}
+use Rattle.gateway_theory.specs.lemmas.GatewayEnds.{closed_stands}
+use Rattle.gateway_theory.specs.lemmas.GatewayOpens.{opened_stands, stream_added}
+use Rattle.gateway_theory.specs.lemmas.OrderLemmas.{some_same}
+use Rattle.gateway_theory.specs.lemmas.ServedLemmas.{hung_still, open_after, open_still, stands_none, stands_one, text_still, texts_same}
+use Rattle.gateway_theory.specs.lemmas.ServingLemmas.{none_if, stream_by_number, conn_by_number, stream_without}
+use Rattle.gateway_theory.specs.lemmas.StoreMore.{conn_added, conn_without}
+
+-- ---- a connection that was not opened
+
+unopened_shut : (opened : List ℕ) (c : ℕ) (es : Before) → connections opened es ≤ c → is_open opened c es ≡ false
+unopened_shut opened c es le = by_it (is_open opened c es) refl
+  where
+    by_it : (b : Bool) → is_open opened c es ≡ b → is_open opened c es ≡ false
+    by_it true x = absurd (let lt = open_known opened c es x in omega (arith, lt, le))
+    by_it false x = x
+
+unopened_hung : (opened : List ℕ) (c : ℕ) (es : Before) → connections opened es ≤ c → hung_up opened c es ≡ false
+unopened_hung opened c [] le = refl
+unopened_hung opened c (e ∷ es) le =
+    let before : connections opened es ≤ c = let g = connections_grow opened e es in omega (arith, g, le) in
+    ap (λ b. b || (is_open opened c es && is_hang_up_of c e)) (unopened_hung opened c es before) ∙ ap (λ b. b && is_hang_up_of c e) (unopened_shut opened c es before)
+
+unopened_text : (opened : List ℕ) (c : ℕ) (es : Before) → connections opened es ≤ c → stream opened c es ≡ []
+unopened_text opened c [] le = refl
+unopened_text opened c (e ∷ es) le =
+    let before : connections opened es ≤ c = let g = connections_grow opened e es in omega (arith, g, le) in
+    ap (λ b. if b && not (hung_up opened c es) then stream opened c es ++ piece_of c e else stream opened c es) (unopened_shut opened c es before) ∙ unopened_text opened c es before
+
+-- ---- one more opening succeeds
+
+pub succeeds_more : (opened : List ℕ) (place at : ℕ) → succeeds (opened ++ place ∷ []) at ≡ (succeeds opened at || (place == at))
+succeeds_more [] place at = or_false (place == at)
+succeeds_more (p ∷ opened) place at = by_it (p == at) (succeeds_more opened place at)
+  where
+    by_it : (b : Bool) → succeeds (opened ++ place ∷ []) at ≡ (succeeds opened at || (place == at)) → (b || succeeds (opened ++ place ∷ []) at) ≡ ((b || succeeds opened at) || (place == at))
+    by_it true rest = refl
+    by_it false rest = rest
+
+not_yet : (opened : List ℕ) (n at : ℕ) → ((place : ℕ) → succeeds opened place ≡ true → place < n) → n ≤ at → succeeds opened at ≡ false
+not_yet opened n at below le = by_it (succeeds opened at) refl
+  where
+    by_it : (b : Bool) → succeeds opened at ≡ b → succeeds opened at ≡ false
+    by_it true x = absurd (let lt = below at x in omega (arith, lt, le))
+    by_it false x = x
+
+pub grown : (opened : List ℕ) (n : ℕ) → ((place : ℕ) → succeeds opened place ≡ true → place < n) → IsShifted n opened (opened ++ n ∷ [])
+grown opened n below = record {
+  before = λ t lt. succeeds_more opened n t ∙ ap (λ b. succeeds opened t || b) (ne_eqb n t (λ same. absurd (omega (arith, lt, same)))) ∙ or_false (succeeds opened t);
+  after = λ t lt. succeeds_more opened n (suc t) ∙ ap (λ b. b || (n == suc t)) (not_yet opened n (suc t) below (omega (arith, lt)))
+      ∙ ne_eqb n (suc t) (λ same. absurd (omega (arith, lt, same))) ∙ sym (not_yet opened n t below (omega (arith, lt)));
+}
+
+pub occurs_before : (plans : List PlanRecord) (opened shifted : List ℕ) (n : ℕ) (es : Before) (past : List Placed) → length es ≤ n → IsShifted n opened shifted
+    → Occurs plans shifted es past → Occurs plans opened es past
+occurs_before plans opened shifted n [] past le h o = o
+occurs_before plans opened shifted n (e ∷ es) past le h (before, o, (os, at, is)) = (
+  before,
+  occurs_before plans opened shifted n es before (omega (arith, le)) h o,
+  (os, at_same plans opened shifted e es es os (same_before opened shifted n es (omega (arith, le)) h) (h.before (length es) (omega (arith, le))) at, is),
+)
+
+module _ (v w : GatewayValue) (opened : List ℕ) (es : Before) (taken : ℕ → List ReplyEntry) (handed : List JobValue) (serving : IsServing v) (h : Served v opened es taken handed) where
+  -- ---- an opening
+
+  -- that does not succeed
+  pub unopened_served : Served v opened (Opening ∷ es) taken handed
+  unopened_served = record {
+    conns = record {
+      below = λ place its. let lt = h.conns.below place its in omega (arith, lt);
+      count_is = same ∙ h.conns.count_is;
+      open_are = λ c. open_still opened c Opening es same refl ∙ h.conns.open_are c;
+      hung_are = λ c k s k_is s_is on. h.conns.hung_are c k s k_is s_is on ∙ sym (hung_still opened c Opening es refl);
+      reads_are = λ c k s k_is s_is going.
+          let read = h.conns.reads_are c k s k_is s_is going in (read.0, subst (λ text. HasRead s.reader text read.0) (sym (text_still opened c Opening es refl)) read.1);
+    };
+    stands = stands_none v v opened Opening es taken handed refl (λ os at. at ∙ ap (λ b. once b occurs.Opening) fails) (λ c. text_still opened c Opening es refl) (λ os stands. stands) h.stands;
+  }
+    where
+      fails : succeeds opened (length es) ≡ false
+      fails = not_yet opened (length es) (length es) h.conns.below (omega arith)
+
+      same : connections opened (Opening ∷ es) ≡ connections opened es
+      same = ap (λ b. if b then suc (connections opened es) else connections opened es) fails
+
+  pub opened_served : (number : ℕ) → HasRead (reader_value 0 (Partial [])) [] [] → Opens v w number → Served w (opened ++ length es ∷ []) (Opening ∷ es) taken handed
+  opened_served number fresh o = record {
+    conns = record {
+      below = λ place its. places place (succeeds opened place) refl its;
+      count_is = count ∙ sym o.opened_is;
+      open_are = λ c. opens c (nat_lt c (connections more es)) refl;
+      hung_are = λ c k s k_is s_is on. hangs c k s k_is s_is on (n == c) refl;
+      reads_are = λ c k s k_is s_is going. reads c k s k_is s_is going (n == c) refl;
+    };
+    stands = λ occurred all. by_past occurred (subst (λ plans. Occurs plans more (Opening ∷ es) occurred) o.plans_are all);
+  }
+    where
+      more : List ℕ
+      more = opened ++ length es ∷ []
+
+      n : ℕ
+      n = v.opened
+
+      same : IsSame opened more es es
+      same = same_before opened more (length es) es (omega arith) (grown opened (length es) h.conns.below)
+
+      succeeded : succeeds more (length es) ≡ true
+      succeeded = succeeds_more opened (length es) (length es) ∙ ap (λ b. succeeds opened (length es) || b) (eq-eqb (length es) (length es) refl) ∙ or_true (succeeds opened (length es))
+
+      was : connections more es ≡ n
+      was = same.connections_are ∙ h.conns.count_is
+
+      count : connections more (Opening ∷ es) ≡ n + 1
+      count = ap (λ b. if b then suc (connections more es) else connections more es) succeeded ∙ (let e = was in omega (arith, e))
+
+      places : (place : ℕ) (b : Bool) → succeeds opened place ≡ b → succeeds more place ≡ true → place < length (Opening ∷ es)
+      places place true x its = let lt = h.conns.below place x in omega (arith, lt)
+      places place false x its =
+          let here : (length es == place) ≡ true = sym (succeeds_more opened (length es) place ∙ ap (λ b. b || (length es == place)) x) ∙ its in
+          let at : length es ≡ place = eqb-true (length es) place here in omega (arith, at)
+
+      conn_is : (c : ℕ) → conn_of c w.machine.conns ≡ option_or (conn_of c v.machine.conns) (if n == c then Some (conn_value n 0 [] false false) else None)
+      conn_is c = ap (λ (m : MachineValue). conn_of c m.conns) o.machine_is ∙ conn_added c (conn_value n 0 [] false false) v.machine.conns
+
+      stream_is : (c : ℕ) → stream_of c w.streams ≡ option_or (stream_of c v.streams) (if n == c then Some (new_stream n) else None)
+      stream_is c = ap (stream_of c) o.streams_are ∙ stream_added c (new_stream n) v.streams
+
+      or_here : {A : Type 0} (a : Option A) → option_or a None ≡ a
+      or_here None = refl
+      or_here (Some x) = refl
+
+      conn_other : (c : ℕ) → (n == c) ≡ false → conn_of c w.machine.conns ≡ conn_of c v.machine.conns
+      conn_other c ne = conn_is c ∙ ap (λ b. option_or (conn_of c v.machine.conns) (if b then Some (conn_value n 0 [] false false) else None)) ne ∙ or_here (conn_of c v.machine.conns)
+
+      stream_other : (c : ℕ) → (n == c) ≡ false → stream_of c w.streams ≡ stream_of c v.streams
+      stream_other c ne = stream_is c ∙ ap (λ b. option_or (stream_of c v.streams) (if b then Some (new_stream n) else None)) ne ∙ or_here (stream_of c v.streams)
+
+      no_stream : stream_of n v.streams ≡ None
+      no_stream = none_if (stream_of n v.streams) (stream_by_number n v.streams ∙ ap (λ ns. list_any (λ m. m == n) ns) serving.numbers_are
+          ∙ sym (conn_by_number n v.machine.conns) ∙ ap (λ x. is_some x) (serving.no_conn n (omega arith)))
+
+      opens : (c : ℕ) (b : Bool) → nat_lt c (connections more es) ≡ b → is_open more c (Opening ∷ es) ≡ is_some (conn_of c w.machine.conns)
+      opens c true x =
+          let lt : c < n = subst (λ m. c < m) was (ltb-true c (connections more es) x) in
+          ap (λ b. if b then is_open more c es && true else nat_lt c (connections more (Opening ∷ es))) x ∙ and_true (is_open more c es) ∙ same.open_is c ∙ h.conns.open_are c
+          ∙ ap (λ k. is_some k) (sym (conn_other c (ne_eqb n c (λ e. absurd (omega (arith, lt, e))))))
+      opens c false x =
+          let le : n ≤ c = subst (λ m. m ≤ c) was (ltb-false c (connections more es) x) in
+          ap (λ b. if b then is_open more c es && true else nat_lt c (connections more (Opening ∷ es))) x ∙ ap (nat_lt c) count ∙ by_number (n == c) refl le
+        where
+          by_number : (b : Bool) → (n == c) ≡ b → n ≤ c → nat_lt c (n + 1) ≡ is_some (conn_of c w.machine.conns)
+          by_number true e le =
+              let at : n ≡ c = eqb-true n c e in
+              lt-ltb c (n + 1) (omega (arith, at)) ∙ sym (ap (λ k. is_some k) (conn_is c ∙ ap (λ b. option_or (conn_of c v.machine.conns) (if b then Some (conn_value n 0 [] false false) else None)) e)
+              ∙ by_old (conn_of c v.machine.conns))
+            where
+              by_old : (a : Option ConnValue) → is_some (option_or a (Some (conn_value n 0 [] false false))) ≡ true
+              by_old None = refl
+              by_old (Some k) = refl
+          by_number false e le =
+              let apart : n ≡ c → ⊥ = λ at. let clash : true ≡ false = sym (eq-eqb n c at) ∙ e in absurd (cc) in
+              le-ltb c (n + 1) (above le apart) ∙ sym (ap (λ k. is_some k) (conn_other c e ∙ serving.no_conn c le))
+            where
+              above : n ≤ c → (n ≡ c → ⊥) → n + 1 ≤ c
+              above l ne = ⊎_elim (λ (lt : nat_lt n c ≡ true). let x = ltb-true n c lt in omega (arith, x))
+                  (λ (ge : nat_lt n c ≡ false). absurd (ne (let x = ltb-false n c ge in omega (arith, x, l)))) (cases_Bool (nat_lt n c))
+
+      hangs : (c : ℕ) (k : ConnValue) (s : StreamValue) → conn_of c w.machine.conns ≡ Some k → stream_of c w.streams ≡ Some s → k.broken ≡ false
+          → (b : Bool) → (n == c) ≡ b → s.hung_up ≡ hung_up more c (Opening ∷ es)
+      hangs c k s k_is s_is on false e =
+          h.conns.hung_are c k s (sym (conn_other c e) ∙ k_is) (sym (stream_other c e) ∙ s_is) on ∙ sym (same.hung_is c) ∙ sym (hung_still more c Opening es refl)
+      hangs c k s k_is s_is on true e =
+          let at : n ≡ c = eqb-true n c e in
+          let new : new_stream n ≡ s = some_same (sym (stream_is c ∙ ap (λ m. option_or (stream_of m v.streams) (if n == c then Some (new_stream n) else None)) (sym at)
+          ∙ ap (λ a. option_or a (if n == c then Some (new_stream n) else None)) no_stream ∙ ap (λ b. if b then Some (new_stream n) else None) e) ∙ s_is) in
+          ap (λ (x : StreamValue). x.hung_up) (sym new)
+          ∙ sym (hung_still more c Opening es refl ∙ same.hung_is c ∙ unopened_hung opened c es (let x = h.conns.count_is in omega (arith, at, x)))
+
+      text_is : (c : ℕ) → stream more c (Opening ∷ es) ≡ stream opened c es
+      text_is c = text_still more c Opening es refl ∙ same.stream_is c
+
+      reads : (c : ℕ) (k : ConnValue) (s : StreamValue) → conn_of c w.machine.conns ≡ Some k → stream_of c w.streams ≡ Some s → goes_on k s ≡ true
+          → (b : Bool) → (n == c) ≡ b → (given : List HttpRequest) × HasRead s.reader (stream more c (Opening ∷ es)) given
+      reads c k s k_is s_is going false e =
+          let read = h.conns.reads_are c k s (sym (conn_other c e) ∙ k_is) (sym (stream_other c e) ∙ s_is) going in
+          (read.0, subst (λ text. HasRead s.reader text read.0) (sym (text_is c)) read.1)
+      reads c k s k_is s_is going true e =
+          let at : n ≡ c = eqb-true n c e in
+          let new : new_stream n ≡ s = some_same (sym (stream_is c ∙ ap (λ m. option_or (stream_of m v.streams) (if n == c then Some (new_stream n) else None)) (sym at)
+          ∙ ap (λ a. option_or a (if n == c then Some (new_stream n) else None)) no_stream ∙ ap (λ b. if b then Some (new_stream n) else None) e) ∙ s_is) in (
+            [],
+            subst (λ (x : StreamValue). HasRead x.reader (stream more c (Opening ∷ es)) []) new
+                (subst (λ text. HasRead (reader_value 0 (Partial [])) text []) (sym (text_is c ∙ unopened_text opened c es (let x = h.conns.count_is in omega (arith, at, x)))) fresh),
+          )
+
+      by_past : (occurred : List Placed) → Occurs v.plans more (Opening ∷ es) occurred → GatewayStands w (λ c. stream more c (Opening ∷ es)) taken handed (occurrences occurred)
+      by_past occurred (past, before, (os, at, is)) =
+          let now : occurrences occurred ≡ occurs.Opening ∷ occurrences past = ap occurrences (is ∙ ap (λ us. onto (length es) us past) (at ∙ ap (λ b. once b occurs.Opening) succeeded)) in
+          subst (λ us. GatewayStands w (λ c. stream more c (Opening ∷ es)) taken handed us) (sym now)
+          (texts_same w taken handed (λ c. stream opened c es) (λ c. stream more c (Opening ∷ es)) (occurs.Opening ∷ occurrences past) text_is
+          (opened_stands v w (λ c. stream opened c es) taken handed (occurrences past) serving.orderly
+          (h.stands past (occurs_before v.plans opened more (length es) es past (omega arith) (grown opened (length es) h.conns.below) before))
+          fresh (unopened_text opened n es (let x = h.conns.count_is in omega (arith, x))) o.machine_is o.streams_are o.opened_is o.begun_is))
+
+  -- ---- a closing
+
+  pub closed_served : (n : ℕ) (b : Bool) → Closes n v w b → Served w opened (Closing n ∷ es) taken handed
+  closed_served n false x = subst (λ y. Served y opened (Closing n ∷ es) taken handed) (sym x.1) (record {
+    conns = record {
+      below = λ place its. let lt = h.conns.below place its in omega (arith, lt);
+      count_is = h.conns.count_is;
+      open_are = λ c. open_after opened c (Closing n) es refl ∙ by_number c (n == c) refl ∙ h.conns.open_are c;
+      hung_are = λ c k s k_is s_is on. h.conns.hung_are c k s k_is s_is on ∙ sym (hung_still opened c (Closing n) es refl);
+      reads_are = λ c k s k_is s_is going.
+          let read = h.conns.reads_are c k s k_is s_is going in (read.0, subst (λ text. HasRead s.reader text read.0) (sym (text_still opened c (Closing n) es refl)) read.1);
+    };
+    stands = stands_none v v opened (Closing n) es taken handed refl (λ os at. at ∙ ap (λ b. once b (occurs.Closing n)) shut) (λ c. text_still opened c (Closing n) es refl) (λ os stands. stands) h.stands;
+  })
+    where
+      shut : is_open opened n es ≡ false
+      shut = h.conns.open_are n ∙ ap (λ k. is_some k) x.0
+
+      by_number : (c : ℕ) (b : Bool) → (n == c) ≡ b → (is_open opened c es && not (n == c)) ≡ is_open opened c es
+      by_number c true e =
+          let off : is_open opened c es ≡ false = ap (λ m. is_open opened m es) (sym (eqb-true n c e)) ∙ shut in
+          ap (λ b. b && not (n == c)) off ∙ sym off
+      by_number c false e = ap (λ b. is_open opened c es && not b) e ∙ and_true (is_open opened c es)
+  closed_served n true x = record {
+    conns = record {
+      below = λ place its. let lt = h.conns.below place its in omega (arith, lt);
+      count_is = h.conns.count_is ∙ sym (ap (λ (y : GatewayValue). y.opened) x.1);
+      open_are = λ c. open_after opened c (Closing n) es refl ∙ by_number c (c == n) refl;
+      hung_are = λ c k s k_is s_is on. hangs c k s k_is s_is on (c == n) refl;
+      reads_are = λ c k s k_is s_is going. reads c k s k_is s_is going (c == n) refl;
+    };
+    stands = by_conn (conn_of n v.machine.conns) refl;
+  }
+    where
+      conn_is : (c : ℕ) → conn_of c w.machine.conns ≡ (if c == n then None else conn_of c v.machine.conns)
+      conn_is c = ap (λ (y : GatewayValue). conn_of c y.machine.conns) x.1 ∙ conn_without c n v.machine.conns
+
+      stream_is : (c : ℕ) → stream_of c w.streams ≡ (if c == n then None else stream_of c v.streams)
+      stream_is c = ap (λ (y : GatewayValue). stream_of c y.streams) x.1 ∙ stream_without c n v.streams
+
+      turned : (c : ℕ) → (n == c) ≡ (c == n)
+      turned c = ⊎_elim
+          (λ (e : (c == n) ≡ true). eq-eqb n c (sym (eqb-true c n e)) ∙ sym e)
+          (λ (e : (c == n) ≡ false). ne_eqb n c (λ at. let clash : true ≡ false = sym (eq-eqb c n (sym at)) ∙ e in absurd (cc)) ∙ sym e)
+          (cases_Bool (c == n))
+
+      by_number : (c : ℕ) (b : Bool) → (c == n) ≡ b → (is_open opened c es && not (n == c)) ≡ is_some (conn_of c w.machine.conns)
+      by_number c true e =
+          ap (λ b. is_open opened c es && not b) (turned c ∙ e) ∙ and_false (is_open opened c es) ∙ sym (ap (λ k. is_some k) (conn_is c ∙ ap (λ b. if b then None else conn_of c v.machine.conns) e))
+      by_number c false e =
+          ap (λ b. is_open opened c es && not b) (turned c ∙ e) ∙ and_true (is_open opened c es) ∙ h.conns.open_are c
+          ∙ sym (ap (λ k. is_some k) (conn_is c ∙ ap (λ b. if b then None else conn_of c v.machine.conns) e))
+
+      hangs : (c : ℕ) (k : ConnValue) (s : StreamValue) → conn_of c w.machine.conns ≡ Some k → stream_of c w.streams ≡ Some s → k.broken ≡ false
+          → (b : Bool) → (c == n) ≡ b → s.hung_up ≡ hung_up opened c (Closing n ∷ es)
+      hangs c k s k_is s_is on true e = absurd (let clash : None ≡ Some k = sym (conn_is c ∙ ap (λ b. if b then None else conn_of c v.machine.conns) e) ∙ k_is in cc)
+      hangs c k s k_is s_is on false e =
+          h.conns.hung_are c k s (sym (conn_is c ∙ ap (λ b. if b then None else conn_of c v.machine.conns) e) ∙ k_is)
+          (sym (stream_is c ∙ ap (λ b. if b then None else stream_of c v.streams) e) ∙ s_is) on ∙ sym (hung_still opened c (Closing n) es refl)
+
+      reads : (c : ℕ) (k : ConnValue) (s : StreamValue) → conn_of c w.machine.conns ≡ Some k → stream_of c w.streams ≡ Some s → goes_on k s ≡ true
+          → (b : Bool) → (c == n) ≡ b → (given : List HttpRequest) × HasRead s.reader (stream opened c (Closing n ∷ es)) given
+      reads c k s k_is s_is going true e = absurd (let clash : None ≡ Some k = sym (conn_is c ∙ ap (λ b. if b then None else conn_of c v.machine.conns) e) ∙ k_is in cc)
+      reads c k s k_is s_is going false e =
+          let read = h.conns.reads_are c k s (sym (conn_is c ∙ ap (λ b. if b then None else conn_of c v.machine.conns) e) ∙ k_is)
+          (sym (stream_is c ∙ ap (λ b. if b then None else stream_of c v.streams) e) ∙ s_is) going in
+          (read.0, subst (λ text. HasRead s.reader text read.0) (sym (text_still opened c (Closing n) es refl)) read.1)
+
+      by_conn : (k : Option ConnValue) → conn_of n v.machine.conns ≡ k → StandsBy w opened (Closing n ∷ es) taken handed
+      by_conn None k_is = absurd (let clash : false ≡ true = sym (ap (λ k. is_some k) k_is) ∙ x.0 in cc)
+      by_conn (Some k) k_is = stands_one v w opened (Closing n) es taken handed (ap (λ (y : GatewayValue). y.plans) x.1) (occurs.Closing n)
+          (λ os at. at ∙ ap (λ b. once b (occurs.Closing n)) (h.conns.open_are n ∙ x.0)) (λ c. text_still opened c (Closing n) es refl)
+          (λ os stands. closed_stands v w (λ c. stream opened c es) taken handed os
+          (λ c t t_is on. was c t (c == n) refl t_is) (λ c none. gone c (c == n) refl none) (ap (λ (y : GatewayValue). y.opened) x.1) (ap (λ (y : GatewayValue). y.begun) x.1) serving.orderly stands n k k_is
+          (ap (λ (y : GatewayValue). y.machine) x.1)) h.stands
+        where
+          was : (c : ℕ) (t : StreamValue) (b : Bool) → (c == n) ≡ b → stream_of c w.streams ≡ Some t → stream_of c v.streams ≡ Some t
+          was c t true e t_is = absurd (let clash : None ≡ Some t = sym (stream_is c ∙ ap (λ b. if b then None else stream_of c v.streams) e) ∙ t_is in cc)
+          was c t false e t_is = sym (stream_is c ∙ ap (λ b. if b then None else stream_of c v.streams) e) ∙ t_is
+
+          gone : (c : ℕ) (b : Bool) → (c == n) ≡ b → stream_of c v.streams ≡ None → stream_of c w.streams ≡ None
+          gone c true e none = stream_is c ∙ ap (λ b. if b then None else stream_of c v.streams) e
+          gone c false e none = stream_is c ∙ ap (λ b. if b then None else stream_of c v.streams) e ∙ none
+
+-- an opening, whether it succeeds or not
+pub opening_stands : {E : Type 0} → (v w : GatewayValue) (result : Result ℕ E) (opened : List ℕ) (es : Before) (taken : ℕ → List ReplyEntry) (handed : List JobValue) → Served v opened es taken handed
+    → ((number : ℕ) → Opens v w number → Served w (opened ++ length es ∷ []) (Opening ∷ es) taken handed)
+    → IsServing v → IfOk result (Opens v w) → OnErr result (w ≡ v)
+    → MatchResult result (λ _. Served w (opened ++ length es ∷ []) (Opening ∷ es) taken handed) (λ _. Served w opened (Opening ∷ es) taken handed)
+opening_stands v w (Ok number) opened es taken handed h succeeds_so serving o err = succeeds_so number o
+opening_stands v w (Err refusal) opened es taken handed h succeeds_so serving o err =
+    subst (λ x. Served x opened (Opening ∷ es) taken handed) (sym err) (unopened_served v v opened es taken handed serving h)

@@ -1,0 +1,160 @@
+-- What the gateway stands for after a piece that is fed in parts.
+use Rattle.std.proofs.Common.{◌≡◌, ℕ, Bool, true, false, List, [], ◌∷◌, ◌++◌, map, take, drop, Result, Ok, Err, refl, sym, ap, ◌∙◌, subst, arith, append-nil, append_assoc}
+use Rattle.std.specs.Prelude.{if◌then◌else◌, ◌&&◌, not, ◌==◌, MatchBool, MatchResult}
+use Rattle.std.specs.Option.{option_map_or}
+use Rattle.std.proofs.lemmas.List.{append_cancel_left, take-append-drop}
+use Rattle.call_plan.specs.Plan.{PlanRecord}
+use Rattle.http_pieces.specs.Reader.{ReaderValue, Reading, Partial, Waiting, Stopped, Done, HasRead, HasReadTo, ending_after}
+use Rattle.http_pieces.specs.Request.{HttpRequest}
+use Rattle.http_pieces.specs.Requests.{StreamEnd, Open, RefusedBy, Closed, Requests}
+use Rattle.gateway_model.specs.declared.entry.ReplyEntry.{ReplyEntry}
+use Rattle.gateway_theory.specs.declared.fault.StepFault.{StepFault}
+use Rattle.gateway_theory.specs.Conn.{ConnValue}
+use Rattle.gateway_theory.specs.Ends.{is_stopped_in}
+use Rattle.gateway_model.specs.Events.{Before, Gains, listens, piece_of, refusal_gained, requests_gained, stream}
+use Rattle.gateway_model.specs.declared.event.Event.TheVariants.{Piece}
+use Rattle.gateway_theory.specs.Gateway.{GatewayValue, stream_at}
+use Rattle.gateway_model.specs.Job.{JobValue}
+use Rattle.gateway_model.specs.Occurrence.{Coming, Comes, Occurrence}
+use Rattle.gateway_theory.specs.RequestLaws.{RequestLaws}
+use Rattle.gateway_theory.specs.Served.{IsKnown, Served, ServedUpTo}
+use Rattle.gateway_theory.specs.Serving.{FedTo, came, dropped, unheard, unread, IsDeaf, IsServing, ListensAt}
+use Rattle.gateway_theory.specs.lemmas.CutLemmas.{listens_piece, stream_piece}
+use Rattle.gateway_theory.specs.lemmas.ServedJoins.{joined_served}
+use Rattle.gateway_theory.specs.lemmas.ServedLemmas.{hung_still, open_still, stands_none, text_still}
+use Rattle.gateway_theory.specs.lemmas.ServedPieces.{came_served, dropped_served, feeds_read, listening, over_more, read_here, unheard_served, unread_served}
+
+-- so many bytes were taken
+abbrev answer : ℕ → Result ℕ StepFault
+answer n = Ok n
+
+-- ---- no bytes
+
+no_bytes : (c n : ℕ) → piece_of c (Piece n []) ≡ []
+no_bytes c n = by_it (n == c)
+  where
+    by_it : (b : Bool) → if◌then◌else◌ {A = List ℕ} b [] [] ≡ []
+    by_it true = refl
+    by_it false = refl
+
+no_refusal : (e : StreamEnd) → refusal_gained e e ≡ []
+no_refusal (Open left) = refl
+no_refusal (RefusedBy r) = refl
+no_refusal Closed = refl
+
+nothing_gained : RequestLaws → (plans : List PlanRecord) (text : List ℕ) (gained : List Coming) → Gains plans text (text ++ []) gained → gained ≡ []
+nothing_gained laws plans text gained g =
+    let same = laws.unique 0 text g.given (g.given ++ g.more) g.ending g.later g.text_is (subst (λ t. Requests 0 t (g.given ++ g.more) g.later) (append-nil text) g.longer_is) in
+    let none : g.more ≡ [] = append_cancel_left g.given g.more [] (sym same.0 ∙ sym (append-nil g.given)) in
+    g.gained_is ∙ ap (λ more. requests_gained plans more ++ refusal_gained g.ending g.later) none ∙ ap (λ e. refusal_gained g.ending e) (sym same.1) ∙ no_refusal g.ending
+
+-- what was read has a list of requests
+read_requests : (reader : ReaderValue) (text : List ℕ) (given : List HttpRequest) → HasRead reader text given → IsKnown text
+read_requests reader text given h = by_reading reader.reading h.reads
+  where
+    by_reading : (r : Reading) → HasReadTo r text given → IsKnown text
+    by_reading (Partial left) x = (given, Open left, x)
+    by_reading (Waiting q) x = (given ++ q ∷ [], ending_after q, x)
+    by_reading (Stopped r) x = (given, RefusedBy r, x)
+    by_reading Done x = (given, Closed, x)
+
+module _ (laws : RequestLaws) (n : ℕ) (v : GatewayValue) (opened : List ℕ) (es : Before) (taken : ℕ → List ReplyEntry) (handed : List JobValue) (h : Served v opened es taken handed) where
+  nothing_served : Served v opened (Piece n [] ∷ es) taken handed
+  nothing_served = record {
+    conns = record {
+      below = λ place its. let lt = h.conns.below place its in omega (arith, lt);
+      count_is = h.conns.count_is;
+      open_are = λ c. open_still opened c (Piece n []) es refl refl ∙ h.conns.open_are c;
+      hung_are = λ c k s k_is s_is on. h.conns.hung_are c k s k_is s_is on ∙ sym (hung_still opened c (Piece n []) es refl);
+      reads_are = λ c k s k_is s_is going.
+          let read = h.conns.reads_are c k s k_is s_is going in (read.0, subst (λ text. HasRead s.reader text read.0) (sym (text_still opened c (Piece n []) es (no_bytes c n))) read.1);
+    };
+    stands = stands_none v v opened (Piece n []) es taken handed refl (λ os at. none (listens opened n es) os at) (λ c. text_still opened c (Piece n []) es (no_bytes c n)) (λ os stands. stands) h.stands;
+  }
+    where
+      none : (b : Bool) (os : List Occurrence)
+          → MatchBool b ((gained : List Coming) × Gains v.plans (stream opened n es) (stream opened n es ++ []) gained × (os ≡ map (Comes n) gained)) (os ≡ []) → os ≡ []
+      none true os (gained, gains, os_are) = os_are ∙ ap (map (Comes n)) (nothing_gained laws v.plans (stream opened n es) gained gains)
+      none false os at = at
+
+  pub begun_served : ServedUpTo n [] v opened es taken handed
+  begun_served = record {
+    below = h.conns.below;
+    served = nothing_served;
+    known = λ q gained gains. (gains.given, gains.ending, subst (λ t. Requests 0 t gains.given gains.ending) (sym (append-nil (stream opened n es))) gains.text_is);
+  }
+
+module _ (laws : RequestLaws) (n : ℕ) (p q : List ℕ) (v w : GatewayValue) (opened : List ℕ) (es : Before) (taken : ℕ → List ReplyEntry) (handed : List JobValue) (serving : IsServing v) (h : ServedUpTo n p v opened es taken handed) where
+  -- the bytes up to here and more of them are as one piece
+  joined_up : (u : GatewayValue) (m : List ℕ) → u.plans ≡ v.plans → Served u opened (Piece n m ∷ Piece n p ∷ es) taken handed → Served u opened (Piece n (p ++ m) ∷ es) taken handed
+  joined_up u m plans_are s =
+      joined_served laws n p m u opened es taken handed h.below (λ gained gains. h.known m gained (subst (λ plans. Gains plans (stream opened n es) (stream opened n es ++ (p ++ m)) gained) plans_are gains)) s
+
+  module _ (i : ℕ) (l : ListensAt n v i) where
+    on : listens opened n es ≡ true
+    on = sym (listens_piece opened n n p es) ∙ listening n v w opened (Piece n p ∷ es) taken handed serving h.served i l
+
+    text_is : stream opened n (Piece n p ∷ es) ≡ stream opened n es ++ p
+    text_is = stream_piece opened n p es ∙ ap (λ b. if b then stream opened n es ++ p else stream opened n es) on
+
+    was_read : (given : List HttpRequest) × HasRead (stream_at i v.streams).reader (stream opened n es ++ p) given
+    was_read = let read = read_here n v w opened (Piece n p ∷ es) taken handed serving h.served i l in
+        (read.0, subst (λ text. HasRead (stream_at i v.streams).reader text read.0) text_is read.1)
+
+  pub fed_more : (m : ℕ) → FedTo n q v w (Ok m) → ServedUpTo n (p ++ take m q) w opened es taken handed
+  fed_more m (unheard deaf r w_is) = absurd (cc)
+  fed_more m (dropped i l over r w_is) = subst (λ x. ServedUpTo n (p ++ take m q) x opened es taken handed) (sym w_is) (record {
+    below = h.below;
+    served = joined_up v (take m q) refl (dropped_served n v v opened (Piece n p ∷ es) taken handed serving h.served i l laws (take m q) over);
+    known = λ rest gained gains. subst IsKnown (append_assoc (stream opened n es) p (take m q)) (read_requests (stream_at i v.streams).reader ((stream opened n es ++ p) ++ take m q) (was_read i l).0
+        (over_more laws (stream_at i v.streams).reader (stream opened n es ++ p) (take m q) (was_read i l).0 over (was_read i l).1));
+  })
+  fed_more m (unread i l going r w_is) = absurd (cc)
+  fed_more m (came i k l going f within moves why is counts r) = by_stop (is_stopped_in n w.machine.conns) r
+    where
+      by_stop : (b : Bool) → Ok m ≡ (if b then Err why else Ok k) → ServedUpTo n (p ++ take m q) w opened es taken handed
+      by_stop true e = absurd (cc)
+      by_stop false e = subst (λ x. ServedUpTo n (p ++ take x q) w opened es taken handed) (by_count e) (record {
+        below = h.below;
+        served = joined_up w (take k q) f.plans_are (came_served n v w opened (Piece n p ∷ es) taken handed serving h.served i l laws k q going f);
+        known = λ rest gained gains.
+            let read = feeds_read i k q v w (stream opened n es ++ p) (was_read i l).0 f (was_read i l).1 in
+            subst IsKnown (append_assoc (stream opened n es) p (take k q)) (read_requests f.new ((stream opened n es ++ p) ++ take k q) read.0 read.1);
+      })
+        where
+          by_count : answer m ≡ answer k → k ≡ m
+          by_count x = cc
+
+  pub fed_fault : (fault : StepFault) → IsServing w → FedTo n q v w (Err fault) → Served w opened (Piece n (p ++ q) ∷ es) taken handed
+  fed_fault fault then_serving (unheard deaf r w_is) =
+      subst (λ x. Served x opened (Piece n (p ++ q) ∷ es) taken handed) (sym w_is) (joined_up v q refl (unheard_served n v v opened (Piece n p ∷ es) taken handed serving h.served q deaf))
+  fed_fault fault then_serving (dropped i l over r w_is) = absurd (cc)
+  fed_fault fault then_serving (unread i l going r w_is) =
+      joined_up w q (ap (λ (x : GatewayValue). x.plans) w_is) (unread_served n v w opened (Piece n p ∷ es) taken handed serving h.served i l q w_is)
+  fed_fault fault then_serving (came i k l going f within moves why is counts r) = by_stop (is_stopped_in n w.machine.conns) refl r
+    where
+      first : Served w opened (Piece n (p ++ take k q) ∷ es) taken handed
+      first = joined_up w (take k q) f.plans_are (came_served n v w opened (Piece n p ∷ es) taken handed serving h.served i l laws k q going f)
+
+      known_first : IsKnown (stream opened n es ++ (p ++ take k q))
+      known_first = let read = feeds_read i k q v w (stream opened n es ++ p) (was_read i l).0 f (was_read i l).1 in
+          subst IsKnown (append_assoc (stream opened n es) p (take k q)) (read_requests f.new ((stream opened n es ++ p) ++ take k q) read.0 read.1)
+
+      by_stop : (b : Bool) → is_stopped_in n w.machine.conns ≡ b → Err fault ≡ (if is_stopped_in n w.machine.conns then Err why else Ok k) → Served w opened (Piece n (p ++ q) ∷ es) taken handed
+      by_stop false stop e = absurd (let clash : Err fault ≡ Ok k = e ∙ ap (λ b. if b then Err why else Ok k) stop in cc)
+      by_stop true stop e =
+          subst (λ bytes. Served w opened (Piece n bytes ∷ es) taken handed) (append_assoc p (take k q) (drop k q) ∙ ap (λ x. p ++ x) (take-append-drop k q))
+          (joined_served laws n (p ++ take k q) (drop k q) w opened es taken handed h.below (λ gained gains. known_first)
+          (unheard_served n w w opened (Piece n (p ++ take k q) ∷ es) taken handed then_serving first (drop k q) deaf))
+        where
+          deaf : IsDeaf n w
+          deaf x s x_is s_is =
+              let broke : x.broken ≡ true = ap (λ o. option_map_or (λ (y : ConnValue). y.broken) o false) (sym x_is) ∙ stop in
+              ap (λ b. not b && not s.hung_up) broke
+
+-- either
+pub fed_stands : RequestLaws → (n : ℕ) (p q : List ℕ) (v w : GatewayValue) (result : Result ℕ StepFault) (opened : List ℕ) (es : Before) (taken : ℕ → List ReplyEntry) (handed : List JobValue)
+    → IsServing v → IsServing w → ServedUpTo n p v opened es taken handed → FedTo n q v w result
+    → MatchResult result (λ m. ServedUpTo n (p ++ take m q) w opened es taken handed) (λ _. Served w opened (Piece n (p ++ q) ∷ es) taken handed)
+fed_stands laws n p q v w (Ok m) opened es taken handed serving then_serving h f = fed_more laws n p q v w opened es taken handed serving h m f
+fed_stands laws n p q v w (Err fault) opened es taken handed serving then_serving h f = fed_fault laws n p q v w opened es taken handed serving h fault then_serving f

@@ -1,0 +1,567 @@
+-- What an occurrence makes of one call.
+use Rattle.std.proofs.Common.{◌≡◌, ℕ, suc, ◌+◌, ◌≤◌, ◌<◌, ◌-◌, min, Bool, true, false, List, [], ◌∷◌, ◌++◌, map, length, Option, None, Some, refl, sym, ap, ◌∙◌, subst, arith, ⊎_elim, inl, inr}
+use Rattle.std.specs.Prelude.{◌⊎◌, is_some, is_none, if◌then◌else◌, ◌&&◌, not, ◌==◌, nat_lt, option_and_then, slice_set, slice_index_or}
+use Rattle.std.specs.Option.{option_or, option_map_or}
+use Rattle.std.specs.List.{range_with_len}
+use Rattle.std.proofs.lemmas.Bool.{cond_both, cases_Bool, cases_eq, cases_lt, ltb-false, lt-ltb, le-ltb, eq-eqb, ne_eqb, and_parts}
+use Rattle.std.proofs.lemmas.List.{get_or-set_same, get_or-set_other, length-set, length-append}
+use Rattle.std.proofs.Math.ListN.{get_or-eq_default}
+use Rattle.connect_codec.specs.declared.answer.Outcome.{Outcome}
+use Rattle.connect_codec.specs.declared.answer.Outcome.TheVariants.{Answer, Fail}
+use Rattle.error_document.specs.declared.document.RpcError.{RpcError}
+use Rattle.gateway_model.specs.declared.id.CallId.{CallId}
+use Rattle.gateway_model.specs.Arrival.{Judged, Asks}
+use Rattle.gateway_model.specs.Job.{job_of}
+use Rattle.gateway_theory.specs.Task.{task_of}
+use Rattle.gateway_model.specs.Occurrence.{Occurrence, Opening, Comes, HangUp, Moment, Result, Drain, Closing, Coming, Request, Refused}
+use Rattle.gateway_model.specs.declared.call_event.CallEvent.{CallEvent}
+use Rattle.gateway_model.specs.declared.call_event.CallEvent.TheVariants.{Answer as Answered, Failed, Expired, HungUp, Drained}
+use Rattle.gateway_model.specs.Past.{Mark, Past, ArrivedCall, call, arrivals, coming_now, asked_now, asked_by, began, answers, started, is_out, is_result_of, is_answer_to, is_call, is_closed, closing_occurs, event_by, own_event, ends_at_arrival, decides, decided, can_be_decided, is_due, now, counts, mark_of, of_branch}
+use Rattle.gateway_model.specs.declared.entry.ReplyEntry.TheVariants.{Call as Calling}
+use Rattle.gateway_model.specs.Queue.{came, own_events, record_of, entry_by, entry, call_entry}
+use Rattle.gateway_model.specs.Starts.{jobs_started, branches_started}
+use Rattle.gateway_theory.specs.lemmas.LimitLemmas.{out_started, same_call}
+use Rattle.gateway_theory.specs.lemmas.Unborn.{unborn}
+use Rattle.gateway_theory.specs.lemmas.Cases.{and_true, and_false, or_none}
+use Rattle.gateway_theory.specs.Step.{Live, call_state, kept, ended, ended_by, ended_live, ending, entry_with, first_of, rest_of, next_out, is_last_answer, counted, result_on, step, moment_after}
+use Rattle.gateway_theory.specs.LiveStands.{is_live, tasks_from, LiveStands, MayLive, CallStands, Stepped}
+use Rattle.gateway_theory.specs.lemmas.Frame.{Past_it, unasked, call_same, began_same, came_same, answers_same, started_same, decided_same, own_same, own_before, shut_decided, shut_stays, not_started, out_after, out_same, none_start, entry_same}
+
+-- ---- what came for a call
+
+came_by : (id : CallId) (m : Mark) (past : Past) (a : ArrivedCall) (x : Option Coming) (crowded : Bool) → coming_now id m past ≡ x → m.crowded ≡ crowded
+    → (if crowded then None else option_and_then (asked_by (now past)) x) ≡ Some a → came id past ≡ None
+    → (t : Option ℕ) × (came id (m ∷ past) ≡ Some (Request a.request (Asks a.plan t a.request_id), false))
+came_by id m past a x true x_is c_is e none = absurd (cc)
+came_by id m past a None false x_is c_is e none = absurd (cc)
+came_by id m past a (Some (Refused r)) false x_is c_is e none = absurd (cc)
+came_by id m past a (Some (Request q (Judged v))) false x_is c_is e none = absurd (cc)
+came_by id m past a (Some (Request q (Asks plan t rid))) false x_is c_is e none =
+    (t, rw (none, x_is, c_is) (ap (λ (o : Option ArrivedCall). option_map_or (λ (b : ArrivedCall). Some (Request b.request (Asks b.plan t b.request_id), false)) o None) e))
+
+pub entering_at : (id : CallId) (m : Mark) (past : Past) (a : ArrivedCall) → asked_now id m past ≡ Some a → arrivals id.conn past ≡ id.request
+entering_at id m past a e =
+    ⊎_elim (λ (here : arrivals id.conn past ≡ id.request). here)
+    (λ (ne : arrivals id.conn past ≡ id.request → ⊥). absurd (no_call m.crowded (rw (ne_eqb (arrivals id.conn past) id.request ne) at e)))
+    (cases_eq (arrivals id.conn past) id.request)
+  where
+    no_call : (crowded : Bool) → (if crowded then None else option_and_then (asked_by (now past)) None) ≡ Some a → ⊥
+    no_call true h = cc
+    no_call false h = cc
+
+-- a call came as the request that asks for it
+pub called_came : (id : CallId) (past : Past) (a : ArrivedCall) → call id past ≡ Some a → (t : Option ℕ) × (came id past ≡ Some (Request a.request (Asks a.plan t a.request_id), false))
+called_came id [] a e = absurd (cc)
+called_came id (m ∷ past) a e = by_call (call id past) refl (called_came id past a)
+  where
+    by_call : (c : Option ArrivedCall) → call id past ≡ c → (call id past ≡ Some a → (t : Option ℕ) × (came id past ≡ Some (Request a.request (Asks a.plan t a.request_id), false)))
+        → (t : Option ℕ) × (came id (m ∷ past) ≡ Some (Request a.request (Asks a.plan t a.request_id), false))
+    by_call (Some b) c_is before =
+        let same : Some b ≡ Some a = rw c_is at e in
+        let b = before (c_is ∙ same) in
+        (b.0, rw b.1 refl)
+    by_call None c_is before =
+        let asks : asked_now id m past ≡ Some a = rw c_is at e in
+        let here : arrivals id.conn past ≡ id.request = entering_at id m past a asks in
+        came_by id m past a (coming_now id m past) m.crowded refl refl asks (unborn id past (omega (arith, here))).not_came
+
+-- ---- an event that decides a call
+
+decided_then : (id : CallId) (l : Live) (out : List Bool) (m : Mark) (past : Past) (e : CallEvent) → LiveStands id l out past
+    → own_event id m past ≡ Some e → decides (answers id past) (length l.asked.plan.branches) e ≡ true → decided id (m ∷ past) ≡ Some e
+decided_then id l out m past e h own ends = rw (h.undecided, own, h.call_is, ends) refl
+
+own_then : (id : CallId) (l : Live) (out : List Bool) (m : Mark) (past : Past) (e : CallEvent) → LiveStands id l out past
+    → own_event id m past ≡ Some e → own_events id (m ∷ past) ≡ l.events ++ e ∷ []
+own_then id l out m past e h own = rw (h.undecided, own, ← h.events_are) refl
+
+entry_before : (id : CallId) (l : Live) (out : List Bool) (past : Past) → LiveStands id l out past → entry id past ≡ None
+entry_before id l out past h = let c = called_came id past l.asked h.call_is in rw (c.1, h.undecided) refl
+
+pub call_entry_is : (id : CallId) (past : Past) (a : ArrivedCall) (es : List CallEvent) (e : CallEvent) → decided id past ≡ Some e → call id past ≡ Some a
+    → own_events id past ≡ es → call_entry id past ≡ Some (Calling (record_of a es))
+call_entry_is id past a es e dec call_is own = rw (dec, call_is, own) refl
+
+entry_then : (id : CallId) (l : Live) (out : List Bool) (m : Mark) (past : Past) (e : CallEvent) → LiveStands id l out past → Past_it id m past
+    → own_event id m past ≡ Some e → decided id (m ∷ past) ≡ Some e → entry id (m ∷ past) ≡ Some (entry_with e l)
+entry_then id l out m past e h none own dec =
+    let c = called_came id past l.asked h.call_is in
+    ap (λ o. option_and_then (entry_by id (m ∷ past)) o) (came_same id m past none ∙ c.1)
+    ∙ call_entry_is id (m ∷ past) l.asked (l.events ++ e ∷ []) e dec (call_same id m past none ∙ h.call_is) (own_then id l out m past e h own)
+
+-- a decided call can't be decided any more
+pub decided_shut : (id : CallId) (past : Past) (e : CallEvent) → decided id past ≡ Some e → is_live id past ≡ false
+decided_shut id past e dec = rw dec (and_false (is_some (call id past)))
+
+ended_replies : (id : CallId) (l : Live) (out : List Bool) (m : Mark) (past : Past) (e : CallEvent) → LiveStands id l out past → Past_it id m past
+    → own_event id m past ≡ Some e → decided id (m ∷ past) ≡ Some e → option_or (entry id past) (Some (entry_with e l)) ≡ entry id (m ∷ past)
+ended_replies id l out m past e h none own dec =
+    rw (entry_before id l out past h) (sym (entry_then id l out m past e h none own dec))
+
+ended_stepped : (id : CallId) (l : Live) (out after : List Bool) (m : Mark) (past : Past) (e : CallEvent) → LiveStands id l out past → Past_it id m past
+    → own_event id m past ≡ Some e → decides (answers id past) (length l.asked.plan.branches) e ≡ true → started id (m ∷ past) ≡ started id past
+    → ((i : ℕ) → slice_index_or after i false ≡ is_out id i (m ∷ past)) → Stepped id (ended e l after) m past
+ended_stepped id l out after m past e h none own ends same outs =
+    let dec : decided id (m ∷ past) ≡ Some e = decided_then id l out m past e h own ends in
+    record {
+      stands = record { out_is = outs; live_is = decided_shut id (m ∷ past) e dec };
+      replies = ended_replies id l out m past e h none own dec;
+      starts = sym (none_start id m past same);
+    }
+
+-- ---- an occurrence that is no event of a call
+
+same_replies : (id : CallId) (m : Mark) (past : Past) → Past_it id m past → decided id (m ∷ past) ≡ decided id past
+    → option_or (entry id past) None ≡ entry id (m ∷ past)
+same_replies id m past none same = or_none (entry id past) ∙ sym (entry_same id m past none same)
+
+shut_stepped : (id : CallId) (out : List Bool) (m : Mark) (past : Past) → is_live id past ≡ false → Past_it id m past
+    → (m.counted && is_answer_to id m.what) ≡ false
+    → ((i : ℕ) → slice_index_or out i false ≡ is_out id i (m ∷ past)) → Stepped id (kept (call_state out None)) m past
+shut_stepped id out m past shut none no_answer outs = record {
+  stands = record { out_is = outs; live_is = shut_stays id m past none shut };
+  replies = same_replies id m past none (shut_decided id m past none shut);
+  starts = sym (none_start id m past (started_same id m past none no_answer));
+}
+
+live_kept : (id : CallId) (l : Live) (out after : List Bool) (m : Mark) (past : Past) → LiveStands id l out past → Past_it id m past
+    → (m.counted && is_answer_to id m.what) ≡ false → own_event id m past ≡ None → is_closed id.conn (m ∷ past) ≡ false → length after ≡ length out
+    → LiveStands id l after (m ∷ past)
+live_kept id l out after m past h none no_answer own unshut size = record {
+  call_is = call_same id m past none ∙ h.call_is;
+  began_is = began_same id m past none ∙ h.began_is;
+  undecided = decided_same id m past own ∙ h.undecided;
+  unclosed = unshut;
+  size_is = size ∙ h.size_is;
+  events_are = h.events_are ∙ sym (own_same id m past own);
+  answers_are = h.answers_are ∙ sym (answers_same id m past no_answer);
+  waiting_are = h.waiting_are ∙ ap (λ k. tasks_from k id l.asked) (sym (started_same id m past none no_answer));
+}
+
+live_stepped : (id : CallId) (l : Live) (out : List Bool) (m : Mark) (past : Past) → LiveStands id l out past → Past_it id m past
+    → (m.counted && is_answer_to id m.what) ≡ false → own_event id m past ≡ None → is_closed id.conn (m ∷ past) ≡ false
+    → ((i : ℕ) → slice_index_or out i false ≡ is_out id i (m ∷ past))
+    → Stepped id (kept (call_state out (Some l))) m past
+live_stepped id l out m past h none no_answer own unshut outs = record {
+  stands = record { out_is = outs; live_is = live_kept id l out out m past h none no_answer own unshut refl };
+  replies = same_replies id m past none (decided_same id m past own);
+  starts = sym (none_start id m past (started_same id m past none no_answer));
+}
+
+-- ---- the kinds of occurrence
+
+-- a moment, a hang-up, the drain, an opening, or what comes on a stream
+unresulted : (id : CallId) (o : Occurrence) (out : List Bool) (live : Option Live) (past : Past) → ((i : ℕ) → is_result_of id i o ≡ false)
+    → (counts o past && is_answer_to id o) ≡ false → closing_occurs id.conn o ≡ false
+    → ((l : Live) → event_by id l.asked o (counts o past) past ≡ ending (now past) id o l.asked)
+    → ((l : Live) (e : CallEvent) → ending (now past) id o l.asked ≡ Some e → decides (answers id past) (length l.asked.plan.branches) e ≡ true)
+    → Past_it id (mark_of past o) past → CallStands id (call_state out live) past
+    → Stepped id (ended_live (now past) id o out live) (mark_of past o) past
+unresulted id o out None past no_result no_answer no_closing events ends none h =
+    let m : Mark = mark_of past o in
+    shut_stepped id out m past h.live_is none no_answer
+    (λ i. h.out_is i ∙ sym (out_same id i m past (started_same id m past none no_answer) (no_result i)))
+unresulted id o out (Some l) past no_result no_answer no_closing events ends none h = by_ending (ending (now past) id o l.asked) refl
+  where
+    by_ending : (x : Option CallEvent) → ending (now past) id o l.asked ≡ x → Stepped id (ended_by x l out) (mark_of past o) past
+    by_ending None x_is =
+        let m : Mark = mark_of past o in
+        let s : LiveStands id l out past = h.live_is in
+        live_stepped id l out m past s none no_answer
+        (own_before id m past none s.unclosed ∙ rw s.call_is (events l ∙ x_is))
+        (rw (no_closing, s.unclosed) refl)
+        (λ i. h.out_is i ∙ sym (out_same id i m past (started_same id m past none no_answer) (no_result i)))
+    by_ending (Some e) x_is =
+        let m : Mark = mark_of past o in
+        let s : LiveStands id l out past = h.live_is in
+        let same = started_same id m past none no_answer in
+        ended_stepped id l out out m past e s none
+        (own_before id m past none s.unclosed ∙ rw s.call_is (events l ∙ x_is))
+        (ends l e x_is) same
+        (λ i. h.out_is i ∙ sym (out_same id i m past same (no_result i)))
+
+-- a connection is closed
+closing : (id : CallId) (conn : ℕ) (out : List Bool) (live : Option Live) (past : Past) → Past_it id (mark_of past (Closing conn)) past
+    → CallStands id (call_state out live) past
+    → Stepped id (step (now past) id (Closing conn) (call_state out live)) (mark_of past (Closing conn)) past
+closing id conn out live past none h = by_own (conn == id.conn) refl live h.live_is
+  where
+    m : Mark
+    m = mark_of past (Closing conn)
+
+    same : started id (m ∷ past) ≡ started id past
+    same = started_same id m past none refl
+
+    outs : (i : ℕ) → slice_index_or out i false ≡ is_out id i (m ∷ past)
+    outs i = h.out_is i ∙ sym (out_same id i m past same refl)
+
+    no_event : own_event id m past ≡ None
+    no_event = cond_both (is_closed id.conn past) None
+        (option_map_or (λ c. event_by id c m.what m.counted past) (call id past) (option_and_then (ends_at_arrival past) (asked_now id m past))) (λ o. o ≡ None)
+        (λ _. refl) (λ _. rw (unasked id m past none) (no_event_by (call id past)))
+      where
+        no_event_by : (o : Option ArrivedCall) → option_map_or (λ c. event_by id c (Closing conn) false past) o None ≡ None
+        no_event_by None = refl
+        no_event_by (Some c) = refl
+
+    by_own : (b : Bool) → (conn == id.conn) ≡ b → (live : Option Live) → MayLive id live out past
+        → Stepped id (if b then kept (call_state out None) else kept (call_state out live)) m past
+    by_own true b_is live l = record {
+      stands = record { out_is = outs; live_is = rw b_is (closed_shut (is_some (call id (m ∷ past))) (is_none (decided id (m ∷ past)))) };
+      replies = same_replies id m past none (decided_same id m past no_event);
+      starts = sym (none_start id m past same);
+    }
+      where
+        closed_shut : (a b : Bool) → (a && (b && false)) ≡ false
+        closed_shut true true = refl
+        closed_shut true false = refl
+        closed_shut false b = refl
+    by_own false b_is None l = shut_stepped id out m past l none refl outs
+    by_own false b_is (Some s) l = live_stepped id s out m past l none refl no_event (rw (b_is, l.unclosed) refl) outs
+
+-- ---- results
+
+pub back_out : (out : List Bool) (i k : ℕ) → slice_index_or (slice_set out i false) k false ≡ (slice_index_or out k false && not (i == k))
+back_out out i k =
+    ⊎_elim (λ (same : k ≡ i).
+    ⊎_elim (λ (lt : i < length out). rw (same, eq-eqb i i refl, get_or-set_same out i false false lt) (sym (and_false (slice_index_or out i false))))
+    (λ (le : length out ≤ i).
+    rw (same, eq-eqb i i refl, get_or-eq_default (slice_set out i false) false {n = i} (omega (arith, le, length-set out i false))) (sym (and_false (slice_index_or out i false))))
+    (cases_lt i (length out)))
+    (λ (other : k ≡ i → ⊥).
+    rw (ne_eqb i k (λ e. other (sym e))) (get_or-set_other out i k false false other ∙ sym (and_true (slice_index_or out k false))))
+    (cases_eq k i)
+
+abbrev comes_back : CallId → ℕ → Outcome → Past → Mark
+comes_back id i outcome past = mark_of past (Result id i outcome)
+
+result_of_it : (id : CallId) (i k : ℕ) (outcome : Outcome) → is_result_of id k (Result id i outcome) ≡ (i == k)
+result_of_it id i k outcome = rw (eq-eqb id.conn id.conn refl, eq-eqb id.request id.request refl) refl
+
+-- the branch is back where no more start
+outs_back : (id : CallId) (i : ℕ) (outcome : Outcome) (out : List Bool) (past : Past) → ((k : ℕ) → slice_index_or out k false ≡ is_out id k past)
+    → started id (comes_back id i outcome past ∷ past) ≡ started id past
+    → (k : ℕ) → slice_index_or (slice_set out i false) k false ≡ is_out id k (comes_back id i outcome past ∷ past)
+outs_back id i outcome out past out_is same k =
+    back_out out i k ∙ ap (λ b. b && not (i == k)) (out_is k) ∙ ap (λ b. is_out id k past && not b) (sym (result_of_it id i k outcome))
+    ∙ sym (out_after id k (comes_back id i outcome past) past same)
+
+-- where no call is there nothing is out
+uncalled_out : (id : CallId) (i : ℕ) (past : Past) → call id past ≡ None → is_out id i past ≡ true → ⊥
+uncalled_out id i past none out =
+    let zero_started : started id past ≡ 0 = rw none (cond_both (began id past) 0 0 (λ n. n ≡ 0) (λ _. refl) (λ _. refl)) in
+    let lt : i < started id past = out_started id i past out in
+    omega (arith, lt, zero_started)
+
+pub shut_open : (id : CallId) (i : ℕ) (past : Past) → is_live id past ≡ false → is_out id i past ≡ true → can_be_decided id past ≡ false
+shut_open id i past shut out = by_call (call id past) refl
+  where
+    by_call : (c : Option ArrivedCall) → call id past ≡ c → can_be_decided id past ≡ false
+    by_call None c_is = absurd (uncalled_out id i past c_is out)
+    by_call (Some a) c_is = rw c_is at shut
+
+no_answer_by : (id : CallId) (i : ℕ) (outcome : Outcome) (counted : Bool) → counted ≡ false → (counted && is_answer_to id (Result id i outcome)) ≡ false
+no_answer_by id i outcome counted e = rw e refl
+
+-- a late result
+late : (id : CallId) (i : ℕ) (outcome : Outcome) (out : List Bool) (past : Past) → is_live id past ≡ false → Past_it id (comes_back id i outcome past) past
+    → ((k : ℕ) → slice_index_or out k false ≡ is_out id k past) → is_out id i past ≡ true
+    → Stepped id (kept (call_state (slice_set out i false) None)) (comes_back id i outcome past) past
+late id i outcome out past shut none out_is out_i =
+    let m : Mark = comes_back id i outcome past in
+    let uncounted : counts (Result id i outcome) past ≡ false = rw (shut_open id i past shut out_i) (and_false (is_out id i past)) in
+    let no_answer : (m.counted && is_answer_to id m.what) ≡ false = no_answer_by id i outcome m.counted uncounted in
+    shut_stepped id (slice_set out i false) m past shut none no_answer (outs_back id i outcome out past out_is (started_same id m past none no_answer))
+
+counts_yes : (id : CallId) (i : ℕ) (outcome : Outcome) (l : Live) (out : List Bool) (past : Past) → LiveStands id l out past → is_out id i past ≡ true
+    → counts (Result id i outcome) past ≡ true
+counts_yes id i outcome l out past h out_i = rw (out_i, h.undecided, h.unclosed) refl
+
+event_by_it : (id : CallId) (i : ℕ) (outcome : Outcome) (a : ArrivedCall) (past : Past) (counted : Bool) → counted ≡ true
+    → event_by id a (Result id i outcome) counted past ≡ Some (of_branch i outcome)
+event_by_it id i outcome a past counted yes_counted = rw (yes_counted, eq-eqb id.conn id.conn refl, eq-eqb id.request id.request refl) refl
+
+event_is : (id : CallId) (i : ℕ) (outcome : Outcome) (l : Live) (out : List Bool) (past : Past) → LiveStands id l out past → is_out id i past ≡ true
+    → Past_it id (comes_back id i outcome past) past → own_event id (comes_back id i outcome past) past ≡ Some (of_branch i outcome)
+event_is id i outcome l out past h out_i none =
+    let m : Mark = comes_back id i outcome past in
+    own_before id m past none h.unclosed ∙ ap (λ o. option_map_or (λ c. event_by id c m.what m.counted past) o None) h.call_is
+    ∙ event_by_it id i outcome l.asked past m.counted (counts_yes id i outcome l out past h out_i)
+
+-- a failure that counts
+failed : (id : CallId) (i : ℕ) (error : RpcError) (l : Live) (out : List Bool) (past : Past) → LiveStands id l out past → Past_it id (comes_back id i (Fail error) past) past
+    → ((k : ℕ) → slice_index_or out k false ≡ is_out id k past) → is_out id i past ≡ true
+    → Stepped id (ended (Failed i error) l (slice_set out i false)) (comes_back id i (Fail error) past) past
+failed id i error l out past h none out_is out_i =
+    let m : Mark = comes_back id i (Fail error) past in
+    let same : started id (m ∷ past) ≡ started id past = started_same id m past none (and_false m.counted) in
+    ended_stepped id l out (slice_set out i false) m past (Failed i error) h none (event_is id i (Fail error) l out past h out_i none) refl same
+    (outs_back id i (Fail error) out past out_is same)
+
+-- ---- an answer that counts
+
+-- either all branches have started, or the next one starts
+pub record AllStarted (id : CallId) (l : Live) (m : Mark) (past : Past) : Type 0 where
+  pub none_waits : l.waiting ≡ []
+  pub same : started id (m ∷ past) ≡ started id past
+  pub all : started id past ≡ length l.asked.plan.branches
+
+pub record NextStarts (id : CallId) (l : Live) (m : Mark) (past : Past) : Type 0 where
+  pub first_waits : l.waiting ≡ task_of id l.asked (started id past) ∷ tasks_from (started id past + 1) id l.asked
+  pub one_more : started id (m ∷ past) ≡ started id past + 1
+  pub within : started id past < length l.asked.plan.branches
+
+pub tasks_none : (k : ℕ) (id : CallId) (a : ArrivedCall) → k ≡ length a.plan.branches → tasks_from k id a ≡ []
+tasks_none k id a e =
+    let none : length a.plan.branches - k ≡ 0 = omega (arith, e) in
+    ap (λ n. map (task_of id a) (range_with_len k n)) none
+
+pub tasks_next : (k : ℕ) (id : CallId) (a : ArrivedCall) → k < length a.plan.branches → tasks_from k id a ≡ task_of id a k ∷ tasks_from (k + 1) id a
+tasks_next k id a lt =
+    let some : length a.plan.branches - k ≡ suc (length a.plan.branches - (k + 1)) = omega (arith, lt) in
+    ap (λ n. map (task_of id a) (range_with_len k n)) some
+
+answer_counts : (id : CallId) (i : ℕ) (body : List ℕ) (l : Live) (out : List Bool) (past : Past) → LiveStands id l out past → is_out id i past ≡ true
+    → answers id (comes_back id i (Answer body) past ∷ past) ≡ suc (answers id past)
+answer_counts id i body l out past h out_i =
+    rw (out_i, h.undecided, h.unclosed, eq-eqb id.conn id.conn refl, eq-eqb id.request id.request refl) refl
+
+pub started_live : (id : CallId) (a : ArrivedCall) (past : Past) → call id past ≡ Some a → began id past ≡ true → started id past ≡ min (length a.plan.branches) (a.plan.limit + answers id past)
+started_live id a past call_is began_is = rw (began_is, call_is) refl
+
+next_case : (id : CallId) (i : ℕ) (body : List ℕ) (l : Live) (out : List Bool) (past : Past) → LiveStands id l out past → is_out id i past ≡ true
+    → Past_it id (comes_back id i (Answer body) past) past
+    → AllStarted id l (comes_back id i (Answer body) past) past ⊎ NextStarts id l (comes_back id i (Answer body) past) past
+next_case id i body l out past h out_i none =
+    let m : Mark = comes_back id i (Answer body) past in
+    let n : ℕ = length l.asked.plan.branches in
+    let was : started id past ≡ min n (l.asked.plan.limit + answers id past) = started_live id l.asked past h.call_is h.began_is in
+    let is : started id (m ∷ past) ≡ min n (l.asked.plan.limit + suc (answers id past)) =
+    started_live id l.asked (m ∷ past) (call_same id m past none ∙ h.call_is) (began_same id m past none ∙ h.began_is)
+    ∙ ap (λ k. min n (l.asked.plan.limit + k)) (answer_counts id i body l out past h out_i) in
+    ⊎_elim (λ (lt : started id past < n).
+    inr (record { first_waits = h.waiting_are ∙ tasks_next (started id past) id l.asked lt; one_more = omega (arith, was, is, lt); within = lt }))
+    (λ (ge : n ≤ started id past).
+    let all : started id past ≡ n = omega (arith, ge, was) in
+    inl (record { none_waits = h.waiting_are ∙ tasks_none (started id past) id l.asked all; same = omega (arith, was, is, all); all = all }))
+    (cases_lt (started id past) n)
+
+-- what an answer that counts leaves of the branches and of the jobs
+pub record GoesOn (id : CallId) (i : ℕ) (l : Live) (out : List Bool) (m : Mark) (past : Past) : Type 0 where
+  pub outs : (k : ℕ) → slice_index_or (next_out l.waiting (slice_set out i false)) k false ≡ is_out id k (m ∷ past)
+  pub size : length (next_out l.waiting (slice_set out i false)) ≡ length out
+  pub starts : first_of (now past) l.waiting ≡ jobs_started id m past
+  pub waiting : rest_of l.waiting ≡ tasks_from (started id (m ∷ past)) id l.asked
+
+-- which branches are out where one more starts
+out_more : (id : CallId) (k : ℕ) (m : Mark) (past : Past) → started id (m ∷ past) ≡ started id past + 1 → (k ≡ started id past → ⊥)
+    → is_out id k (m ∷ past) ≡ (is_out id k past && not (is_result_of id k m.what))
+out_more id k m past one ne =
+    ⊎_elim (λ (lt : nat_lt k (started id past) ≡ true). rw lt refl)
+    (λ (ge : nat_lt k (started id past) ≡ false).
+    let shut : is_out id k past ≡ false = not_started id k past ge in
+    let above : nat_lt k (started id past + 1) ≡ false = le-ltb k (started id past + 1) (omega (arith, ltb-false k (started id past) ge, ne)) in
+    rw (ge, one, above, shut) refl)
+    (cases_Bool (nat_lt k (started id past)))
+
+out_next : (id : CallId) (m : Mark) (past : Past) → started id (m ∷ past) ≡ started id past + 1 → is_out id (started id past) (m ∷ past) ≡ true
+out_next id m past one =
+    rw (le-ltb (started id past) (started id past) (omega arith), one) (lt-ltb (started id past) (started id past + 1) (omega arith))
+
+goes_on : (id : CallId) (i : ℕ) (body : List ℕ) (l : Live) (out : List Bool) (past : Past) → LiveStands id l out past → is_out id i past ≡ true
+    → Past_it id (comes_back id i (Answer body) past) past → ((k : ℕ) → slice_index_or out k false ≡ is_out id k past)
+    → GoesOn id i l out (comes_back id i (Answer body) past) past
+goes_on id i body l out past h out_i none out_is =
+    ⊎_elim (λ (a : AllStarted id l m past). record {
+      outs = λ k. rw a.none_waits (outs_back id i (Answer body) out past out_is a.same k);
+      size = rw a.none_waits (length-set out i false);
+      starts = rw a.none_waits (sym (none_start id m past a.same));
+      waiting = rw (a.none_waits, a.same) (sym (tasks_none (started id past) id l.asked a.all));
+    })
+    (λ (s : NextStarts id l m past). record {
+      outs = λ k. rw s.first_waits (⊎_elim (λ (here : k ≡ started id past).
+          subst (λ j. slice_index_or (slice_set (slice_set out i false) (started id past) true) j false ≡ is_out id j (m ∷ past)) (sym here)
+          (get_or-set_same (slice_set out i false) (started id past) true false (omega (arith, s.within, h.size_is, length-set out i false))
+          ∙ sym (out_next id m past s.one_more)))
+          (λ (ne : k ≡ started id past → ⊥).
+          get_or-set_other (slice_set out i false) (started id past) k true false ne
+          ∙ back_out out i k ∙ ap (λ b. b && not (i == k)) (out_is k) ∙ ap (λ b. is_out id k past && not b) (sym (result_of_it id i k (Answer body)))
+          ∙ sym (out_more id k m past s.one_more ne))
+          (cases_eq k (started id past)));
+      size = rw s.first_waits (length-set (slice_set out i false) (started id past) true ∙ length-set out i false);
+      starts = rw s.first_waits (one_starts s);
+      waiting = rw (s.first_waits, s.one_more) refl;
+    })
+    (next_case id i body l out past h out_i none)
+  where
+    m : Mark
+    m = comes_back id i (Answer body) past
+
+    one_starts : NextStarts id l m past → job_of id (started id past) l.asked (now past) ∷ [] ≡ jobs_started id m past
+    one_starts s =
+        let one : started id (m ∷ past) - started id past ≡ 1 = omega (arith, s.one_more) in
+        sym (ap (λ o. option_map_or (λ (c : ArrivedCall). map (λ j. job_of id j c (now past)) (branches_started id m past)) o []) (call_same id m past none ∙ h.call_is)
+        ∙ ap (λ n. map (λ j. job_of id j l.asked (now past)) (range_with_len (started id past) n)) one)
+
+undecided_then : (id : CallId) (l : Live) (out : List Bool) (m : Mark) (past : Past) (e : CallEvent) → LiveStands id l out past
+    → own_event id m past ≡ Some e → decides (answers id past) (length l.asked.plan.branches) e ≡ false → decided id (m ∷ past) ≡ None
+undecided_then id l out m past e h own ends = rw (h.undecided, own, h.call_is, ends) refl
+
+answered : (id : CallId) (i : ℕ) (body : List ℕ) (l : Live) (out : List Bool) (past : Past) → LiveStands id l out past → Past_it id (comes_back id i (Answer body) past) past
+    → ((k : ℕ) → slice_index_or out k false ≡ is_out id k past) → is_out id i past ≡ true
+    → Stepped id (counted (now past) i (Answer body) l (slice_set out i false)) (comes_back id i (Answer body) past) past
+answered id i body l out past h none out_is out_i = by_last (is_last_answer l) refl
+  where
+    m : Mark
+    m = comes_back id i (Answer body) past
+
+    g : GoesOn id i l out m past
+    g = goes_on id i body l out past h out_i none out_is
+
+    own : own_event id m past ≡ Some (Answered i body)
+    own = event_is id i (Answer body) l out past h out_i none
+
+    ends : (b : Bool) → is_last_answer l ≡ b → decides (answers id past) (length l.asked.plan.branches) (Answered i body) ≡ b
+    ends b e = rw (← h.answers_are) e
+
+    by_last : (b : Bool) → is_last_answer l ≡ b
+        → Stepped id (counted (now past) i (Answer body) l (slice_set out i false)) m past
+    by_last true b_is =
+        let dec : decided id (m ∷ past) ≡ Some (Answered i body) = decided_then id l out m past (Answered i body) h own (ends true b_is) in
+        rw b_is (record {
+          stands = record { out_is = g.outs; live_is = decided_shut id (m ∷ past) (Answered i body) dec };
+          replies = ended_replies id l out m past (Answered i body) h none own dec;
+          starts = g.starts;
+        })
+    by_last false b_is =
+        let undec : decided id (m ∷ past) ≡ None = undecided_then id l out m past (Answered i body) h own (ends false b_is) in
+        rw b_is (record {
+          stands = record {
+            out_is = g.outs;
+            live_is = record {
+              call_is = call_same id m past none ∙ h.call_is;
+              began_is = began_same id m past none ∙ h.began_is;
+              undecided = undec;
+              unclosed = h.unclosed;
+              size_is = g.size ∙ h.size_is;
+              events_are = sym (own_then id l out m past (Answered i body) h own);
+              answers_are = length-append l.events (Answered i body ∷ []) ∙ omega (arith, h.answers_are) ∙ sym (answer_counts id i body l out past h out_i);
+              waiting_are = g.waiting;
+            };
+          };
+          replies = same_replies id m past none (undec ∙ sym h.undecided);
+          starts = g.starts;
+        })
+
+-- a result of a branch that is out
+result_out : (id : CallId) (i : ℕ) (outcome : Outcome) (out : List Bool) (live : Option Live) (past : Past) → Past_it id (comes_back id i outcome past) past
+    → CallStands id (call_state out live) past → is_out id i past ≡ true
+    → Stepped id (result_on (now past) i outcome (slice_set out i false) live) (comes_back id i outcome past) past
+result_out id i outcome out None past none h out_i = late id i outcome out past h.live_is none h.out_is out_i
+result_out id i (Answer body) out (Some l) past none h out_i = answered id i body l out past h.live_is none h.out_is out_i
+result_out id i (Fail error) out (Some l) past none h out_i = failed id i error l out past h.live_is none h.out_is out_i
+
+-- a result of a branch that is not out, or of another call
+result_apart : (id of : CallId) (i : ℕ) (outcome : Outcome) (out : List Bool) (live : Option Live) (past : Past) → Past_it id (comes_back of i outcome past) past
+    → CallStands id (call_state out live) past → (is_call of id && slice_index_or out i false) ≡ false
+    → Stepped id (kept (call_state out live)) (comes_back of i outcome past) past
+result_apart id of i outcome out live past none h apart = by_live live h.live_is
+  where
+    m : Mark
+    m = comes_back of i outcome past
+
+    out_apart : (is_call of id && is_out id i past) ≡ false
+    out_apart = rw (← h.out_is i) apart
+
+    uncounted : (counts (Result of i outcome) past && is_call of id) ≡ false
+    uncounted = ⊎_elim (λ (its : is_call of id ≡ true).
+        let same : of ≡ id = same_call of id its in
+        let shut : is_out id i past ≡ false = rw its at out_apart in
+        rw (its, same, shut) refl)
+        (λ (other : is_call of id ≡ false). rw other (and_false (counts (Result of i outcome) past)))
+        (cases_Bool (is_call of id))
+
+    no_answer : (m.counted && is_answer_to id m.what) ≡ false
+    no_answer = by_outcome outcome (counts (Result of i outcome) past) uncounted
+      where
+        by_outcome : (o : Outcome) (counted : Bool) → (counted && is_call of id) ≡ false → (counted && is_answer_to id (Result of i o)) ≡ false
+        by_outcome (Answer body) counted e = e
+        by_outcome (Fail error) counted e = and_false counted
+
+    same : started id (m ∷ past) ≡ started id past
+    same = started_same id m past none no_answer
+
+    outs : (k : ℕ) → slice_index_or out k false ≡ is_out id k (m ∷ past)
+    outs k = h.out_is k ∙ sym (out_after id k m past same ∙ ⊎_elim
+        (λ (here : i ≡ k). by_call (is_call of id) refl here)
+        (λ (ne : i ≡ k → ⊥). rw (ne_eqb i k ne, and_false (is_call of id)) (and_true (is_out id k past)))
+        (cases_eq i k))
+      where
+        by_call : (b : Bool) → is_call of id ≡ b → i ≡ k → (is_out id k past && not (is_result_of id k m.what)) ≡ is_out id k past
+        by_call true b_is here =
+            let shut : is_out id k past ≡ false = subst (λ j. is_out id j past ≡ false) here (rw b_is at out_apart) in
+            rw shut refl
+        by_call false b_is here = rw b_is (and_true (is_out id k past))
+
+    by_live : (live : Option Live) → MayLive id live out past → Stepped id (kept (call_state out live)) m past
+    by_live None l = shut_stepped id out m past l none no_answer outs
+    by_live (Some s) l =
+        live_stepped id s out m past l none no_answer
+        (own_before id m past none l.unclosed ∙ rw (l.call_is, uncounted) refl)
+        (rw l.unclosed refl) outs
+
+resulted : (id of : CallId) (i : ℕ) (outcome : Outcome) (out : List Bool) (live : Option Live) (past : Past) → Past_it id (comes_back of i outcome past) past
+    → CallStands id (call_state out live) past
+    → Stepped id (step (now past) id (Result of i outcome) (call_state out live)) (comes_back of i outcome past) past
+resulted id of i outcome out live past none h = by_own (is_call of id && slice_index_or out i false) refl
+  where
+    by_own : (b : Bool) → (is_call of id && slice_index_or out i false) ≡ b
+        → Stepped id (if b then result_on (now past) i outcome (slice_set out i false) live else kept (call_state out live)) (comes_back of i outcome past) past
+    by_own true b_is =
+        let p = and_parts (is_call of id) (slice_index_or out i false) b_is in
+        let same : of ≡ id = same_call of id p.0 in
+        subst (λ x. Past_it id (comes_back x i outcome past) past → Stepped id (result_on (now past) i outcome (slice_set out i false) live) (comes_back x i outcome past) past)
+        (sym same) (λ n. result_out id i outcome out live past n h (sym (h.out_is i) ∙ p.1)) none
+    by_own false b_is = result_apart id of i outcome out live past none h b_is
+
+-- ---- each occurrence
+
+moment_ends : (id : CallId) (past : Past) (moment : ℕ) (d : Option ℕ) (e : CallEvent) (a n : ℕ)
+    → (if is_due moment d then Some (Expired moment) else None) ≡ Some e → decides a n e ≡ true
+moment_ends id past moment d (Expired t) a n h = refl
+moment_ends id past moment d HungUp a n h = refl
+moment_ends id past moment d Drained a n h = refl
+moment_ends id past moment d (Failed i error) a n h = refl
+moment_ends id past moment d (Answered i body) a n h = by_due (is_due moment d) h
+  where
+    by_due : (b : Bool) → (if b then Some (Expired moment) else None) ≡ Some (Answered i body) → decides a n (Answered i body) ≡ true
+    by_due true h = absurd (cc)
+    by_due false h = absurd (cc)
+
+hang_ends : (b : Bool) (e : CallEvent) (a n : ℕ) → (if b then Some HungUp else None) ≡ Some e → decides a n e ≡ true
+hang_ends true (Answered i body) a n h = absurd (cc)
+hang_ends false (Answered i body) a n h = absurd (cc)
+hang_ends b (Expired t) a n h = refl
+hang_ends b HungUp a n h = refl
+hang_ends b Drained a n h = refl
+hang_ends b (Failed i error) a n h = refl
+
+drain_ends : (e : CallEvent) (a n : ℕ) → Some Drained ≡ Some e → decides a n e ≡ true
+drain_ends (Answered i body) a n h = absurd (cc)
+drain_ends (Expired t) a n h = refl
+drain_ends HungUp a n h = refl
+drain_ends Drained a n h = refl
+drain_ends (Failed i error) a n h = refl
+
+pub stepped : (id : CallId) (o : Occurrence) (out : List Bool) (live : Option Live) (past : Past) → Past_it id (mark_of past o) past
+    → CallStands id (call_state out live) past → Stepped id (step (now past) id o (call_state out live)) (mark_of past o) past
+stepped id Opening out live past none h = unresulted id Opening out live past (λ i. refl) refl refl (λ l. refl) (λ l e x. absurd (cc)) none h
+stepped id (Comes conn x) out live past none h =
+    unresulted id (Comes conn x) out live past (λ i. refl) (and_false (counts (Comes conn x) past)) refl (λ l. refl) (λ l e x. absurd (cc)) none h
+stepped id (HangUp conn) out live past none h =
+    unresulted id (HangUp conn) out live past (λ i. refl) refl refl (λ l. refl) (λ l e x. hang_ends (conn == id.conn) e _ _ x) none h
+stepped id (Moment t) out live past none h =
+    unresulted id (Moment t) out live past (λ i. refl) refl refl (λ l. refl) (λ l e x. moment_ends id past (moment_after (now past) t) l.asked.deadline e _ _ x) none h
+stepped id (Result of i outcome) out live past none h = resulted id of i outcome out live past none h
+stepped id Drain out live past none h = unresulted id Drain out live past (λ i. refl) refl refl (λ l. refl) (λ l e x. drain_ends e _ _ x) none h
+stepped id (Closing conn) out live past none h = closing id conn out live past none h

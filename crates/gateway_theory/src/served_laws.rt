@@ -1,0 +1,96 @@
+//! What the gateway stands for after each event, by what a call makes of its value. The functions do nothing.
+ghost use Rattle.std.specs.Prelude.{◌≡◌, ℕ, List, ◌++◌, ◌∷◌, [], ◌≤◌, length, false, take, Ok, Err, Some, true};
+ghost use Rattle.gateway_model.specs.Occurrence.{Occurrence};
+ghost use Rattle.gateway_model.specs.declared.entry.ReplyEntry.{ReplyEntry};
+ghost use Rattle.gateway_theory.specs.declared.fault.StepFault.{StepFault};
+ghost use Rattle.gateway_model.specs.declared.id.CallId.{CallId};
+ghost use Rattle.gateway_model.specs.declared.event.Event.TheVariants.{Opening, Piece};
+ghost use Rattle.gateway_model.specs.Events.{Occurs, onto, succeeds};
+ghost use Rattle.gateway_model.specs.declared.event.Event.{Event};
+ghost use Rattle.gateway_theory.specs.Gateway.{GatewayValue, outs_of, shown, untaken_of};
+ghost use Rattle.gateway_model.specs.Job.{JobValue};
+ghost use Rattle.gateway_model.specs.Known.{IsKnown};
+ghost use Rattle.gateway_theory.specs.Conn.{ConnValue};
+ghost use Rattle.gateway_theory.specs.Breaking.{BrokeNow};
+ghost use Rattle.gateway_model.specs.Past.{ArrivedCall, call, marked};
+ghost use Rattle.gateway_model.specs.Queue.{IsPrefixOf, front, record_of};
+ghost use Rattle.gateway_model.specs.Record.{is_decided, is_lawful};
+ghost use Rattle.gateway_theory.specs.Served.{JobsAre, QueueIs, Served, ServedUpTo};
+ghost use Rattle.gateway_model.specs.Starts.{Placed, occurrences};
+ghost use Rattle.gateway_theory.specs.Serving.{FedTo, IsServing, Opens};
+ghost use Rattle.gateway_theory.specs.Step.{Live};
+ghost use Rattle.gateway_theory.specs.Store.{call_at, conn_of};
+
+use crate::request_laws::request_laws;
+use http_pieces::laws::fresh_law;
+
+/// An opening, whether it succeeds or not.
+pub fn opening_law()
+    ensures opened { (number : ℕ) (v w : GatewayValue) (opened : List ℕ) (es : List Event)
+        (taken : ℕ → List ReplyEntry) (handed : List JobValue) → IsServing v → Served v opened es taken handed
+        → Opens v w number → Served w (opened ++ length es ∷ []) (Opening ∷ es) taken handed }
+    ensures refused { (v : GatewayValue) (opened : List ℕ) (es : List Event)
+        (taken : ℕ → List ReplyEntry) (handed : List JobValue) → IsServing v → Served v opened es taken handed
+        → Served v opened (Opening ∷ es) taken handed }
+{
+    fresh_law();
+}
+
+/// A piece that is fed in parts, from its beginning to its end or to a fault.
+pub fn parts_law()
+    ensures begins { (n : ℕ) (v : GatewayValue) (opened : List ℕ) (es : List Event)
+        (taken : ℕ → List ReplyEntry) (handed : List JobValue) → Served v opened es taken handed
+        → ServedUpTo n [] v opened es taken handed }
+    ensures goes_on { (n m : ℕ) (p q : List ℕ) (v w : GatewayValue) (opened : List ℕ) (es : List Event)
+        (taken : ℕ → List ReplyEntry) (handed : List JobValue) → IsServing v → ServedUpTo n p v opened es taken handed
+        → FedTo n q v w (Ok m) → ServedUpTo n (p ++ take m q) w opened es taken handed }
+    ensures ends { (n : ℕ) (fault : StepFault) (p q : List ℕ) (v w : GatewayValue) (opened : List ℕ)
+        (es : List Event) (taken : ℕ → List ReplyEntry) (handed : List JobValue)
+        → IsServing v → IsServing w → ServedUpTo n p v opened es taken handed
+        → FedTo n q v w (Err fault) → Served w opened (Piece n (p ++ q) ∷ es) taken handed }
+{
+    request_laws();
+}
+
+/// What a gateway has queued and started is what the definitions say of the events that it stands for.
+pub fn standing_law()
+    ensures queue { (c : ℕ) (k : ConnValue) (v : GatewayValue) (opened : List ℕ) (es : List Event) (taken : ℕ → List ReplyEntry)
+        (handed : List JobValue) (occurred : List Placed) → Served v opened es taken handed → Occurs v.plans opened es occurred
+        → conn_of c v.machine.conns ≡ Some k → QueueIs c (taken c ++ front k.slots) k.broken occurred }
+    ensures jobs { (v : GatewayValue) (opened : List ℕ) (es : List Event) (taken : ℕ → List ReplyEntry)
+        (handed : List JobValue) (occurred : List Placed) → Served v opened es taken handed → Occurs v.plans opened es occurred
+        → JobsAre v (handed ++ v.machine.jobs) occurred }
+{}
+
+/// What is kept of a call is what has occurred of it: one that can be decided, of a connection that is not broken, has a lawful
+/// record, which is not decided; and no call has more branches out than its plan's limit.
+pub fn calls_law()
+    ensures records { (id : CallId) (k : ConnValue) (l : Live) (v : GatewayValue) (opened : List ℕ) (es : List Event)
+        (taken : ℕ → List ReplyEntry) (handed : List JobValue) (occurred : List Placed)
+        → Served v opened es taken handed → Occurs v.plans opened es occurred
+        → conn_of id.conn v.machine.conns ≡ Some k → k.broken ≡ false → (call_at id v.machine.calls).live ≡ Some l
+        → (is_lawful (record_of l.asked l.events) ≡ true) × (is_decided (record_of l.asked l.events) ≡ false) }
+    ensures limit { (id : CallId) (a : ArrivedCall) (v : GatewayValue) (opened : List ℕ) (es : List Event)
+        (taken : ℕ → List ReplyEntry) (handed : List JobValue) (occurred : List Placed)
+        → Served v opened es taken handed → Occurs v.plans opened es occurred → call id (marked (occurrences occurred)) ≡ Some a
+        → outs_of id v ≤ a.plan.limit }
+{}
+
+/// Whatever events a gateway stands for, this is known of what is seen of it.
+pub fn known_law()
+    ensures { (v : GatewayValue) (opened : List ℕ) (es : List Event) (taken : ℕ → List ReplyEntry)
+        (handed : List JobValue) (occurred : List Placed) → Served v opened es taken handed → Occurs v.plans opened es occurred
+        → IsKnown (shown v) opened es (occurrences occurred) taken handed }
+{}
+
+/// A connection that breaks at an event, whose jobs that started at it are these: what is queued for it, and what has started, is by
+/// what had occurred before an occurrence of the event, and no more.
+pub fn breaking_law()
+    ensures { (c place : ℕ) (v w : GatewayValue) (opened later : List ℕ) (e : Event) (es : List Event)
+        (taken : ℕ → List ReplyEntry) (handed added : List JobValue) (os : List Occurrence) (before after : List Placed)
+        → Served v opened es taken handed → Served w later (e ∷ es) taken handed
+        → Occurs v.plans opened es before → Occurs w.plans later (e ∷ es) after → after ≡ onto place os before
+        → w.machine.jobs ≡ v.machine.jobs ++ added → IsPrefixOf (untaken_of c v) (untaken_of c w) → (k l : ConnValue)
+        → conn_of c v.machine.conns ≡ Some k → k.broken ≡ false → conn_of c w.machine.conns ≡ Some l → l.broken ≡ true
+        → BrokeNow c place (taken c ++ untaken_of c w) added before after }
+{}

@@ -1,0 +1,133 @@
+/* Lets one call of a program fail. It is preloaded (LD_PRELOAD), and reads the variable FAULT: "CALL N HOW".
+ *
+ * CALL is `allocate` (malloc and realloc), `read` or `write`, of a file, `receive` or `send`, of a stream, `accept`, `connect`
+ * or `wait` (poll). The Nth such call that the program itself makes fails so:
+ *
+ *   refused      there is no memory (of `allocate`)
+ *   failed       an input or output fault
+ *   reset        the peer has reset the stream
+ *   short        one byte is moved, where more was asked for
+ *   interrupted  a signal came before anything was moved
+ *
+ * As it fails, a byte is written to the descriptor that the variable FAULT_TOLD names, if it is set. Calls that libraries
+ * make are left alone, so that N does not depend on them. It is for glibc alone. */
+#define _GNU_SOURCE
+#include <dlfcn.h>
+#include <errno.h>
+#include <link.h>
+#include <poll.h>
+#include <stdio.h>
+#include <stdlib.h>
+#include <string.h>
+#include <sys/socket.h>
+#include <sys/syscall.h>
+#include <unistd.h>
+
+extern void *__libc_malloc(size_t size);
+extern void *__libc_realloc(void *old, size_t size);
+
+static char call[16], how[16];
+static long countdown = -1;
+static int told = -1;
+static char *code_start, *code_end;
+
+/* The program itself is the first that is listed. */
+static int note_program(struct dl_phdr_info *info, size_t size, void *data) {
+    for (int i = 0; i < info->dlpi_phnum; i++) {
+        if (info->dlpi_phdr[i].p_type == PT_LOAD && (info->dlpi_phdr[i].p_flags & PF_X)) {
+            code_start = (char *)info->dlpi_addr + info->dlpi_phdr[i].p_vaddr;
+            code_end = code_start + info->dlpi_phdr[i].p_memsz;
+        }
+    }
+    return 1;
+}
+
+__attribute__((constructor)) static void begin(void) {
+    const char *fault = getenv("FAULT"), *descriptor = getenv("FAULT_TOLD");
+    dl_iterate_phdr(note_program, NULL);
+    told = descriptor ? atoi(descriptor) : -1;
+    if (fault && sscanf(fault, "%15s %ld %15s", call, &countdown, how) != 3) {
+        _exit(120);
+    }
+}
+
+/* Whether it is this call that fails. */
+static int fails(const char *name, void *caller) {
+    if (countdown < 0 || (char *)caller < code_start || code_end <= (char *)caller || strcmp(name, call) != 0) {
+        return 0;
+    }
+    if (__atomic_sub_fetch(&countdown, 1, __ATOMIC_SEQ_CST) != 0) {
+        return 0;
+    }
+    if (told >= 0) {
+        syscall(SYS_write, told, "!", 1);
+    }
+    return 1;
+}
+
+#define FAILS(name) fails(name, __builtin_return_address(0))
+
+static int is(const char *word) { return strcmp(how, word) == 0; }
+
+/* Sets the fault of a call that moves nothing. */
+static int faulty(void) {
+    errno = is("interrupted") ? EINTR : is("reset") ? ECONNRESET : is("refused") ? ENOMEM : EIO;
+    return -1;
+}
+
+/* The function of that name and type which stands behind this file's. */
+#define NEXT(type, name, ...) ((type(*)(__VA_ARGS__))dlsym(RTLD_NEXT, name))
+
+void *malloc(size_t size) {
+    if (FAILS("allocate")) {
+        faulty();
+        return NULL;
+    }
+    return __libc_malloc(size);
+}
+
+void *realloc(void *old, size_t size) {
+    if (FAILS("allocate")) {
+        faulty();
+        return NULL;
+    }
+    return __libc_realloc(old, size);
+}
+
+/* The rest of a call that moves bytes: none, one or as many as were asked for. */
+#define MOVE(name, count, next)        \
+    if (FAILS(name)) {                 \
+        if (!is("short")) {            \
+            return faulty();           \
+        }                              \
+        (count) = (count) ? 1 : 0;     \
+    }                                  \
+    return next
+
+ssize_t read(int file, void *to, size_t most) {
+    MOVE("read", most, NEXT(ssize_t, "read", int, void *, size_t)(file, to, most));
+}
+
+ssize_t recv(int file, void *to, size_t most, int flags) {
+    MOVE("receive", most, NEXT(ssize_t, "recv", int, void *, size_t, int)(file, to, most, flags));
+}
+
+ssize_t write(int file, const void *from, size_t most) {
+    MOVE("write", most, NEXT(ssize_t, "write", int, const void *, size_t)(file, from, most));
+}
+
+ssize_t send(int file, const void *from, size_t most, int flags) {
+    MOVE("send", most, NEXT(ssize_t, "send", int, const void *, size_t, int)(file, from, most, flags));
+}
+
+int accept4(int file, struct sockaddr *from, socklen_t *length, int flags) {
+    return FAILS("accept") ? faulty() : NEXT(int, "accept4", int, struct sockaddr *, socklen_t *, int)(file, from, length, flags);
+}
+
+int connect(int file, const struct sockaddr *to, socklen_t length) {
+    return FAILS("connect") ? faulty() : NEXT(int, "connect", int, const struct sockaddr *, socklen_t)(file, to, length);
+}
+
+int poll(struct pollfd *files, nfds_t count, int most) {
+    return FAILS("wait") ? faulty() : NEXT(int, "poll", struct pollfd *, nfds_t, int)(files, count, most);
+}
