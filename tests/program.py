@@ -13,212 +13,18 @@ import shutil
 import signal
 import socket
 import struct
-import subprocess
 import sys
 import tempfile
 import termios
+import threading
 import time
 
-HERE = os.path.dirname(os.path.abspath(__file__))
-
-# a case may take so many seconds, and what it waits for comes within so many
-CASE_TIME = 60
-WAIT = 20
-
-WORDS = (2, "connect_gateway: bad arguments\n")
-PLANS = (3, "connect_gateway: bad plan file\n")
-SCRIPT = (4, "connect_gateway: bad script\n")
-MEMORY = (5, "connect_gateway: no memory\n")
-IO = (6, "connect_gateway: input or output fault\n")
-DONE = (0, "")
-
-EMPTY_SCRIPT = b'{"plans":[],"events":[]}'
-LONGEST = 16_777_216
-
-# a request to no plan, whose answer needs no backend
-STRAY = b"POST /none HTTP/1.1\r\nHost: g\r\nContent-Length: 0\r\n\r\n"
-NOT_FOUND = b"HTTP/1.1 404 Not Found\r\nContent-Length: 0\r\n\r\n"
-
-# the user and group that own nothing
-NOBODY = 65534
-
-
-class Wrong(Exception):
-    """What came is not what should."""
-
-
-class Untried(Exception):
-    """This machine has no means for the case."""
-
-
-def expect(what, found, wanted):
-    if found != wanted:
-        raise Wrong(f"{what}: {found!r}, expected {wanted!r}")
-
-
-class Room:
-    """What one case uses: a folder, the program, and what was started."""
-
-    def __init__(self, folder, program):
-        self.folder, self.program = folder, program
-        self.started = []
-
-    def file(self, name, content):
-        path = f"{self.folder}/{name}"
-        with open(path, "wb") as file:
-            file.write(content)
-        os.chmod(path, 0o644)
-        return path
-
-    def start(self, words, limit=lambda: None, variables=None, **streams):
-        """Starts the program with its streams as pipes, but for those that are given."""
-        how = {"stdin": subprocess.DEVNULL, "stdout": subprocess.PIPE, "stderr": subprocess.PIPE, **streams}
-        variables = {**os.environ, **(variables or {})}
-        run = subprocess.Popen([self.program, *words], cwd=self.folder, preexec_fn=limit, env=variables, **how)
-        self.started.append(run)
-        return run
-
-    def ends(self, what, run, wanted, printed=b""):
-        """Sees that a run ends by itself, with this status and line, and has printed that."""
-        found, output = end_of(run)
-        expect(what, found, wanted)
-        if output is not None:
-            expect(f"{what}: its output", output, printed)
-
-    def replay(self, what, script, wanted, printed=b"", **how):
-        with tempfile.TemporaryFile(dir=self.folder) as given:
-            given.write(script)
-            given.seek(0)
-            self.ends(what, self.start(["replay"], stdin=given, **how), wanted, printed)
-
-    def serve(self, plans, workers=1, streams=None, **how):
-        """Starts the gateway, and returns its run and the port that it will listen at."""
-        port = free_port()
-        words = serve_words(port, self.file("plans", plans), workers, streams)
-        return self.start(words, **how), port
-
-    def end_all(self):
-        for run in self.started:
-            run.kill()
-            run.wait()
-            for stream in (run.stdout, run.stderr):
-                if stream:
-                    stream.close()
-
-
-def end_of(run):
-    """How a run ended: its status and what stands on standard error; and what it printed, if that was asked for."""
-    try:
-        output, said = run.communicate(timeout=WAIT)
-    except subprocess.TimeoutExpired:
-        raise Wrong(f"it has not ended after {WAIT} seconds") from None
-    return (run.returncode, said.decode(errors="replace")), output
-
-
-def serve_words(port, plans, workers=1, streams=None):
-    words = ["serve", "--listen", f"127.0.0.1:{port}", "--plans", plans, "--workers", str(workers)]
-    return words + (["--connections", str(streams)] if streams else [])
-
-
-def free_port():
-    with socket.socket() as taken:
-        taken.bind(("127.0.0.1", 0))
-        return taken.getsockname()[1]
-
-
-def listener():
-    """A socket that listens at a port of its own."""
-    made = socket.create_server(("127.0.0.1", 0))
-    made.settimeout(WAIT)
-    return made
-
-
-def client(port):
-    """A stream to the gateway, as soon as that listens."""
-    end = time.monotonic() + WAIT
-    while True:
-        try:
-            return socket.create_connection(("127.0.0.1", port), timeout=WAIT)
-        except ConnectionRefusedError:
-            if time.monotonic() > end:
-                raise Wrong("nobody listens") from None
-            time.sleep(0.02)
-
-
-def read_to(stream, count):
-    """So many bytes of a stream, or those before its end."""
-    got = b""
-    try:
-        while len(got) < count:
-            piece = stream.recv(count - len(got))
-            if not piece:
-                break
-            got += piece
-    except socket.timeout:
-        raise Wrong(f"no more came in {WAIT} seconds than {got!r}") from None
-    except ConnectionResetError:
-        got += b" (reset)"
-    return got
-
-
-def sees_end(what, stream):
-    expect(what, read_to(stream, 1), b"")
-
-
-def answers(what, stream):
-    """Sees that a request which needs no backend is answered on the stream."""
-    stream.sendall(STRAY)
-    expect(what, read_to(stream, len(NOT_FOUND)), NOT_FOUND)
-
-
-def plan(backends, limit, timeout=None):
-    """A plan file: one plan, with a branch for each of these ports."""
-    branches = [{"name": f"b{at}", "address": f"127.0.0.1:{port}", "path": "/ask"} for at, port in enumerate(backends)]
-    made = {"path": "/call", "limit": limit, "branches": branches}
-    return json.dumps([{**made, "timeout_ms": timeout} if timeout else made]).encode()
-
-
-def call(stream, further=""):
-    fields = "Host: g\r\nContent-Type: application/json\r\nContent-Length: 2\r\n" + further
-    stream.sendall(f"POST /call HTTP/1.1\r\n{fields}\r\n{{}}".encode())
-
-
-def reply(body):
-    return f"HTTP/1.1 200 OK\r\nContent-Type: application/json\r\nContent-Length: {len(body)}\r\n\r\n{body}".encode()
-
-
-def be_nobody():
-    """Gives up the rights of root, for which there is no limit of threads."""
-    if os.getuid() == 0:
-        os.setgroups([])
-        os.setgid(NOBODY)
-        os.setuid(NOBODY)
-
-
-def limit_now(run, kind, most):
-    """Sets a limit of a program that runs."""
-    resource.prlimit(run.pid, kind, (most, resource.getrlimit(kind)[1]))
-
-
-def limit_threads_now(run, most):
-    """Sets the limit of threads of a program that runs as nobody, which nobody may do, and root not always."""
-    child = os.fork()
-    if child == 0:
-        with contextlib.suppress(OSError):
-            be_nobody()
-            limit_now(run, resource.RLIMIT_NPROC, most)
-            os._exit(0)
-        os._exit(1)
-    if os.waitpid(child, 0)[1]:
-        raise Untried("the limit of threads can't be set")
-
-
-def size_of(run, what="VmSize"):
-    """The bytes of memory that a program has asked for; `VmData` are those without its stack and its code."""
-    with open(f"/proc/{run.pid}/status", encoding="ascii") as file:
-        found = dict(line.split(":", 1) for line in file)
-    return int(found[what].split()[0]) * 1024
-
+from program_room import (
+    Backend, CASE_TIME, DONE, EMPTY_SCRIPT, HERE, IO, LONGEST, MEMORY, NOT_FOUND, PLANS, Room, SCRIPT, STRAY,
+    Untried, WAIT, WORDS, Wrong, answers, be_nobody, call, client, end_of, expect, free_port, is_refused,
+    limit_now, limit_threads_now, listener, plan, processor_time_of, read_reply, read_to, reply, sees_end,
+    serve_words, size_of, stop_now, threads_of_nobody, waits_of,
+)
 
 # ---- the words
 
@@ -351,6 +157,11 @@ def case_accept_fails(room):
             expect("whether it goes on while a stream is open", run.poll(), None)
             answers("after", stream)
             last.shutdown(socket.SHUT_WR)
+            end = time.monotonic() + WAIT
+            while not is_refused(port):
+                expect("whether it listens for long", time.monotonic() < end, True)
+                time.sleep(0.1)
+            answers("when nobody listens any more", stream)
     room.ends("the program", run, IO)
 
 
@@ -453,9 +264,7 @@ def case_streams(room):
                 answers(what, stream)
             third.shutdown(socket.SHUT_WR)
             sees_end("the third", third)
-            with client(port) as late:
-                late.sendall(STRAY)
-                expect("whether a fifth is served", bool(select.select([late], [], [], 0.3)[0]), False)
+            expect("whether a fifth is refused at once", is_refused(port), True)
             expect("whether it goes on while streams are open", run.poll(), None)
             answers("the first, later", first)
             answers("the last, later", last)
@@ -536,6 +345,205 @@ def case_whole_time(room):
                 expect(f"whether it came at its time, after {took:.3f} seconds", 0.4 < took < WAIT, True)
                 backend.accept()[0].close()
     room.ends("the program", run, DONE)
+
+
+def case_no_second_thread(room):
+    """a stream whose second thread can't be started is closed at once"""
+    run, port = room.serve(b"[]", streams=3, limit=be_nobody)
+    with client(port) as stream:
+        answers("before", stream)
+    time.sleep(0.2)
+    limit_threads_now(run, threads_of_nobody() + 1)
+    with client(port) as stream:
+        stream.sendall(STRAY)
+        sees_end("a stream without its second thread", stream)
+    limit_threads_now(run, resource.getrlimit(resource.RLIMIT_NPROC)[0])
+    with client(port) as stream:
+        answers("afterwards", stream)
+    room.ends("the program", run, DONE)
+
+
+def case_no_descriptor(room):
+    """descriptors that are lacking while backends are asked end nothing: who finds none is answered, or waits for one"""
+    with listener() as backend:
+        run, port = room.serve(plan([backend.getsockname()[1]], 1), workers=2, streams=3)
+        with client(port) as stream:
+            answers("before", stream)
+            # one for the accept that waits, and one for a worker
+            most = max(int(name) for name in os.listdir(f"/proc/{run.pid}/fd"))
+            limit_now(run, resource.RLIMIT_NOFILE, most + 3)
+            call(stream)
+            with backend.accept()[0] as asked, client(port) as second:
+                call(stream)
+                answers("the second stream", second)
+                with client(port) as third:
+                    third.sendall(STRAY)
+                    expect("whether a stream has a descriptor", bool(select.select([third], [], [], 4)[0]), False)
+                    expect("whether the program goes on", run.poll(), None)
+                    asked.sendall(reply("1"))
+                    expect("the first call", read_reply(stream), ("200", b'{"b0":1}'))
+                    expect("the second, for which there was no descriptor", read_reply(stream)[0], "503")
+                    expect("the stream that waited", read_to(third, len(NOT_FOUND)), NOT_FOUND)
+    room.ends("the program", run, DONE)
+
+
+def case_stopped(room):
+    """calls with a deadline are answered by their backends though the program is stopped meanwhile"""
+    with Backend("1", pause=0.4) as backend:
+        run, port = room.serve(plan([backend.port], 1, timeout=5000), workers=4, streams=1)
+        with client(port) as stream:
+            for _ in range(4):
+                call(stream)
+                time.sleep(0.1)
+                stop_now(run)
+                time.sleep(0.1)
+                run.send_signal(signal.SIGCONT)
+                expect("the reply", read_reply(stream), ("200", b'{"b0":1}'))
+    room.ends("the program", run, DONE)
+
+
+def case_after_a_stop(room):
+    """a call that comes while the program is stopped has its whole time from when it goes on"""
+    with Backend("1", pause=0.1) as backend:
+        run, port = room.serve(plan([backend.port], 1, timeout=600), workers=4, streams=1)
+        with client(port) as stream:
+            for pause in (0.2, 1.2, 3):
+                stop_now(run)
+                call(stream)
+                time.sleep(pause)
+                run.send_signal(signal.SIGCONT)
+                expect(f"the reply after {pause} seconds", read_reply(stream), ("200", b'{"b0":1}'))
+    room.ends("the program", run, DONE)
+
+
+def case_deadlines(room):
+    """each call whose deadline has passed is answered so, and none before it, beside busy clients"""
+    def ask(port, took):
+        with client(port) as stream:
+            for _ in range(25):
+                began = time.monotonic()
+                call(stream, "Connect-Timeout-Ms: 80\r\n")
+                took.append((read_reply(stream)[0], time.monotonic() - began))
+
+    def be_busy(port, stop):
+        while not stop.is_set():
+            with client(port) as stream:
+                for _ in range(50):
+                    answers("a busy client", stream)
+
+    with listener() as backend:
+        run, port = room.serve(plan([backend.getsockname()[1]], 1), workers=32, streams=1_000_000)
+        took, stop = [], threading.Event()
+        others = [threading.Thread(target=be_busy, args=(port, stop)) for _ in range(4)]
+        askers = [threading.Thread(target=ask, args=(port, took)) for _ in range(20)]
+        for thread in (*others, *askers):
+            thread.start()
+        for thread in askers:
+            thread.join()
+        stop.set()
+        for thread in others:
+            thread.join()
+    expect("how they ended", {status for status, _time in took}, {"504"})
+    expect("how many", len(took), 500)
+    earliest = min(time for _status, time in took)
+    expect(f"whether none came early, {earliest:.4f} seconds", earliest > 0.078, True)
+
+
+def case_one_client(room):
+    """one client's calls wake those threads that have something to do, beside 64 workers"""
+    calls = 5_000
+    with Backend("1") as backend:
+        run, port = room.serve(plan([backend.port], 1), workers=64, streams=calls // 100)
+        waits = None
+        for _ in range(calls // 100):
+            with client(port) as stream:
+                if waits is None:
+                    answers("at first", stream)
+                    time.sleep(0.3)
+                    waits = waits_of(run)
+                for _ in range(99):
+                    call(stream)
+                    expect("a reply", read_reply(stream), ("200", b'{"b0":1}'))
+                woken = (waits_of(run) - waits) / 99
+                expect(f"whether few threads slept in a call, {woken:.1f}", woken < 14, True)
+                waits = waits_of(run)
+                stream.shutdown(socket.SHUT_WR)
+                sees_end("it", stream)
+    room.ends("the program", run, DONE)
+
+
+def case_idle(room):
+    """a program in which nothing happens uses next to no processor time, whatever workers and connections it has"""
+    run, port = room.serve(b"[]", workers=64, streams=64)
+    with contextlib.ExitStack() as opened:
+        for _ in range(64):
+            answers("one of 64", opened.enter_context(client(port)))
+        time.sleep(1)
+        before = processor_time_of(run)
+        time.sleep(5)
+        used = processor_time_of(run) - before
+        expect(f"whether it used little, {used} seconds of 5", used < 0.05, True)
+    room.ends("the program", run, DONE)
+
+
+def case_many_large_replies(room):
+    """what was written of large replies is kept no longer"""
+    body = json.dumps("x" * 60_000)
+    with Backend(body) as backend:
+        run, port = room.serve(plan([backend.port] * 3, 3), workers=3, streams=1)
+        with client(port) as stream:
+            call(stream)
+            read_reply(stream)
+            before = size_of(run, "VmHWM")
+            for _ in range(98):
+                call(stream)
+                status, answer = read_reply(stream)
+                expect("a reply", (status, len(answer) > 180_000), ("200", True))
+            grown = size_of(run, "VmHWM") - before
+            expect(f"whether memory has grown little, {grown} bytes", grown < 6_000_000, True)
+    room.ends("the program", run, DONE)
+
+
+LONG_HEAD = b"POST /call HTTP/1.1\r\nHost: g\r\nContent-Type: application/json\r\nContent-Length: 5000000\r\n\r\n"
+
+
+def case_refused_uploads(room):
+    """a client that sends all of a long body before it reads has its refusal all the same"""
+    run, port = room.serve(b"[]", streams=40)
+    for length in (100_000, 5_000_000) * 20:
+        with client(port) as stream:
+            stream.sendall(LONG_HEAD.replace(b"5000000", b"%d" % length) + bytes(length))
+            expect("the refusal", read_reply(stream)[0], "429")
+            stream.shutdown(socket.SHUT_WR)
+            sees_end("the stream", stream)
+    room.ends("the program", run, DONE)
+
+
+def case_idle_uploads(room):
+    """clients that don't end behind their refusals keep nobody out, and are cut after a while, or at once beside 64"""
+    run, port = room.serve(b"[]", streams=66)
+    with contextlib.ExitStack() as opened:
+        began = time.monotonic()
+        streams = [opened.enter_context(client(port)) for _ in range(65)]
+        for stream in streams[:64]:
+            stream.sendall(LONG_HEAD)
+            expect("the refusal", read_reply(stream)[0], "429")
+        with client(port) as one_more:
+            answers("a stream beside them", one_more)
+        streams[64].sendall(LONG_HEAD)
+        expect("the refusal of one more", read_reply(streams[64])[0], "429")
+        # a stream that is cut resets what is still sent to it
+        for _ in range(20):
+            time.sleep(0.02)
+            try:
+                streams[64].sendall(b"x")
+            except (BrokenPipeError, ConnectionResetError):
+                break
+        else:
+            raise Wrong("one more than 64 lingers too")
+        expect("whether that was at once", time.monotonic() - began < 1.9, True)
+        room.ends("the program", run, DONE)
+        expect("whether the others were cut in time", time.monotonic() - began < 6, True)
 
 
 # ---- all of them

@@ -58,7 +58,7 @@ works_more gives (Some old) (Some mid) (Some one) (Some new) job outcome w n r o
 
 -- no job was taken any more
 pub works_end : (gives : HandedJob → Asked → Type 0) (old mid new : Option Told)
-    → WorksAt gives 0 old mid → NextTells mid new None → WorksAt gives 1 old new
+    → WorksAt gives 0 old mid → NextTells mid new None → WorksAt gives 0 old new
 works_end gives None mid new w n = tt
 works_end gives (Some old) None new w n = absurd w
 works_end gives (Some old) (Some mid) None w n = absurd n

@@ -1,5 +1,5 @@
 -- What a worker does with the jobs that it takes.
-use Rattle.std.specs.Prelude.{◌≡◌, ℕ, ◌≤◌, ⊤, Bool, true, false, List, [], ◌∷◌, ◌++◌, length, Option, Some, None, MatchBool}
+use Rattle.std.specs.Prelude.{◌≡◌, ℕ, ◌≤◌, ⊤, Bool, true, false, List, [], ◌∷◌, ◌++◌, length, Option, Some, None, Result, Ok, Err, MatchBool}
 use Rattle.std.specs.List.{AllZip}
 use Rattle.connect_codec.specs.declared.answer.Outcome.{Outcome}
 use Rattle.connect_codec.specs.Outcome.{outcome_of}
@@ -80,3 +80,13 @@ abbrev pub WorksAt : (HandedJob → Asked → Type 0) → ℕ → Option Told �
 WorksAt gives most None new = ⊤
 WorksAt gives most (Some old) None = ⊥
 WorksAt gives most (Some old) (Some new) = Works gives most old new
+
+-- how many jobs were taken and not recorded, by whether all were recorded
+abbrev pub unrecorded : Bool → ℕ
+unrecorded true = 0
+unrecorded false = 1
+
+-- how many results of a worker's jobs were not counted, by how it ended
+abbrev pub uncounted : {E : Type 0} → Result ⊤ E → ℕ
+uncounted (Ok done) = 0
+uncounted (Err full) = 1

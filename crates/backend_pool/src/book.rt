@@ -324,6 +324,20 @@ impl<H: ReplyHook + Drop, L: Ledger, J: Ledger, K: Ledger> Book<H, L, J, K> {
         known_law();
     }
 
+    /// Whether a job waits to be taken.
+    pub fn has_job(&self) -> bool
+        ensures { IsTrue result ↔ (0 < length self.now.core.machine.jobs) }
+    {
+        self.core.has_job()
+    }
+
+    /// Whether who writes the connection's replies has something to do: a reply can be taken, or none will come any more.
+    pub fn has_news(&self, conn: ConnId) -> bool
+        ensures { IsTrue result ↔ ((0 < length (untaken_of conn self.now.core)) ⊎ IsTrue (is_ended conn self.now.core)) }
+    {
+        0 < self.core.untaken(conn) || self.core.ended(conn)
+    }
+
     /// Whether some branch may be asked or is: a job waits to be taken, or one that was taken has no result yet.
     pub fn is_asking(&self) -> bool
         ensures { IsTrue result ↔ ((self.now.results < self.now.jobs) ⊎ (0 < length self.now.core.machine.jobs)) }

@@ -1,8 +1,10 @@
 ghost use Rattle.std.specs.Prelude.{◌≡◌, ◌+◌, ◌≤◌};
+ghost use Rattle.backend_pool.specs.Work.{uncounted};
 
 use crate::backend::Backend;
 use crate::desk::Desk;
 use crate::gate::Gate;
+use crate::ledger_full::LedgerFull;
 use crate::shared::Shared;
 use crate::shares::WorkerShares;
 use crate::working::work;
@@ -28,22 +30,25 @@ impl<H: ReplyHook + Drop, L: Ledger, J: Ledger, K: Ledger> Desk for LockDesk<'_,
 
     ghost took = { λ d. d.results.amount };
 
-    fn next<R: Wait>(&mut self, rt: &R) -> Option<Job> {
+    fn next<R: Clock + Wait>(&mut self, rt: &R) -> Option<Job> {
         let mut state = self.shared.state.lock(rt);
         for _ in rt.forever() {
             let Ok(job) = state.book.take_job(&mut self.jobs) else {
+                self.shared.pass_on(state);
                 return None;
             };
             if job.is_some() || state.shut {
+                self.shared.pass_on(state);
                 return job;
             }
-            state = self.shared.jobs.wait(rt, state);
+            state = self.shared.wait_for_job(rt, state);
         }
         unreachable!()
     }
 
-    fn record<R: Wait>(&mut self, rt: &R, job: &Job, outcome: Option<Outcome>) -> bool {
+    fn record<R: Clock + Wait>(&mut self, rt: &R, job: &Job, outcome: Option<Outcome>) -> bool {
         let call = job.call();
+        self.shared.tick(rt);
         let mut state = self.shared.state.lock(rt);
         let took = match outcome {
             Some(outcome) => state
@@ -51,12 +56,13 @@ impl<H: ReplyHook + Drop, L: Ledger, J: Ledger, K: Ledger> Desk for LockDesk<'_,
                 .result(&call, job.branch(), outcome, &mut self.results),
             None => state.book.starved(&call, job.branch(), &mut self.results),
         };
-        self.shared.wake();
+        self.shared.let_go(state, call.conn);
         took.is_ok()
     }
 }
 
-/// Works at the lock until it is shut and no job waits, or a total would pass 2^62, and gives the shares back.
+/// Works at the lock until it is shut and no job waits, or a total would pass 2^62, and gives the shares back. `LedgerFull`
+/// where the last job's result was not counted, since that total would.
 pub fn worker<
     R: Net + Clock + Wait,
     A: Backend,
@@ -72,12 +78,14 @@ pub fn worker<
     backend: &A,
     gate: &G,
     shares: WorkerShares<J, K>,
-) -> WorkerShares<J, K>
+) -> (WorkerShares<J, K>, Result<(), LedgerFull>)
     requires parts { (shares.jobs.parts ≡ 1) × (shares.results.parts ≡ 1) }
-    ensures parts { (result.jobs.parts ≡ 1) × (result.results.parts ≡ 1) }
-    ensures grown { shares.jobs.amount ≤ result.jobs.amount }
-    ensures no_more { result.results.amount + shares.jobs.amount ≤ shares.results.amount + result.jobs.amount }
-    ensures one_less { shares.results.amount + result.jobs.amount ≤ result.results.amount + shares.jobs.amount + 1 }
+    ensures parts { (result.0.jobs.parts ≡ 1) × (result.0.results.parts ≡ 1) }
+    ensures jobs { shares.jobs.amount ≤ result.0.jobs.amount }
+    ensures results { shares.results.amount ≤ result.0.results.amount }
+    // one result for each job, but for the last at `LedgerFull`
+    ensures each { shares.results.amount + result.0.jobs.amount
+        ≡ result.0.results.amount + shares.jobs.amount + uncounted result.1 }
 {
     let WorkerShares { jobs, results } = shares;
     let mut desk = LockDesk {
@@ -85,11 +93,12 @@ pub fn worker<
         jobs,
         results,
     };
-    work(rt, alloc, &mut desk, backend, gate);
+    let counted = work(rt, alloc, &mut desk, backend, gate);
     let LockDesk {
         shared: _,
         jobs,
         results,
     } = desk;
-    WorkerShares { jobs, results }
+    let ended = if counted { Ok(()) } else { Err(LedgerFull) };
+    (WorkerShares { jobs, results }, ended)
 }

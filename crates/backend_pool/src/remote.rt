@@ -39,10 +39,15 @@ impl Backend for RemoteBackend {
         let Ok(request) = branch_request(self.alloc, &ask) else {
             return Asked::NoMemory;
         };
-        let Ok((mut reads, mut writes)) = connect(rt, job.address(), job.remaining()) else {
+        let Ok(stream) = connect(rt, job.address(), job.remaining()) else {
             return Asked::Lost;
         };
-        exchange(self.alloc, &mut reads, &mut writes, request.as_slice())
+        exchange(
+            self.alloc,
+            &mut stream.end(),
+            &mut stream.end(),
+            request.as_slice(),
+        )
     }
 }
 
@@ -50,12 +55,12 @@ impl Backend for RemoteBackend {
 /// that a silent backend is not taken for the call's first failure.
 const GRACE: u64 = 50;
 
-/// Both ends of a new connection to the address, for so many milliseconds from now on, and a little longer.
+/// A new connection to the address, for so many milliseconds from now on, and a little longer.
 fn connect<'a, R: Net + Clock>(
     rt: &'a R,
     address: &str,
     remaining: Option<u64>,
-) -> io::Result<(TimedStream<'a, R, R::Stream>, TimedStream<'a, R, R::Stream>)> {
+) -> io::Result<TimedStream<'a, R, R::Stream>> {
     let until = match remaining {
         Some(milliseconds) => {
             let longer = milliseconds.saturating_add(GRACE);
@@ -65,11 +70,7 @@ fn connect<'a, R: Net + Clock>(
     };
     let stream = open(rt, address, until)?;
     stream.set_nodelay(true)?;
-    let other = stream.try_clone()?;
-    Ok((
-        TimedStream::new(rt, stream, until),
-        TimedStream::new(rt, other, until),
-    ))
+    Ok(TimedStream::new(rt, stream, until))
 }
 
 /// Tries each of the address's own addresses in turn (RFC 9110, section 4.3.3).

@@ -1,7 +1,11 @@
 use crate::book::Book;
-use gateway_core::ReplyHook;
+use crate::doors::{DOORS, Waiting, door_of};
+use gateway_core::{ConnId, ReplyHook};
+use std::array;
+use std::sync::atomic::AtomicU64;
 use std::sync::ledger::Ledger;
-use std::sync::{Condvar, Mutex, Wait};
+use std::sync::{Condvar, Mutex, MutexGuard, Wait};
+use std::time::Instant;
 
 /// What stands under the lock.
 #[derive(Drop)]
@@ -9,25 +13,59 @@ pub struct State<H, L: Ledger, J: Ledger, K: Ledger> {
     pub book: Book<H, L, J, K>,
     /// Whether workers end once no job waits, and the clock's side at its next turn.
     pub shut: bool,
+    /// Whose write sides wait.
+    pub(crate) waiting: Waiting,
+    /// In so many turns of the clock's side in a row no backend was asked.
+    pub(crate) idle_turns: u32,
+    /// So many workers wait for a job, or have been woken and do not have the lock yet.
+    pub(crate) idle_workers: u64,
+    /// Whether the clock's side sleeps.
+    pub(crate) clock_sleeps: bool,
 }
 
-/// The book under its lock, and what the threads wait for. Whoever makes an event wakes both.
+/// The book under its lock, and what the threads wait for. Whoever makes an event wakes those whom it concerns, and nobody
+/// else.
 #[derive(Drop)]
 pub struct Shared<H, L: Ledger, J: Ledger, K: Ledger> {
     pub state: Mutex<State<H, L, J, K>>,
     /// Workers wait here for a job, or for the shutting.
-    pub jobs: Condvar,
-    /// Write sides wait here for their next reply, or for their connection's end.
-    pub replies: Condvar,
+    pub(crate) jobs: Condvar,
+    /// Write sides wait here for their next reply, or for their connection's end, each at its connection's door.
+    pub(crate) replies: [Condvar; DOORS],
+    /// The clock's side sleeps here while nobody is asked.
+    pub(crate) asked: Condvar,
+    /// The latest moment that was handed in.
+    pub(crate) moment: AtomicU64,
+    /// From when on the moments count that `tick` hands in.
+    pub(crate) start: Option<Instant>,
 }
 
 impl<H: ReplyHook + Drop, L: Ledger, J: Ledger, K: Ledger> Shared<H, L, J, K> {
-    /// The book under a lock that is free; it is not shut.
+    /// The book under a lock that is free; it is not shut. Moments come from the clock's side alone.
     pub fn new(book: Book<H, L, J, K>) -> Shared<H, L, J, K> {
+        Shared::made(book, None)
+    }
+
+    /// The same, where whoever brings something from outside hands in the moment first: in milliseconds from this instant.
+    pub fn counting_from(book: Book<H, L, J, K>, start: Instant) -> Shared<H, L, J, K> {
+        Shared::made(book, Some(start))
+    }
+
+    fn made(book: Book<H, L, J, K>, start: Option<Instant>) -> Shared<H, L, J, K> {
         Shared {
-            state: Mutex::new(State { book, shut: false }),
+            state: Mutex::new(State {
+                book,
+                shut: false,
+                waiting: Waiting::nobody(),
+                idle_turns: 0,
+                idle_workers: 0,
+                clock_sleeps: false,
+            }),
             jobs: Condvar::new(),
-            replies: Condvar::new(),
+            replies: array::from_fn(|_door| Condvar::new()),
+            asked: Condvar::new(),
+            moment: AtomicU64::new(0),
+            start,
         }
     }
 
@@ -35,12 +73,73 @@ impl<H: ReplyHook + Drop, L: Ledger, J: Ledger, K: Ledger> Shared<H, L, J, K> {
     pub fn shut(&self, rt: &impl Wait) {
         let mut state = self.state.lock(rt);
         state.shut = true;
+        drop(state);
         self.wake();
     }
 
-    /// Wakes all who wait, for jobs and for replies. Each event's hold does this before it lets the lock go.
+    /// Wakes all who wait: for an event that may concern each of them, as the drain.
     pub fn wake(&self) {
         self.jobs.notify_all();
-        self.replies.notify_all();
+        self.asked.notify_all();
+        self.open_doors(&[true; DOORS]);
+    }
+
+    /// Lets the lock go behind an event of this connection, and wakes those who have something to do by it: one worker
+    /// where a job waits, and the connection's write side where it has a reply to take or nothing more to wait for.
+    pub fn let_go(&self, state: MutexGuard<'_, State<H, L, J, K>>, conn: ConnId) {
+        let mut state = state;
+        let is_due = state.book.has_news(conn) && state.waiting.take_note(conn);
+        self.pass_on(state);
+        if is_due {
+            self.replies[door_of(conn)].notify_all();
+        }
+    }
+
+    /// Lets the lock go, and where a job waits wakes one worker, if one sleeps, and the clock's side, if that does.
+    pub(crate) fn pass_on(&self, state: MutexGuard<'_, State<H, L, J, K>>) {
+        let job_waits = state.book.has_job();
+        let wakes_worker = job_waits && 0 < state.idle_workers;
+        let wakes_clock = job_waits && state.clock_sleeps;
+        drop(state);
+        if wakes_worker {
+            self.jobs.notify_one();
+        }
+        if wakes_clock {
+            self.asked.notify_all();
+        }
+    }
+
+    /// Lets the lock go until a worker is woken, and takes it again.
+    pub(crate) fn wait_for_job<'a, R: Wait>(
+        &'a self,
+        rt: &R,
+        state: MutexGuard<'a, State<H, L, J, K>>,
+    ) -> MutexGuard<'a, State<H, L, J, K>> {
+        let mut state = state;
+        state.idle_workers = state.idle_workers.saturating_add(1);
+        state = self.jobs.wait(rt, state);
+        state.idle_workers = state.idle_workers.saturating_sub(1);
+        state
+    }
+
+    /// Lets the lock go until the connection's door is opened, and takes it again.
+    pub fn wait_for_reply<'a, R: Wait>(
+        &'a self,
+        rt: &R,
+        state: MutexGuard<'a, State<H, L, J, K>>,
+        conn: ConnId,
+    ) -> MutexGuard<'a, State<H, L, J, K>> {
+        let mut state = state;
+        state.waiting.note(conn);
+        self.replies[door_of(conn)].wait(rt, state)
+    }
+
+    /// Wakes those who wait at these doors.
+    pub(crate) fn open_doors(&self, due: &[bool; DOORS]) {
+        for door in 0..DOORS {
+            if due[door] {
+                self.replies[door].notify_all();
+            }
+        }
     }
 }

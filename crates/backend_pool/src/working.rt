@@ -1,5 +1,5 @@
 ghost use Rattle.std.specs.Prelude.{◌≡◌, ◌+◌, ◌≤◌, IfSome, IfOk, OnErr, Some};
-ghost use Rattle.backend_pool.specs.Work.{ComesOf, IsOutcomeOf, WorksAt, outcome_of_asked};
+ghost use Rattle.backend_pool.specs.Work.{ComesOf, IsOutcomeOf, WorksAt, outcome_of_asked, unrecorded};
 
 use crate::asked::Asked;
 use crate::backend::Backend;
@@ -13,27 +13,27 @@ use std::sync::Wait;
 use std::time::Clock;
 
 /// Takes jobs at the desk, asks for each that is wanted, and records its outcome, until no job is given or a record is
-/// not taken. A job that is not wanted counts as lost.
+/// not taken. A job that is not wanted counts as lost. Answers whether all that were taken were recorded.
 pub fn work<R: Net + Clock + Wait, D: Desk, B: Backend, G: Gate>(
     rt: &R,
     alloc: Global,
     desk: &mut D,
     backend: &B,
     gate: &G,
-)
+) -> bool
     // Each job taken is recorded once, in order, but for the last where its record was not taken.
-    ensures told { WorksAt B.gives 1 (D.told desk.old) (D.told desk.new) }
+    ensures told { WorksAt B.gives (unrecorded result) (D.told desk.old) (D.told desk.new) }
     ensures gave { D.gave desk.old ≤ D.gave desk.new }
-    ensures no_more { D.took desk.new + D.gave desk.old ≤ D.took desk.old + D.gave desk.new }
-    ensures one_less { D.took desk.old + D.gave desk.new ≤ D.took desk.new + D.gave desk.old + 1 }
+    ensures took { D.took desk.old ≤ D.took desk.new }
+    ensures each { D.took desk.old + D.gave desk.new ≡ D.took desk.new + D.gave desk.old + unrecorded result }
 {
     for _ in rt.forever() {
         let Some(job) = desk.next(rt) else {
-            return;
+            return true;
         };
         let outcome = serve(rt, alloc, &job, backend, gate);
         if !desk.record(rt, &job, outcome) {
-            return;
+            return false;
         }
     }
     unreachable!()

@@ -15,31 +15,31 @@ use Rattle.call_contexts.specs.declared.life.Life.{Life}
 use Rattle.call_contexts.specs.Sound.{Op, IsSound, IsLife, IsConn, IsHolder, kind_of, contexts, owns, is_kept}
 use Rattle.call_contexts.proofs.Trees.{same_true, apart_kinds}
 
-pub kind_parent : (V : Type 0) (p q : Id) (d : Option ℕ) → parent_of (kind_of {V = V} p d) ≡ Some q → p ≡ q
-kind_parent V p q None e = cc
-kind_parent V p q (Some at) e = cc
+pub kind_parent : (C V : Type 0) (p q : Id) (d : Option ℕ) → parent_of (kind_of {C = C} {V = V} p d) ≡ Some q → p ≡ q
+kind_parent C V p q None e = cc
+kind_parent C V p q (Some at) e = cc
 
-module _ {V : Type 0} where
-  pub kind_not_background : (p : Id) (d : Option ℕ) → kind_of {V = V} p d ≡ Background → ⊥
+module _ {C V : Type 0} where
+  pub kind_not_background : (p : Id) (d : Option ℕ) → kind_of {C = C} {V = V} p d ≡ Background → ⊥
   kind_not_background p None e = cc
   kind_not_background p (Some at) e = cc
 
-  pub kind_not_value : (p : Id) (d : Option ℕ) (conn : Id) (r : V) → kind_of p d ≡ Value conn 0 r → ⊥
+  pub kind_not_value : (p : Id) (d : Option ℕ) (conn : Id) (r : V) → kind_of {C = C} {V = V} p d ≡ Value conn 0 r → ⊥
   kind_not_value p None conn r e = cc
   kind_not_value p (Some at) conn r e = cc
 
-  pub kind_cancel : (p q : Id) (d : Option ℕ) → kind_of {V = V} p d ≡ Cancel q → p ≡ q
+  pub kind_cancel : (p q : Id) (d : Option ℕ) → kind_of {C = C} {V = V} p d ≡ Cancel q → p ≡ q
   kind_cancel p q None e = cc
   kind_cancel p q (Some at) e = cc
 
-  pub differ : (x y : Id) (k l : Kind (Unit {0}) V) (past : List (Op V)) → held x past ≡ Some k → held y past ≡ Some l → (k ≡ l → ⊥) → x ≡ y → ⊥
+  pub differ : (x y : Id) (k l : Kind C V) (past : List (Op C V)) → held x past ≡ Some k → held y past ≡ Some l → (k ≡ l → ⊥) → x ≡ y → ⊥
   differ x y k l past xs ys other e = other (same_Some k l (sym xs ∙ subst (λ z. held z past ≡ Some l) (sym e) ys))
 
-module _ {V : Type 0} (past : List (Op V)) (root base : Id) (root_is : held root past ≡ Some Background) (base_is : held base past ≡ Some (Cancel root)) where
+module _ {C V : Type 0} (past : List (Op C V)) (root base : Id) (root_is : held root past ≡ Some Background) (base_is : held base past ≡ Some (Cancel root)) where
   base_root : base ≡ root → ⊥
   base_root = differ base root (Cancel root) Background past base_is root_is (λ e. cc)
 
-  roots_apart : (k l : Kind (Unit {0}) V) → k ≡ Cancel base → l ≡ Cancel root → k ≡ l → ⊥
+  roots_apart : (k l : Kind C V) → k ≡ Cancel base → l ≡ Cancel root → k ≡ l → ⊥
   roots_apart k l ks ls e = base_root (kind_cancel base root None (sym ks ∙ e ∙ ls))
 
   pub conn_root : (c : Id) → IsConn base past c → c ≡ root → ⊥
@@ -85,7 +85,7 @@ module _ {V : Type 0} (past : List (Op V)) (root base : Id) (root_is : held root
   parent_base conn c (Some x) is e = holder_base x conn is.0 is.1 e
 
   module _ (l : Life) (is : IsLife past base l) where
-    abbrev kind : Kind (Unit {0}) V
+    abbrev kind : Kind C V
     kind = kind_of (unwrap_or l.holder l.conn) l.deadline
 
     not_cancel_root : kind ≡ Cancel root → ⊥
@@ -153,12 +153,12 @@ owned y ctx (Some x) is = ⊎_elim
     (λ (n : same y ctx ≡ false). let e : y ≡ x = same_true y x (sym (or-false (same y x)) ∙ (rw n at is)) in inr (ap (λ z. Some z) (sym e)))
     (cases_Bool (same y ctx))
 
-module _ {V H : Type 0} {f : AfterFuncs H} {base : Id} {conns : List Id} {calls : List Life} {old : TreeValue (Unit {0}) V} (s : IsSound old f base conns calls)
+module _ {C V H : Type 0} {f : AfterFuncs H} {base : Id} {conns : List Id} {calls : List Life} {old : TreeValue C V} (s : IsSound old f base conns calls)
     (P : Life → Type 0) (each : All (λ l. IsLife s.past base l × P l) calls) where
-  of_parent : (x : Id) (k : Kind (Unit {0}) V) (y : Id) (l : Kind (Unit {0}) V) → held y s.past ≡ Some k → held y s.past ≡ Some l → parent_of k ≡ Some x → parent_of l ≡ Some x
+  of_parent : (x : Id) (k : Kind C V) (y : Id) (l : Kind C V) → held y s.past ≡ Some k → held y s.past ≡ Some l → parent_of k ≡ Some x → parent_of l ≡ Some x
   of_parent x k y l ks ls is = ap parent_of (same_Some l k (sym ls ∙ ks)) ∙ is
 
-  by_holder : (x y : Id) (k : Kind (Unit {0}) V) → held y s.past ≡ Some k → parent_of k ≡ Some x → (conn : Id) → (holder : Option Id) → IsHolder s.past conn holder → holder ≡ Some y → conn ≡ x
+  by_holder : (x y : Id) (k : Kind C V) → held y s.past ≡ Some k → parent_of k ≡ Some x → (conn : Id) → (holder : Option Id) → IsHolder s.past conn holder → holder ≡ Some y → conn ≡ x
   by_holder x y k ks is conn None h e = cc
   by_holder x y k ks is conn (Some z) h e =
       let zy : z ≡ y = same_Some z y e in
@@ -169,10 +169,10 @@ module _ {V H : Type 0} {f : AfterFuncs H} {base : Id} {conns : List Id} {calls 
   by_call x y ctx conn (Some z) e same_ctx = inr (ap (λ w. Some w) e, same_ctx)
 
   -- from the root derives the base, from it the connections, and from each of these its calls
-  pub origin : (x y : Id) (k : Kind (Unit {0}) V) → held y s.past ≡ Some k → parent_of k ≡ Some x → (x ≡ s.root) ⊎ ((x ≡ base) ⊎ Derives P x y)
+  pub origin : (x y : Id) (k : Kind C V) → held y s.past ≡ Some k → parent_of k ≡ Some x → (x ≡ s.root) ⊎ ((x ≡ base) ⊎ Derives P x y)
   origin x y k ks is = ⊎_elim
       (λ (r : same y s.root ≡ true).
-      let bad : parent_of {C = Unit {0}} {V = V} Background ≡ Some x = of_parent x k y Background ks (subst (λ z. held z s.past ≡ Some Background) (sym (same_true y s.root r)) s.root_is) is in
+      let bad : parent_of {C = C} {V = V} Background ≡ Some x = of_parent x k y Background ks (subst (λ z. held z s.past ≡ Some Background) (sym (same_true y s.root r)) s.root_is) is in
       cc)
       (λ (nr : same y s.root ≡ false). ⊎_elim
       (λ (b : same y base ≡ true).
@@ -199,7 +199,7 @@ module _ {V H : Type 0} {f : AfterFuncs H} {base : Id} {conns : List Id} {calls 
         which = o.1.1;
         from = ⊎_elim
             (λ (c : y ≡ o.0.ctx). by_call x y o.0.ctx o.0.conn o.0.holder
-            (kind_parent V (unwrap_or o.0.holder o.0.conn) x o.0.deadline
+            (kind_parent C V (unwrap_or o.0.holder o.0.conn) x o.0.deadline
             (of_parent x k y (kind_of (unwrap_or o.0.holder o.0.conn) o.0.deadline) ks (subst (λ z. held z s.past ≡ Some (kind_of (unwrap_or o.0.holder o.0.conn) o.0.deadline)) (sym c) o.1.0.call_is) is)) c)
             (λ (h : o.0.holder ≡ Some y). inl (by_holder x y k ks is o.0.conn o.0.holder o.1.0.holder_is h))
             (owned y o.0.ctx o.0.holder o.2);

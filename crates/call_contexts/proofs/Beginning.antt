@@ -2,7 +2,7 @@
 use Rattle.std.proofs.Common.{◌≡◌, refl, sym, ap, ◌∙◌, ℕ, ◌≤◌, ◌<◌, List, [], ◌∷◌, ◌++◌, Option, Some, None, true, false, ⊎_elim, arith, subst}
 use Rattle.std.specs.Prelude.{◌||◌, ◌^◌, not, is_some, map, nat_le, option_and_then, unwrap_or, Result, Err, IfErr}
 use Rattle.std.specs.List.{list_any}
-use Rattle.std.specs.Option.{option_map_or}
+use Rattle.std.specs.Option.{option_or, option_map_or}
 use Rattle.std.proofs.lemmas.Bool.{cases_Bool, or_parts}
 use Rattle.std.proofs.lemmas.List.{map-append}
 use Rattle.std.proofs.lemmas.List.Elements.{All-push, All-weaker}
@@ -10,24 +10,23 @@ use Rattle.std.proofs.Math.Bool.{or-false}
 use Rattle.context_tree.specs.declared.node.Kind.{Kind}
 use Rattle.context_tree.specs.declared.node.Kind.TheVariants.{Cancel, Value}
 use Rattle.context_tree.specs.Context.{Id, same, Makes, held}
-use Rattle.context_tree.specs.Frames.{is_due}
-use Rattle.context_tree.specs.Tree.{TreeValue, StandsFor, is_live, is_among}
+use Rattle.context_tree.specs.Tree.{TreeValue, StandsFor, is_among}
 use Rattle.after_funcs.specs.declared.callbacks.AfterFuncs.{AfterFuncs}
 use Rattle.after_funcs.specs.declared.error.AfterError.{AfterError}
 use Rattle.after_funcs.specs.declared.error.AfterError.TheVariants.{Exhausted, Memory}
 use Rattle.after_funcs.specs.Hooks.{AfterFunc, registered, waiting}
 use Rattle.after_funcs.specs.Stands.{StandsFor as HooksStand}
 use Rattle.call_contexts.specs.declared.life.Life.{Life}
-use Rattle.call_contexts.specs.Standing.{seen, seen_conn, seen_call, value_in, is_conn, is_call, is_fresh, is_ended_conn, opened, begun}
+use Rattle.call_contexts.specs.Standing.{cause_in, ended_conn, if_due, seen, seen_conn, seen_call, value_in, is_conn, is_call, is_fresh, opened, begun}
 use Rattle.call_contexts.specs.Sound.{Op, TreeLaws, IsSound, IsLife, IsConn, IsHolder, Touches, kind_of, moment_of, with_call, contexts, hook_of, kept_of, same_ctx, same_holder, owns, is_kept}
 use Rattle.call_contexts.proofs.Trees.{same_turned, shown, shown_request, far_one, far_new, touch_made, made_held}
-use Rattle.call_contexts.proofs.Making.{born_ended, call_new, call_touches, call_held, holder_held, call_ended}
+use Rattle.call_contexts.proofs.Making.{born_ended, or_none, call_new, call_touches, call_held, holder_held, call_ended}
 use Rattle.call_contexts.proofs.Seeing.{seen_as, call_as, ended_found}
 use Rattle.call_contexts.proofs.Lists.{any_map, any_append, none_any, no_two_pushed}
 use Rattle.call_contexts.proofs.Framing.{framed_sound, conns_kept, calls_kept, conns_seen, calls_seen, all_seen, drained_kept, root_new, base_new, conns_new, calls_new}
 
 -- one that was not held is of no connection and no call
-module _ {V H : Type 0} {f : AfterFuncs H} {base : Id} {conns : List Id} {calls : List Life} {old : TreeValue (Unit {0}) V} (s : IsSound old f base conns calls)
+module _ {C V H : Type 0} {f : AfterFuncs H} {base : Id} {conns : List Id} {calls : List Life} {old : TreeValue C V} (s : IsSound old f base conns calls)
     (id : Id) (none : held id s.past ≡ None) where
   pub is_new : is_fresh id (seen old.slots base conns calls) ≡ true
   is_new =
@@ -39,15 +38,15 @@ module _ {V H : Type 0} {f : AfterFuncs H} {base : Id} {conns : List Id} {calls 
 
 -- ---- a connection opens
 
-module _ {V H : Type 0} (laws : TreeLaws V) {f : AfterFuncs H} {base : Id} {conns : List Id} {calls : List Life} {old : TreeValue (Unit {0}) V} (s : IsSound old f base conns calls)
-    (id : Id) (new : TreeValue (Unit {0}) V) (st : StandsFor new (Makes id (Cancel base) 0 ∷ s.past)) where
-  abbrev later : List (Op V)
+module _ {C V H : Type 0} (laws : TreeLaws C V) {f : AfterFuncs H} {base : Id} {conns : List Id} {calls : List Life} {old : TreeValue C V} (s : IsSound old f base conns calls)
+    (id : Id) (new : TreeValue C V) (st : StandsFor new (Makes id (Cancel base) 0 ∷ s.past)) where
+  abbrev later : List (Op C V)
   later = Makes id (Cancel base) 0 ∷ s.past
 
   pub open_unheld : held id s.past ≡ None
   open_unheld = laws.new_unheld s.past id (Cancel base) 0 st.contexts.lawful
 
-  open_far : (x : Id) (kind : Kind (Unit {0}) V) → held x s.past ≡ Some kind → is_among x (id ∷ []) ≡ false
+  open_far : (x : Id) (kind : Kind C V) → held x s.past ≡ Some kind → is_among x (id ∷ []) ≡ false
   open_far x kind is = far_one x id (far_new id x kind s.past open_unheld is)
 
   open_touches : Touches (id ∷ []) s.past (Makes id (Cancel base) 0 ∷ s.past)
@@ -73,8 +72,8 @@ module _ {V H : Type 0} (laws : TreeLaws V) {f : AfterFuncs H} {base : Id} {conn
 
   pub seen_opened : seen new.slots base (conns ++ id ∷ []) calls ≡ opened id (seen old.slots base conns calls)
   seen_opened =
-      let ended : not (is_live new.slots id) ≡ not (is_live old.slots base) =
-      shown laws new later id (Cancel base) st (made_held s.past id (Cancel base) 0) ∙ born_ended s.past id base None 0 ∙ or-false _ ∙ sym (shown laws old s.past base (Cancel s.root) s.tree_is s.base_is) in
+      let ended : cause_in new.slots id ≡ cause_in old.slots base =
+      shown new later id (Cancel base) st (made_held s.past id (Cancel base) 0) ∙ born_ended s.past id base None 0 ∙ or_none _ ∙ sym (shown old s.past base (Cancel s.root) s.tree_is s.base_is) in
       seen_as new.slots base (conns ++ id ∷ []) calls _ _ _
       (drained_kept laws s (id ∷ []) later new st open_touches (root_new s (id ∷ []) open_far) (base_new s (id ∷ []) open_far))
       (map-append (seen_conn new.slots) conns (id ∷ [])
@@ -84,16 +83,16 @@ module _ {V H : Type 0} (laws : TreeLaws V) {f : AfterFuncs H} {base : Id} {conn
 
 -- ---- a call begins
 
-module _ {V H : Type 0} (laws : TreeLaws V) {f : AfterFuncs H} {base : Id} {conns : List Id} {calls : List Life} {old : TreeValue (Unit {0}) V} (s : IsSound old f base conns calls)
-    (l : Life) (now : ℕ) (request_id : Option V) (agree : is_some l.holder ≡ is_some request_id) (new : TreeValue (Unit {0}) V) (conn_is : held l.conn s.past ≡ Some (Cancel base))
+module _ {C V H : Type 0} (laws : TreeLaws C V) {f : AfterFuncs H} {base : Id} {conns : List Id} {calls : List Life} {old : TreeValue C V} (s : IsSound old f base conns calls)
+    (l : Life) (now : ℕ) (request_id : Option V) (agree : is_some l.holder ≡ is_some request_id) (new : TreeValue C V) (conn_is : held l.conn s.past ≡ Some (Cancel base))
     (st : StandsFor new (with_call l.ctx l.holder l.conn l.deadline now request_id s.past)) where
-  abbrev after : List (Op V)
+  abbrev after : List (Op C V)
   after = with_call l.ctx l.holder l.conn l.deadline now request_id s.past
 
   abbrev ids : List Id
   ids = contexts l.ctx l.holder
 
-  begin_far : (x : Id) (kind : Kind (Unit {0}) V) → held x s.past ≡ Some kind → is_among x (contexts l.ctx l.holder) ≡ false
+  begin_far : (x : Id) (kind : Kind C V) → held x s.past ≡ Some kind → is_among x (contexts l.ctx l.holder) ≡ false
   begin_far = call_new laws l.ctx l.conn l.deadline now s.past l.holder request_id agree st.contexts.lawful
 
   begin_touches : Touches (contexts l.ctx l.holder) s.past (with_call l.ctx l.holder l.conn l.deadline now request_id s.past)
@@ -150,7 +149,7 @@ module _ {V H : Type 0} (laws : TreeLaws V) {f : AfterFuncs H} {base : Id} {conn
   request_begun None (Some r) same_there t = cc
   request_begun (Some h) None same_there t = cc
   request_begun (Some h) (Some r) same_there t =
-      let mid : List (Op V) = Makes h (Value l.conn 0 r) 0 ∷ s.past in
+      let mid : List (Op C V) = Makes h (Value l.conn 0 r) 0 ∷ s.past in
       let was : held h mid ≡ Some (Value l.conn 0 r) = made_held s.past h (Value l.conn 0 r) 0 in
       let far : same l.ctx h ≡ false = far_new l.ctx h (Value l.conn 0 r) mid (laws.new_unheld mid l.ctx (kind_of h l.deadline) (moment_of l.deadline now) t.contexts.lawful) was in
       shown_request new (with_call l.ctx (Some h) l.conn l.deadline now (Some r) s.past) h l.conn r t (rw far was)
@@ -165,7 +164,7 @@ module _ {V H : Type 0} (laws : TreeLaws V) {f : AfterFuncs H} {base : Id} {conn
         where
           before : (h : Id) (r : V) → held l.ctx (Makes h (Value l.conn 0 r) 0 ∷ s.past) ≡ None → held l.ctx s.past ≡ None
           before h r none = ⊎_elim
-              (λ (y : same h l.ctx ≡ true). let k : Kind (Unit {0}) V = Value l.conn 0 r in let bad : Some k ≡ None = rw y at none in cc)
+              (λ (y : same h l.ctx ≡ true). let k : Kind C V = Value l.conn 0 r in let bad : Some k ≡ None = rw y at none in cc)
               (λ (n : same h l.ctx ≡ false). rw n at none)
               (cases_Bool (same h l.ctx))
 
@@ -173,10 +172,10 @@ module _ {V H : Type 0} (laws : TreeLaws V) {f : AfterFuncs H} {base : Id} {conn
   seen_begun known =
       let root_far = root_new s ids begin_far in
       let base_far = base_new s ids begin_far in
-      let ended : not (is_live new.slots l.ctx) ≡ (is_ended_conn l.conn (map (seen_conn old.slots) conns) || is_due now l.deadline) =
-      shown laws new after l.ctx (kind_of (unwrap_or l.holder l.conn) l.deadline) st (call_held laws l.ctx l.conn l.deadline now s.past l.holder request_id)
+      let ended : cause_in new.slots l.ctx ≡ option_or (ended_conn l.conn (map (seen_conn old.slots) conns)) (if_due now l.deadline) =
+      shown new after l.ctx (kind_of (unwrap_or l.holder l.conn) l.deadline) st (call_held laws l.ctx l.conn l.deadline now s.past l.holder request_id)
       ∙ call_ended laws l.ctx l.conn l.deadline now s.past l.holder request_id agree
-      ∙ ap (λ b. b || is_due now l.deadline) (sym (shown laws old s.past l.conn (Cancel base) s.tree_is conn_is) ∙ sym (ended_found old.slots conns l.conn known)) in
+      ∙ ap (λ o. option_or o (if_due now l.deadline)) (sym (shown old s.past l.conn (Cancel base) s.tree_is conn_is) ∙ sym (ended_found old.slots conns l.conn known)) in
       seen_as new.slots base conns (calls ++ l ∷ []) _ _ _
       (drained_kept laws s ids after new st begin_touches root_far base_far)
       (conns_seen laws s ids after new st begin_touches root_far base_far conns (conns_new s ids begin_far))
@@ -186,9 +185,9 @@ module _ {V H : Type 0} (laws : TreeLaws V) {f : AfterFuncs H} {base : Id} {conn
 
 -- ---- a call that is not begun
 
-module _ {V H : Type 0} (laws : TreeLaws V) {f : AfterFuncs H} {base : Id} {conns : List Id} {calls : List Life} {old : TreeValue (Unit {0}) V} (s : IsSound old f base conns calls)
-    (past : List (Op V)) (new : TreeValue (Unit {0}) V) (st : StandsFor new past) (t : Touches [] s.past past) where
-  nothing_far : (x : Id) (kind : Kind (Unit {0}) V) → held x s.past ≡ Some kind → is_among x [] ≡ false
+module _ {C V H : Type 0} (laws : TreeLaws C V) {f : AfterFuncs H} {base : Id} {conns : List Id} {calls : List Life} {old : TreeValue C V} (s : IsSound old f base conns calls)
+    (past : List (Op C V)) (new : TreeValue C V) (st : StandsFor new past) (t : Touches [] s.past past) where
+  nothing_far : (x : Id) (kind : Kind C V) → held x s.past ≡ Some kind → is_among x [] ≡ false
   nothing_far x kind is = refl
 
   pub sound_alike : (f' : AfterFuncs H) → HooksStand f' s.hooks → IsSound new f' base conns calls

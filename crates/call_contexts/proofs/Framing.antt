@@ -1,16 +1,16 @@
 -- What the making and the release of contexts leave of the others.
 use Rattle.std.proofs.Common.{◌≡◌, refl, sym, ◌∙◌, List, [], Option, Some, None, false}
-use Rattle.std.specs.Prelude.{not, map, All, option_and_then, unwrap_or}
+use Rattle.std.specs.Prelude.{map, All, option_and_then, unwrap_or}
 use Rattle.std.proofs.lemmas.List.Elements.{All-weaker}
 use Rattle.context_tree.specs.declared.node.Kind.{Kind}
 use Rattle.context_tree.specs.declared.node.Kind.TheVariants.{Background, Cancel, Value}
 use Rattle.context_tree.specs.Context.{Id, held}
-use Rattle.context_tree.specs.Tree.{TreeValue, StandsFor, is_live, is_among}
+use Rattle.context_tree.specs.Tree.{TreeValue, StandsFor, is_among}
 use Rattle.after_funcs.specs.declared.callbacks.AfterFuncs.{AfterFuncs}
 use Rattle.after_funcs.specs.Hooks.{Operation, waiting, due}
 use Rattle.after_funcs.specs.Stands.{StandsFor as HooksStand}
 use Rattle.call_contexts.specs.declared.life.Life.{Life}
-use Rattle.call_contexts.specs.Standing.{seen, seen_conn, seen_call, value_in}
+use Rattle.call_contexts.specs.Standing.{cause_in, seen, seen_conn, seen_call, value_in}
 use Rattle.call_contexts.specs.Sound.{Op, TreeLaws, IsSound, IsLife, IsConn, IsHolder, Touches, kind_of, hook_of, kept_of, NoTwo, same_ctx, same_holder, is_kept}
 use Rattle.call_contexts.proofs.Trees.{shown, shown_request}
 use Rattle.call_contexts.proofs.Seeing.{maps_agree, seen_as, conn_as, call_as}
@@ -21,24 +21,24 @@ FarHolder ids None = Unit {0}
 FarHolder ids (Some x) = is_among x ids ≡ false
 
 -- a connection that is none of these
-abbrev pub OtherConn : {V : Type 0} → List (Op V) → Id → List Id → Id → Type 0
+abbrev pub OtherConn : {C V : Type 0} → List (Op C V) → Id → List Id → Id → Type 0
 OtherConn past base ids c = IsConn base past c × (is_among c ids ≡ false)
 
 -- a call, and none of its contexts is among these
-pub record OtherLife {V : Type 0} (past : List (Op V)) (base : Id) (ids : List Id) (l : Life) : Type 0 where
+pub record OtherLife {C V : Type 0} (past : List (Op C V)) (base : Id) (ids : List Id) (l : Life) : Type 0 where
   pub life : IsLife past base l
   pub ctx_far : is_among l.ctx ids ≡ false
   pub holder_far : FarHolder ids l.holder
   pub conn_far : is_among l.conn ids ≡ false
 
-module _ {V H : Type 0} (laws : TreeLaws V) {f : AfterFuncs H} {base : Id} {conns : List Id} {calls : List Life} {old : TreeValue (Unit {0}) V} (s : IsSound old f base conns calls)
-    (ids : List Id) (later : List (Op V)) (new : TreeValue (Unit {0}) V) (st : StandsFor new later) (t : Touches ids s.past later)
+module _ {C V H : Type 0} (laws : TreeLaws C V) {f : AfterFuncs H} {base : Id} {conns : List Id} {calls : List Life} {old : TreeValue C V} (s : IsSound old f base conns calls)
+    (ids : List Id) (later : List (Op C V)) (new : TreeValue C V) (st : StandsFor new later) (t : Touches ids s.past later)
     (root_far : is_among s.root ids ≡ false) (base_far : is_among base ids ≡ false) where
-  keeps : (x : Id) (kind : Kind (Unit {0}) V) → held x s.past ≡ Some kind → is_among x ids ≡ false → held x later ≡ Some kind
+  keeps : (x : Id) (kind : Kind C V) → held x s.past ≡ Some kind → is_among x ids ≡ false → held x later ≡ Some kind
   keeps x kind is far = t.held_is x far ∙ is
 
-  shows : (x : Id) (kind : Kind (Unit {0}) V) → held x s.past ≡ Some kind → is_among x ids ≡ false → not (is_live new.slots x) ≡ not (is_live old.slots x)
-  shows x kind is far = shown laws new later x kind st (keeps x kind is far) ∙ t.ending_is x kind far is ∙ sym (shown laws old s.past x kind s.tree_is is)
+  shows : (x : Id) (kind : Kind C V) → held x s.past ≡ Some kind → is_among x ids ≡ false → cause_in new.slots x ≡ cause_in old.slots x
+  shows x kind is far = shown new later x kind st (keeps x kind is far) ∙ t.ending_is x kind far is ∙ sym (shown old s.past x kind s.tree_is is)
 
   holder_kept : (conn : Id) (holder : Option Id) → IsHolder s.past conn holder → FarHolder ids holder → IsHolder later conn holder
   holder_kept conn None is far = tt
@@ -80,7 +80,7 @@ module _ {V H : Type 0} (laws : TreeLaws V) {f : AfterFuncs H} {base : Id} {conn
     none_due = none;
   }
 
-  pub drained_kept : not (is_live new.slots base) ≡ not (is_live old.slots base)
+  pub drained_kept : cause_in new.slots base ≡ cause_in old.slots base
   drained_kept = shows base (Cancel s.root) s.base_is base_far
 
   pub conns_seen : (cs : List Id) → All (OtherConn s.past base ids) cs → map (seen_conn new.slots) cs ≡ map (seen_conn old.slots) cs
@@ -97,8 +97,8 @@ module _ {V H : Type 0} (laws : TreeLaws V) {f : AfterFuncs H} {base : Id} {conn
 
 -- ---- contexts that were not held before are far from all that are kept
 
-module _ {V H : Type 0} {f : AfterFuncs H} {base : Id} {conns : List Id} {calls : List Life} {old : TreeValue (Unit {0}) V} (s : IsSound old f base conns calls)
-    (ids : List Id) (new_far : (x : Id) (kind : Kind (Unit {0}) V) → held x s.past ≡ Some kind → is_among x ids ≡ false) where
+module _ {C V H : Type 0} {f : AfterFuncs H} {base : Id} {conns : List Id} {calls : List Life} {old : TreeValue C V} (s : IsSound old f base conns calls)
+    (ids : List Id) (new_far : (x : Id) (kind : Kind C V) → held x s.past ≡ Some kind → is_among x ids ≡ false) where
   pub root_new : is_among s.root ids ≡ false
   root_new = new_far s.root Background s.root_is
 

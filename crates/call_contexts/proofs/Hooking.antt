@@ -18,7 +18,7 @@ use Rattle.call_contexts.specs.Sound.{hook_of, kept_of, life_at, NoTwo, same_ctx
 use Rattle.call_contexts.proofs.Trees.{same_true}
 use Rattle.call_contexts.proofs.Lists.{any_map, all_stay}
 
-pub pair_is : {V H : Type 0} (v w : WithHooks V H) → v.standing ≡ w.standing → v.hooks ≡ w.hooks → v ≡ w
+pub pair_is : {C V H : Type 0} (v w : WithHooks C V H) → v.standing ≡ w.standing → v.hooks ≡ w.hooks → v ≡ w
 pair_is v w l h = ap (λ x. record { standing = x; hooks = v.hooks }) l ∙ ap (λ x. record { standing = w.standing; hooks = x }) h
 
 pub filter_map_swap : {A B : Type 0} (f : A → B) (p : B → Bool) (xs : List A) → filter p (map f xs) ≡ map f (filter (λ x. p (f x)) xs)
@@ -194,7 +194,7 @@ module _ {H : Type 0} (f f' : AfterFuncs H) (hooks : List (Operation H)) (hs : H
       ∙ ap (λ rs. filter (λ p. not (same p.0 id)) (map on_ctx rs)) (sym hs.waiting_is)
 
 -- the hooks are those of the calls, in their order
-pub hooks_of_calls : {V H : Type 0} (slots : Slots V) (f : AfterFuncs H) (hooks : List (Operation H)) (hs : HooksStand f hooks) (calls : List Life) → map hook_of (waiting hooks) ≡ map kept_of calls
+pub hooks_of_calls : {C V H : Type 0} (slots : Slots C V) (f : AfterFuncs H) (hooks : List (Operation H)) (hs : HooksStand f hooks) (calls : List Life) → map hook_of (waiting hooks) ≡ map kept_of calls
     → map (λ p. p.0) (map on_ctx f.waiting.items) ≡ map (λ c. c.id) (map (seen_call slots) calls)
 hooks_of_calls slots f hooks hs calls waits =
     map_twice (λ p. p.0) on_ctx f.waiting.items ∙ ap (map (λ r. r.ctx)) hs.waiting_is ∙ sym (map_twice (λ (p : ℕ × Id). p.1) hook_of (waiting hooks)) ∙ ap (map (λ (p : ℕ × Id). p.1)) waits

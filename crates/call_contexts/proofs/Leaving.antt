@@ -8,14 +8,14 @@ use Rattle.std.proofs.lemmas.List.Elements.{All-weaker}
 use Rattle.std.proofs.Math.Bool.{or-false}
 use Rattle.std.proofs.lemmas.Option.{same_Some}
 use Rattle.context_tree.specs.declared.node.Kind.TheVariants.{Cancel, Value}
-use Rattle.context_tree.specs.Context.{Id, same, Releases, HasChild, held, ending, nearest, line}
-use Rattle.context_tree.specs.Tree.{TreeValue, StandsFor, is_live, is_among}
+use Rattle.context_tree.specs.Context.{Id, same, Releases, HasChild, held, nearest, line}
+use Rattle.context_tree.specs.Tree.{TreeValue, StandsFor, is_among}
 use Rattle.after_funcs.specs.declared.callbacks.AfterFuncs.{AfterFuncs}
 use Rattle.after_funcs.specs.Hooks.{Operation, waiting, due}
 use Rattle.after_funcs.specs.Stands.{StandsFor as HooksStand}
 use Rattle.call_contexts.specs.declared.life.Life.{Life}
-use Rattle.call_contexts.specs.Standing.{seen, seen_conn, seen_call, value_in, without, closed, is_over, request_for, AreApart}
-use Rattle.call_contexts.specs.Sound.{TreeLaws, IsSound, IsLife, IsConn, IsHolder, IsFree, AreFree, Touches, kind_of, contexts, let_go, hook_of, kept_of, life_at, NoTwo, same_ctx, same_holder, owns, is_kept}
+use Rattle.call_contexts.specs.Standing.{seen, seen_conn, seen_call, cause_in, ended_call, value_in, without, closed, request_for, AreApart}
+use Rattle.call_contexts.specs.Sound.{TreeLaws, IsSound, IsLife, IsConn, IsHolder, IsFree, AreFree, Touches, kind_of, contexts, let_go, hook_of, kept_of, life_at, NoTwo, same_ctx, same_holder, owns, is_kept, why}
 use Rattle.call_contexts.proofs.Trees.{same_refl, same_true, same_turned, not_both, shown, touch_released, released_held, call_value}
 use Rattle.call_contexts.proofs.Making.{go_touches, gone_unheld}
 use Rattle.call_contexts.proofs.Apart.{conn_root, conn_base, base_far_conn, root_far_conn, root_far_holder, base_far_holder, conn_far_holder, holder_far_conn, holder_root, holder_base, conn_holder, root_far_call, base_far_call, conn_far_call, call_far_conn, call_far_holder, holder_far_call, call_root, call_base, conn_call, holder_call, Derives, origin}
@@ -23,19 +23,19 @@ use Rattle.call_contexts.proofs.Lists.{any_map, all_stay, all_none, both_all, no
 use Rattle.call_contexts.proofs.Hooking.{filter_map_swap}
 use Rattle.call_contexts.proofs.Framing.{FarHolder, OtherConn, OtherLife, framed_sound, conns_kept, calls_kept, all_seen}
 
-pub seen_apart : {V : Type 0} (slots : _) (ls : List Life) → NoTwo same_ctx ls → AreApart (map (seen_call {V = V} slots) ls)
+pub seen_apart : {C V : Type 0} (slots : _) (ls : List Life) → NoTwo same_ctx ls → AreApart (map (seen_call {C = C} {V = V} slots) ls)
 seen_apart slots [] distinct = tt
 seen_apart slots (l ∷ ls) distinct = (any_map (λ c. same c.id l.ctx) (seen_call slots) ls ∙ distinct.0, seen_apart slots ls distinct.1)
 
-module _ {V H : Type 0} {f : AfterFuncs H} {base : Id} {conns : List Id} {calls : List Life} {old : TreeValue (Unit {0}) V} (s : IsSound old f base conns calls) (id : Id) where
+module _ {C V H : Type 0} {f : AfterFuncs H} {base : Id} {conns : List Id} {calls : List Life} {old : TreeValue C V} (s : IsSound old f base conns calls) (id : Id) where
   -- nothing is gone where no call has that context
   pub none_gone : list_any (λ l. same l.ctx id) calls ≡ false → seen old.slots base conns calls ≡ without id (seen old.slots base conns calls)
-  none_gone none = ap (λ cs. record { drained = not (is_live old.slots base); conns = map (seen_conn old.slots) conns; calls = cs })
+  none_gone none = ap (λ cs. record { drained = cause_in old.slots base; conns = map (seen_conn old.slots) conns; calls = cs })
       (sym (all_stay (λ c. same c.id id) (map (seen_call old.slots) calls) (any_map (λ c. same c.id id) (seen_call old.slots) calls ∙ none)))
 
 -- ---- a call is gone
 
-module _ {V H : Type 0} (laws : TreeLaws V) {f : AfterFuncs H} {base : Id} {conns : List Id} {calls : List Life} {old : TreeValue (Unit {0}) V} (s : IsSound old f base conns calls)
+module _ {C V H : Type 0} (laws : TreeLaws C V) {f : AfterFuncs H} {base : Id} {conns : List Id} {calls : List Life} {old : TreeValue C V} (s : IsSound old f base conns calls)
     (id : Id) (l : Life) (found : life_at id calls ≡ Some l) where
   one : IsLife s.past base l × (l.ctx ≡ id)
   one = found_in id (IsLife s.past base) l calls s.calls_are found
@@ -177,10 +177,10 @@ module _ {V H : Type 0} (laws : TreeLaws V) {f : AfterFuncs H} {base : Id} {conn
           )
 
   -- a release under the call's own name does it
-  pub call_let_go : (new : TreeValue (Unit {0}) V) → (AreFree id l.holder s.past → StandsFor new (let_go id l.holder s.past)) → StandsFor new (let_go l.ctx l.holder s.past)
+  pub call_let_go : (new : TreeValue C V) → (AreFree id l.holder s.past → StandsFor new (let_go id l.holder s.past)) → StandsFor new (let_go l.ctx l.holder s.past)
   call_let_go new goes = subst (λ z. AreFree z l.holder s.past → StandsFor new (let_go z l.holder s.past)) (sym one.1) goes call_frees
 
-  module _ (new : TreeValue (Unit {0}) V) (st : StandsFor new (let_go l.ctx l.holder s.past)) where
+  module _ (new : TreeValue C V) (st : StandsFor new (let_go l.ctx l.holder s.past)) where
     touches : Touches (contexts l.ctx l.holder) s.past (let_go l.ctx l.holder s.past)
     touches = go_touches l.ctx s.past l.holder
 
@@ -204,14 +204,14 @@ module _ {V H : Type 0} (laws : TreeLaws V) {f : AfterFuncs H} {base : Id} {conn
 
     pub seen_left : seen new.slots base conns (filter (λ m. not (same m.ctx id)) calls) ≡ without id (seen old.slots base conns calls)
     seen_left = all_seen laws s ids (let_go l.ctx l.holder s.past) new st touches root_far base_far conns (filter (λ m. not (same m.ctx id)) calls) conns_far others
-        ∙ ap (λ cs. record { drained = not (is_live old.slots base); conns = map (seen_conn old.slots) conns; calls = cs }) (sym (filter_map_swap (seen_call old.slots) (λ c. not (same c.id id)) calls))
+        ∙ ap (λ cs. record { drained = cause_in old.slots base; conns = map (seen_conn old.slots) conns; calls = cs }) (sym (filter_map_swap (seen_call old.slots) (λ c. not (same c.id id)) calls))
 
 -- ---- a connection is gone
 
-none_of : {V : Type 0} (slots : _) (id : Id) (ls : List Life) → list_any (λ c. same c.conn id) (map (seen_call {V = V} slots) ls) ≡ false → All (λ m. same m.conn id ≡ false) ls
+none_of : {C V : Type 0} (slots : _) (id : Id) (ls : List Life) → list_any (λ c. same c.conn id) (map (seen_call {C = C} {V = V} slots) ls) ≡ false → All (λ m. same m.conn id ≡ false) ls
 none_of slots id ls none = all_none (λ m. same m.conn id) ls (sym (any_map (λ c. same c.conn id) (seen_call slots) ls) ∙ none)
 
-module _ {V H : Type 0} (laws : TreeLaws V) {f : AfterFuncs H} {base : Id} {conns : List Id} {calls : List Life} {old : TreeValue (Unit {0}) V} (s : IsSound old f base conns calls) (id : Id)
+module _ {C V H : Type 0} (laws : TreeLaws C V) {f : AfterFuncs H} {base : Id} {conns : List Id} {calls : List Life} {old : TreeValue C V} (s : IsSound old f base conns calls) (id : Id)
     (id_is : held id s.past ≡ Some (Cancel base)) (none : list_any (λ c. same c.conn id) (map (seen_call old.slots) calls) ≡ false) where
   each_call : All (λ m. IsLife s.past base m × (same m.conn id ≡ false)) calls
   each_call = both_all (IsLife s.past base) (λ m. same m.conn id ≡ false) calls s.calls_are (none_of old.slots id calls none)
@@ -238,7 +238,7 @@ module _ {V H : Type 0} (laws : TreeLaws V) {f : AfterFuncs H} {base : Id} {conn
   pub conn_free : IsFree id s.past
   conn_free = record { is_held = ap is_some id_is; childless = no_call }
 
-  module _ (new : TreeValue (Unit {0}) V) (st : StandsFor new (Releases id ∷ s.past)) where
+  module _ (new : TreeValue C V) (st : StandsFor new (Releases id ∷ s.past)) where
     close_touches : Touches (id ∷ []) s.past (Releases id ∷ s.past)
     close_touches = touch_released id s.past
 
@@ -286,44 +286,38 @@ module _ {V H : Type 0} (laws : TreeLaws V) {f : AfterFuncs H} {base : Id} {conn
 
     pub seen_closed : seen new.slots base (filter (λ c. not (same c id)) conns) calls ≡ closed id (seen old.slots base conns calls)
     seen_closed = all_seen laws s (id ∷ []) (Releases id ∷ s.past) new st close_touches root_apart base_apart (filter (λ c. not (same c id)) conns) calls conns_left calls_left
-        ∙ ap (λ cs. record { drained = not (is_live old.slots base); conns = cs; calls = map (seen_call old.slots) calls }) (sym (filter_map_swap (seen_conn old.slots) (λ c. not (same c.id id)) conns))
+        ∙ ap (λ cs. record { drained = cause_in old.slots base; conns = cs; calls = map (seen_call old.slots) calls }) (sym (filter_map_swap (seen_conn old.slots) (λ c. not (same c.id id)) conns))
 
 -- ---- what is asked of a call
 
-over_is : {V : Type 0} (slots : _) (id : Id) (ls : List Life) → is_over id (map (seen_call {V = V} slots) ls) ≡ (list_any (λ m. same m.ctx id) ls && not (is_live slots id))
-over_is slots id [] = refl
-over_is slots id (l ∷ ls) = ⊎_elim
-    (λ (y : same l.ctx id ≡ true). rw (y, same_true l.ctx id y, over_is slots id ls) (rest (not (is_live slots id)) (list_any (λ m. same m.ctx id) ls)))
-    (λ (n : same l.ctx id ≡ false). rw n (over_is slots id ls))
-    (cases_Bool (same l.ctx id))
-  where
-    rest : (e b : Bool) → (e || (b && e)) ≡ e
-    rest true b = refl
-    rest false true = refl
-    rest false false = refl
-
--- a call that stands is over where its context is seen to have ended
-pub ended_one : {V : Type 0} (slots : _) (id : Id) (ls : List Life) → list_any (λ m. same m.ctx id) ls ≡ true → is_over id (map (seen_call {V = V} slots) ls) ≡ not (is_live slots id)
-ended_one slots id ls any = over_is slots id ls ∙ rw any refl
-
-pub none_over : {V : Type 0} (slots : _) (id : Id) (ls : List Life) → list_any (λ m. same m.ctx id) ls ≡ false → is_over id (map (seen_call {V = V} slots) ls) ≡ false
-none_over slots id ls any = over_is slots id ls ∙ rw any refl
-
 -- the first call that is seen is the one that is kept
-pub request_seen : {V : Type 0} (slots : _) (id : Id) (l : Life) (ls : List Life) → life_at id ls ≡ Some l → request_for id (map (seen_call {V = V} slots) ls) ≡ option_and_then (value_in slots) l.holder
+pub ended_seen : {C V : Type 0} (slots : _) (id : Id) (ls : List Life) → list_any (λ m. same m.ctx id) ls ≡ true → ended_call id (map (seen_call {C = C} {V = V} slots) ls) ≡ cause_in slots id
+ended_seen slots id [] any = cc
+ended_seen slots id (m ∷ ms) any = ⊎_elim
+    (λ (y : same m.ctx id ≡ true). rw y (ap (cause_in slots) (same_true m.ctx id y)))
+    (λ (n : same m.ctx id ≡ false). rw n (ended_seen slots id ms (rw n at any)))
+    (cases_Bool (same m.ctx id))
+
+pub none_ended : {C V : Type 0} (slots : _) (id : Id) (ls : List Life) → list_any (λ m. same m.ctx id) ls ≡ false → ended_call id (map (seen_call {C = C} {V = V} slots) ls) ≡ None
+none_ended slots id [] none = refl
+none_ended slots id (m ∷ ms) none =
+    let two = or_parts (same m.ctx id) (list_any (λ k. same k.ctx id) ms) none in
+    rw two.0 (none_ended slots id ms two.1)
+
+pub request_seen : {C V : Type 0} (slots : _) (id : Id) (l : Life) (ls : List Life) → life_at id ls ≡ Some l → request_for id (map (seen_call {C = C} {V = V} slots) ls) ≡ option_and_then (value_in slots) l.holder
 request_seen slots id l [] found = cc
 request_seen slots id l (m ∷ ms) found = ⊎_elim
     (λ (y : same m.ctx id ≡ true). rw y (ap (λ (k : Life). option_and_then (value_in slots) k.holder) (same_Some m l (rw y at found))))
     (λ (n : same m.ctx id ≡ false). rw n (request_seen slots id l ms (rw n at found)))
     (cases_Bool (same m.ctx id))
 
-pub no_request : {V : Type 0} (slots : _) (id : Id) (ls : List Life) → list_any (λ m. same m.ctx id) ls ≡ false → request_for id (map (seen_call {V = V} slots) ls) ≡ None
+pub no_request : {C V : Type 0} (slots : _) (id : Id) (ls : List Life) → list_any (λ m. same m.ctx id) ls ≡ false → request_for id (map (seen_call {C = C} {V = V} slots) ls) ≡ None
 no_request slots id [] none = refl
 no_request slots id (m ∷ ms) none =
     let two = or_parts (same m.ctx id) (list_any (λ k. same k.ctx id) ms) none in
     rw two.0 (no_request slots id ms two.1)
 
-module _ {V H : Type 0} (laws : TreeLaws V) {f : AfterFuncs H} {base : Id} {conns : List Id} {calls : List Life} {old : TreeValue (Unit {0}) V} (s : IsSound old f base conns calls)
+module _ {C V H : Type 0} (laws : TreeLaws C V) {f : AfterFuncs H} {base : Id} {conns : List Id} {calls : List Life} {old : TreeValue C V} (s : IsSound old f base conns calls)
     (id : Id) (l : Life) (found : life_at id calls ≡ Some l) where
   pub call_known : is_some (held id s.past) ≡ true
   call_known = let it = found_in id (IsLife s.past base) l calls s.calls_are found in subst (λ z. is_some (held z s.past) ≡ true) it.1 (ap is_some it.0.call_is)
@@ -336,12 +330,12 @@ module _ {V H : Type 0} (laws : TreeLaws V) {f : AfterFuncs H} {base : Id} {conn
       (call_value laws s.past s.tree_is.contexts.lawful s.root base s.root_is s.base_is l.conn it.0.conn_is l.ctx l.holder it.0.holder_is old s.tree_is l.deadline it.0.call_is)
       ∙ sym (request_seen old.slots id l calls found)
 
-  -- the tree tells whether the call has ended as it is seen
-  pub over_told : is_some (ending id s.past) ≡ is_over id (map (seen_call old.slots) calls)
-  over_told =
+  -- the tree tells what ended the call as it is seen
+  pub ended_told : why id s.past ≡ ended_call id (map (seen_call old.slots) calls)
+  ended_told =
       let it = found_in id (IsLife s.past base) l calls s.calls_are found in
-      subst (λ z. is_some (ending z s.past) ≡ not (is_live old.slots z)) it.1 (sym (shown laws old s.past l.ctx (kind_of (unwrap_or l.holder l.conn) l.deadline) s.tree_is it.0.call_is))
-      ∙ sym (ended_one old.slots id calls (found_any id l calls found))
+      subst (λ z. why z s.past ≡ cause_in old.slots z) it.1 (sym (shown old s.past l.ctx (kind_of (unwrap_or l.holder l.conn) l.deadline) s.tree_is it.0.call_is))
+      ∙ sym (ended_seen old.slots id calls (found_any id l calls found))
 
 -- the answer about a context that is held
 pub asked_held : {K A : Type 0} (o : Option K) (a : A) → is_some o ≡ true → option_map (λ kind. a) o ≡ Some a

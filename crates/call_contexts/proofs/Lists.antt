@@ -176,9 +176,3 @@ module _ (id : Id) where
       let two = or_parts (same x c) (is_among x (filter (λ d. not (same d id)) cs)) (rw n at none) in
       rw two.0 (among_none x cs far two.1))
       (cases_Bool (same c id))
-
--- ---- connections that are known
-
-pub known_last : (id : Id) (cs : List Conn) (ended : Bool) → is_conn id (cs ++ record { id = id; ended = ended } ∷ []) ≡ true
-known_last id [] ended = rw (same_refl id) refl
-known_last id (c ∷ cs) ended = rw (known_last id cs ended) (or-true (same c.id id))

@@ -1,47 +1,48 @@
 -- The contexts of a call, as they are made.
 use Rattle.std.proofs.Common.{◌≡◌, refl, sym, ap, ◌∙◌, ℕ, List, [], ◌∷◌, Option, Some, None, Bool, true, false, ⊎_elim, subst}
-use Rattle.std.specs.Prelude.{◌||◌, is_some, nat_le, if◌then◌else◌, option_map, unwrap_or}
+use Rattle.std.specs.Prelude.{◌||◌, is_some, nat_le, if◌then◌else◌, length, option_map, unwrap_or}
 use Rattle.std.specs.Option.{option_or}
 use Rattle.std.proofs.lemmas.Bool.{cases_Bool, or_parts}
 use Rattle.std.proofs.Math.Bool.{or-false}
 use Rattle.std.proofs.lemmas.Option.{same_Some}
 use Rattle.context_tree.specs.declared.node.Kind.{Kind}
 use Rattle.context_tree.specs.declared.node.Kind.TheVariants.{Value}
-use Rattle.context_tree.specs.Context.{Id, same, Makes, Releases, held, ending}
-use Rattle.context_tree.specs.Frames.{is_due}
+use Rattle.context_tree.specs.Context.{Id, Ended, same, Makes, Releases, expiry, held, inherited, ending}
+use Rattle.call_contexts.specs.Standing.{if_due}
 use Rattle.context_tree.specs.Tree.{TreeValue, StandsFor, IsLawful, is_among}
-use Rattle.call_contexts.specs.Sound.{Op, TreeLaws, IsFree, AreFree, IsHolder, Touches, StandsAlike, contexts, kind_of, moment_of, with_holder, with_call, let_go, parent_of_call}
+use Rattle.call_contexts.specs.Sound.{Op, TreeLaws, IsFree, AreFree, IsHolder, Touches, StandsAlike, contexts, kind_of, moment_of, with_holder, with_call, let_go, parent_of_call, why}
 use Rattle.call_contexts.proofs.Trees.{same_refl, same_true, same_turned, far_one, far_new, touch_made, touch_released, touch_next, touch_more, touch_none, free_alike, made_held, released_held, alike, new_free, made_and_released}
 
-map_some : {A B : Type 0} (f : A → B) (o : Option A) → is_some (option_map f o) ≡ is_some o
-map_some f None = refl
-map_some f (Some a) = refl
+-- what ended one from the start: what had ended its parent, or else its own deadline
+born_by : {C D : Type 0} (turn : ℕ) (id : Id) (exp : D → Ended C) (o : Option (Ended C)) (b : Bool) (d : D)
+    → option_map (λ e. e.cause) (option_or (option_map (inherited turn id) o) (option_map exp (if b then Some d else None)))
+    ≡ option_or (option_map (λ e. e.cause) o) (if b then Some (exp d).cause else None)
+born_by turn id exp None true d = refl
+born_by turn id exp None false d = refl
+born_by turn id exp (Some e) b d = refl
 
-or_some : {A : Type 0} (a b : Option A) → is_some (option_or a b) ≡ (is_some a || is_some b)
-or_some None b = refl
-or_some (Some a) b = refl
+born_plain : {C : Type 0} (turn : ℕ) (id : Id) (o : Option (Ended C)) → option_map (λ e. e.cause) (option_or (option_map (inherited turn id) o) None) ≡ option_or (option_map (λ e. e.cause) o) None
+born_plain turn id None = refl
+born_plain turn id (Some e) = refl
 
-either_some : {A B C : Type 0} (g : A → C) (h : B → C) (x : Option A) (b : Bool) (d : B)
-    → is_some (option_or (option_map g x) (option_map h (if b then Some d else None))) ≡ (is_some x || b)
-either_some g h None true d = refl
-either_some g h None false d = refl
-either_some g h (Some a) b d = refl
+pub or_none : {A : Type 0} (o : Option A) → option_or o None ≡ o
+or_none None = refl
+or_none (Some a) = refl
 
-module _ {V : Type 0} (past : List (Op V)) where
-  -- a context has ended from the start where its parent had, or its deadline is reached
-  pub born_ended : (id parent : Id) (at : Option ℕ) (now : ℕ)
-      → is_some (ending id (Makes id (kind_of parent at) (moment_of at now) ∷ past)) ≡ (is_some (ending parent past) || is_due now at)
-  born_ended id parent None now = rw (same_refl id) (or_some _ None ∙ ap (λ b. b || false) (map_some _ (ending parent past)))
-  born_ended id parent (Some at) now = rw (same_refl id) (either_some _ _ (ending parent past) (nat_le at now) _)
+module _ {C V : Type 0} (past : List (Op C V)) where
+  -- a context has ended from the start by what had ended its parent, or where its deadline is reached
+  pub born_ended : (id parent : Id) (at : Option ℕ) (now : ℕ) → why id (Makes id (kind_of parent at) (moment_of at now) ∷ past) ≡ option_or (why parent past) (if_due now at)
+  born_ended id parent None now = rw (same_refl id) (born_plain (length past) id (ending parent past))
+  born_ended id parent (Some at) now = rw (same_refl id) (born_by (length past) id (expiry (length past)) (ending parent past) (nat_le at now) _)
 
-  -- one that has a request id has ended where its parent had
-  pub holder_ended : (id conn : Id) (request_id : V) → is_some (ending id (Makes id (Value conn 0 request_id) 0 ∷ past)) ≡ is_some (ending conn past)
-  holder_ended id conn request_id = rw (same_refl id) (or_some _ None ∙ ap (λ b. b || false) (map_some _ (ending conn past)) ∙ or-false _)
+  -- one that has a request id has ended by what had ended its parent
+  pub holder_ended : (id conn : Id) (request_id : V) → why id (Makes id (Value conn 0 request_id) 0 ∷ past) ≡ why conn past
+  holder_ended id conn request_id = rw (same_refl id) (born_plain (length past) id (ending conn past) ∙ or_none (why conn past))
 
-module _ {V : Type 0} (laws : TreeLaws V) (ctx conn : Id) (at : Option ℕ) (now : ℕ) (past : List (Op V)) where
+module _ {C V : Type 0} (laws : TreeLaws C V) (ctx conn : Id) (at : Option ℕ) (now : ℕ) (past : List (Op C V)) where
   -- both contexts are new
   pub call_new : (holder : Option Id) (request_id : Option V) → is_some holder ≡ is_some request_id → IsLawful (with_call ctx holder conn at now request_id past)
-      → (x : Id) (kind : Kind (Unit {0}) V) → held x past ≡ Some kind → is_among x (contexts ctx holder) ≡ false
+      → (x : Id) (kind : Kind C V) → held x past ≡ Some kind → is_among x (contexts ctx holder) ≡ false
   call_new None request_id agree lawful x kind is =
       far_one x ctx (far_new ctx x kind past (laws.new_unheld past ctx (kind_of conn at) (moment_of at now) lawful) is)
   call_new (Some holder) None agree lawful x kind is = cc
@@ -70,17 +71,17 @@ module _ {V : Type 0} (laws : TreeLaws V) (ctx conn : Id) (at : Option ℕ) (now
   holder_held None request_id agree lawful = tt
   holder_held (Some holder) None agree lawful = cc
   holder_held (Some holder) (Some r) agree lawful =
-      let mid : List (Op V) = Makes holder (Value conn 0 r) 0 ∷ past in
+      let mid : List (Op C V) = Makes holder (Value conn 0 r) 0 ∷ past in
       let was : held holder mid ≡ Some (Value conn 0 r) = made_held past holder (Value conn 0 r) 0 in
       (r, rw (far_new ctx holder (Value conn 0 r) mid (laws.new_unheld mid ctx (kind_of holder at) (moment_of at now) lawful) was) was)
 
-  -- the call has ended from the start where its connection had, or its deadline is reached
+  -- the call has ended from the start by what had ended its connection, or where its deadline is reached
   pub call_ended : (holder : Option Id) (request_id : Option V) → is_some holder ≡ is_some request_id
-      → is_some (ending ctx (with_call ctx holder conn at now request_id past)) ≡ (is_some (ending conn past) || is_due now at)
+      → why ctx (with_call ctx holder conn at now request_id past) ≡ option_or (why conn past) (if_due now at)
   call_ended None request_id agree = born_ended past ctx conn at now
   call_ended (Some holder) None agree = cc
   call_ended (Some holder) (Some r) agree =
-      born_ended (Makes holder (Value conn 0 r) 0 ∷ past) ctx holder at now ∙ ap (λ b. b || is_due now at) (holder_ended past holder conn r)
+      born_ended (Makes holder (Value conn 0 r) 0 ∷ past) ctx holder at now ∙ ap (λ o. option_or o (if_due now at)) (holder_ended past holder conn r)
 
   -- the contexts of a call that were just made are free, and all is as before once they are let go of
   pub call_free : (holder : Option Id) (request_id : Option V) → is_some holder ≡ is_some request_id → IsLawful (with_call ctx holder conn at now request_id past)
@@ -88,7 +89,7 @@ module _ {V : Type 0} (laws : TreeLaws V) (ctx conn : Id) (at : Option ℕ) (now
   call_free None request_id agree lawful = new_free laws ctx (kind_of conn at) (moment_of at now) past lawful
   call_free (Some holder) None agree lawful = cc
   call_free (Some holder) (Some r) agree lawful =
-      let mid : List (Op V) = Makes holder (Value conn 0 r) 0 ∷ past in (
+      let mid : List (Op C V) = Makes holder (Value conn 0 r) 0 ∷ past in (
         new_free laws ctx (kind_of holder at) (moment_of at now) mid lawful,
         free_alike holder mid (Releases ctx ∷ Makes ctx (kind_of holder at) (moment_of at now) ∷ mid)
             (made_and_released laws ctx (kind_of holder at) (moment_of at now) mid lawful)
@@ -100,8 +101,8 @@ module _ {V : Type 0} (laws : TreeLaws V) (ctx conn : Id) (at : Option ℕ) (now
   call_unmade None request_id agree lawful = made_and_released laws ctx (kind_of conn at) (moment_of at now) past lawful
   call_unmade (Some holder) None agree lawful = cc
   call_unmade (Some holder) (Some r) agree lawful =
-      let mid : List (Op V) = Makes holder (Value conn 0 r) 0 ∷ past in
-      let again : List (Op V) = Releases ctx ∷ Makes ctx (kind_of holder at) (moment_of at now) ∷ mid in
+      let mid : List (Op C V) = Makes holder (Value conn 0 r) 0 ∷ past in
+      let again : List (Op C V) = Releases ctx ∷ Makes ctx (kind_of holder at) (moment_of at now) ∷ mid in
       let inner : Touches (holder ∷ []) mid again = touch_more [] (holder ∷ []) mid again (λ x far. refl) (made_and_released laws ctx (kind_of holder at) (moment_of at now) mid lawful) in
       touch_none holder past (Releases holder ∷ again)
       (touch_next (holder ∷ []) past again (Releases holder ∷ again)
@@ -112,7 +113,7 @@ module _ {V : Type 0} (laws : TreeLaws V) (ctx conn : Id) (at : Option ℕ) (now
 
 -- ---- what is let go of
 
-module _ {V : Type 0} (ctx : Id) (past : List (Op V)) where
+module _ {C V : Type 0} (ctx : Id) (past : List (Op C V)) where
   pub go_touches : (holder : Option Id) → Touches (contexts ctx holder) past (let_go ctx holder past)
   go_touches None = touch_released ctx past
   go_touches (Some holder) =
@@ -132,7 +133,7 @@ module _ {V : Type 0} (ctx : Id) (past : List (Op V)) where
 
 -- ---- the contexts of a call, made one after the other
 
-pub call_made : {V : Type 0} (ctx conn : Id) (at : Option ℕ) (now : ℕ) (request_id : Option V) (past : List (Op V)) (new : TreeValue (Unit {0}) V) (first holder : Option Id) (parent : Id)
+pub call_made : {C V : Type 0} (ctx conn : Id) (at : Option ℕ) (now : ℕ) (request_id : Option V) (past : List (Op C V)) (new : TreeValue C V) (first holder : Option Id) (parent : Id)
     → holder ≡ first → parent ≡ unwrap_or first conn → StandsFor new (Makes ctx (kind_of parent at) (moment_of at now) ∷ with_holder conn first request_id past)
     → StandsFor new (with_call ctx holder conn at now request_id past)
 call_made ctx conn at now request_id past new first holder parent same_holder parent_is st =
@@ -141,12 +142,12 @@ call_made ctx conn at now request_id past new first holder parent same_holder pa
 
 -- ---- a call's context is refused: the one that has the request id is let go of again
 
-module _ {V : Type 0} (laws : TreeLaws V) (conn : Id) (past : List (Op V)) (new : TreeValue (Unit {0}) V) where
+module _ {C V : Type 0} (laws : TreeLaws C V) (conn : Id) (past : List (Op C V)) (new : TreeValue C V) where
   pub none_alike : (holder : Option Id) (request_id : Option V) → holder ≡ None → StandsFor new (with_holder conn holder request_id past) → StandsAlike new past
   none_alike None request_id is st = alike new past st
   none_alike (Some h) request_id is st = cc
 
-  pub some_alike : (mid : TreeValue (Unit {0}) V) (holder : Option Id) (request_id : Option V) (h : Id) → holder ≡ Some h → is_some holder ≡ is_some request_id → StandsFor mid (with_holder conn holder request_id past)
+  pub some_alike : (mid : TreeValue C V) (holder : Option Id) (request_id : Option V) (h : Id) → holder ≡ Some h → is_some holder ≡ is_some request_id → StandsFor mid (with_holder conn holder request_id past)
       → (IsFree h (with_holder conn holder request_id past) → StandsFor new (Releases h ∷ with_holder conn holder request_id past)) → StandsAlike new past
   some_alike mid None request_id h is agree st goes = cc
   some_alike mid (Some x) None h is agree st goes = cc

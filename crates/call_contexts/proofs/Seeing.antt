@@ -1,20 +1,23 @@
 -- What is seen after a moment, a cancel and a drain.
 use Rattle.std.proofs.Common.{◌≡◌, refl, sym, ap, ◌∙◌, ℕ, List, [], ◌∷◌, Option, Some, None, Bool, true, false, ⊎_elim, is_none}
-use Rattle.std.specs.Prelude.{◌&&◌, ◌||◌, not, is_some, map, All, option_and_then, unwrap_or}
-use Rattle.std.proofs.lemmas.List.Elements.{All-nil, All-head, All-tail, All-weaker}
+use Rattle.std.specs.Prelude.{◌&&◌, ◌||◌, is_some, map, All, option_map, option_and_then, unwrap_or}
+use Rattle.std.specs.Option.{option_or}
+use Rattle.std.proofs.lemmas.List.Elements.{All-nil, All-head, All-map, All-tail, All-weaker}
 use Rattle.std.proofs.lemmas.Bool.{cases_Bool, or_parts}
-use Rattle.std.proofs.Math.Bool.{or-false, or-true}
+use Rattle.std.proofs.Math.Bool.{or-true}
+use Rattle.context_tree.specs.declared.error.Cause.{Cause}
+use Rattle.context_tree.specs.declared.error.Cause.TheVariants.{Given}
 use Rattle.context_tree.specs.declared.node.Kind.{Kind}
 use Rattle.context_tree.specs.declared.node.Kind.TheVariants.{Background, Cancel, Value}
-use Rattle.context_tree.specs.Context.{Id, same, Makes, Cancels, Advances, held, chain, least, has_cancel, ending, deadline}
-use Rattle.context_tree.specs.Frames.{is_due}
-use Rattle.context_tree.specs.Tree.{TreeValue, StandsFor, IsLawful, is_live, is_ended_by_cancel}
+use Rattle.context_tree.specs.Context.{Id, Ended, same, Makes, Cancels, Advances, held, chain, has_cancel, ending}
+use Rattle.context_tree.specs.Tree.{TreeValue, StandsFor, IsFirstDeadline, IsLawful, is_ended_by_cancel}
 use Rattle.after_funcs.specs.declared.callbacks.AfterFuncs.{AfterFuncs}
 use Rattle.after_funcs.specs.Stands.{StandsFor as HooksStand}
 use Rattle.call_contexts.specs.declared.life.Life.{Life}
-use Rattle.call_contexts.specs.Standing.{Conn, Call, Slots, value_in, seen, seen_conn, seen_call, ends_if, is_conn, is_ended_conn, expired, all_ended}
-use Rattle.call_contexts.specs.Sound.{Op, TreeLaws, IsSound, IsLife, IsConn, IsHolder, kind_of, is_kept}
-use Rattle.call_contexts.proofs.Trees.{same_refl, same_true, same_turned, shown, shown_request, advanced, struck, base_chain, conn_chain, call_hit, call_deadline, far_new, made_held}
+use Rattle.call_contexts.specs.Standing.{Conn, Call, IsNoSooner, Slots, cause_in, value_in, seen, seen_conn, seen_call, ends_call, ends_conn, if_cancelled, if_due, is_conn, ended_conn, expired, all_ended}
+use Rattle.call_contexts.specs.Sound.{Op, TreeLaws, IsSound, IsLife, IsConn, IsHolder, kind_of, is_kept, why}
+use Rattle.call_contexts.proofs.Trees.{same_refl, same_true, same_turned, shown, shown_request, advanced, due_on, struck, base_chain, conn_chain, call_deadline, call_hit, call_due, far_new, made_held}
+use Rattle.call_contexts.proofs.Making.{or_none}
 
 pub maps_agree : {A B : Type 0} (f g : A → B) (xs : List A) → All (λ x. f x ≡ g x) xs → map f xs ≡ map g xs
 maps_agree f g [] all = refl
@@ -30,14 +33,6 @@ map_twice f g (x ∷ xs) = ap (λ l. f (g x) ∷ l) (map_twice f g xs)
 pub maps_to : {A B C : Type 0} (f : A → C) (g : B → C) (h : A → B) (xs : List A) → All (λ x. f x ≡ g (h x)) xs → map f xs ≡ map g (map h xs)
 maps_to f g h xs all = maps_agree f (λ x. g (h x)) xs all ∙ map_twice g h xs
 
-or_any : (a b : Bool) → (a || (b || true)) ≡ true
-or_any true b = refl
-or_any false b = or-true b
-
-or_anywhere : (a b c : Bool) → (a || (b || (c || true))) ≡ (a || true)
-or_anywhere true b c = refl
-or_anywhere false b c = or_any b c
-
 pub hit_base : (b r : Bool) → b ≡ false → ((b && true) || ((r && false) || false)) ≡ false
 hit_base true r is = cc
 hit_base false true is = refl
@@ -52,12 +47,12 @@ hit_call true a b r is none = cc
 hit_call false a b r is none = hit_conn a b r none
 
 -- a cancel that ends nothing leaves the slots
-pub same_slots : {V : Type 0} (new old : TreeValue (Unit {0}) V) → new ≡ record old { visits = 0 } → new.slots ≡ old.slots
-same_slots new old same = ap (λ (t : TreeValue (Unit {0}) _). t.slots) same
+pub same_slots : {C V : Type 0} (new old : TreeValue C V) → new ≡ record old { visits = 0 } → new.slots ≡ old.slots
+same_slots new old same = ap (λ (t : TreeValue _ _). t.slots) same
 
-module _ {V : Type 0} where
+module _ {C V : Type 0} where
   -- a connection that is seen has its context
-  pub conn_held : (base : Id) (past : List (Op V)) (slots : Slots V) (conns : List Id) (id : Id) → All (IsConn base past) conns → is_conn id (map (seen_conn slots) conns) ≡ true
+  pub conn_held : (base : Id) (past : List (Op C V)) (slots : Slots C V) (conns : List Id) (id : Id) → All (IsConn base past) conns → is_conn id (map (seen_conn slots) conns) ≡ true
       → held id past ≡ Some (Cancel base)
   conn_held base past slots [] id all is = cc
   conn_held base past slots (c ∷ cs) id all is = ⊎_elim
@@ -65,32 +60,32 @@ module _ {V : Type 0} where
       (λ (n : same c id ≡ false). conn_held base past slots cs id (All-tail (IsConn base past) c cs all) (rw n at is))
       (cases_Bool (same c id))
 
-  pub ended_found : (slots : Slots V) (conns : List Id) (id : Id) → is_conn id (map (seen_conn slots) conns) ≡ true → is_ended_conn id (map (seen_conn slots) conns) ≡ not (is_live slots id)
+  pub ended_found : (slots : Slots C V) (conns : List Id) (id : Id) → is_conn id (map (seen_conn slots) conns) ≡ true → ended_conn id (map (seen_conn slots) conns) ≡ cause_in slots id
   ended_found slots [] id is = cc
   ended_found slots (c ∷ cs) id is = ⊎_elim
-      (λ (y : same c id ≡ true). rw y (ap (λ x. not (is_live slots x)) (same_true c id y)))
+      (λ (y : same c id ≡ true). rw y (ap (cause_in slots) (same_true c id y)))
       (λ (n : same c id ≡ false). rw n (ended_found slots cs id (rw n at is)))
       (cases_Bool (same c id))
 
-  pub seen_as : (slots : Slots V) (base : Id) (conns : List Id) (calls : List Life) (d : Bool) (cs : List Conn) (ls : List (Call V))
-      → not (is_live slots base) ≡ d → map (seen_conn slots) conns ≡ cs → map (seen_call slots) calls ≡ ls
+  pub seen_as : (slots : Slots C V) (base : Id) (conns : List Id) (calls : List Life) (d : Option (Cause C)) (cs : List (Conn C)) (ls : List (Call C V))
+      → cause_in slots base ≡ d → map (seen_conn slots) conns ≡ cs → map (seen_call slots) calls ≡ ls
       → seen slots base conns calls ≡ record { drained = d; conns = cs; calls = ls }
   seen_as slots base conns calls d cs ls b c l =
       ap (λ x. record { drained = x; conns = map (seen_conn slots) conns; calls = map (seen_call slots) calls }) b
       ∙ ap (λ x. record { drained = d; conns = x; calls = map (seen_call slots) calls }) c
       ∙ ap (λ x. record { drained = d; conns = cs; calls = x }) l
 
-  pub conn_as : (slots : Slots V) (x : Id) (e : Bool) → not (is_live slots x) ≡ e → seen_conn slots x ≡ record { id = x; ended = e }
+  pub conn_as : (slots : Slots C V) (x : Id) (e : Option (Cause C)) → cause_in slots x ≡ e → seen_conn slots x ≡ record { id = x; ended = e }
   conn_as slots x e is = ap (λ b. record { id = x; ended = b }) is
 
-  pub call_as : (slots : Slots V) (l : Life) (r : Option V) (e : Bool) → option_and_then (value_in slots) l.holder ≡ r → not (is_live slots l.ctx) ≡ e
+  pub call_as : (slots : Slots C V) (l : Life) (r : Option V) (e : Option (Cause C)) → option_and_then (value_in slots) l.holder ≡ r → cause_in slots l.ctx ≡ e
       → seen_call slots l ≡ record { id = l.ctx; conn = l.conn; deadline = l.deadline; request_id = r; ended = e }
   call_as slots l r e rs es =
-      ap (λ q. record { id = l.ctx; conn = l.conn; deadline = l.deadline; request_id = q; ended = not (is_live slots l.ctx) }) rs
+      ap (λ q. record { id = l.ctx; conn = l.conn; deadline = l.deadline; request_id = q; ended = cause_in slots l.ctx }) rs
       ∙ ap (λ b. record { id = l.ctx; conn = l.conn; deadline = l.deadline; request_id = r; ended = b }) es
 
   -- a request id is seen as before, where its context is still held
-  pub request_stays : (old new : TreeValue (Unit {0}) V) (past later : List (Op V)) (conn : Id) → StandsFor old past → StandsFor new later → (holder : Option Id)
+  pub request_stays : (old new : TreeValue C V) (past later : List (Op C V)) (conn : Id) → StandsFor old past → StandsFor new later → (holder : Option Id)
       → ((x : Id) (r : V) → holder ≡ Some x → held x past ≡ Some (Value conn 0 r) → held x later ≡ Some (Value conn 0 r))
       → IsHolder past conn holder → option_and_then (value_in new.slots) holder ≡ option_and_then (value_in old.slots) holder
   request_stays old new past later conn was st None keeps is = refl
@@ -99,12 +94,12 @@ module _ {V : Type 0} where
 
 -- ---- a new tree
 
-module _ {V : Type 0} (laws : TreeLaws V) (root base : Id) (t : TreeValue (Unit {0}) V) (st : StandsFor t (Makes base (Cancel root) 0 ∷ Makes root Background 0 ∷ [])) where
-  pub base_live : not (is_live t.slots base) ≡ false
+module _ {C V : Type 0} (laws : TreeLaws C V) (root base : Id) (t : TreeValue C V) (st : StandsFor t (Makes base (Cancel root) 0 ∷ Makes root Background 0 ∷ [])) where
+  pub base_live : cause_in t.slots base ≡ None
   base_live =
-      shown laws t _ base (Cancel root) st (made_held (Makes root Background 0 ∷ []) base (Cancel root) 0) ∙ rw (same_refl base, same_refl root) refl
+      shown t _ base (Cancel root) st (made_held (Makes root Background 0 ∷ []) base (Cancel root) 0) ∙ rw (same_refl base, same_refl root) refl
 
-  not_made : (x : Id) → is_kept root base [] [] x ≡ false → held {C = Unit {0}} {V = V} x (Makes base (Cancel root) 0 ∷ Makes root Background 0 ∷ []) ≡ None
+  not_made : (x : Id) → is_kept root base [] [] x ≡ false → held {C = C} {V = V} x (Makes base (Cancel root) 0 ∷ Makes root Background 0 ∷ []) ≡ None
   not_made x far =
       let r = or_parts (same x root) (same x base || false) far in
       let one : same root x ≡ false = same_turned root x ∙ r.0 in
@@ -133,37 +128,38 @@ module _ {V : Type 0} (laws : TreeLaws V) (root base : Id) (t : TreeValue (Unit 
     none_due = refl;
   }
 
-module _ {V H : Type 0} (laws : TreeLaws V) {f : AfterFuncs H} {base : Id} {conns : List Id} {calls : List Life} {old : TreeValue (Unit {0}) V} (s : IsSound old f base conns calls) where
+module _ {C V H : Type 0} (laws : TreeLaws C V) {f : AfterFuncs H} {base : Id} {conns : List Id} {calls : List Life} {old : TreeValue C V} (s : IsSound old f base conns calls) where
   pub lawful : IsLawful s.past
   lawful = s.tree_is.contexts.lawful
 
   -- what of a call stays, as no context is made or let go of
-  request_kept : (new : TreeValue (Unit {0}) V) (later : List (Op V)) → StandsFor new later → ((x : Id) → held x later ≡ held x s.past)
+  request_kept : (new : TreeValue C V) (later : List (Op C V)) → StandsFor new later → ((x : Id) → held x later ≡ held x s.past)
       → (l : Life) → IsLife s.past base l → option_and_then (value_in new.slots) l.holder ≡ option_and_then (value_in old.slots) l.holder
   request_kept new later st same_held l is = request_stays old new s.past later l.conn s.tree_is st l.holder (λ x r e h. same_held x ∙ h) is.holder_is
 
   -- ---- a moment
 
-  module _ (new : TreeValue (Unit {0}) V) (now : ℕ) (st : StandsFor new (Advances now ∷ s.past)) where
-    one_advanced : (x : Id) (kind : Kind (Unit {0}) V) (d : Option ℕ) → held x s.past ≡ Some kind → deadline x s.past ≡ d → not (is_live new.slots x) ≡ (not (is_live old.slots x) || is_due now d)
-    one_advanced x kind d is at = shown laws new (Advances now ∷ s.past) x kind st is ∙ advanced laws s.past x now d at ∙ ap (λ b. b || is_due now d) (sym (shown laws old s.past x kind s.tree_is is))
+  module _ (new : TreeValue C V) (now : ℕ) (st : StandsFor new (Advances now ∷ s.past)) where
+    -- the slots show what the moment ended
+    one_advanced : (x : Id) (kind : Kind C V) (d : Option (Cause C)) → held x s.past ≡ Some kind → due_on now (chain x s.past) ≡ d → cause_in new.slots x ≡ option_or (cause_in old.slots x) d
+    one_advanced x kind d is at = shown new (Advances now ∷ s.past) x kind st is ∙ advanced s.past x now ∙ ap (option_or (why x s.past)) at ∙ ap (λ o. option_or o d) (sym (shown old s.past x kind s.tree_is is))
 
-    untouched : (x : Id) (kind : Kind (Unit {0}) V) → held x s.past ≡ Some kind → deadline x s.past ≡ None → not (is_live new.slots x) ≡ not (is_live old.slots x)
-    untouched x kind is at = one_advanced x kind None is at ∙ or-false _
+    untouched : (x : Id) (kind : Kind C V) → held x s.past ≡ Some kind → due_on now (chain x s.past) ≡ None → cause_in new.slots x ≡ cause_in old.slots x
+    untouched x kind is at = one_advanced x kind None is at ∙ or_none _
 
     pub seen_expired : seen new.slots base conns calls ≡ expired now (seen old.slots base conns calls)
     seen_expired =
-        let b : not (is_live new.slots base) ≡ not (is_live old.slots base) = untouched base (Cancel s.root) s.base_is (ap least (base_chain laws s.past lawful s.root base s.root_is s.base_is)) in
+        let b : cause_in new.slots base ≡ cause_in old.slots base = untouched base (Cancel s.root) s.base_is (ap (due_on now) (base_chain laws s.past lawful s.root base s.root_is s.base_is)) in
         let cs : map (seen_conn new.slots) conns ≡ map (seen_conn old.slots) conns =
         maps_agree (seen_conn new.slots) (seen_conn old.slots) conns
         (All-weaker (IsConn base s.past) (λ c. seen_conn new.slots c ≡ seen_conn old.slots c)
-        (λ c is. conn_as new.slots c _ (untouched c (Cancel base) is (ap least (conn_chain laws s.past lawful s.root base s.root_is s.base_is c is)))) conns s.conns_are) in
-        let ls : map (seen_call new.slots) calls ≡ map (λ c. ends_if (is_due now c.deadline) c) (map (seen_call old.slots) calls) =
-        maps_to (seen_call new.slots) (λ c. ends_if (is_due now c.deadline) c) (seen_call old.slots) calls
-        (All-weaker (IsLife s.past base) (λ l. seen_call new.slots l ≡ ends_if (is_due now l.deadline) (seen_call old.slots l))
+        (λ c is. conn_as new.slots c _ (untouched c (Cancel base) is (ap (due_on now) (conn_chain laws s.past lawful s.root base s.root_is s.base_is c is)))) conns s.conns_are) in
+        let ls : map (seen_call new.slots) calls ≡ map (λ c. ends_call (if_due now c.deadline) c) (map (seen_call old.slots) calls) =
+        maps_to (seen_call new.slots) (λ c. ends_call (if_due now c.deadline) c) (seen_call old.slots) calls
+        (All-weaker (IsLife s.past base) (λ l. seen_call new.slots l ≡ ends_call (if_due now l.deadline) (seen_call old.slots l))
         (λ l is. call_as new.slots l _ _ (request_kept new (Advances now ∷ s.past) st (λ x. refl) l is)
-        (one_advanced l.ctx (kind_of (unwrap_or l.holder l.conn) l.deadline) l.deadline is.call_is
-        (call_deadline laws s.past lawful s.root base s.root_is s.base_is l.conn is.conn_is l.ctx l.holder is.holder_is l.deadline is.call_is))) calls s.calls_are) in
+        (one_advanced l.ctx (kind_of (unwrap_or l.holder l.conn) l.deadline) (if_due now l.deadline) is.call_is
+        (call_due laws s.past lawful s.root base s.root_is s.base_is l.conn is.conn_is l.ctx l.holder is.holder_is now l.deadline is.call_is))) calls s.calls_are) in
         seen_as new.slots base conns calls _ _ _ b cs ls
 
     pub sound_expired : IsSound new f base conns calls
@@ -191,22 +187,27 @@ module _ {V H : Type 0} (laws : TreeLaws V) {f : AfterFuncs H} {base : Id} {conn
   -- ---- a cancel
 
   -- what the chain of a context says of a cancel, the new tree shows
-  abbrev pub IsStruck : TreeValue (Unit {0}) V → Id → Id → Type 0
-  IsStruck new id x = not (is_live new.slots x) ≡ (not (is_live old.slots x) || has_cancel id (chain x s.past))
+  abbrev pub IsStruck : C → TreeValue C V → Id → Id → Type 0
+  IsStruck cause new id x = cause_in new.slots x ≡ option_or (cause_in old.slots x) (if_cancelled (has_cancel id (chain x s.past)) cause)
 
-  struck_now : (new : TreeValue (Unit {0}) V) (id : Id) → StandsFor new (Cancels id None ∷ s.past) → (x : Id) (kind : Kind (Unit {0}) V) → held x s.past ≡ Some kind → IsStruck new id x
-  struck_now new id st x kind is = shown laws new (Cancels id None ∷ s.past) x kind st is ∙ struck s.past x id ∙ ap (λ b. b || has_cancel id (chain x s.past)) (sym (shown laws old s.past x kind s.tree_is is))
+  struck_now : (cause : C) (new : TreeValue C V) (id : Id) → StandsFor new (Cancels id (Some cause) ∷ s.past) → (x : Id) (kind : Kind C V) → held x s.past ≡ Some kind → IsStruck cause new id x
+  struck_now cause new id st x kind is = shown new (Cancels id (Some cause) ∷ s.past) x kind st is ∙ struck s.past x id cause
+      ∙ ap (λ o. option_or o (if_cancelled (has_cancel id (chain x s.past)) cause)) (sym (shown old s.past x kind s.tree_is is))
 
   -- one that had ended ends nothing
-  struck_before : (new : TreeValue (Unit {0}) V) (id : Id) → new.slots ≡ old.slots → is_some (ending id s.past) ≡ true → (x : Id) (kind : Kind (Unit {0}) V) → held x s.past ≡ Some kind → IsStruck new id x
-  struck_before new id same_slots ended x kind is =
-      ap (λ slots. not (is_live slots x)) same_slots
-      ∙ already _ _ (λ h. shown laws old s.past x kind s.tree_is is ∙ laws.ends_with s.past x id kind lawful is h ended)
+  struck_before : (cause : C) (new : TreeValue C V) (id : Id) → new.slots ≡ old.slots → is_some (ending id s.past) ≡ true → (x : Id) (kind : Kind C V) → held x s.past ≡ Some kind → IsStruck cause new id x
+  struck_before cause new id same_slots ended x kind is =
+      ap (λ slots. cause_in slots x) same_slots
+      ∙ already _ _ (λ h. ap is_some (shown old s.past x kind s.tree_is is) ∙ cause_some (ending x s.past) ∙ laws.ends_with s.past x id kind lawful is h ended)
     where
-      already : (a b : Bool) → (b ≡ true → a ≡ true) → a ≡ (a || b)
-      already true b i = refl
-      already false true i = i refl
-      already false false i = refl
+      already : (a : Option (Cause C)) (b : Bool) → (b ≡ true → is_some a ≡ true) → a ≡ option_or a (if_cancelled b cause)
+      already (Some a) b i = refl
+      already None true i = let bad : false ≡ true = i refl in cc
+      already None false i = refl
+
+      cause_some : (o : Option (Ended C)) → is_some (option_map (λ e. e.cause) o) ≡ is_some o
+      cause_some None = refl
+      cause_some (Some e) = refl
 
   -- a cancel of one that is held and can be cancelled ends nothing where it had ended
   had_ended : (id parent : Id) → held id s.past ≡ Some (Cancel parent) → is_ended_by_cancel id s.past ≡ false → is_some (ending id s.past) ≡ true
@@ -216,24 +217,24 @@ module _ {V H : Type 0} (laws : TreeLaws V) {f : AfterFuncs H} {base : Id} {conn
       of_none None n = cc
       of_none (Some a) n = refl
 
-  module _ (new : TreeValue (Unit {0}) V) (answer : Bool) (id parent : Id) (id_is : held id s.past ≡ Some (Cancel parent))
-      (answer_is : answer ≡ is_ended_by_cancel id s.past) (ends : answer ≡ true → StandsFor new (Cancels id None ∷ s.past)) (stays : answer ≡ false → new.slots ≡ old.slots) where
-    pub struck_after : (x : Id) (kind : Kind (Unit {0}) V) → held x s.past ≡ Some kind → IsStruck new id x
+  module _ (cause : C) (new : TreeValue C V) (answer : Bool) (id parent : Id) (id_is : held id s.past ≡ Some (Cancel parent))
+      (answer_is : answer ≡ is_ended_by_cancel id s.past) (ends : answer ≡ true → StandsFor new (Cancels id (Some cause) ∷ s.past)) (stays : answer ≡ false → new.slots ≡ old.slots) where
+    pub struck_after : (x : Id) (kind : Kind C V) → held x s.past ≡ Some kind → IsStruck cause new id x
     struck_after x kind is = ⊎_elim
-        (λ (y : answer ≡ true). struck_now new id (ends y) x kind is)
-        (λ (n : answer ≡ false). struck_before new id (stays n) (had_ended id parent id_is (sym answer_is ∙ n)) x kind is)
+        (λ (y : answer ≡ true). struck_now cause new id (ends y) x kind is)
+        (λ (n : answer ≡ false). struck_before cause new id (stays n) (had_ended id parent id_is (sym answer_is ∙ n)) x kind is)
         (cases_Bool answer)
 
     pub request_after : (l : Life) → IsLife s.past base l → option_and_then (value_in new.slots) l.holder ≡ option_and_then (value_in old.slots) l.holder
     request_after l is = ⊎_elim
-        (λ (y : answer ≡ true). request_kept new (Cancels id None ∷ s.past) (ends y) (λ x. refl) l is)
+        (λ (y : answer ≡ true). request_kept new (Cancels id (Some cause) ∷ s.past) (ends y) (λ x. refl) l is)
         (λ (n : answer ≡ false). ap (λ slots. option_and_then (value_in slots) l.holder) (stays n))
         (cases_Bool answer)
 
     -- a cancel leaves all sound
-    sound_cancelled : StandsFor new (Cancels id None ∷ s.past) → IsSound new f base conns calls
+    sound_cancelled : StandsFor new (Cancels id (Some cause) ∷ s.past) → IsSound new f base conns calls
     sound_cancelled st = record {
-      past = Cancels id None ∷ s.past;
+      past = Cancels id (Some cause) ∷ s.past;
       hooks = s.hooks;
       tree_is = st;
       hooks_are = s.hooks_are;
@@ -241,7 +242,7 @@ module _ {V H : Type 0} (laws : TreeLaws V) {f : AfterFuncs H} {base : Id} {conn
       root_is = s.root_is;
       base_is = s.base_is;
       conns_are = s.conns_are;
-      calls_are = All-weaker (IsLife s.past base) (IsLife (Cancels id None ∷ s.past) base) (λ l is. record { call_is = is.call_is; holder_is = holder_later l.holder l.conn is.holder_is; conn_is = is.conn_is }) calls s.calls_are;
+      calls_are = All-weaker (IsLife s.past base) (IsLife (Cancels id (Some cause) ∷ s.past) base) (λ l is. record { call_is = is.call_is; holder_is = holder_later l.holder l.conn is.holder_is; conn_is = is.conn_is }) calls s.calls_are;
       none_else = s.none_else;
       distinct = s.distinct;
       apart = s.apart;
@@ -249,7 +250,7 @@ module _ {V H : Type 0} (laws : TreeLaws V) {f : AfterFuncs H} {base : Id} {conn
       none_due = s.none_due;
     }
       where
-        holder_later : (holder : Option Id) (conn : Id) → IsHolder s.past conn holder → IsHolder (Cancels id None ∷ s.past) conn holder
+        holder_later : (holder : Option Id) (conn : Id) → IsHolder s.past conn holder → IsHolder (Cancels id (Some cause) ∷ s.past) conn holder
         holder_later None conn is = tt
         holder_later (Some x) conn is = is
 
@@ -279,24 +280,41 @@ module _ {V H : Type 0} (laws : TreeLaws V) {f : AfterFuncs H} {base : Id} {conn
 
   -- ---- the base is cancelled
 
-  module _ (new : TreeValue (Unit {0}) V) (answer : Bool)
-      (answer_is : answer ≡ is_ended_by_cancel base s.past) (ends : answer ≡ true → StandsFor new (Cancels base None ∷ s.past)) (stays : answer ≡ false → new.slots ≡ old.slots) where
-    all_struck : (x : Id) (kind : Kind (Unit {0}) V) → held x s.past ≡ Some kind → IsStruck new base x
-    all_struck x kind is = struck_after new answer base s.root s.base_is answer_is ends stays x kind is
+  module _ (cause : C) (new : TreeValue C V) (answer : Bool)
+      (answer_is : answer ≡ is_ended_by_cancel base s.past) (ends : answer ≡ true → StandsFor new (Cancels base (Some cause) ∷ s.past)) (stays : answer ≡ false → new.slots ≡ old.slots) where
+    -- a context with the base on its chain
+    all_struck : (x : Id) (kind : Kind C V) → held x s.past ≡ Some kind → has_cancel base (chain x s.past) ≡ true → cause_in new.slots x ≡ option_or (cause_in old.slots x) (Some (Given cause))
+    all_struck x kind is hit = struck_after cause new answer base s.root s.base_is answer_is ends stays x kind is ∙ ap (λ b. option_or (cause_in old.slots x) (if_cancelled b cause)) hit
 
-    all_conn : (c : Id) → IsConn base s.past c → seen_conn new.slots c ≡ record { id = c; ended = true }
-    all_conn c is = conn_as new.slots c true (all_struck c (Cancel base) is ∙ rw (conn_chain laws s.past lawful s.root base s.root_is s.base_is c is, same_refl base) (or_any _ _))
+    conn_hit : (c : Id) → IsConn base s.past c → has_cancel base (chain c s.past) ≡ true
+    conn_hit c is = rw (conn_chain laws s.past lawful s.root base s.root_is s.base_is c is, same_refl base) (or-true _)
 
-    all_call : (l : Life) → IsLife s.past base l → seen_call new.slots l ≡ ends_if true (seen_call old.slots l)
-    all_call l is = call_as new.slots l _ _ (request_after new answer base s.root s.base_is answer_is ends stays l is)
+    all_conn : (c : Id) → IsConn base s.past c → seen_conn new.slots c ≡ ends_conn (Some (Given cause)) (seen_conn old.slots c)
+    all_conn c is = conn_as new.slots c _ (all_struck c (Cancel base) is (conn_hit c is))
+
+    all_call : (l : Life) → IsLife s.past base l → seen_call new.slots l ≡ ends_call (Some (Given cause)) (seen_call old.slots l)
+    all_call l is = call_as new.slots l _ _ (request_after cause new answer base s.root s.base_is answer_is ends stays l is)
         (all_struck l.ctx (kind_of (unwrap_or l.holder l.conn) l.deadline) is.call_is
-        ∙ rw (call_hit laws s.past lawful s.root base s.root_is s.base_is l.conn is.conn_is l.ctx l.holder is.holder_is l.deadline is.call_is base, conn_chain laws s.past lawful s.root base s.root_is s.base_is l.conn is.conn_is, same_refl base)
-        (or_anywhere _ _ _))
+        (call_hit laws s.past lawful s.root base s.root_is s.base_is l.conn is.conn_is l.ctx l.holder is.holder_is l.deadline is.call_is base
+        ∙ ap (λ b. (same l.ctx base && true) || b) (conn_hit l.conn is.conn_is) ∙ or-true _))
 
-    pub seen_drained : seen new.slots base conns calls ≡ all_ended (seen old.slots base conns calls)
-    seen_drained = seen_as new.slots base conns calls true _ _
-        (all_struck base (Cancel s.root) s.base_is ∙ rw (base_chain laws s.past lawful s.root base s.root_is s.base_is, same_refl base) (or-true _))
-        (maps_to (seen_conn new.slots) (λ c. record { id = c.id; ended = true }) (seen_conn old.slots) conns
-        (All-weaker (IsConn base s.past) (λ c. seen_conn new.slots c ≡ record { id = c; ended = true }) all_conn conns s.conns_are))
-        (maps_to (seen_call new.slots) (ends_if true) (seen_call old.slots) calls
-        (All-weaker (IsLife s.past base) (λ l. seen_call new.slots l ≡ ends_if true (seen_call old.slots l)) all_call calls s.calls_are))
+    pub seen_drained : seen new.slots base conns calls ≡ all_ended cause (seen old.slots base conns calls)
+    seen_drained = seen_as new.slots base conns calls _ _ _
+        (all_struck base (Cancel s.root) s.base_is (rw (base_chain laws s.past lawful s.root base s.root_is s.base_is, same_refl base) refl))
+        (maps_to (seen_conn new.slots) (ends_conn (Some (Given cause))) (seen_conn old.slots) conns
+        (All-weaker (IsConn base s.past) (λ c. seen_conn new.slots c ≡ ends_conn (Some (Given cause)) (seen_conn old.slots c)) all_conn conns s.conns_are))
+        (maps_to (seen_call new.slots) (ends_call (Some (Given cause))) (seen_call old.slots) calls
+        (All-weaker (IsLife s.past base) (λ l. seen_call new.slots l ≡ ends_call (Some (Given cause)) (seen_call old.slots l)) all_call calls s.calls_are))
+
+  -- ---- the least deadline
+
+  pub no_sooner : (first : Option ℕ) → IsFirstDeadline first s.past → All (IsNoSooner first) (map (seen_call old.slots) calls)
+  no_sooner first sooner = All-map (IsNoSooner first) (seen_call old.slots) calls
+      (All-weaker (IsLife s.past base) (λ l. IsNoSooner first (seen_call old.slots l))
+      (λ l is at on due. sooner l.ctx (kind_of (unwrap_or l.holder l.conn) l.deadline) at is.call_is
+      (none_ended (ending l.ctx s.past) (sym (shown old s.past l.ctx (kind_of (unwrap_or l.holder l.conn) l.deadline) s.tree_is is.call_is) ∙ on))
+      (call_deadline laws s.past lawful s.root base s.root_is s.base_is l.conn is.conn_is l.ctx l.holder is.holder_is l.deadline is.call_is ∙ due)) calls s.calls_are)
+    where
+      none_ended : (o : Option (Ended C)) → option_map (λ e. e.cause) o ≡ None → o ≡ None
+      none_ended None is = refl
+      none_ended (Some e) is = cc

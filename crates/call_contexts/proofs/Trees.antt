@@ -1,20 +1,23 @@
 -- What the operations on a tree do to its contexts, in the words that the contexts of calls need.
 use Rattle.std.proofs.Common.{◌≡◌, refl, sym, ap, ◌∙◌, arith, rules, ℕ, List, [], ◌∷◌, Option, Some, None, Bool, true, false, inl, inr, ⊎_elim, subst}
-use Rattle.std.specs.Prelude.{◌⊎◌, ◌&&◌, ◌||◌, ◌↔◌, not, is_some, is_none, if◌then◌else◌, option_and_then, unwrap_or}
+use Rattle.std.specs.Prelude.{◌⊎◌, ◌&&◌, ◌||◌, ◌↔◌, is_some, nat_le, if◌then◌else◌, length, option_map, option_and_then, unwrap_or}
+use Rattle.std.specs.Option.{option_or}
 use Rattle.std.proofs.lemmas.Bool.{cases_Bool}
 use Rattle.std.proofs.Math.Bool.{or-false}
 use Rattle.std.proofs.lemmas.Option.{same_Some}
+use Rattle.context_tree.specs.declared.error.Cause.{Cause}
+use Rattle.context_tree.specs.declared.error.Cause.TheVariants.{Given, Plain}
+use Rattle.context_tree.specs.declared.error.CtxErr.TheVariants.{Canceled, DeadlineExceeded}
 use Rattle.context_tree.specs.declared.released.Released.{Released}
 use Rattle.context_tree.specs.declared.released.Released.TheVariants.{Gone, HasChildren, Unknown}
 use Rattle.context_tree.specs.declared.node.Kind.{Kind}
 use Rattle.context_tree.specs.declared.node.Kind.TheVariants.{Background, Cancel, Deadline, Value}
-use Rattle.context_tree.specs.Context.{Id, own_value, same, Makes, Cancels, Advances, Releases, HasChild, Ended, held, line, chain, least, nearest, sooner, has_cancel, ending, deadline}
-use Rattle.context_tree.specs.Frames.{is_due}
+use Rattle.context_tree.specs.Context.{Id, Member, own_value, own_due, same, Makes, Cancels, Advances, Releases, HasChild, Ended, cause_or, expiry, first_due, first_of, held, line, chain, deadline, least, nearest, sooner, has_cancel, ending}
 use Rattle.context_tree.specs.declared.node.Node.{Node}
 use Rattle.context_tree.specs.Links.{bare}
-use Rattle.context_tree.specs.Tree.{TreeValue, StandsFor, IsLawful, is_live, is_among, node_at}
-use Rattle.call_contexts.specs.Standing.{value_in, request_id_key}
-use Rattle.call_contexts.specs.Sound.{Op, TreeLaws, IsFree, IsHolder, Touches, StandsAlike, kind_of}
+use Rattle.context_tree.specs.Tree.{TreeValue, StandsFor, IsLawful, is_among, node_at, told}
+use Rattle.call_contexts.specs.Standing.{cause_in, if_cancelled, if_due, value_in, request_id_key}
+use Rattle.call_contexts.specs.Sound.{Op, TreeLaws, IsFree, IsHolder, Touches, StandsAlike, kind_of, why}
 
 pub same_refl : (x : Id) → same x x ≡ true
 same_refl x = grind (arith, rules)
@@ -37,10 +40,6 @@ none_held : {A : Type 0} (o : Option A) → o ≡ None → is_some o ≡ true �
 none_held None is some = cc
 none_held (Some a) is some = cc
 
-not_none : {A : Type 0} (o : Option A) → not (is_none o) ≡ is_some o
-not_none None = refl
-not_none (Some a) = refl
-
 cannot : (a b : Bool) → ((a && false) || b) ≡ b
 cannot true b = refl
 cannot false b = refl
@@ -54,44 +53,69 @@ one_far x id far = same_turned id x ∙ sym (or-false (same x id)) ∙ far
 
 -- ---- what the slots show
 
-module _ {V : Type 0} (laws : TreeLaws V) where
-  pub shown : (t : TreeValue (Unit {0}) V) (past : List (Op V)) (x : Id) (kind : Kind (Unit {0}) V)
-      → StandsFor t past → held x past ≡ Some kind → not (is_live t.slots x) ≡ is_some (ending x past)
-  shown t past x kind st is = ap not (laws.shows t past x kind st is) ∙ not_none (ending x past)
+-- a node's ending is no link of it
+ending_bare : {C V : Type 0} (o : Option (Node C V)) → option_and_then (λ n. n.ending) o ≡ option_and_then (λ n. n.ending) (bare o)
+ending_bare None = refl
+ending_bare (Some n) = refl
 
-  -- a moment ends what has that deadline
-  pub advanced : (past : List (Op V)) (x : Id) (now : ℕ) (d : Option ℕ) → deadline x past ≡ d
-      → is_some (ending x (Advances now ∷ past)) ≡ (is_some (ending x past) || is_due now d)
-  advanced past x now d is = ⊎_elim
-      (λ (none : ending x past ≡ None). laws.expires past x now none ∙ rw (is, none) refl)
-      (λ (some : (e : Ended (Unit {0})) × (ending x past ≡ Some e)). rw some.1 refl)
-      (option_cases (ending x past))
+cause_told : {C : Type 0} (o : Option (Ended C)) → option_map (λ e. e.cause) (option_map told o) ≡ option_map (λ e. e.cause) o
+cause_told None = refl
+cause_told (Some e) = refl
+
+expired_by : {C D : Type 0} (exp : D → Ended C) (before : Option (Ended C)) (d : Option D)
+    → option_map (λ e. e.cause) (option_or before (option_map exp d)) ≡ option_or (option_map (λ e. e.cause) before) (option_map (λ x. (exp x).cause) d)
+expired_by exp None None = refl
+expired_by exp None (Some d) = refl
+expired_by exp (Some e) d = refl
+
+module _ {C V : Type 0} where
+  pub shown : (t : TreeValue C V) (past : List (Op C V)) (x : Id) (kind : Kind C V)
+      → StandsFor t past → held x past ≡ Some kind → cause_in t.slots x ≡ why x past
+  shown t past x kind st is =
+      ap (option_map (λ e. e.cause)) (ending_bare (node_at t.slots x) ∙ ap (option_and_then (λ n. n.ending)) (st.contexts.nodes_are x) ∙ rw is refl)
+      ∙ cause_told (ending x past)
+
+  -- what a moment ends by the deadlines of a chain
+  abbrev pub due_on : ℕ → List (Member C V) → Option (Cause C)
+  due_on now ms = option_map (λ d. cause_or DeadlineExceeded d.cause) (first_due now ms)
+
+  -- a moment ends what has a deadline on its chain that it has reached
+  pub advanced : (past : List (Op C V)) (x : Id) (now : ℕ) → why x (Advances now ∷ past) ≡ option_or (why x past) (due_on now (chain x past))
+  advanced past x now = expired_by (expiry (length past)) (ending x past) (first_due now (chain x past))
 
 -- what a node has of its own is told by how it was made
-without_links : {V : Type 0} (o : Option (Node (Unit {0}) V))
+without_links : {C V : Type 0} (o : Option (Node C V))
     → option_and_then (λ n. own_value request_id_key n.kind) o ≡ option_and_then (λ n. own_value request_id_key n.kind) (bare o)
 without_links None = refl
 without_links (Some n) = refl
 
-pub shown_request : {V : Type 0} (t : TreeValue (Unit {0}) V) (past : List (Op V)) (holder conn : Id) (request_id : V)
+pub shown_request : {C V : Type 0} (t : TreeValue C V) (past : List (Op C V)) (holder conn : Id) (request_id : V)
     → StandsFor t past → held holder past ≡ Some (Value conn 0 request_id) → value_in t.slots holder ≡ Some request_id
 shown_request t past holder conn request_id st is =
     without_links (node_at t.slots holder) ∙ ap (λ o. option_and_then (λ n. own_value request_id_key n.kind) o) (st.contexts.nodes_are holder) ∙ rw is refl
 
-hit : (b : Bool) (e : Ended (Unit {0})) → is_some (if b then Some e else None) ≡ b
-hit true e = refl
-hit false e = refl
+struck_by : {C : Type 0} (before : Option (Ended C)) (b : Bool) (e : Ended C)
+    → option_map (λ e. e.cause) (option_or before (if b then Some e else None)) ≡ option_or (option_map (λ e. e.cause) before) (if b then Some e.cause else None)
+struck_by None true e = refl
+struck_by None false e = refl
+struck_by (Some d) b e = refl
 
 -- a cancel ends what has its context on the chain
-pub struck : {V : Type 0} (past : List (Op V)) (x id : Id) → is_some (ending x (Cancels id None ∷ past)) ≡ (is_some (ending x past) || has_cancel id (chain x past))
-struck past x id = ⊎_elim
-    (λ (none : ending x past ≡ None). rw none (hit (has_cancel id (chain x past)) _))
-    (λ (some : (e : Ended (Unit {0})) × (ending x past ≡ Some e)). rw some.1 refl)
-    (option_cases (ending x past))
+pub struck : {C V : Type 0} (past : List (Op C V)) (x id : Id) (cause : C)
+    → why x (Cancels id (Some cause) ∷ past) ≡ option_or (why x past) (if_cancelled (has_cancel id (chain x past)) cause)
+struck past x id cause = struck_by (ending x past) (has_cancel id (chain x past)) (record { error = Canceled; cause = Given cause; member = id; turn = length past })
+
+map_if : {A B : Type 0} (f : A → B) (b : Bool) (a : A) → option_map f (if b then Some a else None) ≡ (if b then Some (f a) else None)
+map_if f true a = refl
+map_if f false a = refl
+
+first_alone : {C : Type 0} (o : _) → first_of {C = C} o None ≡ o
+first_alone None = refl
+first_alone (Some d) = refl
 
 -- ---- chains and lines
 
-module _ {V : Type 0} (laws : TreeLaws V) (past : List (Op V)) (lawful : IsLawful past) (root base : Id) (root_is : held root past ≡ Some Background) (base_is : held base past ≡ Some (Cancel root)) where
+module _ {C V : Type 0} (laws : TreeLaws C V) (past : List (Op C V)) (lawful : IsLawful past) (root base : Id) (root_is : held root past ≡ Some Background) (base_is : held base past ≡ Some (Cancel root)) where
   pub base_chain : chain base past ≡ (base, Cancel root) ∷ (root, Background) ∷ []
   base_chain = laws.chain_goes_on past base (Cancel root) lawful base_is ∙ ap (λ ms. (base, Cancel root) ∷ ms) (laws.chain_goes_on past root Background lawful root_is)
 
@@ -108,11 +132,16 @@ module _ {V : Type 0} (laws : TreeLaws V) (past : List (Op V)) (lawful : IsLawfu
     parent_hit None is id = refl
     parent_hit (Some x) is id = ap (has_cancel id) (laws.chain_goes_on past x (Value conn 0 is.0) lawful is.1) ∙ cannot (same x id) (has_cancel id (chain conn past))
 
+    -- a connection has no deadline
+    parent_due : (now : ℕ) (holder : Option Id) → IsHolder past conn holder → first_due now (chain (unwrap_or holder conn) past) ≡ None
+    parent_due now None is = ap (first_due now) (conn_chain conn conn_is)
+    parent_due now (Some x) is = ap (first_due now) (laws.chain_goes_on past x (Value conn 0 is.0) lawful is.1) ∙ ap (λ d. first_of None d) (ap (first_due now) (conn_chain conn conn_is))
+
     parent_least : (holder : Option Id) → IsHolder past conn holder → least (chain (unwrap_or holder conn) past) ≡ None
     parent_least None is = ap least (conn_chain conn conn_is)
     parent_least (Some x) is = ap least (laws.chain_goes_on past x (Value conn 0 is.0) lawful is.1) ∙ ap least (conn_chain conn conn_is)
 
-    parent_value : (t : TreeValue (Unit {0}) V) → StandsFor t past → (holder : Option Id) → IsHolder past conn holder
+    parent_value : (t : TreeValue C V) → StandsFor t past → (holder : Option Id) → IsHolder past conn holder
         → nearest 0 (line (unwrap_or holder conn) past) ≡ option_and_then (value_in t.slots) holder
     parent_value t st None is = conn_value conn conn_is
     parent_value t st (Some x) is = ap (nearest 0) (laws.line_goes_on past x (Value conn 0 is.0) lawful is.1) ∙ sym (shown_request t past x conn is.0 st is.1)
@@ -124,47 +153,55 @@ module _ {V : Type 0} (laws : TreeLaws V) (past : List (Op V)) (lawful : IsLawfu
       call_hit None is id = ap (has_cancel id) (laws.chain_goes_on past ctx (Cancel (unwrap_or holder conn)) lawful is) ∙ ap (λ b. (same ctx id && true) || b) (parent_hit holder holder_is id)
       call_hit (Some at) is id = ap (has_cancel id) (laws.chain_goes_on past ctx (Deadline (unwrap_or holder conn) at None) lawful is) ∙ ap (λ b. (same ctx id && true) || b) (parent_hit holder holder_is id)
 
+      -- a moment ends it where it has reached its own deadline
+      pub call_due : (now : ℕ) (d : Option ℕ) → held ctx past ≡ Some (kind_of (unwrap_or holder conn) d) → due_on now (chain ctx past) ≡ if_due now d
+      call_due now None is = ap (due_on now) (laws.chain_goes_on past ctx (Cancel (unwrap_or holder conn)) lawful is)
+          ∙ ap (λ d. option_map (λ d. cause_or DeadlineExceeded d.cause) (first_of None d)) (parent_due now holder holder_is)
+      call_due now (Some at) is = ap (due_on now) (laws.chain_goes_on past ctx (Deadline (unwrap_or holder conn) at None) lawful is)
+          ∙ ap (λ d. option_map (λ d. cause_or DeadlineExceeded d.cause) (first_of (own_due {C = C} {V = V} now (ctx, Deadline (unwrap_or holder conn) at None)) d)) (parent_due now holder holder_is)
+          ∙ ap (option_map (λ d. cause_or DeadlineExceeded d.cause)) (first_alone (own_due {C = C} {V = V} now (ctx, Deadline (unwrap_or holder conn) at None))) ∙ map_if _ (nat_le at now) _
+
       pub call_deadline : (d : Option ℕ) → held ctx past ≡ Some (kind_of (unwrap_or holder conn) d) → deadline ctx past ≡ d
       call_deadline None is = ap least (laws.chain_goes_on past ctx (Cancel (unwrap_or holder conn)) lawful is) ∙ parent_least holder holder_is
       call_deadline (Some at) is = ap least (laws.chain_goes_on past ctx (Deadline (unwrap_or holder conn) at None) lawful is) ∙ ap (sooner (Some at)) (parent_least holder holder_is)
 
-      pub call_value : (t : TreeValue (Unit {0}) V) → StandsFor t past → (d : Option ℕ) → held ctx past ≡ Some (kind_of (unwrap_or holder conn) d)
+      pub call_value : (t : TreeValue C V) → StandsFor t past → (d : Option ℕ) → held ctx past ≡ Some (kind_of (unwrap_or holder conn) d)
           → nearest 0 (line ctx past) ≡ option_and_then (value_in t.slots) holder
       call_value t st None is = ap (nearest 0) (laws.line_goes_on past ctx (Cancel (unwrap_or holder conn)) lawful is) ∙ parent_value t st holder holder_is
       call_value t st (Some at) is = ap (nearest 0) (laws.line_goes_on past ctx (Deadline (unwrap_or holder conn) at None) lawful is) ∙ parent_value t st holder holder_is
 
 -- ---- what operations leave
 
-module _ {V : Type 0} where
-  pub touch_made : (id : Id) (kind : Kind (Unit {0}) V) (now : ℕ) (past : List (Op V)) → Touches (id ∷ []) past (Makes id kind now ∷ past)
+module _ {C V : Type 0} where
+  pub touch_made : (id : Id) (kind : Kind C V) (now : ℕ) (past : List (Op C V)) → Touches (id ∷ []) past (Makes id kind now ∷ past)
   touch_made id kind now past = record {
     held_is = λ x far. rw (one_far x id far) refl;
     ending_is = λ x k far is. rw (one_far x id far) refl;
   }
 
-  pub touch_released : (id : Id) (past : List (Op V)) → Touches (id ∷ []) past (Releases id ∷ past)
+  pub touch_released : (id : Id) (past : List (Op C V)) → Touches (id ∷ []) past (Releases id ∷ past)
   touch_released id past = record {
     held_is = λ x far. rw (one_far x id far) refl;
     ending_is = λ x k far is. refl;
   }
 
-  pub touch_nothing : (past : List (Op V)) → Touches [] past past
+  pub touch_nothing : (past : List (Op C V)) → Touches [] past past
   touch_nothing past = record { held_is = λ x far. refl; ending_is = λ x k far is. refl }
 
-  pub touch_next : (ids : List Id) (past mid later : List (Op V)) → Touches ids past mid → Touches ids mid later → Touches ids past later
+  pub touch_next : (ids : List Id) (past mid later : List (Op C V)) → Touches ids past mid → Touches ids mid later → Touches ids past later
   touch_next ids past mid later one two = record {
     held_is = λ x far. two.held_is x far ∙ one.held_is x far;
     ending_is = λ x k far is. two.ending_is x k far (one.held_is x far ∙ is) ∙ one.ending_is x k far is;
   }
 
-  pub touch_more : (few ids : List Id) (past later : List (Op V)) → ((x : Id) → is_among x ids ≡ false → is_among x few ≡ false) → Touches few past later → Touches ids past later
+  pub touch_more : (few ids : List Id) (past later : List (Op C V)) → ((x : Id) → is_among x ids ≡ false → is_among x few ≡ false) → Touches few past later → Touches ids past later
   touch_more few ids past later more t = record {
     held_is = λ x far. t.held_is x (more x far);
     ending_is = λ x k far is. t.ending_is x k (more x far) is;
   }
 
   -- what is held neither before nor after is not touched
-  pub touch_none : (id : Id) (past later : List (Op V)) → Touches (id ∷ []) past later → held id past ≡ None → held id later ≡ None → Touches [] past later
+  pub touch_none : (id : Id) (past later : List (Op C V)) → Touches (id ∷ []) past later → held id past ≡ None → held id later ≡ None → Touches [] past later
   touch_none id past later t before after = record {
     held_is = λ x far. ⊎_elim
         (λ (y : same id x ≡ true). let e : id ≡ x = same_true id x y in rw (← e) (after ∙ sym before))
@@ -176,36 +213,36 @@ module _ {V : Type 0} where
         (cases_Bool (same id x));
   }
 
-  pub free_alike : (id : Id) (past later : List (Op V)) → Touches [] past later → IsFree id past → IsFree id later
+  pub free_alike : (id : Id) (past later : List (Op C V)) → Touches [] past later → IsFree id past → IsFree id later
   free_alike id past later t free = record {
     is_held = ap is_some (t.held_is id refl) ∙ free.is_held;
     childless = λ c. free.childless (record { child = c.child; kind = c.kind; is_held = sym (t.held_is c.child refl) ∙ c.is_held; derives = c.derives });
   }
 
   -- what is held is none of those that are not
-  pub far_new : (id x : Id) (kind : Kind (Unit {0}) V) (past : List (Op V)) → held id past ≡ None → held x past ≡ Some kind → same id x ≡ false
+  pub far_new : (id x : Id) (kind : Kind C V) (past : List (Op C V)) → held id past ≡ None → held x past ≡ Some kind → same id x ≡ false
   far_new id x kind past none is = ⊎_elim
       (λ (y : same id x ≡ true). let bad : None ≡ Some kind = sym none ∙ subst (λ z. held z past ≡ Some kind) (sym (same_true id x y)) is in cc)
       (λ (n : same id x ≡ false). n)
       (cases_Bool (same id x))
 
-  pub apart_kinds : (x y : Id) (k l : Kind (Unit {0}) V) (past : List (Op V)) → held x past ≡ Some k → held y past ≡ Some l → (k ≡ l → ⊥) → same x y ≡ false
+  pub apart_kinds : (x y : Id) (k l : Kind C V) (past : List (Op C V)) → held x past ≡ Some k → held y past ≡ Some l → (k ≡ l → ⊥) → same x y ≡ false
   apart_kinds x y k l past xs ys other = ⊎_elim
       (λ (h : same x y ≡ true). absurd (other (same_Some k l (sym xs ∙ subst (λ z. held z past ≡ Some l) (sym (same_true x y h)) ys))))
       (λ (n : same x y ≡ false). n)
       (cases_Bool (same x y))
 
-  pub made_held : (past : List (Op V)) (x : Id) (kind : Kind (Unit {0}) V) (now : ℕ) → held x (Makes x kind now ∷ past) ≡ Some kind
+  pub made_held : (past : List (Op C V)) (x : Id) (kind : Kind C V) (now : ℕ) → held x (Makes x kind now ∷ past) ≡ Some kind
   made_held past x kind now = rw (same_refl x) refl
 
-  pub released_held : (past : List (Op V)) (x : Id) → held x (Releases x ∷ past) ≡ None
+  pub released_held : (past : List (Op C V)) (x : Id) → held x (Releases x ∷ past) ≡ None
   released_held past x = rw (same_refl x) refl
 
-  pub alike : (t : TreeValue (Unit {0}) V) (past : List (Op V)) → StandsFor t past → StandsAlike t past
+  pub alike : (t : TreeValue C V) (past : List (Op C V)) → StandsFor t past → StandsAlike t past
   alike t past st = record { later = past; stands = st; alike = touch_nothing past }
 
   -- what is free is let go of
-  pub freed : (id : Id) (past : List (Op V)) (new : TreeValue (Unit {0}) V) (answer : Released) → ((answer ≡ Unknown) ↔ (held id past ≡ None)) → (answer ≡ HasChildren → HasChild id past)
+  pub freed : (id : Id) (past : List (Op C V)) (new : TreeValue C V) (answer : Released) → ((answer ≡ Unknown) ↔ (held id past ≡ None)) → (answer ≡ HasChildren → HasChild id past)
       → (answer ≡ Gone → StandsFor new (Releases id ∷ past)) → IsFree id past → StandsFor new (Releases id ∷ past)
   freed id past new Gone unknown children gone free = gone refl
   freed id past new HasChildren unknown children gone free = absurd (free.childless (children refl))
@@ -213,7 +250,7 @@ module _ {V : Type 0} where
 
 -- ---- one that is made and let go of
 
-module _ {V : Type 0} (laws : TreeLaws V) (id : Id) (kind : Kind (Unit {0}) V) (now : ℕ) (past : List (Op V)) (lawful : IsLawful (Makes id kind now ∷ past)) where
+module _ {C V : Type 0} (laws : TreeLaws C V) (id : Id) (kind : Kind C V) (now : ℕ) (past : List (Op C V)) (lawful : IsLawful (Makes id kind now ∷ past)) where
   pub new_free : IsFree id (Makes id kind now ∷ past)
   new_free = record { is_held = ap is_some (made_held past id kind now); childless = laws.new_childless past id kind now lawful }
 

@@ -1,12 +1,12 @@
 -- How the connections and calls are kept in a tree of contexts and a table of hooks.
-use Rattle.std.specs.Prelude.{◌≡◌, ◌||◌, ℕ, Bool, true, false, is_some, is_none, List, [], ◌∷◌, map, if◌then◌else◌, All, Option, Some, None, unwrap_or}
+use Rattle.std.specs.Prelude.{◌≡◌, ◌||◌, ℕ, Bool, true, false, is_some, List, [], ◌∷◌, map, if◌then◌else◌, All, Option, Some, None, option_map, unwrap_or}
 use Rattle.std.specs.List.{list_any}
 use Rattle.std.specs.Option.{option_map_or}
+use Rattle.context_tree.specs.declared.error.Cause.{Cause}
 use Rattle.context_tree.specs.declared.node.Kind.{Kind}
 use Rattle.context_tree.specs.declared.node.Kind.TheVariants.{Background, Cancel, Deadline, Value}
-use Rattle.context_tree.specs.Context.{Id, TreeOp, Makes, Advances, Releases, HasChild, same, held, parent_of, follows, line, chain, has_cancel, ending, deadline}
-use Rattle.context_tree.specs.Frames.{is_due}
-use Rattle.context_tree.specs.Tree.{TreeValue, StandsFor, IsLawful, is_live, is_among}
+use Rattle.context_tree.specs.Context.{Id, TreeOp, Makes, Releases, HasChild, same, held, parent_of, follows, line, chain, has_cancel, ending}
+use Rattle.context_tree.specs.Tree.{TreeValue, StandsFor, IsLawful, is_among}
 use Rattle.after_funcs.specs.declared.callbacks.AfterFuncs.{AfterFuncs}
 use Rattle.after_funcs.specs.declared.registration.Registration.{Registration}
 use Rattle.after_funcs.specs.Hooks.{Operation, waiting, due}
@@ -14,26 +14,26 @@ use Rattle.after_funcs.specs.Stands.{StandsFor as HooksStand}
 use Rattle.call_contexts.specs.declared.life.Life.{Life}
 use Rattle.call_contexts.specs.Standing.{request_id_key}
 
--- an operation on the tree, whose contexts end for no cause of their own
-abbrev pub Op : Type 0 → Type 0
-Op V = TreeOp (Unit {0}) V
+-- an operation on the tree
+abbrev pub Op : Type 0 → Type 0 → Type 0
+Op C V = TreeOp C V
+
+-- what ended a context
+abbrev pub why : {C V : Type 0} → Id → List (Op C V) → Option (Cause C)
+why x past = option_map (λ e. e.cause) (ending x past)
 
 -- ---- what the laws of the tree say
 
-pub record TreeLaws (V : Type 0) : Type 0 where
-  pub new_unheld : (past : List (TreeOp (Unit {0}) V)) (id : Id) (kind : Kind (Unit {0}) V) (now : ℕ) → IsLawful (Makes id kind now ∷ past) → held id past ≡ None
-  pub new_childless : (past : List (TreeOp (Unit {0}) V)) (id : Id) (kind : Kind (Unit {0}) V) (now : ℕ) → IsLawful (Makes id kind now ∷ past)
+pub record TreeLaws (C V : Type 0) : Type 0 where
+  pub new_unheld : (past : List (TreeOp C V)) (id : Id) (kind : Kind C V) (now : ℕ) → IsLawful (Makes id kind now ∷ past) → held id past ≡ None
+  pub new_childless : (past : List (TreeOp C V)) (id : Id) (kind : Kind C V) (now : ℕ) → IsLawful (Makes id kind now ∷ past)
       → HasChild id (Makes id kind now ∷ past) → ⊥
-  pub line_goes_on : (past : List (TreeOp (Unit {0}) V)) (x : Id) (kind : Kind (Unit {0}) V) → IsLawful past → held x past ≡ Some kind
+  pub line_goes_on : (past : List (TreeOp C V)) (x : Id) (kind : Kind C V) → IsLawful past → held x past ≡ Some kind
       → line x past ≡ (x, kind) ∷ option_map_or (λ p. line p past) (parent_of kind) []
-  pub chain_goes_on : (past : List (TreeOp (Unit {0}) V)) (x : Id) (kind : Kind (Unit {0}) V) → IsLawful past → held x past ≡ Some kind
+  pub chain_goes_on : (past : List (TreeOp C V)) (x : Id) (kind : Kind C V) → IsLawful past → held x past ≡ Some kind
       → chain x past ≡ (x, kind) ∷ option_map_or (λ p. chain p past) (follows kind) []
-  pub ends_with : (past : List (TreeOp (Unit {0}) V)) (x t : Id) (kind : Kind (Unit {0}) V) → IsLawful past → held x past ≡ Some kind
+  pub ends_with : (past : List (TreeOp C V)) (x t : Id) (kind : Kind C V) → IsLawful past → held x past ≡ Some kind
       → has_cancel t (chain x past) ≡ true → is_some (ending t past) ≡ true → is_some (ending x past) ≡ true
-  pub expires : (past : List (TreeOp (Unit {0}) V)) (x : Id) (now : ℕ) → ending x past ≡ None
-      → is_some (ending x (Advances now ∷ past)) ≡ is_due now (deadline x past)
-  pub shows : (t : TreeValue (Unit {0}) V) (past : List (TreeOp (Unit {0}) V)) (x : Id) (kind : Kind (Unit {0}) V) → StandsFor t past → held x past ≡ Some kind
-      → is_live t.slots x ≡ is_none (ending x past)
 
 -- ---- the contexts of a call
 
@@ -51,60 +51,60 @@ abbrev pub moment_of : Option ℕ → ℕ → ℕ
 moment_of None now = 0
 moment_of (Some at) now = now
 
-module _ {V : Type 0} where
+module _ {C V : Type 0} where
   -- how the context of a call is made
-  abbrev pub kind_of : Id → Option ℕ → Kind (Unit {0}) V
+  abbrev pub kind_of : Id → Option ℕ → Kind C V
   kind_of parent None = Cancel parent
   kind_of parent (Some at) = Deadline parent at None
 
   -- a context that has the request id is made, where there is one
-  abbrev pub with_holder : Id → Option Id → Option V → List (Op V) → List (Op V)
+  abbrev pub with_holder : Id → Option Id → Option V → List (Op C V) → List (Op C V)
   with_holder conn None request_id past = past
   with_holder conn (Some holder) None past = past
   with_holder conn (Some holder) (Some request_id) past = Makes holder (Value conn request_id_key request_id) 0 ∷ past
 
   -- the contexts of a call are made
-  abbrev pub with_call : Id → Option Id → Id → Option ℕ → ℕ → Option V → List (Op V) → List (Op V)
+  abbrev pub with_call : Id → Option Id → Id → Option ℕ → ℕ → Option V → List (Op C V) → List (Op C V)
   with_call ctx holder conn at now request_id past =
       Makes ctx (kind_of (parent_of_call holder conn) at) (moment_of at now) ∷ with_holder conn holder request_id past
 
   -- the contexts of a call are let go of
-  abbrev pub let_go : Id → Option Id → List (Op V) → List (Op V)
+  abbrev pub let_go : Id → Option Id → List (Op C V) → List (Op C V)
   let_go ctx None past = Releases ctx ∷ past
   let_go ctx (Some holder) past = Releases holder ∷ Releases ctx ∷ past
 
   -- it is held, and none derives from it
-  pub record IsFree (id : Id) (past : List (Op V)) : Type 0 where
+  pub record IsFree (id : Id) (past : List (Op C V)) : Type 0 where
     pub is_held : is_some (held id past) ≡ true
     pub childless : HasChild id past → ⊥
 
   -- none derives from the contexts of a call but one of them from the other
-  abbrev pub AreFree : Id → Option Id → List (Op V) → Type 0
+  abbrev pub AreFree : Id → Option Id → List (Op C V) → Type 0
   AreFree ctx None past = IsFree ctx past
   AreFree ctx (Some holder) past = IsFree ctx past × IsFree holder (Releases ctx ∷ past)
 
   -- between two lists of operations the same contexts are held, but for these, and the same have ended
-  pub record Touches (ids : List Id) (past later : List (Op V)) : Type 0 where
+  pub record Touches (ids : List Id) (past later : List (Op C V)) : Type 0 where
     pub held_is : (x : Id) → is_among x ids ≡ false → held x later ≡ held x past
-    pub ending_is : (x : Id) (kind : Kind (Unit {0}) V) → is_among x ids ≡ false → held x past ≡ Some kind → is_some (ending x later) ≡ is_some (ending x past)
+    pub ending_is : (x : Id) (kind : Kind C V) → is_among x ids ≡ false → held x past ≡ Some kind → why x later ≡ why x past
 
   -- The tree stands for operations that leave the same contexts.
-  pub record StandsAlike (t : TreeValue (Unit {0}) V) (past : List (Op V)) : Type 0 where
-    pub later : List (Op V)
+  pub record StandsAlike (t : TreeValue C V) (past : List (Op C V)) : Type 0 where
+    pub later : List (Op C V)
     pub stands : StandsFor t later
     pub alike : Touches [] past later
 
   -- a connection's context derives from the base
-  abbrev pub IsConn : Id → List (Op V) → Id → Type 0
+  abbrev pub IsConn : Id → List (Op C V) → Id → Type 0
   IsConn base past id = held id past ≡ Some (Cancel base)
 
   -- the context that has a request id derives from its connection's
-  abbrev pub IsHolder : List (Op V) → Id → Option Id → Type 0
+  abbrev pub IsHolder : List (Op C V) → Id → Option Id → Type 0
   IsHolder past conn None = Unit {0}
   IsHolder past conn (Some holder) = (request_id : V) × (held holder past ≡ Some (Value conn request_id_key request_id))
 
   -- the contexts of a call are held as they were made
-  pub record IsLife (past : List (Op V)) (base : Id) (life : Life) : Type 0 where
+  pub record IsLife (past : List (Op C V)) (base : Id) (life : Life) : Type 0 where
     pub call_is : held life.ctx past ≡ Some (kind_of (parent_of_call life.holder life.conn) life.deadline)
     pub holder_is : IsHolder past life.conn life.holder
     pub conn_is : held life.conn past ≡ Some (Cancel base)
@@ -145,11 +145,11 @@ is_kept root base conns calls x = same x root || (same x base || (is_among x con
 abbrev pub hook_of : {H : Type 0} → Registration H → ℕ × Id
 hook_of r = (r.id, r.ctx)
 
-module _ {V H : Type 0} where
+module _ {C V H : Type 0} where
   -- Some operations lead to these contexts and hooks. Each call has its contexts, and its hook which waits on it; no other
   -- context is held, and no hook is due.
-  pub record IsSound (t : TreeValue (Unit {0}) V) (f : AfterFuncs H) (base : Id) (conns : List Id) (calls : List Life) : Type 0 where
-    pub past : List (Op V)
+  pub record IsSound (t : TreeValue C V) (f : AfterFuncs H) (base : Id) (conns : List Id) (calls : List Life) : Type 0 where
+    pub past : List (Op C V)
     pub hooks : List (Operation H)
     pub tree_is : StandsFor t past
     pub hooks_are : HooksStand f hooks

@@ -1,149 +1,175 @@
 -- What is seen of the connections and calls of a gateway: who stands, and who has ended.
-use Rattle.std.specs.Prelude.{◌≡◌, ℕ, Bool, true, false, ◌&&◌, ◌||◌, not, if◌then◌else◌, List, [], ◌∷◌, ◌++◌, map, filter, Option, Some, None, option_and_then}
+use Rattle.std.specs.Prelude.{◌≡◌, ℕ, Bool, true, false, ◌||◌, not, if◌then◌else◌, List, [], ◌∷◌, ◌++◌, map, filter, Option, Some, None, option_map, option_and_then}
 use Rattle.std.specs.List.{list_any}
+use Rattle.std.specs.Option.{option_or}
+use Rattle.context_tree.specs.declared.error.Cause.{Cause}
+use Rattle.context_tree.specs.declared.error.Cause.TheVariants.{Given, Plain}
+use Rattle.context_tree.specs.declared.error.CtxErr.TheVariants.{DeadlineExceeded}
 use Rattle.context_tree.specs.declared.node.Node.{Node}
 use Rattle.context_tree.specs.Context.{Id, same, own_value}
 use Rattle.context_tree.specs.Frames.{is_due}
-use Rattle.context_tree.specs.Tree.{is_live, node_at}
+use Rattle.context_tree.specs.Tree.{IsNotAfter, ending_in, node_at}
 use Rattle.after_funcs.specs.declared.registration.Registration.{Registration}
 use Rattle.call_contexts.specs.declared.life.Life.{Life}
 
--- a connection's context, and whether it has ended
-pub record Conn : Type 0 where
+-- a connection's context, and what ended it, if anything did
+pub record Conn (C : Type 0) : Type 0 where
   pub id : Id
-  pub ended : Bool
+  pub ended : Option (Cause C)
 
--- a call's context, that of its connection, its deadline, its request id, and whether it has ended
-pub record Call (V : Type 0) : Type 0 where
+-- a call's context, that of its connection, its deadline, its request id, and what ended it, if anything did
+pub record Call (C V : Type 0) : Type 0 where
   pub id : Id
   pub conn : Id
   pub deadline : Option ℕ
   pub request_id : Option V
-  pub ended : Bool
+  pub ended : Option (Cause C)
 
--- the connections and the calls that stand, by beginning, and whether all was ended
-pub record Standing (V : Type 0) : Type 0 where
-  pub drained : Bool
-  pub conns : List Conn
-  pub calls : List (Call V)
+-- the connections and the calls that stand, by beginning, and what ended all, if anything did
+pub record Standing (C V : Type 0) : Type 0 where
+  pub drained : Option (Cause C)
+  pub conns : List (Conn C)
+  pub calls : List (Call C V)
 
 -- the key of a call's request id
 abbrev pub request_id_key : ℕ
 request_id_key = 0
 
-abbrev pub is_conn : Id → List Conn → Bool
-is_conn id conns = list_any (λ c. same c.id id) conns
-
--- the connection of that context has ended
-abbrev pub is_ended_conn : Id → List Conn → Bool
-is_ended_conn id [] = false
-is_ended_conn id (c ∷ cs) = if same c.id id then c.ended else is_ended_conn id cs
-
 -- the slots of a tree
-abbrev pub Slots : Type 0 → Type 0
-Slots V = List (Option (Node (Unit {0}) V))
+abbrev pub Slots : Type 0 → Type 0 → Type 0
+Slots C V = List (Option (Node C V))
 
-module _ {V : Type 0} where
-  abbrev pub is_call : Id → List (Call V) → Bool
+module _ {C : Type 0} where
+  abbrev pub is_conn : Id → List (Conn C) → Bool
+  is_conn id conns = list_any (λ c. same c.id id) conns
+
+  -- what ended the connection of that context
+  abbrev pub ended_conn : Id → List (Conn C) → Option (Cause C)
+  ended_conn id [] = None
+  ended_conn id (c ∷ cs) = if same c.id id then c.ended else ended_conn id cs
+
+  -- what ends a context whose deadline this is, at a moment
+  abbrev pub if_due : ℕ → Option ℕ → Option (Cause C)
+  if_due now deadline = if is_due now deadline then Some (Plain DeadlineExceeded) else None
+
+  -- what a cancel for this cause ends a context by, if it reaches it
+  abbrev pub if_cancelled : Bool → C → Option (Cause C)
+  if_cancelled reached cause = if reached then Some (Given cause) else None
+
+  -- the connection, which this ends, unless it has ended before
+  abbrev pub ends_conn : Option (Cause C) → Conn C → Conn C
+  ends_conn e c = record { id = c.id; ended = option_or c.ended e }
+
+module _ {C V : Type 0} where
+  abbrev pub is_call : Id → List (Call C V) → Bool
   is_call id calls = list_any (λ c. same c.id id) calls
 
-  -- a call of that context stands, and has ended
-  abbrev pub is_over : Id → List (Call V) → Bool
-  is_over id calls = list_any (λ c. same c.id id && c.ended) calls
+  -- what ended the call of that context
+  abbrev pub ended_call : Id → List (Call C V) → Option (Cause C)
+  ended_call id [] = None
+  ended_call id (c ∷ cs) = if same c.id id then c.ended else ended_call id cs
+
+  -- where the call has not ended, its deadline is not before this one; without one, it has none
+  abbrev pub IsNoSooner : Option ℕ → Call C V → Type 0
+  IsNoSooner first c = (at : ℕ) → c.ended ≡ None → c.deadline ≡ Some at → IsNotAfter first at
 
   -- the request id of the call of that context
-  abbrev pub request_for : Id → List (Call V) → Option V
+  abbrev pub request_for : Id → List (Call C V) → Option V
   request_for id [] = None
   request_for id (c ∷ cs) = if same c.id id then c.request_id else request_for id cs
 
   -- the calls are of different contexts
-  abbrev pub AreApart : List (Call V) → Type 0
+  abbrev pub AreApart : List (Call C V) → Type 0
   AreApart [] = Unit {0}
   AreApart (c ∷ cs) = (is_call c.id cs ≡ false) × AreApart cs
 
   -- no connection and no call has that context
-  abbrev pub is_fresh : Id → Standing V → Bool
+  abbrev pub is_fresh : Id → Standing C V → Bool
   is_fresh id v = not (is_conn id v.conns || is_call id v.calls)
 
   -- ---- what is done to them
 
-  abbrev pub empty : Standing V
-  empty = record { drained = false; conns = []; calls = [] }
+  abbrev pub empty : Standing C V
+  empty = record { drained = None; conns = []; calls = [] }
 
   -- a connection opens
-  abbrev pub opened : Id → Standing V → Standing V
+  abbrev pub opened : Id → Standing C V → Standing C V
   opened id v = record { drained = v.drained; conns = v.conns ++ record { id = id; ended = v.drained } ∷ []; calls = v.calls }
 
   -- a call begins
-  abbrev pub begun : Id → Id → Option ℕ → ℕ → Option V → Standing V → Standing V
+  abbrev pub begun : Id → Id → Option ℕ → ℕ → Option V → Standing C V → Standing C V
   begun id conn deadline now request_id v =
       record {
         drained = v.drained;
         conns = v.conns;
-        calls = v.calls ++ record { id = id; conn = conn; deadline = deadline; request_id = request_id; ended = is_ended_conn conn v.conns || is_due now deadline } ∷ [];
+        calls = v.calls ++ record { id = id; conn = conn; deadline = deadline; request_id = request_id; ended = option_or (ended_conn conn v.conns) (if_due now deadline) } ∷ [];
       }
 
-  -- the call, which ends if the condition holds
-  abbrev pub ends_if : Bool → Call V → Call V
-  ends_if b c = record { id = c.id; conn = c.conn; deadline = c.deadline; request_id = c.request_id; ended = c.ended || b }
+  -- the call, which this ends, unless it has ended before
+  abbrev pub ends_call : Option (Cause C) → Call C V → Call C V
+  ends_call e c = record { id = c.id; conn = c.conn; deadline = c.deadline; request_id = c.request_id; ended = option_or c.ended e }
 
   -- a moment comes
-  abbrev pub expired : ℕ → Standing V → Standing V
-  expired now v = record { drained = v.drained; conns = v.conns; calls = map (λ c. ends_if (is_due now c.deadline) c) v.calls }
+  abbrev pub expired : ℕ → Standing C V → Standing C V
+  expired now v = record { drained = v.drained; conns = v.conns; calls = map (λ c. ends_call (if_due now c.deadline) c) v.calls }
 
-  -- a connection's context ends
-  abbrev pub cancelled : Id → Standing V → Standing V
-  cancelled id v =
+  -- a connection's context ends for this cause
+  abbrev pub cancelled : Id → C → Standing C V → Standing C V
+  cancelled id cause v =
       record {
         drained = v.drained;
-        conns = map (λ c. record { id = c.id; ended = c.ended || same c.id id }) v.conns;
-        calls = map (λ c. ends_if (same c.conn id) c) v.calls;
+        conns = map (λ c. ends_conn (if_cancelled (same c.id id) cause) c) v.conns;
+        calls = map (λ c. ends_call (if_cancelled (same c.conn id) cause) c) v.calls;
       }
 
-  -- all end
-  abbrev pub all_ended : Standing V → Standing V
-  all_ended v =
+  -- all end for this cause
+  abbrev pub all_ended : C → Standing C V → Standing C V
+  all_ended cause v =
       record {
-        drained = true;
-        conns = map (λ c. record { id = c.id; ended = true }) v.conns;
-        calls = map (ends_if true) v.calls;
+        drained = option_or v.drained (Some (Given cause));
+        conns = map (ends_conn (Some (Given cause))) v.conns;
+        calls = map (ends_call (Some (Given cause))) v.calls;
       }
 
   -- a call is gone
-  abbrev pub without : Id → Standing V → Standing V
+  abbrev pub without : Id → Standing C V → Standing C V
   without id v = record { drained = v.drained; conns = v.conns; calls = filter (λ c. not (same c.id id)) v.calls }
 
   -- a connection is gone
-  abbrev pub closed : Id → Standing V → Standing V
+  abbrev pub closed : Id → Standing C V → Standing C V
   closed id v = record { drained = v.drained; conns = filter (λ c. not (same c.id id)) v.conns; calls = v.calls }
 
   -- ---- how a tree keeps them
 
   -- the request id that a context has of its own
-  abbrev pub value_in : Slots V → Id → Option V
+  abbrev pub value_in : Slots C V → Id → Option V
   value_in slots holder = option_and_then (λ n. own_value request_id_key n.kind) (node_at slots holder)
 
-  abbrev pub seen_conn : Slots V → Id → Conn
-  seen_conn slots id = record { id = id; ended = not (is_live slots id) }
+  -- what ended a context
+  abbrev pub cause_in : Slots C V → Id → Option (Cause C)
+  cause_in slots id = option_map (λ e. e.cause) (ending_in slots id)
 
-  abbrev pub seen_call : Slots V → Life → Call V
+  abbrev pub seen_conn : Slots C V → Id → Conn C
+  seen_conn slots id = record { id = id; ended = cause_in slots id }
+
+  abbrev pub seen_call : Slots C V → Life → Call C V
   seen_call slots life =
       record {
         id = life.ctx;
         conn = life.conn;
         deadline = life.deadline;
         request_id = option_and_then (value_in slots) life.holder;
-        ended = not (is_live slots life.ctx);
+        ended = cause_in slots life.ctx;
       }
 
-  abbrev pub seen : Slots V → Id → List Id → List Life → Standing V
-  seen slots base conns calls = record { drained = not (is_live slots base); conns = map (seen_conn slots) conns; calls = map (seen_call slots) calls }
+  abbrev pub seen : Slots C V → Id → List Id → List Life → Standing C V
+  seen slots base conns calls = record { drained = cause_in slots base; conns = map (seen_conn slots) conns; calls = map (seen_call slots) calls }
 
 -- ---- the calls' hooks
 
 -- the connections and calls, and the hooks that wait, each with the context of its call
-pub record WithHooks (V H : Type 0) : Type 0 where
-  pub standing : Standing V
+pub record WithHooks (C V H : Type 0) : Type 0 where
+  pub standing : Standing C V
   pub hooks : List (Id × H)
 
 -- a hook, with the context of its call
@@ -156,15 +182,15 @@ module _ {H : Type 0} where
   hook_for id [] = None
   hook_for id (p ∷ ps) = if same p.0 id then Some p.1 else hook_for id ps
 
-module _ {V H : Type 0} where
+module _ {C V H : Type 0} where
   -- the hooks stay
-  abbrev pub with_standing : Standing V → WithHooks V H → WithHooks V H
+  abbrev pub with_standing : Standing C V → WithHooks C V H → WithHooks C V H
   with_standing standing v = record { standing = standing; hooks = v.hooks }
 
   -- a hook more waits
-  abbrev pub with_hook : Id → H → Standing V → WithHooks V H → WithHooks V H
+  abbrev pub with_hook : Id → H → Standing C V → WithHooks C V H → WithHooks C V H
   with_hook id hook standing v = record { standing = standing; hooks = v.hooks ++ (id, hook) ∷ [] }
 
   -- a call and its hook are gone
-  abbrev pub gone : Id → WithHooks V H → WithHooks V H
+  abbrev pub gone : Id → WithHooks C V H → WithHooks C V H
   gone id v = record { standing = without id v.standing; hooks = filter (λ p. not (same p.0 id)) v.hooks }

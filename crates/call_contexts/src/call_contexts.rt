@@ -1,26 +1,26 @@
-ghost use Rattle.std.specs.Prelude.{◌≡◌, ◌∷◌, [], ◌++◌, Some, true, false, is_some, IfOk, IfErr, IfSome, OnErr, map};
+ghost use Rattle.std.specs.Prelude.{All, ◌≡◌, ◌∷◌, [], ◌++◌, Some, true, false, is_some, IfOk, IfErr, IfSome, OnErr, map};
 ghost use Rattle.std.specs.List.{list_any};
 ghost use Rattle.std.specs.Option.{option_copied};
 ghost use Rattle.context_tree.specs.Context.{same};
-ghost use Rattle.call_contexts.specs.Standing.{empty, opened, begun, expired, cancelled, all_ended, closed, gone, with_standing, with_hook, hook_for, request_for, is_over, AreApart, is_fresh, is_call, is_conn};
+ghost use Rattle.call_contexts.specs.Standing.{IsNoSooner, empty, opened, begun, expired, cancelled, all_ended, closed, gone, with_standing, with_hook, hook_for, request_for, ended_call, AreApart, is_fresh, is_call, is_conn};
 
 use crate::calls;
-use crate::contexts::{REQUEST_ID, free, has_ended, make, release, tree_laws};
+use crate::contexts::{REQUEST_ID, cause_of, free, make, release, tree_laws};
 use crate::life::Life;
 use after_funcs::laws::order_law;
 use after_funcs::{AfterFuncs, Hook};
-use context_tree::{CtxId, Tree};
+use context_tree::{Cause, CtxId, Tree};
 use std::alloc::{AllocError, Global};
 use std::marker::Model;
 
 /// The contexts of a gateway's connections and calls, and the hooks of its calls.
 ///
 /// Each connection has a context, and each call one that derives from its connection's: it ends at the call's deadline,
-/// with its connection, or when all is drained. A call has one hook, which is called once or dropped uncalled. `V` is
-/// the type of a call's request id.
+/// with its connection, or when all is drained. A call has one hook, which is called once or dropped uncalled. `C` is
+/// the type of the causes for which connections and all end, `V` that of a call's request id.
 #[derive(Drop)]
-pub struct CallContexts<V, H> {
-    tree: Tree<(), V>,
+pub struct CallContexts<C, V, H> {
+    tree: Tree<C, V>,
     hooks: AfterFuncs<H>,
     // all end with it
     base: CtxId,
@@ -28,12 +28,12 @@ pub struct CallContexts<V, H> {
     calls: Vec<Life>,
 }
 
-impl<V, H> Model for CallContexts<V, H> {
+impl<C, V, H> Model for CallContexts<C, V, H> {
     ghost use Rattle.call_contexts.specs.Standing.{WithHooks, seen, on_ctx};
     ghost use Rattle.std.specs.Prelude.{map};
     ghost use Rattle.call_contexts.specs.Sound.{IsSound};
 
-    ghost Value = { WithHooks V H };
+    ghost Value = { WithHooks C V H };
 
     ghost view = { λ s. record {
       standing = seen s.tree.slots s.base s.conns.items s.calls.items;
@@ -43,12 +43,12 @@ impl<V, H> Model for CallContexts<V, H> {
     ghost invariant = { λ s. IsSound s.tree s.hooks s.base s.conns.items s.calls.items };
 }
 
-impl<V: Drop, H: Drop> CallContexts<V, H> {
+impl<C: Copy, V: Drop, H: Drop> CallContexts<C, V, H> {
     /// No connections and no calls.
-    pub fn new(alloc: Global) -> Result<CallContexts<V, H>, AllocError>
+    pub fn new(alloc: Global) -> Result<CallContexts<C, V, H>, AllocError>
         ensures { IfOk result (λ contexts. contexts ≡ record { standing = empty; hooks = [] }) }
     {
-        tree_laws::<V>();
+        tree_laws::<C, V>();
         let mut tree = Tree::new(alloc);
         let Ok(root) = tree.background() else {
             return Err(AllocError);
@@ -71,7 +71,7 @@ impl<V: Drop, H: Drop> CallContexts<V, H> {
         ensures fresh { IfOk result (λ id. is_fresh id self.old.standing ≡ true) }
         ensures unchanged { OnErr result (self.new ≡ self.old) }
     {
-        tree_laws::<V>();
+        tree_laws::<C, V>();
         self.conns.reserve(1)?;
         let Ok(conn) = self.tree.with_cancel(self.base) else {
             return Err(AllocError);
@@ -98,7 +98,7 @@ impl<V: Drop, H: Drop> CallContexts<V, H> {
         if self.calls.reserve(1).is_err() {
             return Err(hook);
         }
-        tree_laws::<V>();
+        tree_laws::<C, V>();
         let Ok(made) = make(&mut self.tree, conn, deadline, now, request_id) else {
             return Err(hook);
         };
@@ -128,7 +128,7 @@ impl<V: Drop, H: Drop> CallContexts<V, H> {
         let Some(_) = calls::find(&self.calls, ctx) else {
             return None;
         };
-        tree_laws::<V>();
+        tree_laws::<C, V>();
         match self.tree.value(ctx, REQUEST_ID) {
             Ok(request_id) => request_id,
             Err(_) => unreachable!(),
@@ -139,33 +139,46 @@ impl<V: Drop, H: Drop> CallContexts<V, H> {
     pub fn expire(&mut self, now: u64)
         ensures { self.new ≡ with_standing (expired now self.old.standing) self.old }
     {
-        tree_laws::<V>();
+        tree_laws::<C, V>();
         self.tree.advance(now);
     }
 
-    /// The connection ends, and with it its calls.
-    pub fn cancel(&mut self, conn: CtxId)
+    /// The connection ends for this cause, and with it its calls (Go `context`, `WithCancelCause`).
+    pub fn cancel(&mut self, conn: CtxId, cause: C)
         requires { is_conn conn self.old.standing.conns ≡ true }
-        ensures { self.new ≡ with_standing (cancelled conn self.old.standing) self.old }
+        ensures { self.new ≡ with_standing (cancelled conn cause self.old.standing) self.old }
     {
-        tree_laws::<V>();
-        self.tree.cancel(conn, None);
+        tree_laws::<C, V>();
+        self.tree.cancel(conn, Some(cause));
     }
 
-    /// All ends, what stands and what comes.
-    pub fn drain(&mut self)
-        ensures { self.new ≡ with_standing (all_ended self.old.standing) self.old }
+    /// All ends for this cause, what stands and what comes.
+    pub fn drain(&mut self, cause: C)
+        ensures { self.new ≡ with_standing (all_ended cause self.old.standing) self.old }
     {
-        tree_laws::<V>();
-        self.tree.cancel(self.base, None);
+        tree_laws::<C, V>();
+        self.tree.cancel(self.base, Some(cause));
     }
 
-    /// Whether a call of that context stands and has ended.
-    pub fn is_over(&self, ctx: CtxId) -> bool
-        ensures { result ≡ is_over ctx self.now.standing.calls }
+    /// What ended the call of that context, if it stands and anything did (Go `context`, `Cause`): its deadline, or what its
+    /// connection or all ended for.
+    pub fn ended(&self, ctx: CtxId) -> Option<Cause<C>>
+        ensures { result ≡ ended_call ctx self.now.standing.calls }
     {
-        tree_laws::<V>();
-        calls::has(&self.calls, ctx) && has_ended(&self.tree, ctx)
+        tree_laws::<C, V>();
+        if calls::has(&self.calls, ctx) {
+            cause_of(&self.tree, ctx)
+        } else {
+            None
+        }
+    }
+
+    /// The least deadline of the calls that have not ended, if any has one: no moment before it ends a call.
+    pub fn next_deadline(&self) -> Option<u64>
+        ensures { All (IsNoSooner result) self.now.standing.calls }
+    {
+        tree_laws::<C, V>();
+        self.tree.next_deadline()
     }
 
     /// Whether a connection of that context stands.
@@ -195,7 +208,7 @@ impl<V: Drop, H: Drop> CallContexts<V, H> {
         let Some(life) = calls::find(&self.calls, ctx) else {
             return None;
         };
-        tree_laws::<V>();
+        tree_laws::<C, V>();
         calls::remove(&mut self.calls, ctx);
         self.hooks.fire(ctx);
         let ran = self.hooks.run_next(event);
@@ -213,7 +226,7 @@ impl<V: Drop, H: Drop> CallContexts<V, H> {
         let Some(life) = calls::find(&self.calls, ctx) else {
             return;
         };
-        tree_laws::<V>();
+        tree_laws::<C, V>();
         order_law::<H>();
         calls::remove(&mut self.calls, ctx);
         self.hooks.stop(life.hook);
@@ -226,7 +239,7 @@ impl<V: Drop, H: Drop> CallContexts<V, H> {
         requires none { list_any (λ c. same c.conn conn) self.old.standing.calls ≡ false }
         ensures { self.new ≡ with_standing (closed conn self.old.standing) self.old }
     {
-        tree_laws::<V>();
+        tree_laws::<C, V>();
         self.conns.retain(|other| *other != conn);
         free(&mut self.tree, conn);
     }

@@ -1,38 +1,36 @@
 //! The contexts of calls in a tree.
 ghost use Rattle.std.specs.Prelude.{◌≡◌, ◌∷◌, [], List, true, IfOk, OnErr, is_some, unwrap_or};
-ghost use Rattle.context_tree.specs.Context.{Makes, Releases, held, ending};
+ghost use Rattle.context_tree.specs.Context.{Makes, Releases, held};
 ghost use Rattle.context_tree.specs.Tree.{StandsFor};
-ghost use Rattle.call_contexts.specs.Sound.{Op, TreeLaws, IsFree, AreFree, StandsAlike, kind_of, moment_of, with_holder, with_call, let_go};
+ghost use Rattle.call_contexts.specs.Sound.{Op, TreeLaws, IsFree, AreFree, StandsAlike, kind_of, moment_of, with_holder, with_call, let_go, why};
 
-use context_tree::laws::{chain_law, child_law, expiry_law, live_law, new_law};
-use context_tree::{CtxError, CtxId, Tree};
+use context_tree::laws::{chain_law, child_law, new_law};
+use context_tree::{Cause, CtxError, CtxId, Tree};
 
 /// The key of a call's request id.
 pub(crate) const REQUEST_ID: u32 = 0;
 
 /// What the laws of the tree say. It does nothing.
-pub(crate) fn tree_laws<V>()
-    ensures { TreeLaws V }
+pub(crate) fn tree_laws<C, V>()
+    ensures { TreeLaws C V }
 {
-    new_law::<(), V>();
-    chain_law::<(), V>();
-    child_law::<(), V>();
-    expiry_law::<(), V>();
-    live_law::<(), V>();
+    new_law::<C, V>();
+    chain_law::<C, V>();
+    child_law::<C, V>();
 }
 
 /// Makes the contexts of a call: one that has its request id, where there is one, and from it its own.
-pub(crate) fn make<V: Drop>(
-    tree: &mut Tree<(), V>,
+pub(crate) fn make<C: Copy, V: Drop>(
+    tree: &mut Tree<C, V>,
     conn: CtxId,
     deadline: Option<u64>,
     now: u64,
     request_id: Option<V>,
 ) -> Result<(CtxId, Option<CtxId>), CtxError>
-    ensures made { IfOk result (λ made. (past : List (Op V)) → StandsFor tree.old past
+    ensures made { IfOk result (λ made. (past : List (Op C V)) → StandsFor tree.old past
         → StandsFor tree.new (with_call made.0 made.1 conn deadline now request_id past)) }
     ensures held { IfOk result (λ made. is_some made.1 ≡ is_some request_id) }
-    ensures refused { OnErr result ((past : List (Op V)) → StandsFor tree.old past → StandsAlike tree.new past) }
+    ensures refused { OnErr result ((past : List (Op C V)) → StandsFor tree.old past → StandsAlike tree.new past) }
 {
     let holder = hold(tree, conn, request_id)?;
     let parent = match holder {
@@ -42,7 +40,7 @@ pub(crate) fn make<V: Drop>(
     match derive(tree, parent, deadline, now) {
         Ok(ctx) => Ok((ctx, holder)),
         Err(error) => {
-            tree_laws::<V>();
+            tree_laws::<C, V>();
             match holder {
                 Some(id) => free(tree, id),
                 None => (),
@@ -53,12 +51,12 @@ pub(crate) fn make<V: Drop>(
 }
 
 /// A context that has the request id, where there is one.
-fn hold<V: Drop>(
-    tree: &mut Tree<(), V>,
+fn hold<C: Copy, V: Drop>(
+    tree: &mut Tree<C, V>,
     conn: CtxId,
     request_id: Option<V>,
 ) -> Result<Option<CtxId>, CtxError>
-    ensures made { IfOk result (λ holder. (past : List (Op V)) → StandsFor tree.old past
+    ensures made { IfOk result (λ holder. (past : List (Op C V)) → StandsFor tree.old past
         → StandsFor tree.new (with_holder conn holder request_id past)) }
     ensures held { IfOk result (λ holder. is_some holder ≡ is_some request_id) }
     ensures unchanged { OnErr result (tree.new ≡ tree.old) }
@@ -73,13 +71,13 @@ fn hold<V: Drop>(
 }
 
 /// A context with a deadline, where there is one.
-fn derive<V: Drop>(
-    tree: &mut Tree<(), V>,
+fn derive<C: Copy, V: Drop>(
+    tree: &mut Tree<C, V>,
     parent: CtxId,
     deadline: Option<u64>,
     now: u64,
 ) -> Result<CtxId, CtxError>
-    ensures made { IfOk result (λ ctx. (past : List (Op V)) → StandsFor tree.old past
+    ensures made { IfOk result (λ ctx. (past : List (Op C V)) → StandsFor tree.old past
         → StandsFor tree.new (Makes ctx (kind_of parent deadline) (moment_of deadline now) ∷ past)) }
     ensures unchanged { OnErr result (tree.new ≡ tree.old) }
 {
@@ -90,8 +88,8 @@ fn derive<V: Drop>(
 }
 
 /// Lets go of the contexts of a call: its own, and then the one that has its request id.
-pub(crate) fn release<V: Drop>(tree: &mut Tree<(), V>, ctx: CtxId, holder: Option<CtxId>)
-    ensures { (past : List (Op V)) → StandsFor tree.old past → AreFree ctx holder past → StandsFor tree.new (let_go ctx holder past) }
+pub(crate) fn release<C: Copy, V: Drop>(tree: &mut Tree<C, V>, ctx: CtxId, holder: Option<CtxId>)
+    ensures { (past : List (Op C V)) → StandsFor tree.old past → AreFree ctx holder past → StandsFor tree.new (let_go ctx holder past) }
 {
     free(tree, ctx);
     if let Some(id) = holder {
@@ -100,16 +98,19 @@ pub(crate) fn release<V: Drop>(tree: &mut Tree<(), V>, ctx: CtxId, holder: Optio
 }
 
 /// Lets go of a context from which none derives.
-pub(crate) fn free<V: Drop>(tree: &mut Tree<(), V>, ctx: CtxId)
-    ensures { (past : List (Op V)) → StandsFor tree.old past → IsFree ctx past → StandsFor tree.new (Releases ctx ∷ past) }
+pub(crate) fn free<C: Copy, V: Drop>(tree: &mut Tree<C, V>, ctx: CtxId)
+    ensures { (past : List (Op C V)) → StandsFor tree.old past → IsFree ctx past → StandsFor tree.new (Releases ctx ∷ past) }
 {
     tree.release(ctx);
 }
 
-/// Whether a context that is held has ended.
-pub(crate) fn has_ended<V: Drop>(tree: &Tree<(), V>, ctx: CtxId) -> bool
-    ensures { (past : List (Op V)) → StandsFor tree.now past → is_some (held ctx past) ≡ true
-        → result ≡ is_some (ending ctx past) }
+/// What ended a context that is held, if anything did.
+pub(crate) fn cause_of<C: Copy, V: Drop>(tree: &Tree<C, V>, ctx: CtxId) -> Option<Cause<C>>
+    ensures { (past : List (Op C V)) → StandsFor tree.now past → is_some (held ctx past) ≡ true
+        → result ≡ why ctx past }
 {
-    matches!(tree.err(ctx), Ok(Some(_)))
+    match tree.cause(ctx) {
+        Ok(cause) => cause,
+        Err(_) => None,
+    }
 }

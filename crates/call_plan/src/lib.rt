@@ -17,3 +17,4 @@ pub use error::PlanError;
 pub use plan::Plan;
 pub use plans::Plans;
 pub use read::{plans_of, read_plans};
+pub use rules::{is_address, is_name, is_path};

@@ -10,8 +10,9 @@ const MAX_ADDRESS: usize = 255;
 
 const MAX_PATH: usize = 1024;
 
+/// Whether it may be a branch's name: a letter from a to z, then letters from a to z, digits and `_`, 64 bytes at most.
 #[tactic(auto, unfolding(crate::specs::Rules::is_name))]
-pub(crate) fn is_name(name: &str) -> bool
+pub fn is_name(name: &str) -> bool
     ensures { result ≡ is_name name.now }
 {
     let bytes = name.as_bytes();
@@ -36,8 +37,9 @@ fn is_name_byte(byte: u8) -> bool
     byte.is_ascii_lowercase() || byte.is_ascii_digit() || byte == b'_'
 }
 
+/// Whether it may be a backend's address: at most 255 bytes from `!` to `~` that end in `:` and 1 to 5 digits.
 #[tactic(auto, unfolding(crate::specs::Rules::is_address))]
-pub(crate) fn is_address(address: &str) -> bool
+pub fn is_address(address: &str) -> bool
     ensures { result ≡ is_address address.now }
 {
     let bytes = address.as_bytes();
@@ -72,8 +74,9 @@ fn are_digits(text: &[u8]) -> bool
     text.iter().all(|byte| byte.is_ascii_digit())
 }
 
+/// Whether it may be a path: `/` and then bytes from `!` to `~` but no `?` and no `#`, 1,024 bytes at most in all.
 #[tactic(auto, unfolding(crate::specs::Rules::is_path))]
-pub(crate) fn is_path(path: &str) -> bool
+pub fn is_path(path: &str) -> bool
     ensures { result ≡ is_path path.now }
 {
     let bytes = path.as_bytes();

@@ -1,5 +1,6 @@
 -- What reading a script or a plan file comes to, and running a script.
 use Rattle.std.specs.Prelude.{◌≡◌, ◌≤◌, ◌⊎◌, ℕ, List, length, Option, Ok}
+use Rattle.input_check.specs.Report.{IsApproval, IsRefusal}
 use Rattle.std.specs.Io.KnownBytes.{Appends, Consumes, IsAtEnd}
 use Rattle.call_plan.specs.Plan.{PlanRecord}
 use Rattle.call_plan.specs.PlanFile.{plans_in}
@@ -36,6 +37,22 @@ abbrev pub ReadsNoScript : Option (List ℕ) → Option (List ℕ) → Type 0
 ReadsNoScript old new =
     ReadsTooMuch old new
     ⊎ ((text : List ℕ) × ReadsWhole old new text × ((plans : List PlanRecord) (events : List Event) → script_in text ≡ Ok (plans, events) → ⊥))
+
+-- a whole text was read, which is a plan file
+abbrev pub FindsPlans : Option (List ℕ) → Option (List ℕ) → Type 0
+FindsPlans old new = (plans : List PlanRecord) × ReadsPlans old new plans
+
+-- a whole text was read, which is a script
+abbrev pub FindsScript : Option (List ℕ) → Option (List ℕ) → Type 0
+FindsScript old new = (script : List PlanRecord × List Event) × ReadsScript old new script.0 script.1
+
+-- a text was written that says first that the file is fine
+abbrev pub WritesApproval : Option (List ℕ) → Option (List ℕ) → Type 0
+WritesApproval held now = (text : List ℕ) × IsApproval text × Appends held now text
+
+-- a text was written that says first that the file is refused
+abbrev pub WritesRefusal : Option (List ℕ) → Option (List ℕ) → Type 0
+WritesRefusal held now = (text : List ℕ) × IsRefusal text × Appends held now text
 
 -- A whole script was read, and the text of a run of it was written.
 pub record Replays (given left held now : Option (List ℕ)) : Type 0 where

@@ -1,18 +1,19 @@
 ghost use Rattle.std.specs.Prelude.{◌≡◌};
 
+use crate::client_stream::ClientStream;
 use crate::plain_hook::{PlainHook, stock};
 use backend_pool::Shared;
-use connections::{read_side, write_side};
+use connections::{answer_side, read_side};
 use gateway_core::{ConnId, Stock};
 use std::alloc::Global;
-use std::net::{Net, Shutdown, TcpListener, TcpStream};
-use std::sync::atomic::{AtomicBool, Ordering};
+use std::net::{Net, TcpListener, TcpStream};
+use std::sync::atomic::{AtomicBool, AtomicU64, Ordering};
 use std::sync::ledger::{Ledger, Share};
 use std::sync::{Arc, Wait};
 use std::thread::{self, JoinHandle, Threads};
 use std::time::Clock;
 
-/// A connection that is served, by a thread of its own.
+/// A connection that is served, by a thread that reads and one that it starts, which writes.
 #[derive(Drop)]
 pub(crate) struct Connection {
     thread: JoinHandle<()>,
@@ -52,6 +53,7 @@ impl Connection {
         shared: &Arc<Shared<PlainHook, L, J, K>>,
         stream: TcpStream,
         bytes: Share<L>,
+        lingering: &Arc<AtomicU64>,
     ) -> Option<Connection>
         requires { bytes.parts ≡ 1 }
     {
@@ -60,11 +62,13 @@ impl Connection {
         let over = Arc::new(alloc, AtomicBool::new(false)).ok()?;
         let at_end = Arc::try_clone(&over).ok()?;
         let gateway = Arc::try_clone(shared).ok()?;
+        let client = ClientStream::new(stream, Arc::try_clone(lingering).ok()?);
+        let client = Arc::new(alloc, client).ok()?;
         let conn = open(&rt, shared, hooks)?;
         let job = move ||
             requires { bytes.parts ≡ 1 }
         {
-            serve_stream(&rt, alloc, &*gateway, conn, &stream, bytes);
+            serve_stream(rt, &gateway, conn, &client, bytes);
             at_end.store(true, Ordering::SeqCst);
         };
         match thread::spawn(&rt, job) {
@@ -77,53 +81,72 @@ impl Connection {
     }
 }
 
-/// Opens a connection, in one hold of the lock.
+/// Opens a connection, in one hold of the lock. It has nothing for anybody to do yet.
 fn open<R: Wait, L: Ledger, J: Ledger, K: Ledger>(
     rt: &R,
     shared: &Shared<PlainHook, L, J, K>,
     hooks: Stock<PlainHook>,
 ) -> Option<ConnId> {
     let mut state = shared.state.lock(rt);
-    let conn = state.book.opening(hooks).ok();
-    shared.wake();
-    conn
+    state.book.opening(hooks).ok()
 }
 
-/// Closes a connection that has no thread, in one hold of the lock.
+/// Closes a connection that nobody serves, in one hold of the lock.
 fn close<R: Wait, L: Ledger, J: Ledger, K: Ledger>(
     rt: &R,
     shared: &Shared<PlainHook, L, J, K>,
     conn: ConnId,
 ) {
-    shared.state.lock(rt).book.closing(conn);
-    shared.wake();
+    let mut state = shared.state.lock(rt);
+    state.book.closing(conn);
+    shared.let_go(state, conn);
 }
 
-/// Serves a connection by its two sides. Once the write side has ended the stream is shut down both ways, which ends the
-/// read side. Where there is no second thread to be had, the stream is read to its end before replies are written.
-fn serve_stream<R: Threads + Wait + Sync, L: Ledger + Sync, J: Ledger + Sync, K: Ledger + Sync>(
-    rt: &R,
-    alloc: Global,
-    shared: &Shared<PlainHook, L, J, K>,
+/// Serves a connection by its two sides: reads here, and writes in a thread of its own. Where there is no such thread to be
+/// had, it closes the connection and its stream at once.
+fn serve_stream<
+    R: Clock + Threads + Wait + Copy + Send + Sync + 'static,
+    L: Ledger + Send + Sync + 'static,
+    J: Ledger + Send + Sync + 'static,
+    K: Ledger + Send + Sync + 'static,
+>(
+    rt: R,
+    shared: &Arc<Shared<PlainHook, L, J, K>>,
     conn: ConnId,
-    stream: &TcpStream,
+    client: &Arc<ClientStream>,
     bytes: Share<L>,
 )
     requires { bytes.parts ≡ 1 }
 {
-    thread::join(
-        rt,
-        || {
-            let mut writer = stream;
-            write_side(rt, alloc, &mut writer, shared, conn);
-            // the peer may have ended the stream before
-            let _ = stream.shutdown(Shutdown::Both);
-        },
-        ||
-            requires { bytes.parts ≡ 1 }
-        {
-            let mut reader = stream;
-            read_side(rt, &mut reader, shared, conn, bytes);
-        },
-    );
+    let Some(writer) = start_writer(rt, shared, conn, client) else {
+        close(&rt, shared, conn);
+        client.cut();
+        return;
+    };
+    let mut reader = client.stream();
+    read_side(&rt, &mut reader, &**shared, conn, bytes);
+    client.read_to_end(&rt);
+    writer.join(&rt);
+}
+
+/// Starts the thread that writes the replies of a connection, and ends its stream behind the last.
+fn start_writer<
+    R: Clock + Threads + Wait + Copy + Send + 'static,
+    L: Ledger + Send + Sync + 'static,
+    J: Ledger + Send + Sync + 'static,
+    K: Ledger + Send + Sync + 'static,
+>(
+    rt: R,
+    shared: &Arc<Shared<PlainHook, L, J, K>>,
+    conn: ConnId,
+    client: &Arc<ClientStream>,
+) -> Option<JoinHandle<()>> {
+    let gateway = Arc::try_clone(shared).ok()?;
+    let client = Arc::try_clone(client).ok()?;
+    let job = move || {
+        let mut writer = client.stream();
+        answer_side(&rt, &mut writer, &*gateway, conn);
+        client.end(&rt);
+    };
+    thread::spawn(&rt, job).ok()
 }

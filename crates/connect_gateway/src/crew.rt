@@ -78,7 +78,7 @@ fn start_worker<
         requires { (mine.jobs.parts ≡ 1) × (mine.results.parts ≡ 1) }
     {
         let backend = RemoteBackend::new(alloc);
-        worker(&rt, alloc, &*shared, &backend, &NoGate, mine);
+        let _ = worker(&rt, alloc, &*shared, &backend, &NoGate, mine);
     };
     Ok(thread::spawn(&rt, job)?)
 }

@@ -46,7 +46,7 @@ pub fn read_plan_input<R: Read>(alloc: Global, reader: &mut R) -> Result<Plans, 
 }
 
 /// Reads a text to its end, at most one byte more than it may have. None where it is too long.
-fn read_text<R: Read>(alloc: Global, reader: &mut R) -> Result<Option<Vec<u8>>, Fault>
+pub(crate) fn read_text<R: Read>(alloc: Global, reader: &mut R) -> Result<Option<Vec<u8>>, Fault>
     ensures faults { IfErr result IsOfReading }
     ensures whole { IfOk result (λ text. IfSome text (λ bytes. ReadsWhole (R.remaining reader.old) (R.remaining reader.new) bytes.items)) }
     ensures too_long { IfOk result (λ text. text ≡ None → ReadsTooMuch (R.remaining reader.old) (R.remaining reader.new)) }

@@ -1,7 +1,10 @@
 //! The gateway's program. `connect_gateway replay` runs the script on standard input and writes what was
 //! queued for each connection to standard output. `connect_gateway serve` serves clients over TCP.
+//! `connect_gateway check` says of a plan file or a script whether it is fine, or what is wrong with it and where.
 #![tactic(auto)]
 
+mod check;
+mod client_stream;
 mod clock;
 mod connection;
 mod crew;
@@ -23,7 +26,7 @@ use std::rt::Env;
 use std::sync::Wait;
 use std::thread::Threads;
 use std::time::Clock;
-pub use task::{Service, Task, task_of};
+pub use task::{Checked, Service, Task, task_of};
 pub use words::read_words;
 
 fn main(rt: HostRuntime) -> ExitCode {
@@ -65,5 +68,6 @@ fn run_words<
             Ok(())
         }
         Task::Serve(service) => serve::serve(rt, &service),
+        Task::Check(checked) => check::check(&rt, &checked),
     }
 }

@@ -11,12 +11,14 @@ use backend_pool::{Blanks, Book, Shared, Shares, WorkerShares};
 use call_plan::Plans;
 use std::alloc::Global;
 use std::fs::{File, Files};
+use std::io;
 use std::marker::Brand;
 use std::net::{Net, TcpListener, TcpStream};
+use std::sync::atomic::AtomicU64;
 use std::sync::ledger::{Blank, Ledger, Share};
 use std::sync::{Arc, Wait};
-use std::thread::Threads;
-use std::time::Clock;
+use std::thread::{self, Threads};
+use std::time::{Clock, Duration, Instant};
 
 /// How many streams are accepted where the words name no number: more than a program lives to see.
 const MOST_STREAMS: u64 = u64::MAX - 1;
@@ -44,11 +46,12 @@ pub(crate) fn serve<
         jobs: Blank::new(u64::MAX),
         results: Blank::new(u64::MAX),
     };
+    let workers = service.workers;
     let most = service
         .connections
         .unwrap_or(MOST_STREAMS)
         .min(MOST_STREAMS);
-    serve_with::<R, Brand, Brand, Brand>(rt, alloc, plans, blanks, &listener, service.workers, most)
+    serve_with::<R, Brand, Brand, Brand>(rt, alloc, plans, blanks, listener, workers, most)
 }
 
 fn read_plan_file<R: Files>(rt: &R, alloc: Global, path: &str) -> Result<Plans, Fault> {
@@ -74,7 +77,7 @@ pub(crate) fn serve_with<
     alloc: Global,
     plans: Plans,
     blanks: Blanks,
-    listener: &TcpListener,
+    listener: TcpListener,
     workers: u32,
     most: u64,
 ) -> Result<(), Fault>
@@ -83,16 +86,17 @@ pub(crate) fn serve_with<
         × (blanks.results.parts ≡ K.parts) }
     requires enough { (most < blanks.bytes.parts) × (workers < blanks.jobs.parts) × (workers < blanks.results.parts) }
 {
-    let clock = SinceStart::new(&rt)?;
+    let start = Instant::now(&rt)?;
     let (book, shares) = Book::<PlainHook, L, J, K>::new(alloc, plans, blanks)?;
     let Shares {
         bytes,
         jobs,
         results,
     } = shares;
-    let shared = Arc::new(alloc, Shared::new(book))?;
+    let shared = Arc::new(alloc, Shared::counting_from(book, start))?;
     let mut crew = Vec::new(alloc);
     let mine = WorkerShares { jobs, results };
+    let clock = SinceStart::new(start);
     let served = match start_crew(rt, alloc, &shared, clock, workers, mine, &mut crew) {
         Ok(()) => accept_streams(rt, alloc, &shared, bytes, listener, most),
         Err(_) => Err(Fault::Memory),
@@ -102,7 +106,8 @@ pub(crate) fn serve_with<
     served
 }
 
-/// Accepts so many streams, or up to an accept that fails, and waits until all have ended.
+/// Accepts so many streams, or up to an accept that fails; then nobody listens any more, and it waits until all streams have
+/// ended.
 fn accept_streams<
     R: Net<Listener = TcpListener, Stream = TcpStream>
         + Clock
@@ -120,16 +125,17 @@ fn accept_streams<
     alloc: Global,
     shared: &Arc<Shared<PlainHook, L, J, K>>,
     bytes: Share<L>,
-    listener: &TcpListener,
+    listener: TcpListener,
     most: u64,
 ) -> Result<(), Fault>
     requires { most < bytes.parts }
 {
+    let lingering = Arc::new(alloc, AtomicU64::new(0))?;
     let mut bytes = bytes;
     let mut accepted = Ok(());
     let mut connections = Vec::new(alloc);
     for _stream in 0..most {
-        let Ok((stream, _peer)) = listener.accept() else {
+        let Ok(stream) = accept(&rt, &listener, shared) else {
             accepted = Err(Fault::Io);
             break;
         };
@@ -138,14 +144,42 @@ fn accept_streams<
         if connections.reserve(1).is_err() {
             continue;
         }
-        if let Some(connection) = Connection::start(rt, alloc, shared, stream, mine) {
+        if let Some(connection) = Connection::start(rt, alloc, shared, stream, mine, &lingering) {
             connections.push_reserved(connection);
         }
     }
+    drop(listener);
     for connection in connections {
         connection.join(&rt);
     }
     accepted
+}
+
+/// A failed accept is tried again after so many milliseconds.
+const PAUSE: u64 = 10;
+
+/// So often it is tried again while no backend is asked.
+const MOST_TRIES: u32 = 300;
+
+/// Accepts the next stream. Where that fails it is tried again for some time, and for as long as backends are asked: what it
+/// lacks, as a file descriptor, may be theirs.
+fn accept<R: Clock + Wait, L: Ledger, J: Ledger, K: Ledger>(
+    rt: &R,
+    listener: &TcpListener,
+    shared: &Shared<PlainHook, L, J, K>,
+) -> io::Result<TcpStream> {
+    let mut tries: u32 = 0;
+    for _ in rt.forever() {
+        match listener.accept() {
+            Ok((stream, _peer)) => return Ok(stream),
+            Err(error) if tries >= MOST_TRIES => return Err(error),
+            Err(_) => thread::sleep(rt, Duration::from_millis(PAUSE)),
+        }
+        if !shared.state.lock(rt).book.is_asking() {
+            tries = tries.saturating_add(1);
+        }
+    }
+    unreachable!()
 }
 
 /// Joins the threads whose connections have ended, so that no more are kept than are open, and some that just end.

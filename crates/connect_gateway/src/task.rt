@@ -22,6 +22,17 @@ pub enum Task {
     Replay,
     /// Serves clients over TCP.
     Serve(Service),
+    /// Says whether a file is fine, or what is wrong with it and where.
+    Check(Checked),
+}
+
+/// A file that is to be checked, by its path as it was given.
+#[derive(Drop, PartialEq, Eq, Debug)]
+pub enum Checked {
+    /// As a plan file.
+    Plans(Text),
+    /// As a script.
+    Script(Text),
 }
 
 /// How clients are to be served.
@@ -48,6 +59,7 @@ pub fn task_of(alloc: Global, words: &[&str]) -> Result<Task, Fault>
     match matches.subcommand() {
         Some(("replay", _)) => Ok(Task::Replay),
         Some(("serve", options)) => service_of(alloc, options),
+        Some(("check", options)) => checked_of(alloc, options),
         _ => Err(Fault::Words),
     }
 }
@@ -59,9 +71,13 @@ fn command<'a>(alloc: Global) -> Result<Command<'a>, AllocError> {
         .arg(Arg::new(alloc, "plans").long("plans").required(true))?
         .arg(number(alloc, "workers").required(true))?
         .arg(number(alloc, "connections"))?;
+    let check = Command::new(alloc, "check")
+        .arg(Arg::new(alloc, "plans").long("plans"))?
+        .arg(Arg::new(alloc, "script").long("script"))?;
     Command::new(alloc, "connect_gateway")
         .subcommand(replay)?
-        .subcommand(serve)
+        .subcommand(serve)?
+        .subcommand(check)
 }
 
 /// An option whose value is a whole number.
@@ -102,6 +118,19 @@ fn service_of(alloc: Global, options: &ArgMatches<'_>) -> Result<Task, Fault>
         workers,
         connections,
     }))
+}
+
+/// One of the two files is named, and not both.
+fn checked_of(alloc: Global, options: &ArgMatches<'_>) -> Result<Task, Fault>
+    ensures faults { IfErr result IsOfWords }
+    ensures in_range { IfOk result IsInRange }
+{
+    let checked = match (options.get_str("plans"), options.get_str("script")) {
+        (Some(plans), None) => Checked::Plans(Text::from_str(alloc, plans)?),
+        (None, Some(script)) => Checked::Script(Text::from_str(alloc, script)?),
+        _ => return Err(Fault::Words),
+    };
+    Ok(Task::Check(checked))
 }
 
 /// The value of an option.

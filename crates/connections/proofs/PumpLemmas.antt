@@ -1,14 +1,15 @@
 -- What a read, a piece and the hang-up add to what was pumped.
-use Rattle.std.specs.Prelude.{◌≡◌, ℕ, ◌+◌, ◌≤◌, List, [], ◌∷◌, ◌++◌, length, Option, refl}
-use Rattle.std.proofs.Common.{arith, sym, append-nil, subst, length-append, lit≤}
+use Rattle.std.specs.Prelude.{◌≡◌, ◌≢◌, ℕ, ◌+◌, ◌≤◌, All, Bool, false, true, List, [], ◌∷◌, ◌++◌, length, Option, refl}
+use Rattle.std.proofs.Common.{arith, sym, ap, ◌∙◌, append-nil, subst, length-append, lit≤}
 use Rattle.std.proofs.lemmas.Grind.{common_steps, flat_map-append}
+use Rattle.std.proofs.lemmas.List.Elements.{All-nil, All-cons, All-append, All-head, All-tail}
 use Rattle.std.specs.Io.KnownBytes.{Consumes}
 use Rattle.connections.specs.declared.inlet.Fed.{Fed}
 use Rattle.connections.specs.declared.inlet.Fed.TheVariants.{Go, Stop, Full}
 use Rattle.connections.specs.declared.inlet.Heard.{Heard}
 use Rattle.connections.specs.declared.inlet.Heard.TheVariants.{Piece}
 use Rattle.connections.specs.Told.{Tells}
-use Rattle.connections.specs.Pumps.{Pumps, Counts, taken_of, ends_by, answered, joined}
+use Rattle.connections.specs.Pumps.{Pumps, Counts, IsRead, taken_of, ends_by, answered, joined}
 use Rattle.connections.proofs.TellLemmas.{Tells-refl, Tells-trans, Consumes-refl, Consumes-trans}
 
 none_of : {A : Type 0} (xs : List A) → length xs ≡ 0 → xs ≡ []
@@ -21,6 +22,18 @@ joined-more pieces piece = grind (arith, common_steps, flat_map-append (λ (p : 
 joined-one : (piece : List ℕ) → joined (piece ∷ []) ≡ piece
 joined-one piece = append-nil piece
 
+-- what was read before, and one read more
+reads-more : (pieces final : List (List ℕ)) (piece : List ℕ) → final ≡ [] → All IsRead (pieces ++ final) → IsRead piece → All IsRead (pieces ++ piece ∷ [])
+reads-more pieces final piece none reads is_read =
+    let before : All IsRead pieces = subst (All IsRead) (append-nil pieces) (subst (λ xs. All IsRead (pieces ++ xs)) none reads) in
+    All-append IsRead pieces (piece ∷ []) before (All-cons IsRead piece [] is_read (All-nil IsRead))
+
+is_read_last : (pieces final : List (List ℕ)) → length final ≡ 1 → All IsRead (pieces ++ final) → IsRead (joined final)
+is_read_last (x ∷ pieces) final one reads = is_read_last pieces final one (All-tail IsRead x (pieces ++ final) reads)
+is_read_last [] [] one reads = absurd (omega arith)
+is_read_last [] (x ∷ []) one reads = subst IsRead (sym (joined-one x)) (All-head IsRead x [] reads)
+is_read_last [] (x ∷ y ∷ final) one reads = absurd (omega arith)
+
 count_of : (final : List (List ℕ)) (k n j : ℕ) → length final ≡ 0 → j ≡ k + n + length (taken_of (joined final) Go) → j ≡ k + n
 count_of [] k n j none counted = omega arith
 count_of (x ∷ xs) k n j none counted = absurd (omega arith)
@@ -32,6 +45,7 @@ Pumps-refl a t k = record {
   final = [];
   one_at_most = refl;
   few = lit≤ tt;
+  reads = All-nil IsRead;
   read = Consumes-refl a;
   given = Tells-refl t;
   counted = omega arith;
@@ -39,9 +53,9 @@ Pumps-refl a t k = record {
 
 -- a piece that ends the reading
 ended : (n : ℕ) (a b c : Option (List ℕ)) (t s u : Option (List Heard)) (k j i : ℕ) (bytes : List ℕ) (fed : Fed)
-    → Pumps n a b t s k j Go [] → Consumes b c bytes → Tells s u (Piece bytes fed ∷ []) → i ≡ j + length (taken_of bytes fed) → ends_by fed ≡ 1
+    → Pumps n a b t s k j Go [] → IsRead bytes → Consumes b c bytes → Tells s u (Piece bytes fed ∷ []) → i ≡ j + length (taken_of bytes fed) → ends_by fed ≡ 1
     → Pumps (n + 1) a c t u k i fed []
-ended n a b c t s u k j i bytes fed p read told counted one =
+ended n a b c t s u k j i bytes fed p is_read read told counted one =
     let none = none_of p.final p.one_at_most in
     let before : joined p.pieces ++ joined p.final ≡ joined p.pieces = rw none (append-nil _) in
     let heard : (answered Go p.pieces ++ answered Go p.final) ++ [] ≡ answered Go p.pieces = rw none (grind (arith, common_steps)) in
@@ -51,6 +65,7 @@ ended n a b c t s u k j i bytes fed p read told counted one =
       final = bytes ∷ [];
       one_at_most = sym one;
       few = (let few = p.few in omega (arith, few));
+      reads = reads-more p.pieces p.final bytes none p.reads is_read;
       read = rw (joined-one bytes) (Consumes-trans a b c _ _ (subst (λ xs. Consumes a b xs) before p.read) read);
       given = rw (append-nil (answered Go p.pieces ++ answered fed (bytes ∷ []))) (Tells-trans t s u _ _ (subst (λ xs. Tells t s xs) heard p.given) told);
       counted = rw (joined-one bytes) (omega (arith, count, counted));
@@ -58,10 +73,11 @@ ended n a b c t s u k j i bytes fed p read told counted one =
 
 -- one read more, and what the inlet said to it
 pub Pumps-more : (n : ℕ) (a b c : Option (List ℕ)) (t s u : Option (List Heard)) (k j i : ℕ) (bytes : List ℕ) (fed : Fed)
-    → Pumps n a b t s k j Go [] → Consumes b c bytes → Tells s u (Piece bytes fed ∷ []) → i ≡ j + length (taken_of bytes fed) → Pumps (n + 1) a c t u k i fed []
-Pumps-more n a b c t s u k j i bytes Stop p read told counted = ended n a b c t s u k j i bytes Stop p read told counted refl
-Pumps-more n a b c t s u k j i bytes Full p read told counted = ended n a b c t s u k j i bytes Full p read told counted refl
-Pumps-more n a b c t s u k j i bytes Go p read told counted =
+    → Pumps n a b t s k j Go [] → IsRead bytes → Consumes b c bytes → Tells s u (Piece bytes fed ∷ []) → i ≡ j + length (taken_of bytes fed)
+    → Pumps (n + 1) a c t u k i fed []
+Pumps-more n a b c t s u k j i bytes Stop p is_read read told counted = ended n a b c t s u k j i bytes Stop p is_read read told counted refl
+Pumps-more n a b c t s u k j i bytes Full p is_read read told counted = ended n a b c t s u k j i bytes Full p is_read read told counted refl
+Pumps-more n a b c t s u k j i bytes Go p is_read read told counted =
     let none = none_of p.final p.one_at_most in
     let before : joined p.pieces ++ joined p.final ≡ joined p.pieces = rw none (append-nil _) in
     let heard : (answered Go p.pieces ++ answered Go p.final) ++ [] ≡ answered Go p.pieces = rw none (grind (arith, common_steps)) in
@@ -73,6 +89,7 @@ Pumps-more n a b c t s u k j i bytes Go p read told counted =
       final = [];
       one_at_most = refl;
       few = omega (arith, p.few, length-append p.pieces (bytes ∷ []));
+      reads = subst (All IsRead) (sym (append-nil (p.pieces ++ bytes ∷ []))) (reads-more p.pieces p.final bytes none p.reads is_read);
       read = rw all (Consumes-trans a b c _ _ (subst (λ xs. Consumes a b xs) before p.read) read);
       given = rw news (Tells-trans t s u _ _ (subst (λ xs. Tells t s xs) heard p.given) told);
       counted = rw (joined-more p.pieces bytes) (omega (arith, count, counted, length-append (joined p.pieces) bytes));
@@ -86,6 +103,7 @@ Pumps-then n a b t s u k j i fed last p told same = record {
   final = p.final;
   one_at_most = p.one_at_most;
   few = p.few;
+  reads = p.reads;
   read = p.read;
   given =
       let heard : (answered Go p.pieces ++ answered fed p.final) ++ [] ≡ answered Go p.pieces ++ answered fed p.final = append-nil _ in
@@ -93,13 +111,20 @@ Pumps-then n a b t s u k j i fed last p told same = record {
   counted = omega (arith, p.counted, same);
 }
 
-taken_all : (a b : Option (List ℕ)) (k i : ℕ) (fed : Fed) (xs ys : List ℕ) → Consumes a b (xs ++ ys) → i ≡ k + length xs + length ys → Counts a b k i fed
-taken_all a b k i fed xs ys read counted = record {
+abbrev is_full : Fed → Bool
+is_full Full = true
+is_full Go = false
+is_full Stop = false
+
+taken_all : (a b : Option (List ℕ)) (k i : ℕ) (fed : Fed) (xs ys : List ℕ) → is_full fed ≡ false → Consumes a b (xs ++ ys) → i ≡ k + length xs + length ys
+    → Counts a b k i fed
+taken_all a b k i fed xs ys goes_on read counted = record {
   taken = xs ++ ys;
   refused = [];
   read = rw (append-nil (xs ++ ys)) read;
   counted = omega (arith, counted, length-append xs ys);
   all_taken = λ _. refl;
+  last_read = λ full. absurd (let clash : false ≡ true = sym goes_on ∙ ap is_full full in cc);
 }
 
 -- what was counted, of a reading that told nothing
@@ -110,9 +135,10 @@ Counts-of n a b t u k i Full last p = record {
   read = p.read;
   counted = omega (arith, p.counted);
   all_taken = λ is_not. absurd (is_not refl);
+  last_read = λ _. is_read_last p.pieces p.final p.one_at_most p.reads;
 }
-Counts-of n a b t u k i Go last p = taken_all a b k i Go (joined p.pieces) (joined p.final) p.read p.counted
-Counts-of n a b t u k i Stop last p = taken_all a b k i Stop (joined p.pieces) (joined p.final) p.read p.counted
+Counts-of n a b t u k i Go last p = taken_all a b k i Go (joined p.pieces) (joined p.final) refl p.read p.counted
+Counts-of n a b t u k i Stop last p = taken_all a b k i Stop (joined p.pieces) (joined p.final) refl p.read p.counted
 
 -- at most so many pieces, and so at most more
 pub Pumps-most : (n m : ℕ) (a b : Option (List ℕ)) (t u : Option (List Heard)) (k i : ℕ) (fed : Fed) (last : List Heard)
@@ -122,6 +148,7 @@ Pumps-most n m a b t u k i fed last p le = record {
   final = p.final;
   one_at_most = p.one_at_most;
   few = omega (arith, p.few, le);
+  reads = p.reads;
   read = p.read;
   given = p.given;
   counted = p.counted;

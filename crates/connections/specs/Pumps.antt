@@ -1,5 +1,5 @@
 -- What reading a stream into an inlet makes of both.
-use Rattle.std.specs.Prelude.{◌≡◌, ◌≢◌, ℕ, ◌+◌, ◌≤◌, List, [], ◌++◌, length, map, flat_map, Option}
+use Rattle.std.specs.Prelude.{◌≡◌, ◌≢◌, ℕ, ◌+◌, ◌<◌, ◌≤◌, All, List, [], ◌++◌, length, map, flat_map, Option}
 use Rattle.std.specs.Io.KnownBytes.{Consumes}
 use Rattle.connections.specs.declared.inlet.Fed.{Fed}
 use Rattle.connections.specs.declared.inlet.Fed.TheVariants.{Go, Stop, Full}
@@ -30,6 +30,13 @@ joined pieces = flat_map (λ piece. piece) pieces
 abbrev pub answered : Fed → List (List ℕ) → List Heard
 answered fed pieces = map (λ piece. Piece piece fed) pieces
 
+-- what one read may bring: some bytes, and no more than there is room for
+abbrev pub most_read : ℕ
+most_read = 4096
+
+abbrev pub IsRead : List ℕ → Type 0
+IsRead piece = (0 < length piece) × (length piece ≤ most_read)
+
 -- how many pieces have this answer as the last: the reading goes on at `Go`
 abbrev pub ends_by : Fed → ℕ
 ends_by Go = 0
@@ -45,14 +52,17 @@ pub record Pumps (most : ℕ) (before after : Option (List ℕ)) (old new : Opti
   pub final : List (List ℕ)
   pub one_at_most : length final ≡ ends_by fed
   pub few : length pieces + length final ≤ most
+  pub reads : All IsRead (pieces ++ final)
   pub read : Consumes before after (joined pieces ++ joined final)
   pub given : Tells old new ((answered Go pieces ++ answered fed final) ++ last)
   pub counted : takes ≡ took + length (joined pieces) + length (taken_of (joined final) fed)
 
--- Of what was read as many bytes were counted as were taken: all, but those of the last read where there was no room for them.
+-- Of what was read as many bytes were counted as were taken: all, but those of the last read where there was no room for them. Of that
+-- one read none was taken.
 pub record Counts (before after : Option (List ℕ)) (old new : ℕ) (fed : Fed) : Type 0 where
   pub taken : List ℕ
   pub refused : List ℕ
   pub read : Consumes before after (taken ++ refused)
   pub counted : new ≡ old + length taken
   pub all_taken : fed ≢ Full → refused ≡ []
+  pub last_read : fed ≡ Full → IsRead refused

@@ -10,6 +10,7 @@ use std::alloc::Global;
 use std::collections::VecDeque;
 use std::marker::Model;
 use std::sync::Wait;
+use std::time::Clock;
 
 /// An inlet that keeps all that it is given.
 #[derive(Drop)]
@@ -66,7 +67,7 @@ impl Inlet for MemoryInlet {
 
     ghost took = { λ heard. length (bytes_heard heard) };
 
-    fn piece<R: Wait>(&mut self, rt: &R, bytes: &[u8]) -> Fed {
+    fn piece<R: Clock + Wait>(&mut self, rt: &R, bytes: &[u8]) -> Fed {
         let fed = self.answer();
         let piece = copy_of(rt, self.alloc, bytes);
         make_room(rt, &mut self.heard);
@@ -74,7 +75,7 @@ impl Inlet for MemoryInlet {
         fed
     }
 
-    fn hang_up<R: Wait>(&mut self, rt: &R) {
+    fn hang_up<R: Clock + Wait>(&mut self, rt: &R) {
         make_room(rt, &mut self.heard);
         self.heard.push_reserved(Heard::HangUp);
     }

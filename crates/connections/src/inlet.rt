@@ -5,6 +5,7 @@ ghost use Rattle.connections.specs.declared.inlet.Heard.{Heard};
 
 use http_pieces::Bytes;
 use std::sync::Wait;
+use std::time::Clock;
 
 /// What became of a piece of a stream.
 #[derive(Clone, Copy, PartialEq, Eq, Debug)]
@@ -33,12 +34,12 @@ pub trait Inlet {
     ghost took: { Self → ℕ };
 
     /// Takes the next piece of the stream, unless it answers `Full`.
-    fn piece<R: Wait>(&mut self, rt: &R, bytes: &[u8]) -> Fed
+    fn piece<R: Clock + Wait>(&mut self, rt: &R, bytes: &[u8]) -> Fed
         ensures told { Tells (told self.old) (told self.new) (Heard.Piece bytes.now result ∷ []) }
         ensures took { took self.new ≡ took self.old + length (taken_of bytes.now result) };
 
     /// Takes that the peer hung up: the stream brings nothing more.
-    fn hang_up<R: Wait>(&mut self, rt: &R)
+    fn hang_up<R: Clock + Wait>(&mut self, rt: &R)
         ensures told { Tells (told self.old) (told self.new) (Heard.HangUp ∷ []) }
         ensures took { took self.new ≡ took self.old };
 }

@@ -4,6 +4,7 @@
 mod clock;
 pub mod fakes;
 mod inlet;
+mod keeping;
 mod lock_inlet;
 mod lock_replies;
 mod pumping;
@@ -15,5 +16,5 @@ pub use clock::Clock;
 pub use inlet::{Fed, Heard, Inlet};
 pub use pumping::pump;
 pub use queue::{Handed, ReplyQueue};
-pub use sides::{clock_side, read_side, write_side};
-pub use writing::write_replies;
+pub use sides::{answer_side, clock_side, read_side, write_side};
+pub use writing::{write_and_give_up, write_replies};

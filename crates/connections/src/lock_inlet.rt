@@ -5,8 +5,10 @@ use backend_pool::{LedgerFull, Shared};
 use gateway_core::{ConnId, ReplyHook};
 use std::sync::Wait;
 use std::sync::ledger::{Ledger, Share};
+use std::time::Clock;
 
-/// Where the stream of a connection under the lock goes: each call is one hold, and one event.
+/// Where the stream of a connection under the lock goes: each call is one hold, and one event,
+/// behind the moment that it is, which is a hold of its own.
 pub(crate) struct LockInlet<'a, H, L: Ledger, J: Ledger, K: Ledger> {
     pub(crate) shared: &'a Shared<H, L, J, K>,
     pub(crate) conn: ConnId,
@@ -17,21 +19,23 @@ pub(crate) struct LockInlet<'a, H, L: Ledger, J: Ledger, K: Ledger> {
 impl<H: ReplyHook + Drop, L: Ledger, J: Ledger, K: Ledger> Inlet for LockInlet<'_, H, L, J, K> {
     ghost took = { λ inlet. inlet.bytes.amount };
 
-    fn piece<R: Wait>(&mut self, rt: &R, bytes: &[u8]) -> Fed {
+    fn piece<R: Clock + Wait>(&mut self, rt: &R, bytes: &[u8]) -> Fed {
+        self.shared.tick(rt);
         let mut state = self.shared.state.lock(rt);
         let fed = match state.book.piece(self.conn, bytes, &mut self.bytes) {
             Ok(Ok(())) => Fed::Go,
             Ok(Err(_)) => Fed::Stop,
             Err(LedgerFull) => Fed::Full,
         };
-        self.shared.wake();
+        self.shared.let_go(state, self.conn);
         fed
     }
 
-    fn hang_up<R: Wait>(&mut self, rt: &R) {
+    fn hang_up<R: Clock + Wait>(&mut self, rt: &R) {
+        self.shared.tick(rt);
         let mut state = self.shared.state.lock(rt);
         // the connection may be closed or hung up: then nothing changes
         let _ = state.book.hang_up(self.conn);
-        self.shared.wake();
+        self.shared.let_go(state, self.conn);
     }
 }

@@ -19,14 +19,15 @@ impl<H: ReplyHook + Drop, L: Ledger, J: Ledger, K: Ledger> ReplyQueue
             match state.book.take_reply(self.conn) {
                 NextReply::Ready(reply) => return Some(reply),
                 NextReply::Over => return None,
-                NextReply::Pending => state = self.shared.replies.wait(rt, state),
+                NextReply::Pending => state = self.shared.wait_for_reply(rt, state, self.conn),
             }
         }
         unreachable!()
     }
 
     fn close<R: Wait>(&mut self, rt: &R) {
-        self.shared.state.lock(rt).book.closing(self.conn);
-        self.shared.wake();
+        let mut state = self.shared.state.lock(rt);
+        state.book.closing(self.conn);
+        self.shared.let_go(state, self.conn);
     }
 }

@@ -5,6 +5,7 @@ ghost use Rattle.connections.specs.declared.inlet.Heard.{Heard};
 use crate::inlet::{Fed, Inlet};
 use std::io::Read;
 use std::sync::Wait;
+use std::time::Clock;
 
 /// How often a stream is read at most.
 const MOST_READS: u64 = 1 << 40;
@@ -16,7 +17,7 @@ const READ_LENGTH: usize = 4096;
 /// that fails, at a piece that the inlet answers by `Stop` or `Full`, and after 2^40 reads; and then it hangs up, once.
 ///
 /// Answers what the inlet said to the last piece; `Go` where the reading ended by itself.
-pub fn pump<R: Wait, S: Read, I: Inlet>(rt: &R, reader: &mut S, inlet: &mut I) -> Fed
+pub fn pump<R: Clock + Wait, S: Read, I: Inlet>(rt: &R, reader: &mut S, inlet: &mut I) -> Fed
     ensures { Pumps (2 ^ 40) (S.remaining reader.old) (S.remaining reader.new) (I.told inlet.old) (I.told inlet.new)
         (I.took inlet.old) (I.took inlet.new) result (Heard.HangUp ∷ []) }
 {
@@ -26,7 +27,7 @@ pub fn pump<R: Wait, S: Read, I: Inlet>(rt: &R, reader: &mut S, inlet: &mut I) -
 }
 
 /// Gives the inlet what is read, piece by piece.
-fn give_pieces<R: Wait, S: Read, I: Inlet>(rt: &R, reader: &mut S, inlet: &mut I) -> Fed
+fn give_pieces<R: Clock + Wait, S: Read, I: Inlet>(rt: &R, reader: &mut S, inlet: &mut I) -> Fed
     ensures { Pumps (2 ^ 40) (S.remaining reader.old) (S.remaining reader.new) (I.told inlet.old) (I.told inlet.new)
         (I.took inlet.old) (I.took inlet.new) result [] }
 {

@@ -1,4 +1,5 @@
-ghost use Rattle.std.specs.Prelude.{◌≡◌, ◌≤◌, length, map};
+ghost use Rattle.std.specs.Prelude.{◌≡◌, ◌≤◌, List, length, map};
+ghost use Rattle.gateway_theory.specs.Replies.{ReplyValue};
 ghost use Rattle.connections.specs.Pumps.{Counts};
 ghost use Rattle.connections.specs.Writes.{WritesOut, calls_of};
 
@@ -7,8 +8,8 @@ use crate::inlet::Fed;
 use crate::lock_inlet::LockInlet;
 use crate::lock_replies::LockReplies;
 use crate::pumping::pump;
-use crate::writing::write_replies;
-use backend_pool::Shared;
+use crate::writing::{write_and_give_up, write_replies};
+use backend_pool::{Shared, Turn};
 use gateway_core::{ConnId, Reply, ReplyHook};
 use std::alloc::Global;
 use std::io::{Read, Write};
@@ -19,7 +20,14 @@ use std::time;
 /// Reads the stream of a connection into the gateway, by `pump`: each piece is one hold of the lock, and so is the
 /// hang-up behind the last. Gives back the share, in which the bytes are counted that were taken, and how it ended:
 /// `Stop` where the connection takes no more, `Full` where the ledger does not.
-pub fn read_side<R: Wait, S: Read, H: ReplyHook + Drop, L: Ledger, J: Ledger, K: Ledger>(
+pub fn read_side<
+    R: time::Clock + Wait,
+    S: Read,
+    H: ReplyHook + Drop,
+    L: Ledger,
+    J: Ledger,
+    K: Ledger,
+>(
     rt: &R,
     reader: &mut S,
     shared: &Shared<H, L, J, K>,
@@ -61,7 +69,24 @@ pub fn write_side<R: Wait, W: Write, H: ReplyHook + Drop, L: Ledger, J: Ledger, 
     write_replies(rt, alloc, writer, conn, &mut replies)
 }
 
-/// Hands the moments of a clock to the gateway, one at each turn, each in one hold of the lock, until that is shut.
+/// Writes the replies of a connection and then closes it, as `write_side` does, and gives up each reply once it is written: so
+/// no more is kept than what waits.
+pub fn answer_side<R: Wait, W: Write, H: ReplyHook + Drop, L: Ledger, J: Ledger, K: Ledger>(
+    rt: &R,
+    writer: &mut W,
+    shared: &Shared<H, L, J, K>,
+    conn: ConnId,
+)
+    // they are known to the proof alone
+    ensures { (written : List ReplyValue) × (map (λ r. r.id) written ≡ calls_of conn 0 (length written))
+        × WritesOut (W.contents writer.old) (W.contents writer.new) written }
+{
+    let mut replies = LockReplies { shared, conn };
+    write_and_give_up(rt, writer, conn, &mut replies);
+}
+
+/// Hands the moments of a clock to the gateway, one at each turn, each in one hold of the lock, until that is shut. A moment
+/// that is not later than the one before is not handed in. It sleeps while no backend is asked for long.
 pub fn clock_side<
     R: time::Clock + Wait,
     C: Clock,
@@ -72,29 +97,11 @@ pub fn clock_side<
 >(rt: &R, clock: &mut C, shared: &Shared<H, L, J, K>) {
     for _ in rt.forever() {
         let moment = clock.now(rt);
-        let Some(asking) = hand_in(rt, moment, shared) else {
-            return;
-        };
-        clock.pause(rt, asking);
+        match shared.turn(rt, moment) {
+            Turn::Pause(milliseconds) => clock.pause(rt, milliseconds),
+            Turn::Sleep => shared.sleep_until_asked(rt),
+            Turn::End => return,
+        }
     }
     unreachable!()
-}
-
-/// Hands the moment in, and tells whether backends are asked. None where it was not handed in, since all is shut.
-fn hand_in<R: Wait, H: ReplyHook + Drop, L: Ledger, J: Ledger, K: Ledger>(
-    rt: &R,
-    moment: u64,
-    shared: &Shared<H, L, J, K>,
-) -> Option<bool> {
-    let mut state = shared.state.lock(rt);
-    if state.shut {
-        return None;
-    }
-    state.book.moment(moment);
-    let asking = state.book.is_asking();
-    // A moment starts no job, so no worker is woken. With no branch out there is no call that it could have ended.
-    if asking {
-        shared.replies.notify_all();
-    }
-    Some(asking)
 }

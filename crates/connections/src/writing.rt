@@ -1,8 +1,10 @@
-ghost use Rattle.std.specs.Prelude.{◌≡◌, ◌≤◌, ◌++◌, [], length, take, vec_len, List, map, false};
+ghost use Rattle.std.specs.Prelude.{◌≡◌, ◌≢◌, ◌+◌, ◌≤◌, [], ◌∷◌, length, take, List, map, false, true, None, Some, IfSome, MatchOption};
 ghost use Rattle.std.specs.Io.KnownBytes.{Appends};
 ghost use Rattle.gateway_theory.specs.Replies.{ReplyValue};
+ghost use Rattle.connections.specs.Told.{Tells};
 ghost use Rattle.connections.specs.Writes.{End, Writes, WritesToItsEnd, goes_on, calls_of};
 
+use crate::keeping::{GivenUp, Keeping};
 use crate::queue::ReplyQueue;
 use gateway_core::{CallId, ConnId, Reply};
 use std::alloc::Global;
@@ -30,50 +32,73 @@ pub fn write_replies<R: Wait, W: Write, Q: ReplyQueue>(
     written
 }
 
-/// Writes what the queue gives until it can't go on, and keeps what was written.
-fn write_all<R: Wait, W: Write, Q: ReplyQueue>(
+/// Writes the replies that the queue gives, as `write_replies` does, and gives up each of them once it is written.
+pub fn write_and_give_up<R: Wait, W: Write, Q: ReplyQueue>(
+    rt: &R,
+    writer: &mut W,
+    conn: ConnId,
+    replies: &mut Q,
+)
+    // they are known to the proof alone
+    ensures { (written : List ReplyValue) × WritesToItsEnd conn (W.contents writer.old) (W.contents writer.new)
+        (Q.told replies.old) (Q.told replies.new) written }
+{
+    write_all(rt, writer, conn, replies, &mut GivenUp);
+    replies.close(rt);
+}
+
+/// Writes what the queue gives until it can't go on, and hands what was written to who keeps it.
+fn write_all<R: Wait, W: Write, Q: ReplyQueue, K: Keeping>(
     rt: &R,
     writer: &mut W,
     conn: ConnId,
     queue: &mut Q,
-    written: &mut Vec<Reply>,
+    kept: &mut K,
 )
-    requires { written.old.items ≡ [] }
-    ensures { (end : End) × (goes_on end ≡ false) × Writes conn 0 (W.contents writer.old) (W.contents writer.new)
-        (Q.told queue.old) (Q.told queue.new) written.new.items end [] }
+    ensures { (end : End) × (written : List ReplyValue) × (goes_on end ≡ false)
+        × Tells (K.told kept.old) (K.told kept.new) written
+        × Writes conn 0 (W.contents writer.old) (W.contents writer.new)
+        (Q.told queue.old) (Q.told queue.new) written end [] }
 {
+    let mut request = 0;
     for _ in rt.forever() {
-        if !write_next(rt, writer, conn, queue, written) {
+        let Some(next) = write_next(rt, writer, conn, request, queue, kept) else {
             return;
-        }
+        };
+        request = next;
     }
     unreachable!()
 }
 
-/// Takes the next reply and writes it behind those written. False where that was the last.
-fn write_next<R: Wait, W: Write, Q: ReplyQueue>(
+/// Takes the reply to this request and writes it. Answers the next request; None where that was the last reply.
+fn write_next<R: Wait, W: Write, Q: ReplyQueue, K: Keeping>(
     rt: &R,
     writer: &mut W,
     conn: ConnId,
+    request: u64,
     queue: &mut Q,
-    written: &mut Vec<Reply>,
-) -> bool
-    ensures { (end : End) × (more : List ReplyValue) × (goes_on end ≡ result)
-        × (written.new.items ≡ written.old.items ++ more)
-        × Writes conn (vec_len written.old) (W.contents writer.old) (W.contents writer.new)
-        (Q.told queue.old) (Q.told queue.new) more end [] }
+    kept: &mut K,
+) -> Option<u64>
+    ensures { (end : End) × (written : List ReplyValue)
+        × MatchOption result (goes_on end ≡ false) (λ next. (goes_on end ≡ true) × (next ≡ request + length written))
+        × Tells (K.told kept.old) (K.told kept.new) written
+        × Writes conn request (W.contents writer.old) (W.contents writer.new)
+        (Q.told queue.old) (Q.told queue.new) written end [] }
 {
     let Some(reply) = queue.next(rt) else {
-        return false;
+        return None;
     };
-    let request = written.len() as u64;
-    if reply.id() != (CallId { conn, request }) || written.reserve(1).is_err() {
-        return false;
+    if reply.id() != (CallId { conn, request }) || !kept.make_room() {
+        return None;
     }
+    // no connection has so many requests
+    let Some(next) = request.checked_add(1) else {
+        return None;
+    };
     let length = reply.bytes().len();
     let sent = send(reply.bytes(), writer);
-    written.push_reserved(reply);
-    sent == length
+    kept.keep(reply);
+    if sent == length { Some(next) } else { None }
 }
 
 /// Writes the bytes, and answers how many were written: all, or those before the first write that failed or took none.

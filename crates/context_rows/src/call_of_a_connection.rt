@@ -25,7 +25,7 @@ impl Hook<u64, u64> for Echo {
 pub fn begun_and_ended(alloc: Global, event: u64) -> Result<u64, AllocError>
     ensures { IfOk result (λ answer. answer ≡ event) }
 {
-    let mut contexts: CallContexts<u64, Echo> = CallContexts::new(alloc)?;
+    let mut contexts: CallContexts<u32, u64, Echo> = CallContexts::new(alloc)?;
     let conn = contexts.open()?;
     let Ok(call) = contexts.begin(conn, Some(10), 5, Some(77), Echo) else {
         return Err(AllocError);

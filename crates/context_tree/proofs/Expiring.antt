@@ -104,7 +104,7 @@ fewer_wait laws now es e p is =
 
 -- ---- times
 
-sooner_at : (own above : Option ℕ) (at : ℕ) → if_sooner own above ≡ Some at → (own ≡ Some at) × ((m : ℕ) → above ≡ Some m → at < m)
+pub sooner_at : (own above : Option ℕ) (at : ℕ) → if_sooner own above ≡ Some at → (own ≡ Some at) × ((m : ℕ) → above ≡ Some m → at < m)
 sooner_at None above at is = cc
 sooner_at (Some a) None at is = (is, λ m bad. cc)
 sooner_at (Some a) (Some b) at is = ⊎_elim

@@ -23,3 +23,4 @@ pub mod Framing
 pub mod Family
 pub mod Endings
 pub mod Expiring
+pub mod NextDeadline

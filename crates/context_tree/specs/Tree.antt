@@ -169,6 +169,25 @@ pub record Answers {C V E : Type 0} (old new : TreeValue C V) (kind : Kind C V) 
   pub unchanged : OnErr result (new ≡ old)
   pub keeps : OnErr result (StandsAsBefore old new)
 
+-- the first is not after the second; where there is no first, nothing is
+abbrev pub IsNotAfter : Option ℕ → ℕ → Type 0
+IsNotAfter None at = ⊥
+IsNotAfter (Some first) at = first ≤ at
+
+module _ {C V : Type 0} where
+  -- no context that is held and not ended has a deadline before this one; without one, none has a deadline
+  abbrev pub IsFirstDeadline : Option ℕ → List (TreeOp C V) → Type 0
+  IsFirstDeadline first past =
+      (x : Id) (kind : Kind C V) (at : ℕ) → held x past ≡ Some kind → ending x past ≡ None → deadline x past ≡ Some at → IsNotAfter first at
+
+  -- a context that is held and not ended has this deadline
+  pub record IsDeadline (first : ℕ) (past : List (TreeOp C V)) : Type 0 where
+    pub context : Id
+    pub kind : Kind C V
+    pub is_held : held context past ≡ Some kind
+    pub goes_on : ending context past ≡ None
+    pub deadline_is : deadline context past ≡ Some first
+
 -- how many ended contexts are still to be handed out
 abbrev pub left_to_hand_out : {C V : Type 0} → TreeValue C V → ℕ
 left_to_hand_out t = length t.done

@@ -3,7 +3,7 @@ ghost use Rattle.std.specs.Result.{result_ok};
 ghost use Rattle.context_tree.specs.declared.node.Kind.{Kind};
 ghost use Rattle.context_tree.specs.declared.node.Kind.TheVariants.{Background, Cancel, Deadline, Value, WithoutCancel};
 ghost use Rattle.context_tree.specs.Context.{Id, TreeOp, Makes, Cancels, Advances, HandsOut, Releases, HasChild, IsFirstDone, held, is_waiting, parent_of, ending, deadline, value};
-ghost use Rattle.context_tree.specs.Tree.{StandsFor, StandsAsBefore, Answers, IsMade, IsRefused, left_to_hand_out, most_visits, if_held, is_ended_by_cancel};
+ghost use Rattle.context_tree.specs.Tree.{StandsFor, StandsAsBefore, Answers, IsMade, IsDeadline, IsFirstDeadline, IsRefused, left_to_hand_out, most_visits, if_held, is_ended_by_cancel};
 
 use crate::error::{Cause, CtxErr, CtxError, Unknown};
 use crate::id::CtxId;
@@ -15,6 +15,7 @@ use slab::Slab;
 use std::alloc::Global;
 use std::marker::Model;
 use timer_heap::Timers;
+use timer_heap::laws::first_due_law;
 
 const MOST_CONTEXTS: u64 = 1 << 62;
 
@@ -196,6 +197,15 @@ impl<C: Copy, V: Drop> Tree<C, V> {
         ensures { (past : List (TreeOp C V)) → StandsFor self.old past → StandsFor self.new (Advances now ∷ past) }
     {
         ending::end_due(&mut self.nodes, &mut self.done, &mut self.timers, now);
+    }
+
+    /// The least deadline of the contexts that are not ended, if any has one: no moment before it ends a context.
+    pub fn next_deadline(&self) -> Option<u64>
+        ensures first { (past : List (TreeOp C V)) → StandsFor self.now past → IsFirstDeadline result past }
+        ensures its { IfSome result (λ first. (past : List (TreeOp C V)) → StandsFor self.now past → IsDeadline first past) }
+    {
+        first_due_law();
+        self.timers.next()
     }
 
     /// Hands out a context that is ended and not released, each once: one that an earlier operation ended before one that a

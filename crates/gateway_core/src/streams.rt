@@ -1,5 +1,6 @@
 ghost use Rattle.std.specs.Prelude.{◌≡◌, ◌==◌, ◌<◌, ◌≤◌, ◌^◌, ◌∷◌, IfOk, IfErr, List, OnErr, false, true, not, filter, length, []};
 ghost use Rattle.gateway_theory.specs.Ends.{is_stopped_in, noted};
+ghost use Rattle.gateway_machine.specs.Linked.{IsNow};
 ghost use Rattle.gateway_theory.specs.Heads.{IsOfAll};
 ghost use Rattle.gateway_theory.specs.Gateway.{is_broken_conn, is_ended, outs_of, untaken_of};
 ghost use Rattle.gateway_theory.specs.Step.{moment_after};
@@ -328,7 +329,8 @@ impl<H: ReplyHook + Drop> Streams<H> {
 
     /// What may end calls, other than a hang-up, is noted, and the calls end that it ends. True where a connection broke.
     fn end_calls(&mut self, cause: &Cause) -> bool
-        requires { IsOfAll cause.now }
+        requires all { IsOfAll cause.now }
+        requires now { IsNow cause.now self.old.machine.moment }
         ensures ends { Ends cause.now (noted cause.now self.old.machine) self.old self.new }
         ensures broke { Breaks self.old self.new result }
     {

@@ -1,10 +1,11 @@
 -- The contexts of a machine, as it changes.
-use Rattle.std.proofs.Common.{◌≡◌, ℕ, ◌-◌, ◌<◌, zero, suc, refl, sym, ap, ◌∙◌, List, [], ◌∷◌, ◌++◌, Option, Some, None, Bool, true, false, ⊎_elim, subst, map, length, arith, rules}
-use Rattle.std.specs.Prelude.{◌||◌, ◌==◌, not, is_some, if◌then◌else◌, filter, nat_lt, option_map, slice_set}
+use Rattle.std.proofs.Common.{◌≡◌, ℕ, ◌-◌, ◌<◌, zero, suc, refl, sym, ap, ◌∙◌, List, [], ◌∷◌, ◌++◌, Option, Some, None, Bool, true, false, inl, inr, ⊎_elim, subst, map, length, arith, rules}
+use Rattle.std.specs.Prelude.{◌||◌, ◌==◌, ◌⊎◌, not, is_some, if◌then◌else◌, filter, nat_lt, option_map, slice_set}
+use Rattle.std.specs.Option.{option_or}
 use Rattle.std.specs.List.{list_any}
-use Rattle.std.proofs.lemmas.Bool.{cases_Bool, cond_both, eq-eqb}
+use Rattle.std.proofs.lemmas.Bool.{cases_Bool, cond_both, eq-eqb, eqb-true, or_parts}
 use Rattle.std.proofs.lemmas.List.{append-nil, map-append}
-use Rattle.std.proofs.lemmas.List.Elements.{All-head, All-tail, filter-append}
+use Rattle.std.proofs.lemmas.List.Elements.{All-cons, All-head, All-nil, All-tail, All-weaker, filter-append}
 use Rattle.std.proofs.lemmas.List.Folds.{list_any-append}
 use Rattle.std.specs.Prelude.{All, OnErr, Result, Ok, Err}
 use Rattle.connect_codec.specs.declared.answer.Outcome.{Outcome}
@@ -15,23 +16,24 @@ use Rattle.gateway_model.specs.declared.id.CallId.{CallId}
 use Rattle.gateway_theory.specs.declared.cause.Cause.{Cause}
 use Rattle.gateway_theory.specs.declared.cause.Cause.TheVariants.{Reached, HungUp, Drained}
 use Rattle.gateway_model.specs.declared.call_event.CallEvent.{CallEvent}
-use Rattle.gateway_model.specs.declared.call_event.CallEvent.TheVariants.{Expired, HungUp as HungUpNow}
+use Rattle.gateway_model.specs.declared.call_event.CallEvent.TheVariants.{Expired, HungUp as HungUpNow, Drained as DrainedNow}
 use Rattle.gateway_model.specs.CallRecord.{CallRecord}
-use Rattle.gateway_theory.specs.Begins.{begins}
+use Rattle.gateway_theory.specs.Begins.{begins, ends_first}
 use Rattle.gateway_theory.specs.Conn.{ConnValue, added, conn_value, fill_at, filled, next_of, without_first}
-use Rattle.gateway_replies.specs.Contexts.{ContextsValue, KeepsOthers, LifeValue, LivesApart, PeerValue, begun, closed, contexts_value, ends_life, ends_peer, is_ended_peer, is_life, is_peer, life_by, others, peer, told, without}
-use Rattle.gateway_theory.specs.Ends.{AreApart, CallsEnd, caused, ended_below, ended_call, ended_kept, is_stopped_in, noted, settled_at, unanswered, without_reply}
-use Rattle.gateway_theory.specs.Enters.{entered_at}
+use Rattle.gateway_replies.specs.Contexts.{ContextsValue, Ended, KeepsOthers, LifeValue, LivesApart, PeerValue, begun, by_deadline, by_drain, by_hang_up, closed, contexts_value, ended_life, ended_peer, ends_life, ends_of, ends_peer, event_of, is_life, is_peer, life_by, opened, others, peer, told, without}
+use Rattle.gateway_theory.specs.Ends.{AreApart, CallsEnd, caused, ended_below, ended_call, ended_if, ended_kept, is_stopped_in, noted, settled_at, unanswered, without_reply}
+use Rattle.gateway_theory.specs.Enters.{asking_at, entered_at}
+use Rattle.gateway_theory.specs.Machine.{is_full}
 use Rattle.gateway_theory.specs.Task.{TaskValue}
 use Rattle.gateway_theory.specs.Kept.{KeptValue}
 use Rattle.gateway_machine.specs.KeptCall.{IsStep}
-use Rattle.gateway_machine.specs.Linked.{IsLinkedBut, IsLinkedWith, Over, linked, linked_by, linked_calls, linked_conns, lives_in, none_over, over_by}
-use Rattle.gateway_theory.specs.Opens.{ReplyTaken}
+use Rattle.gateway_machine.specs.Linked.{IsLinkedBut, IsLinkedWith, IsNow, Over, ended_with, ends_with, event_for, linked, linked_by, linked_calls, linked_conns, lives_in, none_over, over_by}
+use Rattle.gateway_theory.specs.Opens.{ReplyTaken, opened_as}
 use Rattle.gateway_theory.specs.Orderly.{ConnsApart, IsInOrder, IsOrderly}
 use Rattle.gateway_model.specs.Past.{ArrivedCall, is_call, is_due}
 use Rattle.gateway_theory.specs.Replies.{ReplyValue}
 use Rattle.gateway_theory.specs.Results.{is_spent}
-use Rattle.gateway_theory.specs.Step.{Live, is_last_answer, result_on, step_to}
+use Rattle.gateway_theory.specs.Step.{Live, Step, ended_by, is_last_answer, result_on, step_to}
 use Rattle.gateway_theory.specs.Store.{MachineValue, IsFound, broken_at, broken_if, conn_at, conn_of, fill_first, filled_in, given_up, given_up_if, hung_if, kept_at, machine_value}
 use Rattle.gateway_theory.specs.lemmas.Cases.{all_stay, or_false, or_true, sym_eqb}
 use Rattle.gateway_theory.specs.lemmas.LimitLemmas.{same_call}
@@ -39,8 +41,20 @@ use Rattle.gateway_theory.specs.lemmas.StoreLemmas.{call_itself}
 
 -- ---- connections
 
-module _ (d : Bool) where
-  pub conns_broken : (c : ℕ) (ks : List ConnValue) → linked_conns d (map (broken_if c) ks) ≡ filter (λ p. not (p.number == c)) (linked_conns d ks)
+-- each of a list is in it
+any_more : (n : ℕ) (k : ConnValue) (ks : List ConnValue) → list_any (λ (m : ConnValue). m.number == n) ks ≡ true → list_any (λ (m : ConnValue). m.number == n) (k ∷ ks) ≡ true
+any_more n k ks there = ap (λ b. (k.number == n) || b) there ∙ or_true (k.number == n)
+
+abbrev IsThere : List ConnValue → ConnValue → Type 0
+IsThere ks k = list_any (λ (m : ConnValue). m.number == k.number) ks ≡ true
+
+all_there : (ks : List ConnValue) → All (IsThere ks) ks
+all_there [] = All-nil (IsThere [])
+all_there (k ∷ ks) = All-cons (IsThere (k ∷ ks)) k ks (rw (eq-eqb k.number k.number refl) refl)
+    (All-weaker (IsThere ks) (IsThere (k ∷ ks)) (λ m there. any_more m.number k ks there) ks (all_there ks))
+
+module _ (e : ℕ → Ended) where
+  pub conns_broken : (c : ℕ) (ks : List ConnValue) → linked_conns e (map (broken_if c) ks) ≡ filter (λ p. not (p.number == c)) (linked_conns e ks)
   conns_broken c [] = refl
   conns_broken c (k ∷ ks) = ⊎_elim
       (λ (its : (k.number == c) ≡ true). ⊎_elim
@@ -49,11 +63,11 @@ module _ (d : Bool) where
       (cases_Bool k.broken))
       (λ (far : (k.number == c) ≡ false). ⊎_elim
       (λ (b : k.broken ≡ true). rw (far, b) (conns_broken c ks))
-      (λ (u : k.broken ≡ false). rw (far, u, far) (ap (λ ps. peer k.number (d || k.hung_up) ∷ ps) (conns_broken c ks)))
+      (λ (u : k.broken ≡ false). rw (far, u, far) (ap (λ ps. peer k.number (e k.number) ∷ ps) (conns_broken c ks)))
       (cases_Bool k.broken))
       (cases_Bool (k.number == c))
 
-  pub conns_closed : (c : ℕ) (ks : List ConnValue) → linked_conns d (filter (λ (k : ConnValue). not (k.number == c)) ks) ≡ filter (λ p. not (p.number == c)) (linked_conns d ks)
+  pub conns_closed : (c : ℕ) (ks : List ConnValue) → linked_conns e (filter (λ (k : ConnValue). not (k.number == c)) ks) ≡ filter (λ p. not (p.number == c)) (linked_conns e ks)
   conns_closed c [] = refl
   conns_closed c (k ∷ ks) = ⊎_elim
       (λ (its : (k.number == c) ≡ true). ⊎_elim
@@ -62,38 +76,37 @@ module _ (d : Bool) where
       (cases_Bool k.broken))
       (λ (far : (k.number == c) ≡ false). ⊎_elim
       (λ (b : k.broken ≡ true). rw (far, b) (conns_closed c ks))
-      (λ (u : k.broken ≡ false). rw (far, u, far) (ap (λ ps. peer k.number (d || k.hung_up) ∷ ps) (conns_closed c ks)))
+      (λ (u : k.broken ≡ false). rw (far, u, far) (ap (λ ps. peer k.number (e k.number) ∷ ps) (conns_closed c ks)))
       (cases_Bool k.broken))
       (cases_Bool (k.number == c))
 
   -- a connection in the place of another
-  conn_alike : (k l : ConnValue) (ks ls : List ConnValue) → l.number ≡ k.number → l.broken ≡ k.broken → l.hung_up ≡ k.hung_up → linked_conns d ls ≡ linked_conns d ks → linked_conns d (l ∷ ls) ≡ linked_conns d (k ∷ ks)
-  conn_alike k l ks ls number broken hung rest = ⊎_elim
+  conn_alike : (k l : ConnValue) (ks ls : List ConnValue) → l.number ≡ k.number → l.broken ≡ k.broken → linked_conns e ls ≡ linked_conns e ks → linked_conns e (l ∷ ls) ≡ linked_conns e (k ∷ ks)
+  conn_alike k l ks ls number broken rest = ⊎_elim
       (λ (b : k.broken ≡ true). rw (broken, b) rest)
-      (λ (u : k.broken ≡ false). rw (broken, u, number, hung) (ap (λ ps. peer k.number (d || k.hung_up) ∷ ps) rest))
+      (λ (u : k.broken ≡ false). rw (broken, u, number) (ap (λ ps. peer k.number (e k.number) ∷ ps) rest))
       (cases_Bool k.broken)
 
-  conns_filled : (r : ReplyValue) (ks : List ConnValue) → linked_conns d (fill_first r ks) ≡ linked_conns d ks
+  conns_filled : (r : ReplyValue) (ks : List ConnValue) → linked_conns e (fill_first r ks) ≡ linked_conns e ks
   conns_filled r [] = refl
   conns_filled r (k ∷ ks) = ⊎_elim
       (λ (its : (k.number == r.id.conn) ≡ true). rw its (conn_alike k (filled r.id.request r.entry k) ks ks
       (cond_both (nat_lt r.id.request k.taken) k (record k { slots = fill_at (r.id.request - k.taken) r.entry k.slots }) (λ x. x.number ≡ k.number) (λ _. refl) (λ _. refl))
-      (cond_both (nat_lt r.id.request k.taken) k (record k { slots = fill_at (r.id.request - k.taken) r.entry k.slots }) (λ x. x.broken ≡ k.broken) (λ _. refl) (λ _. refl))
-      (cond_both (nat_lt r.id.request k.taken) k (record k { slots = fill_at (r.id.request - k.taken) r.entry k.slots }) (λ x. x.hung_up ≡ k.hung_up) (λ _. refl) (λ _. refl)) refl))
-      (λ (far : (k.number == r.id.conn) ≡ false). rw far (conn_alike k k ks (fill_first r ks) refl refl refl (conns_filled r ks)))
+      (cond_both (nat_lt r.id.request k.taken) k (record k { slots = fill_at (r.id.request - k.taken) r.entry k.slots }) (λ x. x.broken ≡ k.broken) (λ _. refl) (λ _. refl)) refl))
+      (λ (far : (k.number == r.id.conn) ≡ false). rw far (conn_alike k k ks (fill_first r ks) refl refl (conns_filled r ks)))
       (cases_Bool (k.number == r.id.conn))
 
-  pub conns_filled_in : (r : Option ReplyValue) (ks : List ConnValue) → linked_conns d (filled_in r ks) ≡ linked_conns d ks
+  pub conns_filled_in : (r : Option ReplyValue) (ks : List ConnValue) → linked_conns e (filled_in r ks) ≡ linked_conns e ks
   conns_filled_in None ks = refl
   conns_filled_in (Some r) ks = conns_filled r ks
 
-  conns_set : (ks : List ConnValue) (i : ℕ) (k : ConnValue) → i < length ks → k.number ≡ (conn_at i ks).number → k.broken ≡ (conn_at i ks).broken → k.hung_up ≡ (conn_at i ks).hung_up
-      → linked_conns d (slice_set ks i k) ≡ linked_conns d ks
-  conns_set [] i k lt number broken hung = refl
-  conns_set (c ∷ ks) zero k lt number broken hung = conn_alike c k ks ks number broken hung refl
-  conns_set (c ∷ ks) (suc i) k lt number broken hung = conn_alike c c ks (slice_set ks i k) refl refl refl (conns_set ks i k (omega (arith, lt)) number broken hung)
+  conns_set : (ks : List ConnValue) (i : ℕ) (k : ConnValue) → i < length ks → k.number ≡ (conn_at i ks).number → k.broken ≡ (conn_at i ks).broken
+      → linked_conns e (slice_set ks i k) ≡ linked_conns e ks
+  conns_set [] i k lt number broken = refl
+  conns_set (c ∷ ks) zero k lt number broken = conn_alike c k ks ks number broken refl
+  conns_set (c ∷ ks) (suc i) k lt number broken = conn_alike c c ks (slice_set ks i k) refl refl (conns_set ks i k (omega (arith, lt)) number broken)
 
-  pub not_peer : (c : ℕ) (ks : List ConnValue) → conn_of c ks ≡ None → is_peer c (linked_conns d ks) ≡ false
+  pub not_peer : (c : ℕ) (ks : List ConnValue) → conn_of c ks ≡ None → is_peer c (linked_conns e ks) ≡ false
   not_peer c [] none = refl
   not_peer c (k ∷ ks) none = ⊎_elim
       (λ (its : (k.number == c) ≡ true). let bad : Some k ≡ None = rw its at none in cc)
@@ -103,7 +116,7 @@ module _ (d : Bool) where
       (cases_Bool k.broken))
       (cases_Bool (k.number == c))
 
-  pub known_peer : (ks : List ConnValue) (i : ℕ) → i < length ks → (conn_at i ks).broken ≡ false → is_peer (conn_at i ks).number (linked_conns d ks) ≡ true
+  pub known_peer : (ks : List ConnValue) (i : ℕ) → i < length ks → (conn_at i ks).broken ≡ false → is_peer (conn_at i ks).number (linked_conns e ks) ≡ true
   known_peer [] i lt on = absurd (omega (arith, lt))
   known_peer (k ∷ ks) zero lt on = rw (on, eq-eqb k.number k.number refl) refl
   known_peer (k ∷ ks) (suc i) lt on = ⊎_elim
@@ -111,43 +124,64 @@ module _ (d : Bool) where
       (λ (u : k.broken ≡ false). rw u (ap (λ b. (k.number == (conn_at i ks).number) || b) (known_peer ks i (omega (arith, lt)) on) ∙ or_true (k.number == (conn_at i ks).number)))
       (cases_Bool k.broken)
 
-  pub opened_linked : (c : ℕ) (ks : List ConnValue) → linked_conns d (ks ++ conn_value c 0 [] false false ∷ []) ≡ linked_conns d ks ++ peer c d ∷ []
-  opened_linked c ks = ap (map (λ (k : ConnValue). peer k.number (d || k.hung_up))) (filter-append (λ (k : ConnValue). not k.broken) ks (conn_value c 0 [] false false ∷ []))
-      ∙ map-append (λ (k : ConnValue). peer k.number (d || k.hung_up)) (filter (λ (k : ConnValue). not k.broken) ks) (conn_value c 0 [] false false ∷ [])
-      ∙ ap (λ b. linked_conns d ks ++ peer c b ∷ []) (or_false d)
+  pub opened_conns : (c : ℕ) (ks : List ConnValue) → linked_conns e (ks ++ conn_value c 0 [] false false ∷ []) ≡ linked_conns e ks ++ peer c (e c) ∷ []
+  opened_conns c ks = ap (map (λ (k : ConnValue). peer k.number (e k.number))) (filter-append (λ (k : ConnValue). not k.broken) ks (conn_value c 0 [] false false ∷ []))
+      ∙ map-append (λ (k : ConnValue). peer k.number (e k.number)) (filter (λ (k : ConnValue). not k.broken) ks) (conn_value c 0 [] false false ∷ [])
 
-  -- the context of a connection that is heard has ended where all have
-  pub heard_peer : (ks : List ConnValue) (i : ℕ) → i < length ks → ConnsApart ks → (conn_at i ks).broken ≡ false → (conn_at i ks).hung_up ≡ false
-      → is_ended_peer (conn_at i ks).number (linked_conns d ks) ≡ d
-  heard_peer [] i lt apart on heard = absurd (omega (arith, lt))
-  heard_peer (k ∷ ks) zero lt apart on heard = rw (on, eq-eqb k.number k.number refl, heard) (or_false d)
-  heard_peer (k ∷ ks) (suc i) lt apart on heard = ⊎_elim
-      (λ (b : k.broken ≡ true). rw b (heard_peer ks i (omega (arith, lt)) (λ a c m n. apart (suc a) (suc c) (omega (arith, m)) (omega (arith, n))) on heard))
-      (λ (u : k.broken ≡ false). rw (u, apart 0 (suc i) (omega arith) lt)
-      (heard_peer ks i (omega (arith, lt)) (λ a c m n. apart (suc a) (suc c) (omega (arith, m)) (omega (arith, n))) on heard))
-      (cases_Bool k.broken)
+  -- what ended the connection of a number is what was said of it, if it is there
+  found_in : (new : Ended) (n : ℕ) (ks : List ConnValue) → list_any (λ (k : ConnValue). k.number == n) ks ≡ true → ended_peer new n (map (λ (k : ConnValue). peer k.number (e k.number)) ks) ≡ e n
+  found_in new n [] there = cc
+  found_in new n (k ∷ ks) there = ⊎_elim
+      (λ (its : (k.number == n) ≡ true). rw its (ap e (eqb-true k.number n its)))
+      (λ (far : (k.number == n) ≡ false). rw far (found_in new n ks (rw far at there)))
+      (cases_Bool (k.number == n))
+
+  missed_in : (new : Ended) (n : ℕ) (ks : List ConnValue) → list_any (λ (k : ConnValue). k.number == n) ks ≡ false → ended_peer new n (map (λ (k : ConnValue). peer k.number (e k.number)) ks) ≡ new
+  missed_in new n [] none = refl
+  missed_in new n (k ∷ ks) none =
+      let two = or_parts (k.number == n) (list_any (λ (m : ConnValue). m.number == n) ks) none in
+      rw two.0 (missed_in new n ks two.1)
+
+  -- each of them is so, or as one that opens
+  pub ends_either : (new : Ended) (n : ℕ) (ks : List ConnValue) → (ended_peer new n (linked_conns e ks) ≡ e n) ⊎ (ended_peer new n (linked_conns e ks) ≡ new)
+  ends_either new n ks = ⊎_elim
+      (λ (there : list_any (λ (k : ConnValue). k.number == n) (filter (λ (k : ConnValue). not k.broken) ks) ≡ true). inl (found_in new n (filter (λ (k : ConnValue). not k.broken) ks) there))
+      (λ (none : list_any (λ (k : ConnValue). k.number == n) (filter (λ (k : ConnValue). not k.broken) ks) ≡ false). inr (missed_in new n (filter (λ (k : ConnValue). not k.broken) ks) none))
+      (cases_Bool (list_any (λ (k : ConnValue). k.number == n) (filter (λ (k : ConnValue). not k.broken) ks)))
+
+  -- what is said of those that are there is all
+  agree_in : (f : ℕ → Ended) (all ks : List ConnValue) → All (IsThere all) ks
+      → ((n : ℕ) → list_any (λ (m : ConnValue). m.number == n) all ≡ true → f n ≡ e n) → map (λ (k : ConnValue). peer k.number (f k.number)) ks ≡ map (λ (k : ConnValue). peer k.number (e k.number)) ks
+  agree_in f all [] there same = refl
+  agree_in f all (k ∷ ks) there same =
+      ap (λ b. peer k.number b ∷ map (λ (k : ConnValue). peer k.number (f k.number)) ks) (same k.number (All-head (IsThere all) k ks there))
+      ∙ ap (λ ps. peer k.number (e k.number) ∷ ps) (agree_in f all ks (All-tail (IsThere all) k ks there) same)
+
+  relinked_conns : (new : Ended) (ks : List ConnValue) → linked_conns (λ n. ended_peer new n (linked_conns e ks)) ks ≡ linked_conns e ks
+  relinked_conns new ks = agree_in (λ n. ended_peer new n (linked_conns e ks)) (filter (λ (k : ConnValue). not k.broken) ks) (filter (λ (k : ConnValue). not k.broken) ks)
+      (all_there (filter (λ (k : ConnValue). not k.broken) ks)) (λ n there. found_in new n (filter (λ (k : ConnValue). not k.broken) ks) there)
 
   -- the peer of a connection hung up
-  pub hung_linked : (c : ℕ) (ks : List ConnValue) → linked_conns d (map (hung_if c) ks) ≡ map (λ p. ends_peer (p.number == c) p) (linked_conns d ks)
+  pub hung_linked : (c : ℕ) (ks : List ConnValue) → linked_conns (λ n. option_or (e n) (by_hang_up (n == c))) (map (hung_if c) ks) ≡ map (λ p. ends_peer (by_hang_up (p.number == c)) p) (linked_conns e ks)
   hung_linked c [] = refl
   hung_linked c (k ∷ ks) = ⊎_elim
       (λ (its : (k.number == c) ≡ true). ⊎_elim
       (λ (b : k.broken ≡ true). rw (its, b) (hung_linked c ks))
-      (λ (u : k.broken ≡ false). rw (its, u, its, or_true (d || k.hung_up), or_true d) (ap (λ ps. peer k.number true ∷ ps) (hung_linked c ks)))
+      (λ (u : k.broken ≡ false). rw (its, u, its) (ap (λ ps. peer k.number (option_or (e k.number) (by_hang_up true)) ∷ ps) (hung_linked c ks)))
       (cases_Bool k.broken))
       (λ (far : (k.number == c) ≡ false). ⊎_elim
       (λ (b : k.broken ≡ true). rw (far, b) (hung_linked c ks))
-      (λ (u : k.broken ≡ false). rw (far, u, far, or_false (d || k.hung_up)) (ap (λ ps. peer k.number (d || k.hung_up) ∷ ps) (hung_linked c ks)))
+      (λ (u : k.broken ≡ false). rw (far, u, far) (ap (λ ps. peer k.number (option_or (e k.number) (by_hang_up false)) ∷ ps) (hung_linked c ks)))
       (cases_Bool k.broken))
       (cases_Bool (k.number == c))
 
--- all were drained
-drained_linked : (d : Bool) (ks : List ConnValue) → linked_conns true ks ≡ map (λ p. ends_peer true p) (linked_conns d ks)
-drained_linked d [] = refl
-drained_linked d (k ∷ ks) = ⊎_elim
-    (λ (b : k.broken ≡ true). rw b (drained_linked d ks))
-    (λ (u : k.broken ≡ false). rw (u, or_true (d || k.hung_up)) (ap (λ ps. peer k.number true ∷ ps) (drained_linked d ks)))
-    (cases_Bool k.broken)
+  -- all were drained
+  pub drained_linked : (ks : List ConnValue) → linked_conns (λ n. option_or (e n) (by_drain true)) ks ≡ map (λ p. ends_peer (by_drain true) p) (linked_conns e ks)
+  drained_linked [] = refl
+  drained_linked (k ∷ ks) = ⊎_elim
+      (λ (b : k.broken ≡ true). rw b (drained_linked ks))
+      (λ (u : k.broken ≡ false). rw u (ap (λ ps. peer k.number (option_or (e k.number) (by_drain true)) ∷ ps) (drained_linked ks)))
+      (cases_Bool k.broken)
 
 -- ---- calls, of which these are over
 
@@ -236,37 +270,32 @@ life_if_live k (Some l) o_is some = (l, o_is)
 
 -- ---- the machine, of which these calls are over
 
-module _ (over : Over) where
-  -- the context of a call that this ends is gone, and else nothing
-  pub ended_linked : (cause : Cause) (ks : List KeptValue) (i : ℕ) (x y : KeptValue) (c d : ContextsValue) (b : Bool) (ns : List PeerValue) → i < length ks → x ≡ kept_at i ks → y ≡ ended_kept cause x
-      → d ≡ (if is_some (ended_call cause x.id x.call).reply then without x.id c else c) → c ≡ contexts_value b ns (linked_calls over ks) → LivesApart c.calls
+module _ (e : ℕ → Ended) (over : Over) where
+  -- the context of a call that this event ends is gone, and else nothing
+  pub ended_linked : (event : Option CallEvent) (ks : List KeptValue) (i : ℕ) (x y : KeptValue) (c d : ContextsValue) (b : Bool) (ns : List PeerValue) → i < length ks → x ≡ kept_at i ks → y ≡ ended_with event x
+      → d ≡ (if is_some (ends_with event x.call.out x.call.live).reply then without x.id c else c) → c ≡ contexts_value b ns (linked_calls over ks) → LivesApart c.calls
       → d ≡ contexts_value b ns (linked_calls over (slice_set ks i y))
-  ended_linked cause ks i x y c d b ns lt x_is y_is d_is c_is apart =
-      subst (λ k. k ≡ ended_kept cause (kept_at i ks) → d ≡ (if is_some (ended_call cause (kept_at i ks).id (kept_at i ks).call).reply then without (kept_at i ks).id c else c)
-      → d ≡ contexts_value b ns (linked_calls over (slice_set ks i k))) refl
-      (by (kept_at i ks).call.live refl) (y_is ∙ ap (ended_kept cause) x_is) (d_is ∙ ap (λ (k : KeptValue). if is_some (ended_call cause k.id k.call).reply then without k.id c else c) x_is)
+  ended_linked event ks i x y c d b ns lt x_is y_is d_is c_is apart =
+      by (kept_at i ks).call.live refl event refl (y_is ∙ ap (ended_with event) x_is) (d_is ∙ ap (λ (k : KeptValue). if is_some (ends_with event k.call.out k.call.live).reply then without k.id c else c) x_is)
     where
       lives : LivesApart (linked_calls over ks)
       lives = subst (λ (z : ContextsValue). LivesApart z.calls) c_is apart
 
-      by : (o : Option Live) → (kept_at i ks).call.live ≡ o → y ≡ ended_kept cause (kept_at i ks)
-          → d ≡ (if is_some (ended_call cause (kept_at i ks).id (kept_at i ks).call).reply then without (kept_at i ks).id c else c) → d ≡ contexts_value b ns (linked_calls over (slice_set ks i y))
-      by None o_is e f =
+      by : (o : Option Live) → (kept_at i ks).call.live ≡ o → (q : Option CallEvent) → event ≡ q → y ≡ ended_with event (kept_at i ks)
+          → d ≡ (if is_some (ends_with event (kept_at i ks).call.out (kept_at i ks).call.live).reply then without (kept_at i ks).id c else c) → d ≡ contexts_value b ns (linked_calls over (slice_set ks i y))
+      by None o_is q q_is e f =
           let dead : y.call.live ≡ None = ap (λ (k : KeptValue). k.call.live) e ∙ rw o_is refl in
           let same : d ≡ c = f ∙ rw o_is refl in
           same ∙ c_is ∙ ap (contexts_value b ns) (sym (set_alike over ks i y lt (dead_life over y dead ∙ sym (dead_life over (kept_at i ks) o_is))))
-      by (Some l) o_is e f = on (caused cause (kept_at i ks).id l.asked) refl
-        where
-          on : (q : Option CallEvent) → caused cause (kept_at i ks).id l.asked ≡ q → d ≡ contexts_value b ns (linked_calls over (slice_set ks i y))
-          on None q_is =
-              let id_is : y.id ≡ (kept_at i ks).id = ap (λ (k : KeptValue). k.id) e in
-              let stays : y.call.live ≡ Some l = ap (λ (k : KeptValue). k.call.live) e ∙ rw (o_is, q_is) refl in
-              let same : d ≡ c = f ∙ rw (o_is, q_is) refl in
-              same ∙ c_is ∙ ap (contexts_value b ns) (sym (set_alike over ks i y lt (live_life over y l stays ∙ ap (λ d. life_by (over d l.asked) d l.asked ∷ []) id_is ∙ sym (live_life over (kept_at i ks) l o_is))))
-          on (Some event) q_is =
-              let dead : y.call.live ≡ None = ap (λ (k : KeptValue). k.call.live) e ∙ rw (o_is, q_is) refl in
-              let gone : d ≡ without (kept_at i ks).id c = f ∙ rw (o_is, q_is) refl in
-              gone ∙ ap (without (kept_at i ks).id) c_is ∙ ap (contexts_value b ns) (sym (set_dead over ks i y l lives lt o_is dead))
+      by (Some l) o_is None q_is e f =
+          let id_is : y.id ≡ (kept_at i ks).id = ap (λ (k : KeptValue). k.id) e in
+          let stays : y.call.live ≡ Some l = ap (λ (k : KeptValue). k.call.live) e ∙ rw (o_is, q_is) refl in
+          let same : d ≡ c = f ∙ rw (o_is, q_is) refl in
+          same ∙ c_is ∙ ap (contexts_value b ns) (sym (set_alike over ks i y lt (live_life over y l stays ∙ ap (λ d. life_by (over d l.asked) d l.asked ∷ []) id_is ∙ sym (live_life over (kept_at i ks) l o_is))))
+      by (Some l) o_is (Some ev) q_is e f =
+          let dead : y.call.live ≡ None = ap (λ (k : KeptValue). k.call.live) e ∙ rw (o_is, q_is) refl in
+          let gone : d ≡ without (kept_at i ks).id c = f ∙ rw (o_is, q_is) refl in
+          gone ∙ ap (without (kept_at i ks).id) c_is ∙ ap (contexts_value b ns) (sym (set_dead over ks i y l lives lt o_is dead))
 
   pub live_has_life : (ks : List KeptValue) (i : ℕ) (x : KeptValue) → x ≡ kept_at i ks → is_some x.call.live ≡ true → is_life x.id (linked_calls over ks) ≡ true
   live_has_life ks i x x_is some =
@@ -275,35 +304,35 @@ module _ (over : Over) where
 
   -- of a call that ended, and has no reply
   pub refused_linked : (v w : MachineValue) (i : ℕ) (x y : KeptValue) (n : ℕ) (c d : ContextsValue) → i < length v.calls → x ≡ kept_at i v.calls → y ≡ unanswered x → n ≡ x.id.conn
-      → KeepsOthers x.id.conn c d → c ≡ linked_by over v → w.drained ≡ v.drained → w.conns ≡ v.conns → w.calls ≡ slice_set v.calls i y → KeepsOthers n (linked_by over w) d
-  refused_linked v w i x y n c d lt x_is y_is n_is keeps c_is drained_is conns_are calls_are = subst (λ m. KeepsOthers m (linked_by over w) d) (sym n_is) (record {
+      → KeepsOthers x.id.conn c d → c ≡ linked_by e over v → w.drained ≡ v.drained → w.conns ≡ v.conns → w.calls ≡ slice_set v.calls i y → KeepsOthers n (linked_by e over w) d
+  refused_linked v w i x y n c d lt x_is y_is n_is keeps c_is drained_is conns_are calls_are = subst (λ m. KeepsOthers m (linked_by e over w) d) (sym n_is) (record {
     drained_is = keeps.drained_is ∙ ap (λ (z : ContextsValue). z.drained) c_is ∙ sym drained_is;
-    conns_are = keeps.conns_are ∙ ap (λ (z : ContextsValue). z.conns) c_is ∙ ap (linked_conns v.drained) (sym conns_are) ∙ ap (λ b. linked_conns b w.conns) (sym drained_is);
+    conns_are = keeps.conns_are ∙ ap (λ (z : ContextsValue). z.conns) c_is ∙ ap (linked_conns e) (sym conns_are);
     others_are = keeps.others_are ∙ ap (λ (z : ContextsValue). others x.id.conn z.calls) c_is
         ∙ sym (set_others over x.id.conn v.calls i y lt (ap (λ (k : KeptValue). k.id.conn == x.id.conn) (sym x_is) ∙ eq-eqb x.id.conn x.id.conn refl) (ap (λ (k : KeptValue). k.call.live) y_is))
         ∙ ap (λ ks. others x.id.conn (linked_calls over ks)) (sym calls_are);
   })
 
-  pub settled_linked : (i : ℕ) (v : MachineValue) → i < length v.calls → linked_by over (settled_at i v) ≡ linked_by over v
+  pub settled_linked : (i : ℕ) (v : MachineValue) → i < length v.calls → linked_by e over (settled_at i v) ≡ linked_by e over v
   settled_linked i v lt =
-      ap (λ ns. contexts_value v.drained ns (linked_calls over (slice_set v.calls i (without_reply (kept_at i v.calls))))) (conns_filled_in v.drained _ v.conns)
-      ∙ ap (contexts_value v.drained (linked_conns v.drained v.conns)) (set_alike over v.calls i (without_reply (kept_at i v.calls)) lt refl)
+      ap (λ ns. contexts_value v.drained ns (linked_calls over (slice_set v.calls i (without_reply (kept_at i v.calls))))) (conns_filled_in e _ v.conns)
+      ∙ ap (contexts_value v.drained (linked_conns e v.conns)) (set_alike over v.calls i (without_reply (kept_at i v.calls)) lt refl)
 
   -- a call in the place of another, of which no more can be decided, and no less
   pub alike_linked : (v w : MachineValue) (i : ℕ) (y : KeptValue) → i < length v.calls → lives_in over y ≡ lives_in over (kept_at i v.calls) → w.drained ≡ v.drained
-      → linked_conns w.drained w.conns ≡ linked_conns v.drained v.conns → w.calls ≡ slice_set v.calls i y → linked_by over w ≡ linked_by over v
+      → linked_conns e w.conns ≡ linked_conns e v.conns → w.calls ≡ slice_set v.calls i y → linked_by e over w ≡ linked_by e over v
   alike_linked v w i y lt alike drained_is conns_are calls_are =
-      ap (λ b. contexts_value b (linked_conns w.drained w.conns) (linked_calls over w.calls)) drained_is ∙ ap (λ ns. contexts_value v.drained ns (linked_calls over w.calls)) conns_are ∙ ap (λ ks. contexts_value v.drained (linked_conns v.drained v.conns) (linked_calls over ks)) calls_are
-      ∙ ap (contexts_value v.drained (linked_conns v.drained v.conns)) (set_alike over v.calls i y lt alike)
+      ap (λ b. contexts_value b (linked_conns e w.conns) (linked_calls over w.calls)) drained_is ∙ ap (λ ns. contexts_value v.drained ns (linked_calls over w.calls)) conns_are ∙ ap (λ ks. contexts_value v.drained (linked_conns e v.conns) (linked_calls over ks)) calls_are
+      ∙ ap (contexts_value v.drained (linked_conns e v.conns)) (set_alike over v.calls i y lt alike)
 
-  pub broken_linked : (c : ℕ) (v w : MachineValue) (x y : ContextsValue) → KeepsOthers c (linked_by over v) x → y ≡ closed c x → w ≡ broken_at c v → y ≡ linked_by over w
+  pub broken_linked : (c : ℕ) (v w : MachineValue) (x y : ContextsValue) → KeepsOthers c (linked_by e over v) x → y ≡ closed c x → w ≡ broken_at c v → y ≡ linked_by e over w
   broken_linked c v w x y but y_is w_is =
       y_is ∙ ap (λ b. contexts_value b (filter (λ p. not (p.number == c)) x.conns) (others c x.calls)) but.drained_is
       ∙ ap (λ ps. contexts_value v.drained (filter (λ p. not (p.number == c)) ps) (others c x.calls)) but.conns_are
-      ∙ ap (contexts_value v.drained (filter (λ p. not (p.number == c)) (linked_conns v.drained v.conns))) but.others_are
-      ∙ ap (λ ps. contexts_value v.drained ps (others c (linked_calls over v.calls))) (sym (conns_broken v.drained c v.conns))
-      ∙ ap (contexts_value v.drained (linked_conns v.drained (map (broken_if c) v.conns))) (sym (calls_given_up over c v.calls))
-      ∙ ap (linked_by over) (sym w_is)
+      ∙ ap (contexts_value v.drained (filter (λ p. not (p.number == c)) (linked_conns e v.conns))) but.others_are
+      ∙ ap (λ ps. contexts_value v.drained ps (others c (linked_calls over v.calls))) (sym (conns_broken e c v.conns))
+      ∙ ap (contexts_value v.drained (linked_conns e (map (broken_if c) v.conns))) (sym (calls_given_up over c v.calls))
+      ∙ ap (linked_by e over) (sym w_is)
 
   pub forgot_linked : (id : CallId) (ks : List KeptValue) (i : ℕ) → IsFound id ks (Some i) → AreApart ks → (kept_at i ks).call.live ≡ None
       → linked_calls over (filter (λ (k : KeptValue). not (is_call k.id id)) ks) ≡ linked_calls over ks
@@ -355,7 +384,7 @@ module _ (over : Over) where
 -- ---- what may end calls
 
 -- each context of a call has ended by this
-lives_told : (g : LifeValue → Bool) (over : Over) → ((id : CallId) (a : ArrivedCall) → g (life_by false id a) ≡ over id a) → (ks : List KeptValue)
+lives_told : (g : LifeValue → Ended) (over : Over) → ((id : CallId) (a : ArrivedCall) → g (life_by None id a) ≡ over id a) → (ks : List KeptValue)
     → map (λ l. ends_life (g l) l) (linked_calls none_over ks) ≡ linked_calls over ks
 lives_told g over same [] = refl
 lives_told g over same (k ∷ ks) =
@@ -367,20 +396,96 @@ lives_told g over same (k ∷ ks) =
     by None o_is = rw (dead_life none_over k o_is, dead_life over k o_is) refl
     by (Some l) o_is = rw (live_life none_over k l o_is, live_life over k l o_is) (ap (λ b. life_by b k.id l.asked ∷ []) (same k.id l.asked))
 
-some_if : (b : Bool) (e : CallEvent) → b ≡ is_some (if b then Some e else None)
-some_if true e = refl
-some_if false e = refl
+-- what ended the connections' contexts, once this was told
+abbrev ends_told : Cause → (ℕ → Ended) → ℕ → Ended
+ends_told (Reached now) e n = e n
+ends_told (HungUp c) e n = option_or (e n) (by_hang_up (n == c))
+ends_told Drained e n = option_or (e n) (by_drain true)
 
 -- what may end calls was told to their contexts, and noted
-pub told_linked : (cause : Cause) (v : MachineValue) (x y : ContextsValue) → x ≡ linked v → y ≡ told cause x → y ≡ linked_by (over_by cause) (noted cause v)
-told_linked (Reached now) v x y x_is y_is = y_is ∙ ap (told (Reached now)) x_is
-    ∙ ap (contexts_value v.drained (linked_conns v.drained v.conns)) (lives_told (λ l. is_due now l.deadline) (over_by (Reached now)) (λ id a. some_if (is_due now a.deadline) (Expired now)) v.calls)
-told_linked (HungUp c) v x y x_is y_is = y_is ∙ ap (told (HungUp c)) x_is
-    ∙ ap (λ ps. contexts_value v.drained ps (map (λ l. ends_life (l.id.conn == c) l) (linked_calls none_over v.calls))) (sym (hung_linked v.drained c v.conns))
-    ∙ ap (contexts_value v.drained (linked_conns v.drained (map (hung_if c) v.conns))) (lives_told (λ l. l.id.conn == c) (over_by (HungUp c)) (λ id a. sym_eqb id.conn c ∙ some_if (c == id.conn) HungUpNow) v.calls)
-told_linked Drained v x y x_is y_is = y_is ∙ ap (told Drained) x_is
-    ∙ ap (λ ps. contexts_value true ps (map (λ l. ends_life true l) (linked_calls none_over v.calls))) (sym (drained_linked v.drained v.conns))
-    ∙ ap (contexts_value true (linked_conns true v.conns)) (lives_told (λ l. true) (over_by Drained) (λ id a. refl) v.calls)
+told_as : (e : ℕ → Ended) (cause : Cause) (v : MachineValue) → told cause (linked_by e none_over v) ≡ linked_by (ends_told cause e) (over_by cause) (noted cause v)
+told_as e (Reached now) v = ap (contexts_value v.drained (linked_conns e v.conns)) (lives_told (λ l. by_deadline now l.deadline) (over_by (Reached now)) (λ id a. refl) v.calls)
+told_as e (HungUp c) v =
+    ap (λ ps. contexts_value v.drained ps (map (λ l. ends_life (by_hang_up (l.id.conn == c)) l) (linked_calls none_over v.calls))) (sym (hung_linked e c v.conns))
+    ∙ ap (contexts_value v.drained (linked_conns (ends_told (HungUp c) e) (map (hung_if c) v.conns)))
+    (lives_told (λ l. by_hang_up (l.id.conn == c)) (over_by (HungUp c)) (λ id a. ap by_hang_up (sym_eqb id.conn c)) v.calls)
+told_as e Drained v =
+    ap (λ ps. contexts_value true ps (map (λ l. ends_life (by_drain true) l) (linked_calls none_over v.calls))) (sym (drained_linked e v.conns))
+    ∙ ap (contexts_value true (linked_conns (ends_told Drained e) v.conns)) (lives_told (λ l. by_drain true) (over_by Drained) (λ id a. refl) v.calls)
+
+-- they are linked by what they tell themselves
+pub relinked : (e : ℕ → Ended) (over : Over) (v : MachineValue) (x : ContextsValue) → x ≡ linked_by e over v → x ≡ linked_by (ends_of x) over v
+relinked e over v x is = is ∙ ap (λ ps. contexts_value v.drained ps (linked_calls over v.calls)) (sym (relinked_conns e (by_drain v.drained) v.conns))
+    ∙ ap (λ (z : ContextsValue). linked_by (ends_of z) over v) (sym is)
+
+pub told_linked : (cause : Cause) (v : MachineValue) (x y : ContextsValue) → x ≡ linked x v → y ≡ told cause x → y ≡ linked_by (ends_of y) (over_by cause) (noted cause v)
+told_linked cause v x y x_is y_is = relinked (ends_told cause (ends_of x)) (over_by cause) (noted cause v) y (y_is ∙ ap (told cause) x_is ∙ told_as (ends_of x) cause v)
+
+-- the event that ends a call by this is the one that its context tells
+pub event_is : (cause : Cause) (moment : ℕ) (id : CallId) (a : ArrivedCall) → IsNow cause moment → option_map (event_of moment) (over_by cause id a) ≡ caused cause id a
+event_is (Reached now) moment id a is = ⊎_elim
+    (λ (y : is_due now a.deadline ≡ true). rw y (ap (λ m. Some (Expired m)) (sym is)))
+    (λ (n : is_due now a.deadline ≡ false). rw n refl)
+    (cases_Bool (is_due now a.deadline))
+event_is (HungUp c) moment id a is = by (c == id.conn)
+  where
+    by : (b : Bool) → option_map (event_of moment) (by_hang_up b) ≡ (if b then Some HungUpNow else None)
+    by true = refl
+    by false = refl
+event_is Drained moment id a is = refl
+
+-- what ended the context of a call that can be decided
+pub life_over : (over : Over) (ks : List KeptValue) (i : ℕ) (l : Live) → LivesApart (linked_calls over ks) → (kept_at i ks).call.live ≡ Some l
+    → ended_life (kept_at i ks).id (linked_calls over ks) ≡ over (kept_at i ks).id l.asked
+life_over over [] i l apart is = cc
+life_over over (k ∷ ks) zero l apart is = rw (live_life over k l is, call_itself k.id) refl
+life_over over (k ∷ ks) (suc i) l apart is = by (λ tail. life_over over ks i l tail is) k.call.live refl
+  where
+    by : (LivesApart (linked_calls over ks) → ended_life (kept_at i ks).id (linked_calls over ks) ≡ over (kept_at i ks).id l.asked) → (o : Option Live) → k.call.live ≡ o
+        → ended_life (kept_at i ks).id (lives_in over k ++ linked_calls over ks) ≡ over (kept_at i ks).id l.asked
+    by rest None o_is = rw (dead_life over k o_is) (rest (subst (λ ls. LivesApart (ls ++ linked_calls over ks)) (dead_life over k o_is) apart))
+    by rest (Some m) o_is =
+        let two = subst (λ ls. LivesApart (ls ++ linked_calls over ks)) (live_life over k m o_is) apart in
+        let off : is_call k.id (kept_at i ks).id ≡ false = ⊎_elim
+        (λ (e : is_call k.id (kept_at i ks).id ≡ true).
+        let there : is_life (kept_at i ks).id (linked_calls over ks) ≡ true = live_linked over ks i l is in
+        let gone : is_life (kept_at i ks).id (linked_calls over ks) ≡ false = subst (λ d. is_life d (linked_calls over ks) ≡ false) (same_call k.id (kept_at i ks).id e) two.0 in
+        let clash : true ≡ false = sym there ∙ gone in cc)
+        (λ (n : is_call k.id (kept_at i ks).id ≡ false). n)
+        (cases_Bool (is_call k.id (kept_at i ks).id)) in
+        rw (live_life over k m o_is, off) (rest two.1)
+
+-- a call ends by its context as it does by the cause
+pub ends_as : (cause : Cause) (event : Option CallEvent) (k : KeptValue) → ((l : Live) → k.call.live ≡ Some l → event ≡ caused cause k.id l.asked)
+    → ends_with event k.call.out k.call.live ≡ ended_call cause k.id k.call
+ends_as cause event k its = by k.call.live its
+  where
+    by : (o : Option Live) → ((l : Live) → o ≡ Some l → event ≡ caused cause k.id l.asked) → ends_with event k.call.out o ≡ ended_if cause k.id k.call.out o
+    by None its = refl
+    by (Some l) its = ap (λ q. ended_by q l k.call.out) (its l refl)
+
+pub ended_as : (cause : Cause) (event : Option CallEvent) (k : KeptValue) → ((l : Live) → k.call.live ≡ Some l → event ≡ caused cause k.id l.asked) → ended_with event k ≡ ended_kept cause k
+ended_as cause event k its = ap (λ (t : Step). record { id = k.id; call = t.call; reply = option_or t.reply k.reply }) (ends_as cause event k its)
+
+-- the event that its context tells of a call at a place
+pub event_at : (cause : Cause) (moment : ℕ) (e : ℕ → Ended) (v : MachineValue) (c : ContextsValue) (i : ℕ) (x : KeptValue) → x ≡ kept_at i v.calls → IsNow cause moment → LivesApart c.calls
+    → c ≡ linked_by e (over_by cause) v → (l : Live) → x.call.live ≡ Some l → event_for moment x.id c ≡ caused cause x.id l.asked
+event_at cause moment e v c i x x_is now apart c_is l l_is = subst (λ (k : KeptValue). k.call.live ≡ Some l → event_for moment k.id c ≡ caused cause k.id l.asked) (sym x_is)
+    (λ is. ap (λ (z : ContextsValue). event_for moment (kept_at i v.calls).id z) c_is
+    ∙ ap (option_map (event_of moment)) (life_over (over_by cause) v.calls i l (subst (λ (z : ContextsValue). LivesApart z.calls) c_is apart) is)
+    ∙ event_is cause moment (kept_at i v.calls).id l.asked now) l_is
+
+-- what ends no call has ended no call's context
+not_caused : (cause : Cause) (id : CallId) (a : ArrivedCall) → caused cause id a ≡ None → over_by cause id a ≡ None
+not_caused (Reached now) id a none = ⊎_elim
+    (λ (y : is_due now a.deadline ≡ true). let bad : Some (Expired now) ≡ None = rw y at none in cc)
+    (λ (n : is_due now a.deadline ≡ false). rw n refl)
+    (cases_Bool (is_due now a.deadline))
+not_caused (HungUp c) id a none = ⊎_elim
+    (λ (y : (c == id.conn) ≡ true). let bad : Some HungUpNow ≡ None = rw y at none in cc)
+    (λ (n : (c == id.conn) ≡ false). rw n refl)
+    (cases_Bool (c == id.conn))
+not_caused Drained id a none = cc
 
 -- of those that can be decided still, none has ended by it
 ended_one : (cause : Cause) (stopped : Bool) (k : KeptValue)
@@ -393,7 +498,7 @@ ended_one cause false k = by k.call.live refl
     by (Some l) o_is = on (caused cause k.id l.asked) refl
       where
         on : (q : Option CallEvent) → caused cause k.id l.asked ≡ q → lives_in (over_by cause) (without_reply (ended_kept cause k)) ≡ lives_in none_over (without_reply (ended_kept cause k))
-        on None q_is = rw (o_is, q_is, q_is) refl
+        on None q_is = rw (o_is, q_is) (ap (λ e. life_by e k.id l.asked ∷ []) (not_caused cause k.id l.asked q_is))
         on (Some e) q_is = rw (o_is, q_is) refl
 
 not_over : (cause : Cause) (stop : CallId → Bool) (ks : List KeptValue)
@@ -403,36 +508,11 @@ not_over cause stop (k ∷ ks) =
     ap (λ ls. ls ++ linked_calls (over_by cause) (map (λ (m : KeptValue). without_reply (ended_below cause (stop m.id) true m)) ks)) (ended_one cause (stop k.id) k)
     ∙ ap (λ ls. lives_in none_over (without_reply (ended_below cause (stop k.id) true k)) ++ ls) (not_over cause stop ks)
 
-pub ended_all_linked : (cause : Cause) (v w : MachineValue) (x : ContextsValue) → CallsEnd cause v w → x ≡ linked_by (over_by cause) w → x ≡ linked w
-ended_all_linked cause v w x ends is = is ∙ ap (contexts_value w.drained (linked_conns w.drained w.conns))
-    (ap (linked_calls (over_by cause)) ends.calls_are ∙ not_over cause (λ id. is_stopped_in id.conn w.conns) v.calls ∙ ap (linked_calls none_over) (sym ends.calls_are))
-
--- ---- the machine between events
-
-pub closed_linked : (c : ℕ) (v w : MachineValue) (x y : ContextsValue) → x ≡ linked v → y ≡ closed c x
-    → w ≡ machine_value v.moment v.drained (filter (λ (k : ConnValue). not (k.number == c)) v.conns) (map (given_up_if c) v.calls) v.jobs → y ≡ linked w
-closed_linked c v w x y x_is y_is w_is =
-    y_is ∙ ap (closed c) x_is
-    ∙ ap (λ ps. contexts_value v.drained ps (others c (linked_calls none_over v.calls))) (sym (conns_closed v.drained c v.conns))
-    ∙ ap (contexts_value v.drained (linked_conns v.drained (filter (λ (k : ConnValue). not (k.number == c)) v.conns))) (sym (calls_given_up none_over c v.calls))
-    ∙ ap linked (sym w_is)
-
--- what is linked is so but for the calls of a connection
-pub linked_but : (c : ℕ) (v : MachineValue) (x : ContextsValue) → x ≡ linked v → IsLinkedBut c x v
-linked_but c v x is = record { drained_is = ap (λ (y : ContextsValue). y.drained) is; conns_are = ap (λ (y : ContextsValue). y.conns) is; others_are = ap (λ (y : ContextsValue). others c y.calls) is }
-
-pub others_but : (c : ℕ) (v : MachineValue) (x y : ContextsValue) → x ≡ linked v → KeepsOthers c x y → IsLinkedBut c y v
-others_but c v x y is keeps = record {
-  drained_is = keeps.drained_is ∙ ap (λ (z : ContextsValue). z.drained) is;
-  conns_are = keeps.conns_are ∙ ap (λ (z : ContextsValue). z.conns) is;
-  others_are = keeps.others_are ∙ ap (λ (z : ContextsValue). others c z.calls) is;
-}
-
 pub begun_others : (now : ℕ) (id : CallId) (a : ArrivedCall) (x : ContextsValue) → KeepsOthers id.conn x (begun now id a x)
 begun_others now id a x = record {
   drained_is = refl;
   conns_are = refl;
-  others_are = filter-append (λ (l : LifeValue). not (l.id.conn == id.conn)) x.calls (life_by (is_ended_peer id.conn x.conns || is_due now a.deadline) id a ∷ [])
+  others_are = filter-append (λ (l : LifeValue). not (l.id.conn == id.conn)) x.calls (life_by (option_or (ends_of x id.conn) (by_deadline now a.deadline)) id a ∷ [])
       ∙ rw (eq-eqb id.conn id.conn refl) (append-nil (others id.conn x.calls));
 }
 
@@ -440,84 +520,76 @@ pub others_then : (c : ℕ) (x y z : ContextsValue) → KeepsOthers c x y → Ke
 others_then c x y z a b = record { drained_is = b.drained_is ∙ a.drained_is; conns_are = b.conns_are ∙ a.conns_are; others_are = b.others_are ∙ a.others_are }
 
 pub begun_is : (now : ℕ) (id : CallId) (a : ArrivedCall) (x : ContextsValue) → is_life id (begun now id a x).calls ≡ true
-begun_is now id a x = list_any-append (λ (l : LifeValue). is_call l.id id) x.calls (life_by (is_ended_peer id.conn x.conns || is_due now a.deadline) id a ∷ [])
+begun_is now id a x = list_any-append (λ (l : LifeValue). is_call l.id id) x.calls (life_by (option_or (ends_of x id.conn) (by_deadline now a.deadline)) id a ∷ [])
     ∙ rw (call_itself id) (or_true (is_life id x.calls))
 
 pub begun_gone : (now : ℕ) (id : CallId) (a : ArrivedCall) (x : ContextsValue) → is_life id x.calls ≡ false → without id (begun now id a x) ≡ x
 begun_gone now id a x none =
-    ap (contexts_value x.drained x.conns) (filter-append (λ (l : LifeValue). not (is_call l.id id)) x.calls (life_by (is_ended_peer id.conn x.conns || is_due now a.deadline) id a ∷ [])
+    ap (contexts_value x.drained x.conns) (filter-append (λ (l : LifeValue). not (is_call l.id id)) x.calls (life_by (option_or (ends_of x id.conn) (by_deadline now a.deadline)) id a ∷ [])
     ∙ rw (call_itself id) (append-nil (filter (λ (l : LifeValue). not (is_call l.id id)) x.calls) ∙ all_stay (λ (l : LifeValue). is_call l.id id) x.calls none))
 
--- a context that begins, and has not ended
-pub begun_on : (now : ℕ) (id : CallId) (a : ArrivedCall) (x : ContextsValue) → is_ended_peer id.conn x.conns ≡ false → is_due now a.deadline ≡ false
-    → begun now id a x ≡ contexts_value x.drained x.conns (x.calls ++ life_by false id a ∷ [])
-begun_on now id a x heard not_due = rw (heard, not_due) refl
+life_pushed : (id : CallId) (ls : List LifeValue) (l : LifeValue) → is_life id ls ≡ false → is_call l.id id ≡ true → ended_life id (ls ++ l ∷ []) ≡ l.ended
+life_pushed id [] l none its = rw its refl
+life_pushed id (m ∷ ms) l none its =
+    let two = or_parts (is_call m.id id) (is_life id ms) none in
+    rw two.0 (life_pushed id ms l two.1 its)
 
-pub taken_linked : (i : ℕ) (v w : MachineValue) (r : Option ReplyValue) → i < length v.conns → ReplyTaken i v w r → linked w ≡ linked v
-taken_linked i v w None lt taken = ap linked taken.1
-taken_linked i v w (Some r) lt taken =
-    ap linked taken.2 ∙ ap (λ ns. contexts_value v.drained ns (linked_calls none_over v.calls)) (conns_set v.drained v.conns i (without_first (conn_at i v.conns)) lt refl refl refl)
-
-pub with_others : (id : CallId) (decided : Option CallRecord) (r : CallRecord) (c d : ContextsValue) (v : MachineValue) (n : ℕ) → decided ≡ Some r → n ≡ id.conn
-    → IsLinkedWith id decided c v → KeepsOthers id.conn c (without id c) → KeepsOthers id.conn c d → IsLinkedBut n d v
-with_others id decided r c d v n is n_is with before keeps =
-    let two = subst (λ o. IsLinkedWith id o c v) is with in
-    subst (λ m. IsLinkedBut m d v) (sym n_is) (record {
-      drained_is = keeps.drained_is ∙ ap (λ (z : ContextsValue). z.drained) two.1;
-      conns_are = keeps.conns_are ∙ ap (λ (z : ContextsValue). z.conns) two.1;
-      others_are = keeps.others_are ∙ sym before.others_are ∙ ap (λ (z : ContextsValue). others id.conn z.calls) two.1;
-    })
-
-pub with_gone : (id : CallId) (decided : Option CallRecord) (r : CallRecord) (c d : ContextsValue) (v w : MachineValue) (reply : Option ReplyValue) → decided ≡ Some r
-    → IsLinkedWith id decided c v → d ≡ without id c → w ≡ record v { conns = filled_in reply v.conns } → d ≡ linked w
-with_gone id decided r c d v w reply is with gone w_is =
-    gone ∙ (subst (λ o. IsLinkedWith id o c v) is with).1 ∙ ap (λ ns. contexts_value v.drained ns (linked_calls none_over v.calls)) (sym (conns_filled_in v.drained reply v.conns)) ∙ ap linked (sym w_is)
-
-pub stepped_linked : (moment branch : ℕ) (outcome : Outcome) (v w : MachineValue) (i : ℕ) (out : List Bool) (x y : KeptValue) (decided : Option CallRecord) (next : Option TaskValue) (id : CallId)
-    (c : ContextsValue) → i < length v.calls → x ≡ kept_at i v.calls → IsStep moment x y decided next (result_on moment branch outcome out x.call.live) → (kept_at i v.calls).id ≡ id
-    → LivesApart c.calls → c ≡ linked v → w.drained ≡ v.drained → w.conns ≡ v.conns → w.calls ≡ slice_set v.calls i y → IsLinkedWith id decided c w
-stepped_linked moment branch outcome v w i out x y decided next id c lt x_is step id_is apart c_is drained_is conns_is calls_is =
-    by outcome (kept_at i v.calls).call.live refl (subst (λ (k : KeptValue). IsStep moment k y decided next (result_on moment branch outcome out k.call.live)) x_is step)
+-- a call that arrives ends by what its context tells
+pub first_event : (moment : ℕ) (id : CallId) (a : ArrivedCall) (x : ContextsValue) (d : Bool) → is_life id x.calls ≡ false → ends_of x id.conn ≡ by_drain d
+    → event_for moment id (begun moment id a x) ≡ ends_first moment d a
+first_event moment id a x d fresh heard =
+    ap (option_map (event_of moment)) (life_pushed id x.calls (life_by (option_or (ends_of x id.conn) (by_deadline moment a.deadline)) id a) fresh (call_itself id)
+    ∙ ap (λ e. option_or e (by_deadline moment a.deadline)) heard) ∙ by d
   where
-    lives : LivesApart (linked_calls none_over v.calls)
-    lives = subst (λ (z : ContextsValue). LivesApart z.calls) c_is apart
+    by : (d : Bool) → option_map (event_of moment) (option_or (by_drain d) (by_deadline moment a.deadline)) ≡ ends_first moment d a
+    by true = refl
+    by false = ⊎_elim
+        (λ (y : is_due moment a.deadline ≡ true). rw y refl)
+        (λ (n : is_due moment a.deadline ≡ false). rw n refl)
+        (cases_Bool (is_due moment a.deadline))
 
-    w_is : linked w ≡ contexts_value v.drained (linked_conns v.drained v.conns) (linked_calls none_over (slice_set v.calls i y))
-    w_is = ap (λ b. contexts_value b (linked_conns b w.conns) (linked_calls none_over w.calls)) drained_is ∙ ap (λ ks. contexts_value v.drained (linked_conns v.drained ks) (linked_calls none_over w.calls)) conns_is ∙ ap (λ ks. contexts_value v.drained (linked_conns v.drained v.conns) (linked_calls none_over ks)) calls_is
+-- a context that begins, and has not ended
+pub begun_on : (moment : ℕ) (id : CallId) (a : ArrivedCall) (x : ContextsValue) (d : Bool) → ends_of x id.conn ≡ by_drain d → ends_first moment d a ≡ None
+    → begun moment id a x ≡ contexts_value x.drained x.conns (x.calls ++ life_by None id a ∷ [])
+begun_on moment id a x d heard none =
+    ap (λ e. contexts_value x.drained x.conns (x.calls ++ life_by (option_or e (by_deadline moment a.deadline)) id a ∷ [])) heard
+    ∙ ap (λ e. contexts_value x.drained x.conns (x.calls ++ life_by e id a ∷ [])) (by d none)
+  where
+    by : (d : Bool) → ends_first moment d a ≡ None → option_or (by_drain d) (by_deadline moment a.deadline) ≡ None
+    by true bad = cc
+    by false at = ⊎_elim
+        (λ (y : is_due moment a.deadline ≡ true). let bad : Some (Expired moment) ≡ None = rw y at at in cc)
+        (λ (n : is_due moment a.deadline ≡ false). rw n refl)
+        (cases_Bool (is_due moment a.deadline))
 
-    same : lives_in none_over y ≡ lives_in none_over (kept_at i v.calls) → c ≡ linked w
-    same alike = c_is ∙ ap (contexts_value v.drained (linked_conns v.drained v.conns)) (sym (set_alike none_over v.calls i y lt alike)) ∙ sym w_is
+-- a call that is not crowded out begins as this event says
+pub asking_first : (i : ℕ) (a : ArrivedCall) (s : MachineValue) (q : Option CallEvent) → is_full (conn_at i s.conns).slots ≡ false → q ≡ ends_first s.moment s.drained a
+    → asking_at i a s ≡ begins s.moment q (next_of (conn_at i s.conns)) a
+asking_first i a s q full q_is = rw full (ap (λ e. begins s.moment e (next_of (conn_at i s.conns)) a) (sym q_is))
 
-    over : (d : Option CallRecord) (l : Live) → (kept_at i v.calls).call.live ≡ Some l → y.call.live ≡ None → is_some d ≡ true → IsLinkedWith id d c w
-    over None l l_is dead some = cc
-    over (Some r) l l_is dead some = (
-      subst (λ (z : ContextsValue). is_life id z.calls ≡ true) (sym c_is) (subst (λ d. is_life d (linked_calls none_over v.calls) ≡ true) id_is (live_linked none_over v.calls i l l_is)),
-      ap (without id) c_is ∙ ap (λ d. contexts_value v.drained (linked_conns v.drained v.conns) (filter (λ (m : LifeValue). not (is_call m.id d)) (linked_calls none_over v.calls))) (sym id_is)
-          ∙ ap (contexts_value v.drained (linked_conns v.drained v.conns)) (sym (set_dead none_over v.calls i y l lives lt l_is dead)) ∙ sym w_is,
-    )
+-- a context that has begun is one of the connection's calls
+pub comes_others : (id : CallId) (a : ArrivedCall) (x y : ContextsValue) → y ≡ contexts_value x.drained x.conns (x.calls ++ life_by None id a ∷ []) → KeepsOthers id.conn x y
+comes_others id a x y y_is = subst (KeepsOthers id.conn x) (sym y_is) (record {
+  drained_is = refl;
+  conns_are = refl;
+  others_are = filter-append (λ (l : LifeValue). not (l.id.conn == id.conn)) x.calls (life_by None id a ∷ [])
+      ∙ rw (eq-eqb id.conn id.conn refl) (append-nil (others id.conn x.calls));
+})
 
-    on : (d : Option CallRecord) → is_some d ≡ false → c ≡ linked w → IsLinkedWith id d c w
-    on None none is = is
-    on (Some r) none is = cc
+-- of a number that no connection has
+pub new_ends : (new : Ended) (n : ℕ) (ps : List PeerValue) → is_peer n ps ≡ false → ended_peer new n ps ≡ new
+new_ends new n [] none = refl
+new_ends new n (p ∷ ps) none =
+    let two = or_parts (p.number == n) (is_peer n ps) none in
+    rw two.0 (new_ends new n ps two.1)
 
-    decided_is : (d : Option CallRecord) → is_some d ≡ is_some (option_map Calling d)
-    decided_is None = refl
-    decided_is (Some r) = refl
-
-    by : (o : Outcome) (q : Option Live) → (kept_at i v.calls).call.live ≡ q → IsStep moment (kept_at i v.calls) y decided next (result_on moment branch o out (kept_at i v.calls).call.live)
-        → IsLinkedWith id decided c w
-    by o None q_is s =
-        let dead : y.call.live ≡ None = ap (λ (k : KeptValue). k.call.live) s.new_is ∙ rw q_is refl in
-        on decided (decided_is decided ∙ ap (λ e. is_some e) s.reply_is ∙ rw q_is refl) (same (dead_life none_over y dead ∙ sym (dead_life none_over (kept_at i v.calls) q_is)))
-    by (Fail error) (Some l) q_is s =
-        over decided l q_is (ap (λ (k : KeptValue). k.call.live) s.new_is ∙ rw q_is refl) (decided_is decided ∙ ap (λ e. is_some e) s.reply_is ∙ rw q_is refl)
-    by (Answer body) (Some l) q_is s = ⊎_elim
-        (λ (last : is_last_answer l ≡ true).
-        over decided l q_is (ap (λ (k : KeptValue). k.call.live) s.new_is ∙ rw (q_is, last) refl) (decided_is decided ∙ ap (λ e. is_some e) s.reply_is ∙ rw (q_is, last) refl))
-        (λ (going : is_last_answer l ≡ false).
-        let alike : lives_in none_over y ≡ life_by false (kept_at i v.calls).id l.asked ∷ [] = ap (lives_in none_over) s.new_is ∙ rw (q_is, going) refl in
-        on decided (decided_is decided ∙ ap (λ e. is_some e) s.reply_is ∙ rw (q_is, going) refl) (same (alike ∙ sym (live_life none_over (kept_at i v.calls) l q_is))))
-        (cases_Bool (is_last_answer l))
+-- a connection that opens has its context
+pub opened_contexts : (n : ℕ) (c : ContextsValue) (v : MachineValue) → c ≡ linked c v → conn_of n v.conns ≡ None → opened n c ≡ linked c (opened_as n v)
+opened_contexts n c v c_is none =
+    let new : ends_of c n ≡ by_drain v.drained = new_ends (by_drain c.drained) n c.conns (ap (λ (z : ContextsValue). is_peer n z.conns) c_is ∙ not_peer (ends_of c) n v.conns none) ∙ ap by_drain (ap (λ (z : ContextsValue). z.drained) c_is) in
+    ap (opened n) c_is
+    ∙ ap (λ e. contexts_value v.drained (linked_conns (ends_of c) v.conns ++ peer n e ∷ []) (linked_calls none_over v.calls)) (sym new)
+    ∙ ap (λ ps. contexts_value v.drained ps (linked_calls none_over v.calls)) (sym (opened_conns (ends_of c) n v.conns))
 
 pub spent_dead : (k : KeptValue) → is_spent k.call ≡ true → k.call.live ≡ None
 spent_dead k spent = by k.call.live refl
@@ -526,15 +598,107 @@ spent_dead k spent = by k.call.live refl
     by None o_is = o_is
     by (Some l) o_is = absurd (let clash : false ≡ true = sym (rw o_is refl) ∙ spent in cc)
 
--- something that is answered at once leaves the contexts
-pub answered_linked : (i : ℕ) (entry : ReplyEntry) (v : MachineValue) → i < length v.conns → linked (entered_at i (step_to (record { out = []; live = None }) (Some entry) []) v) ≡ linked v
-answered_linked i entry v lt =
-    ap (λ ns. contexts_value v.drained ns (linked_calls none_over (v.calls ++ []))) (conns_set v.drained v.conns i (added (Some entry) (conn_at i v.conns)) lt refl refl refl)
-    ∙ ap (λ ks. contexts_value v.drained (linked_conns v.drained v.conns) (linked_calls none_over ks)) (append-nil v.calls)
+module _ (e : ℕ → Ended) where
+  pub ended_all_linked : (cause : Cause) (v w : MachineValue) (x : ContextsValue) → CallsEnd cause v w → x ≡ linked_by e (over_by cause) w → x ≡ linked_by e none_over w
+  ended_all_linked cause v w x ends is = is ∙ ap (contexts_value w.drained (linked_conns e w.conns))
+      (ap (linked_calls (over_by cause)) ends.calls_are ∙ not_over cause (λ id. is_stopped_in id.conn w.conns) v.calls ∙ ap (linked_calls none_over) (sym ends.calls_are))
 
--- a call that begins has its context
-pub begun_linked : (i : ℕ) (a : ArrivedCall) (v : MachineValue) → i < length v.conns
-    → contexts_value v.drained (linked_conns v.drained v.conns) (linked_calls none_over v.calls ++ life_by false (next_of (conn_at i v.conns)) a ∷ []) ≡ linked (entered_at i (begins v.moment None (next_of (conn_at i v.conns)) a) v)
-begun_linked i a v lt = sym (
-    ap (λ ns. contexts_value v.drained ns (linked_calls none_over (entered_at i (begins v.moment None (next_of (conn_at i v.conns)) a) v).calls)) (conns_set v.drained v.conns i (added None (conn_at i v.conns)) lt refl refl refl)
-    ∙ ap (contexts_value v.drained (linked_conns v.drained v.conns)) (calls_append none_over v.calls _))
+  -- ---- the machine between events
+
+  pub closed_linked : (c : ℕ) (v w : MachineValue) (x y : ContextsValue) → x ≡ linked_by e none_over v → y ≡ closed c x
+      → w ≡ machine_value v.moment v.drained (filter (λ (k : ConnValue). not (k.number == c)) v.conns) (map (given_up_if c) v.calls) v.jobs → y ≡ linked_by e none_over w
+  closed_linked c v w x y x_is y_is w_is =
+      y_is ∙ ap (closed c) x_is
+      ∙ ap (λ ps. contexts_value v.drained ps (others c (linked_calls none_over v.calls))) (sym (conns_closed e c v.conns))
+      ∙ ap (contexts_value v.drained (linked_conns e (filter (λ (k : ConnValue). not (k.number == c)) v.conns))) (sym (calls_given_up none_over c v.calls))
+      ∙ ap (linked_by e none_over) (sym w_is)
+
+  -- what is linked is so but for the calls of a connection
+  pub linked_but : (c : ℕ) (v : MachineValue) (x : ContextsValue) → x ≡ linked_by e none_over v → IsLinkedBut e c x v
+  linked_but c v x is = record { drained_is = ap (λ (y : ContextsValue). y.drained) is; conns_are = ap (λ (y : ContextsValue). y.conns) is; others_are = ap (λ (y : ContextsValue). others c y.calls) is }
+
+  pub others_but : (c : ℕ) (v : MachineValue) (x y : ContextsValue) → x ≡ linked_by e none_over v → KeepsOthers c x y → IsLinkedBut e c y v
+  others_but c v x y is keeps = record {
+    drained_is = keeps.drained_is ∙ ap (λ (z : ContextsValue). z.drained) is;
+    conns_are = keeps.conns_are ∙ ap (λ (z : ContextsValue). z.conns) is;
+    others_are = keeps.others_are ∙ ap (λ (z : ContextsValue). others c z.calls) is;
+  }
+
+  pub taken_linked : (i : ℕ) (v w : MachineValue) (r : Option ReplyValue) → i < length v.conns → ReplyTaken i v w r → linked_by e none_over w ≡ linked_by e none_over v
+  taken_linked i v w None lt taken = ap (linked_by e none_over) taken.1
+  taken_linked i v w (Some r) lt taken =
+      ap (linked_by e none_over) taken.2 ∙ ap (λ ns. contexts_value v.drained ns (linked_calls none_over v.calls)) (conns_set e v.conns i (without_first (conn_at i v.conns)) lt refl refl)
+
+  pub with_others : (id : CallId) (decided : Option CallRecord) (r : CallRecord) (c d : ContextsValue) (v : MachineValue) (n : ℕ) → decided ≡ Some r → n ≡ id.conn
+      → IsLinkedWith e id decided c v → KeepsOthers id.conn c (without id c) → KeepsOthers id.conn c d → IsLinkedBut e n d v
+  with_others id decided r c d v n is n_is with before keeps =
+      let two = subst (λ o. IsLinkedWith e id o c v) is with in
+      subst (λ m. IsLinkedBut e m d v) (sym n_is) (record {
+        drained_is = keeps.drained_is ∙ ap (λ (z : ContextsValue). z.drained) two.1;
+        conns_are = keeps.conns_are ∙ ap (λ (z : ContextsValue). z.conns) two.1;
+        others_are = keeps.others_are ∙ sym before.others_are ∙ ap (λ (z : ContextsValue). others id.conn z.calls) two.1;
+      })
+
+  pub with_gone : (id : CallId) (decided : Option CallRecord) (r : CallRecord) (c d : ContextsValue) (v w : MachineValue) (reply : Option ReplyValue) → decided ≡ Some r
+      → IsLinkedWith e id decided c v → d ≡ without id c → w ≡ record v { conns = filled_in reply v.conns } → d ≡ linked_by e none_over w
+  with_gone id decided r c d v w reply is with gone w_is =
+      gone ∙ (subst (λ o. IsLinkedWith e id o c v) is with).1 ∙ ap (λ ns. contexts_value v.drained ns (linked_calls none_over v.calls)) (sym (conns_filled_in e reply v.conns)) ∙ ap (linked_by e none_over) (sym w_is)
+
+  pub stepped_linked : (moment branch : ℕ) (outcome : Outcome) (v w : MachineValue) (i : ℕ) (out : List Bool) (x y : KeptValue) (decided : Option CallRecord) (next : Option TaskValue) (id : CallId)
+      (c : ContextsValue) → i < length v.calls → x ≡ kept_at i v.calls → IsStep moment x y decided next (result_on moment branch outcome out x.call.live) → (kept_at i v.calls).id ≡ id
+      → LivesApart c.calls → c ≡ linked_by e none_over v → w.drained ≡ v.drained → w.conns ≡ v.conns → w.calls ≡ slice_set v.calls i y → IsLinkedWith e id decided c w
+  stepped_linked moment branch outcome v w i out x y decided next id c lt x_is step id_is apart c_is drained_is conns_is calls_is =
+      by outcome (kept_at i v.calls).call.live refl (subst (λ (k : KeptValue). IsStep moment k y decided next (result_on moment branch outcome out k.call.live)) x_is step)
+    where
+      lives : LivesApart (linked_calls none_over v.calls)
+      lives = subst (λ (z : ContextsValue). LivesApart z.calls) c_is apart
+
+      w_is : linked_by e none_over w ≡ contexts_value v.drained (linked_conns e v.conns) (linked_calls none_over (slice_set v.calls i y))
+      w_is = ap (λ b. contexts_value b (linked_conns e w.conns) (linked_calls none_over w.calls)) drained_is ∙ ap (λ ks. contexts_value v.drained (linked_conns e ks) (linked_calls none_over w.calls)) conns_is ∙ ap (λ ks. contexts_value v.drained (linked_conns e v.conns) (linked_calls none_over ks)) calls_is
+
+      same : lives_in none_over y ≡ lives_in none_over (kept_at i v.calls) → c ≡ linked_by e none_over w
+      same alike = c_is ∙ ap (contexts_value v.drained (linked_conns e v.conns)) (sym (set_alike none_over v.calls i y lt alike)) ∙ sym w_is
+
+      over : (d : Option CallRecord) (l : Live) → (kept_at i v.calls).call.live ≡ Some l → y.call.live ≡ None → is_some d ≡ true → IsLinkedWith e id d c w
+      over None l l_is dead some = cc
+      over (Some r) l l_is dead some = (
+        subst (λ (z : ContextsValue). is_life id z.calls ≡ true) (sym c_is) (subst (λ d. is_life d (linked_calls none_over v.calls) ≡ true) id_is (live_linked none_over v.calls i l l_is)),
+        ap (without id) c_is ∙ ap (λ d. contexts_value v.drained (linked_conns e v.conns) (filter (λ (m : LifeValue). not (is_call m.id d)) (linked_calls none_over v.calls))) (sym id_is)
+            ∙ ap (contexts_value v.drained (linked_conns e v.conns)) (sym (set_dead none_over v.calls i y l lives lt l_is dead)) ∙ sym w_is,
+      )
+
+      on : (d : Option CallRecord) → is_some d ≡ false → c ≡ linked_by e none_over w → IsLinkedWith e id d c w
+      on None none is = is
+      on (Some r) none is = cc
+
+      decided_is : (d : Option CallRecord) → is_some d ≡ is_some (option_map Calling d)
+      decided_is None = refl
+      decided_is (Some r) = refl
+
+      by : (o : Outcome) (q : Option Live) → (kept_at i v.calls).call.live ≡ q → IsStep moment (kept_at i v.calls) y decided next (result_on moment branch o out (kept_at i v.calls).call.live)
+          → IsLinkedWith e id decided c w
+      by o None q_is s =
+          let dead : y.call.live ≡ None = ap (λ (k : KeptValue). k.call.live) s.new_is ∙ rw q_is refl in
+          on decided (decided_is decided ∙ ap (λ e. is_some e) s.reply_is ∙ rw q_is refl) (same (dead_life none_over y dead ∙ sym (dead_life none_over (kept_at i v.calls) q_is)))
+      by (Fail error) (Some l) q_is s =
+          over decided l q_is (ap (λ (k : KeptValue). k.call.live) s.new_is ∙ rw q_is refl) (decided_is decided ∙ ap (λ e. is_some e) s.reply_is ∙ rw q_is refl)
+      by (Answer body) (Some l) q_is s = ⊎_elim
+          (λ (last : is_last_answer l ≡ true).
+          over decided l q_is (ap (λ (k : KeptValue). k.call.live) s.new_is ∙ rw (q_is, last) refl) (decided_is decided ∙ ap (λ e. is_some e) s.reply_is ∙ rw (q_is, last) refl))
+          (λ (going : is_last_answer l ≡ false).
+          let alike : lives_in none_over y ≡ life_by None (kept_at i v.calls).id l.asked ∷ [] = ap (lives_in none_over) s.new_is ∙ rw (q_is, going) refl in
+          on decided (decided_is decided ∙ ap (λ e. is_some e) s.reply_is ∙ rw (q_is, going) refl) (same (alike ∙ sym (live_life none_over (kept_at i v.calls) l q_is))))
+          (cases_Bool (is_last_answer l))
+
+  -- something that is answered at once leaves the contexts
+  pub answered_linked : (i : ℕ) (entry : ReplyEntry) (v : MachineValue) → i < length v.conns → linked_by e none_over (entered_at i (step_to (record { out = []; live = None }) (Some entry) []) v) ≡ linked_by e none_over v
+  answered_linked i entry v lt =
+      ap (λ ns. contexts_value v.drained ns (linked_calls none_over (v.calls ++ []))) (conns_set e v.conns i (added (Some entry) (conn_at i v.conns)) lt refl refl)
+      ∙ ap (λ ks. contexts_value v.drained (linked_conns e v.conns) (linked_calls none_over ks)) (append-nil v.calls)
+
+  -- a call that begins has its context
+  pub begun_linked : (i : ℕ) (a : ArrivedCall) (v : MachineValue) → i < length v.conns
+      → contexts_value v.drained (linked_conns e v.conns) (linked_calls none_over v.calls ++ life_by None (next_of (conn_at i v.conns)) a ∷ []) ≡ linked_by e none_over (entered_at i (begins v.moment None (next_of (conn_at i v.conns)) a) v)
+  begun_linked i a v lt = sym (
+      ap (λ ns. contexts_value v.drained ns (linked_calls none_over (entered_at i (begins v.moment None (next_of (conn_at i v.conns)) a) v).calls)) (conns_set e v.conns i (added None (conn_at i v.conns)) lt refl refl)
+      ∙ ap (contexts_value v.drained (linked_conns e v.conns)) (calls_append none_over v.calls _))

@@ -1,32 +1,56 @@
 -- The contexts beside the machine: each connection that is open and not broken has one, and each call that can be decided.
-use Rattle.std.specs.Prelude.{◌≡◌, ◌||◌, ℕ, Bool, true, false, is_some, not, List, [], ◌∷◌, ◌++◌, map, filter, Option, None, Some, option_map, option_to_list}
+use Rattle.std.specs.Prelude.{◌≡◌, ⊤, ◌==◌, ℕ, Bool, true, false, not, All, List, [], ◌∷◌, ◌++◌, map, filter, Option, None, Some, option_map, option_to_list}
+use Rattle.std.specs.Option.{option_or}
+use Rattle.gateway_model.specs.declared.call_event.CallEvent.{CallEvent}
+use Rattle.gateway_theory.specs.declared.cause.Cause.TheVariants.{Reached, HungUp, Drained}
+use Rattle.gateway_theory.specs.Ends.{CallsEnd, IsSettled, noted}
+use Rattle.gateway_theory.specs.Heads.{Head, conn_heads, noted_heads}
 use Rattle.gateway_model.specs.declared.id.CallId.{CallId}
 use Rattle.gateway_machine.specs.declared.machine.arriving.Arriving.{Arriving}
 use Rattle.gateway_machine.specs.declared.machine.arriving.Arriving.TheVariants.{Answered, Begins}
 use Rattle.gateway_model.specs.CallRecord.{CallRecord}
 use Rattle.gateway_theory.specs.declared.cause.Cause.{Cause}
 use Rattle.gateway_theory.specs.Conn.{ConnValue}
-use Rattle.gateway_theory.specs.Ends.{caused}
-use Rattle.gateway_replies.specs.Contexts.{ContextsValue, LifeValue, KeepsOthers, PeerValue, contexts_value, is_life, life_by, peer, without}
+use Rattle.gateway_replies.specs.Contexts.{ContextsValue, Ended, LifeValue, KeepsOthers, PeerValue, by_deadline, by_drain, by_hang_up, contexts_value, ended_life, ends_of, event_of, is_life, life_by, peer, without}
 use Rattle.gateway_theory.specs.Kept.{KeptValue}
 use Rattle.gateway_model.specs.Past.{ArrivedCall}
-use Rattle.gateway_theory.specs.Step.{Live}
+use Rattle.gateway_theory.specs.Step.{Live, Step, call_state, ended_by, kept}
 use Rattle.gateway_theory.specs.Store.{MachineValue}
 
--- the context of a connection has ended once that is drained or its peer hung up
-abbrev pub linked_conns : Bool → List ConnValue → List PeerValue
-linked_conns drained conns = map (λ k. peer k.number (drained || k.hung_up)) (filter (λ k. not k.broken) conns)
+-- the contexts of the connections that are not broken; what ended each is told by its number
+abbrev pub linked_conns : (ℕ → Ended) → List ConnValue → List PeerValue
+linked_conns ends conns = map (λ k. peer k.number (ends k.number)) (filter (λ k. not k.broken) conns)
 
--- which calls' contexts have ended
+-- what ended the calls' contexts
 abbrev pub Over : Type 0
-Over = CallId → ArrivedCall → Bool
+Over = CallId → ArrivedCall → Ended
 
 abbrev pub none_over : Over
-none_over id a = false
+none_over id a = None
 
 -- those of the calls that this ends
 abbrev pub over_by : Cause → Over
-over_by cause id a = is_some (caused cause id a)
+over_by (Reached now) id a = by_deadline now a.deadline
+over_by (HungUp conn) id a = by_hang_up (conn == id.conn)
+over_by Drained id a = by_drain true
+
+-- the cause is of this moment
+abbrev pub IsNow : Cause → ℕ → Type 0
+IsNow (Reached now) moment = now ≡ moment
+IsNow (HungUp conn) moment = ⊤
+IsNow Drained moment = ⊤
+
+-- the event by which a call ends, as its context tells it at a moment
+abbrev pub event_for : ℕ → CallId → ContextsValue → Option CallEvent
+event_for moment id c = option_map (event_of moment) (ended_life id c.calls)
+
+-- a call that this event ends, if there is one
+abbrev pub ends_with : Option CallEvent → List Bool → Option Live → Step
+ends_with e out None = kept (call_state out None)
+ends_with e out (Some l) = ended_by e l out
+
+abbrev pub ended_with : Option CallEvent → KeptValue → KeptValue
+ended_with e k = record { id = k.id; call = (ends_with e k.call.out k.call.live).call; reply = option_or (ends_with e k.call.out k.call.live).reply k.reply }
 
 -- the context of a call, while that can be decided
 abbrev pub lives_in : Over → KeptValue → List LifeValue
@@ -36,24 +60,39 @@ abbrev pub linked_calls : Over → List KeptValue → List LifeValue
 linked_calls over [] = []
 linked_calls over (k ∷ ks) = lives_in over k ++ linked_calls over ks
 
--- the contexts of a machine, of which those of these calls have ended
-abbrev pub linked_by : Over → MachineValue → ContextsValue
-linked_by over v = contexts_value v.drained (linked_conns v.drained v.conns) (linked_calls over v.calls)
+-- the contexts of a machine, of which those of these connections and calls have ended
+abbrev pub linked_by : (ℕ → Ended) → Over → MachineValue → ContextsValue
+linked_by ends over v = contexts_value v.drained (linked_conns ends v.conns) (linked_calls over v.calls)
 
--- the contexts of a machine: none of a call has ended, as long as that can be decided
-abbrev pub linked : MachineValue → ContextsValue
-linked v = linked_by none_over v
+-- the contexts of a machine, whose connections' have ended as these: none of a call has, as long as that can be decided
+abbrev pub linked : ContextsValue → MachineValue → ContextsValue
+linked c v = linked_by (ends_of c) none_over v
 
 -- they are its contexts, but for those of the connection's calls
-abbrev pub IsLinkedBut : ℕ → ContextsValue → MachineValue → Type 0
-IsLinkedBut number c v = KeepsOthers number (linked v) c
+abbrev pub IsLinkedBut : (ℕ → Ended) → ℕ → ContextsValue → MachineValue → Type 0
+IsLinkedBut ends number c v = KeepsOthers number (linked_by ends none_over v) c
 
 -- they are its contexts, and one of the call, where that was decided
-abbrev pub IsLinkedWith : CallId → Option CallRecord → ContextsValue → MachineValue → Type 0
-IsLinkedWith id None c v = c ≡ linked v
-IsLinkedWith id (Some call) c v = (is_life id c.calls ≡ true) × (without id c ≡ linked v)
+abbrev pub IsLinkedWith : (ℕ → Ended) → CallId → Option CallRecord → ContextsValue → MachineValue → Type 0
+IsLinkedWith ends id None c v = c ≡ linked_by ends none_over v
+IsLinkedWith ends id (Some call) c v = (is_life id c.calls ≡ true) × (without id c ≡ linked_by ends none_over v)
 
 -- what comes of a request: its answer, which leaves no context, or its call, which has one
 abbrev pub ComesWith : Arriving → CallId → ContextsValue → ContextsValue → Type 0
 ComesWith (Answered reply) id v w = w ≡ v
-ComesWith (Begins a) id v w = w ≡ contexts_value v.drained v.conns (v.calls ++ life_by false id a ∷ [])
+ComesWith (Begins a) id v w = w ≡ contexts_value v.drained v.conns (v.calls ++ life_by None id a ∷ [])
+
+-- a connection whose peer has not hung up has ended where all were drained, and by nothing else
+abbrev pub Hears : ContextsValue → Head → Type 0
+Hears c h = h.hung_up ≡ false → ends_of c h.number ≡ by_drain c.drained
+
+-- the contexts of a machine between two events
+pub record IsLinked (c : ContextsValue) (v : MachineValue) : Type 0 where
+  pub are : c ≡ linked c v
+  pub heard : All (Hears c) (conn_heads v.conns)
+
+-- it ends no call, and nothing is to be noted
+pub record EndsNone (cause : Cause) (v : MachineValue) : Type 0 where
+  pub noted_is : noted cause v ≡ v
+  pub heads_are : noted_heads cause (conn_heads v.conns) ≡ conn_heads v.conns
+  pub none_ends : IsSettled v → CallsEnd cause v v

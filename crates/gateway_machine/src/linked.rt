@@ -5,6 +5,7 @@ ghost use Rattle.gateway_model.specs.Arrival.{arrival_of};
 ghost use Rattle.gateway_theory.specs.Ends.{AreApart, CallsEnd, IsSettled, is_stopped_in, noted};
 ghost use Rattle.gateway_theory.specs.Enters.{arriving_at, entered_at};
 ghost use Rattle.gateway_theory.specs.Gateway.{are_all_there};
+ghost use Rattle.gateway_machine.specs.Linked.{EndsNone, IsNow};
 ghost use Rattle.gateway_theory.specs.Heads.{conn_heads, noted_heads};
 ghost use Rattle.gateway_model.specs.Occurrence.{Coming};
 ghost use Rattle.gateway_theory.specs.Opens.{JobTaken, ReplyTaken, closed_at, opened_as};
@@ -38,14 +39,14 @@ pub struct LinkedMachine<H> {
 
 impl<H> Model for LinkedMachine<H> {
     ghost use Rattle.std.specs.Prelude.{◌≡◌};
-    ghost use Rattle.gateway_machine.specs.Linked.{linked};
+    ghost use Rattle.gateway_machine.specs.Linked.{IsLinked};
     ghost use Rattle.gateway_theory.specs.Store.{MachineValue};
 
     ghost Value = { MachineValue };
 
     ghost view = { λ l. l.machine };
 
-    ghost invariant = { λ l. l.contexts ≡ linked l.machine };
+    ghost invariant = { λ l. IsLinked l.contexts l.machine };
 }
 
 impl<H: ReplyHook + Drop> LinkedMachine<H> {
@@ -99,17 +100,31 @@ impl<H: ReplyHook + Drop> LinkedMachine<H> {
         self.machine.stop(alloc, &mut self.contexts, index, refusal)
     }
 
-    /// Takes note of what may end calls, tells the contexts, and ends all calls that this ends: their replies go into their slots.
-    /// Where memory is refused to one of them, its connection breaks.
+    /// Takes note of what may end calls, tells the contexts, and ends all calls whose contexts this has ended: their replies go into
+    /// their slots. Where memory is refused to one of them, its connection breaks.
     pub fn end_calls(&mut self, alloc: Global, cause: &Cause)
+        requires now { IsNow cause.now self.old.moment }
         requires settled { IsSettled self.old }
         requires apart { AreApart self.old.calls }
         ensures ended { CallsEnd cause.now (noted cause.now self.old) self.new }
         ensures heads { conn_heads self.new.conns ≡ noted_heads cause.now (conn_heads self.old.conns) }
     {
+        if !self.may_end(cause) {
+            return;
+        }
         self.contexts.tell(cause);
         self.machine.note(cause);
         self.machine.end_calls(alloc, &mut self.contexts, cause);
+    }
+
+    /// Whether this may end a call. A moment before the least deadline ends none: nobody looks at a call for it.
+    fn may_end(&self, cause: &Cause) -> bool
+        ensures { result ≡ false → EndsNone cause.now self.now }
+    {
+        match cause {
+            Cause::Reached(moment) => self.contexts.is_due(*moment),
+            Cause::HungUp(_) | Cause::Drained => true,
+        }
     }
 
     /// A branch of a call ends with that outcome. A call that is over, and of which no branch is out, is forgotten.

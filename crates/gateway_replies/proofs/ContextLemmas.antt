@@ -1,21 +1,25 @@
 -- The contexts of connections and calls, beside those of the tree.
 use Rattle.std.proofs.Common.{◌≡◌, ℕ, ◌+◌, ◌≤◌, ◌<◌, zero, suc, refl, sym, ap, ◌∙◌, List, [], ◌∷◌, ◌++◌, Option, Some, None, Bool, true, false, inl, inr, ⊎_elim, subst, map, length, arith, rules}
-use Rattle.std.specs.Prelude.{◌⊎◌, ◌||◌, ◌==◌, not, if◌then◌else◌, filter, option_map, slice_set, slice_index_or}
+use Rattle.std.specs.Prelude.{◌⊎◌, ◌||◌, ◌==◌, All, is_some, nat_le, not, if◌then◌else◌, filter, option_map, slice_set, slice_index_or}
 use Rattle.std.specs.List.{list_any}
+use Rattle.std.specs.Option.{option_map_or, option_or}
+use Rattle.context_tree.specs.Tree.{IsNotAfter}
+use Rattle.std.proofs.lemmas.List.Elements.{All-cons, All-head, All-nil, All-tail}
+use Rattle.context_tree.specs.declared.error.Cause.TheVariants.{Given}
 use Rattle.std.proofs.lemmas.Bool.{cases_Bool, eq-eqb, or_parts, eqb-true}
 use Rattle.std.proofs.lemmas.List.{map_push}
 use Rattle.std.proofs.lemmas.List.Folds.{list_any-append}
 use Rattle.std.proofs.lemmas.Option.{same_Some}
 use Rattle.context_tree.specs.Context.{Id, same}
-use Rattle.context_tree.specs.Frames.{is_due as is_due_there}
-use Rattle.call_contexts.specs.Standing.{AreApart, Call, Conn, Standing, ends_if, is_conn, is_fresh, opened as standing_opened, begun as standing_begun, without as standing_without, closed as standing_closed, expired as standing_expired, cancelled as standing_cancelled, all_ended as standing_ended, is_call as is_standing, is_ended_conn}
+use Rattle.call_contexts.specs.Standing.{AreApart, IsNoSooner, ended_call, ends_call, ends_conn, if_cancelled, if_due, is_conn, is_fresh, opened as standing_opened, begun as standing_begun, without as standing_without, closed as standing_closed, expired as standing_expired, cancelled as standing_cancelled, all_ended as standing_ended, is_call as is_standing, ended_conn}
 use Rattle.gateway_theory.specs.declared.cause.Cause.TheVariants.{Reached, HungUp, Drained}
 use Rattle.gateway_model.specs.declared.id.CallId.{CallId}
 use Rattle.gateway_model.specs.Past.{ArrivedCall, is_call, is_due}
+use Rattle.gateway_replies.specs.declared.contexts.cancelled.CancelledBy.TheVariants.{HangUp, Drain}
 use Rattle.gateway_replies.specs.declared.contexts.life.Life.{Life}
 use Rattle.gateway_replies.specs.declared.contexts.peer.Peer.{Peer}
 use Rattle.gateway_replies.specs.Ties.{life_tie, life_ties, peer_tie, peer_ties}
-use Rattle.gateway_replies.specs.Contexts.{AreTied, LivesApart, PeerValue, begun, contexts_of, ContextsValue, IsTied, KeepsOthers, LifeValue, Lives, NoTwo, Peers, closed, contexts_value, ctx_for, ctx_of, ends_life, ends_peer, first_life, first_of, is_ended_peer, is_life, is_peer, peer, peers_of, told, life_with, lives_of, opened, others, same_id, same_context, same_number, without, without_calls, without_first}
+use Rattle.gateway_replies.specs.Contexts.{AllContexts, AreTied, IsNotDue, CallContext, ConnContext, Ended, LivesApart, PeerValue, by_deadline, by_drain, by_hang_up, begun, contexts_of, ContextsValue, IsTied, KeepsOthers, LifeValue, Lives, NoTwo, Peers, closed, contexts_value, ctx_for, ctx_of, ended_life, ended_peer, ends_life, ends_of, ends_peer, first_life, first_of, is_life, is_peer, peer, peers_of, told, life_with, lives_of, opened, others, same_id, same_context, same_number, without, without_calls, without_first}
 use Rattle.gateway_theory.specs.lemmas.Cases.{all_stay, or_false, or_true, sym_eqb}
 use Rattle.gateway_theory.specs.lemmas.LimitLemmas.{same_call}
 use Rattle.gateway_theory.specs.lemmas.StoreLemmas.{call_itself}
@@ -73,10 +77,15 @@ same_itself x = grind (arith, rules)
 same_turned : (x y : Id) → same x y ≡ same y x
 same_turned x y = grind (arith, rules)
 
--- a deadline is reached
-due_same : (now : ℕ) (deadline : Option ℕ) → is_due_there now deadline ≡ is_due now deadline
+-- a deadline ends what it does in both words
+due_same : (now : ℕ) (deadline : Option ℕ) → if_due now deadline ≡ by_deadline now deadline
 due_same now None = refl
 due_same now (Some at) = refl
+
+-- what had ended stays so
+or_nothing : {A : Type 0} (o : Option A) → option_or o None ≡ o
+or_nothing None = refl
+or_nothing (Some a) = refl
 
 -- ---- connections
 
@@ -151,8 +160,8 @@ less_contexts number (p ∷ ps) x is numbers contexts = ⊎_elim
 -- ---- connections, with whether their contexts have ended
 
 -- as many, and of these contexts
-abbrev AreThose : Peers → List Conn → Type 0
-AreThose ps cs = map (λ (c : Conn). c.id) cs ≡ map (λ (p : ℕ × Id). p.1) ps
+abbrev AreThose : Peers → List ConnContext → Type 0
+AreThose ps cs = map (λ (c : ConnContext). c.id) cs ≡ map (λ (p : ℕ × Id). p.1) ps
 
 first_same : (x y : Id) (xs ys : List Id) → x ∷ xs ≡ y ∷ ys → x ≡ y
 first_same x y xs ys e = ap (λ (zs : List Id). slice_index_or zs 0 x) e
@@ -164,15 +173,15 @@ rest_same x y xs ys e = ap (λ (zs : List Id). rest zs) e
     rest [] = []
     rest (z ∷ zs) = zs
 
-none_there : (ps : Peers) (cs : List Conn) (x : Id) → AreThose ps cs → list_any (λ (p : ℕ × Id). same p.1 x) ps ≡ false → list_any (λ (c : Conn). same c.id x) cs ≡ false
-none_there ps cs x those none = sym (any_map (λ z. same z x) (λ (c : Conn). c.id) cs) ∙ ap (list_any (λ z. same z x)) those ∙ any_map (λ z. same z x) (λ (p : ℕ × Id). p.1) ps ∙ none
+none_there : (ps : Peers) (cs : List ConnContext) (x : Id) → AreThose ps cs → list_any (λ (p : ℕ × Id). same p.1 x) ps ≡ false → list_any (λ (c : ConnContext). same c.id x) cs ≡ false
+none_there ps cs x those none = sym (any_map (λ z. same z x) (λ (c : ConnContext). c.id) cs) ∙ ap (list_any (λ z. same z x)) those ∙ any_map (λ z. same z x) (λ (p : ℕ × Id). p.1) ps ∙ none
 
-peer_in : (number : ℕ) (ps : Peers) (cs : List Conn) → AreThose ps cs → is_peer number (peers_of ps cs) ≡ list_any (λ (p : ℕ × Id). p.0 == number) ps
+peer_in : (number : ℕ) (ps : Peers) (cs : List ConnContext) → AreThose ps cs → is_peer number (peers_of ps cs) ≡ list_any (λ (p : ℕ × Id). p.0 == number) ps
 peer_in number [] cs those = refl
 peer_in number (p ∷ ps) [] those = cc
 peer_in number (p ∷ ps) (c ∷ cs) those = ap (λ b. (p.0 == number) || b) (peer_in number ps cs (rest_same _ _ _ _ those))
 
-peers_pushed : (ps : Peers) (cs : List Conn) (p : ℕ × Id) (c : Conn) → AreThose ps cs → peers_of (ps ++ p ∷ []) (cs ++ c ∷ []) ≡ peers_of ps cs ++ peer p.0 c.ended ∷ []
+peers_pushed : (ps : Peers) (cs : List ConnContext) (p : ℕ × Id) (c : ConnContext) → AreThose ps cs → peers_of (ps ++ p ∷ []) (cs ++ c ∷ []) ≡ peers_of ps cs ++ peer p.0 c.ended ∷ []
 peers_pushed [] [] p c those = refl
 peers_pushed [] (d ∷ cs) p c those = cc
 peers_pushed (q ∷ ps) [] p c those = cc
@@ -180,8 +189,8 @@ peers_pushed (q ∷ ps) (d ∷ cs) p c those = ap (λ xs. peer q.0 d.ended ∷ x
 
 -- of the connection of that number
 module _ (number : ℕ) (x : Id) where
-  its_first : (p : ℕ × Id) (ps : Peers) (c : Conn) (cs : List Conn) → AreThose (p ∷ ps) (c ∷ cs) → (p.0 == number) ≡ true → ctx_of number (p ∷ ps) ≡ Some x → NoTwo same_number (p ∷ ps) → NoTwo same_context (p ∷ ps)
-      → (same c.id x ≡ true) × (list_any (λ (q : ℕ × Id). q.0 == number) ps ≡ false) × (list_any (λ (d : Conn). same d.id x) cs ≡ false)
+  its_first : (p : ℕ × Id) (ps : Peers) (c : ConnContext) (cs : List ConnContext) → AreThose (p ∷ ps) (c ∷ cs) → (p.0 == number) ≡ true → ctx_of number (p ∷ ps) ≡ Some x → NoTwo same_number (p ∷ ps) → NoTwo same_context (p ∷ ps)
+      → (same c.id x ≡ true) × (list_any (λ (q : ℕ × Id). q.0 == number) ps ≡ false) × (list_any (λ (d : ConnContext). same d.id x) cs ≡ false)
   its_first p ps c cs those y is numbers contexts =
       let x_is : p.1 ≡ x = same_Some p.1 x (rw y at is) in (
         ap (λ z. same z x) (first_same _ _ _ _ those ∙ x_is) ∙ same_itself x,
@@ -189,10 +198,10 @@ module _ (number : ℕ) (x : Id) where
         none_there ps cs x (rest_same _ _ _ _ those) (subst (λ z. list_any (λ (q : ℕ × Id). same q.1 z) ps ≡ false) x_is contexts.0),
       )
 
-  other_first : (p : ℕ × Id) (ps : Peers) (c : Conn) (cs : List Conn) → AreThose (p ∷ ps) (c ∷ cs) → ctx_of number ps ≡ Some x → NoTwo same_context (p ∷ ps) → same c.id x ≡ false
+  other_first : (p : ℕ × Id) (ps : Peers) (c : ConnContext) (cs : List ConnContext) → AreThose (p ∷ ps) (c ∷ cs) → ctx_of number ps ≡ Some x → NoTwo same_context (p ∷ ps) → same c.id x ≡ false
   other_first p ps c cs those there contexts = ap (λ z. same z x) (first_same _ _ _ _ those) ∙ same_turned p.1 x ∙ ctx_apart number ps x p.1 there contexts.0
 
-  peers_less : (ps : Peers) (cs : List Conn) → AreThose ps cs → ctx_of number ps ≡ Some x → NoTwo same_number ps → NoTwo same_context ps
+  peers_less : (ps : Peers) (cs : List ConnContext) → AreThose ps cs → ctx_of number ps ≡ Some x → NoTwo same_number ps → NoTwo same_context ps
       → peers_of (filter (λ p. not (p.0 == number)) ps) (filter (λ c. not (same c.id x)) cs) ≡ filter (λ p. not (p.number == number)) (peers_of ps cs)
   peers_less [] cs those is numbers contexts = cc
   peers_less (p ∷ ps) [] those is numbers contexts = cc
@@ -200,7 +209,7 @@ module _ (number : ℕ) (x : Id) where
       (λ (y : (p.0 == number) ≡ true).
       let its = its_first p ps c cs those y is numbers contexts in
       let ps_are : filter (λ (q : ℕ × Id). not (q.0 == number)) ps ≡ ps = all_stay (λ (q : ℕ × Id). q.0 == number) ps its.1 in
-      let cs_are : filter (λ (d : Conn). not (same d.id x)) cs ≡ cs = all_stay (λ (d : Conn). same d.id x) cs its.2 in
+      let cs_are : filter (λ (d : ConnContext). not (same d.id x)) cs ≡ cs = all_stay (λ (d : ConnContext). same d.id x) cs its.2 in
       let all_are : filter (λ (q : PeerValue). not (q.number == number)) (peers_of ps cs) ≡ peers_of ps cs =
       all_stay (λ (q : PeerValue). q.number == number) (peers_of ps cs) (peer_in number ps cs (rest_same _ _ _ _ those) ∙ its.1) in
       rw (y, its.0, ps_are, cs_are, all_are) refl)
@@ -209,49 +218,49 @@ module _ (number : ℕ) (x : Id) where
       rw (n, other_first p ps c cs those there contexts) (ap (λ xs. peer p.0 c.ended ∷ xs) (peers_less ps cs (rest_same _ _ _ _ those) there numbers.1 contexts.1)))
       (cases_Bool (p.0 == number))
 
-  none_hung : (ps : Peers) (cs : List Conn) → list_any (λ (p : ℕ × Id). p.0 == number) ps ≡ false → list_any (λ (c : Conn). same c.id x) cs ≡ false
-      → peers_of ps (map (λ (c : Conn). record { id = c.id; ended = c.ended || same c.id x }) cs) ≡ map (λ p. ends_peer (p.number == number) p) (peers_of ps cs)
+  none_hung : (ps : Peers) (cs : List ConnContext) → list_any (λ (p : ℕ × Id). p.0 == number) ps ≡ false → list_any (λ (c : ConnContext). same c.id x) cs ≡ false
+      → peers_of ps (map (λ (c : ConnContext). ends_conn (if_cancelled (same c.id x) HangUp) c) cs) ≡ map (λ p. ends_peer (by_hang_up (p.number == number)) p) (peers_of ps cs)
   none_hung [] cs no_p no_c = refl
   none_hung (p ∷ ps) [] no_p no_c = refl
   none_hung (p ∷ ps) (c ∷ cs) no_p no_c =
       let two = or_parts (p.0 == number) (list_any (λ (q : ℕ × Id). q.0 == number) ps) no_p in
-      let both = or_parts (same c.id x) (list_any (λ (d : Conn). same d.id x) cs) no_c in
-      rw (two.0, both.0) (ap (λ xs. peer p.0 (c.ended || false) ∷ xs) (none_hung ps cs two.1 both.1))
+      let both = or_parts (same c.id x) (list_any (λ (d : ConnContext). same d.id x) cs) no_c in
+      rw (two.0, both.0) (ap (λ xs. peer p.0 (option_or c.ended None) ∷ xs) (none_hung ps cs two.1 both.1))
 
-  peers_hung : (ps : Peers) (cs : List Conn) → AreThose ps cs → ctx_of number ps ≡ Some x → NoTwo same_number ps → NoTwo same_context ps
-      → peers_of ps (map (λ (c : Conn). record { id = c.id; ended = c.ended || same c.id x }) cs) ≡ map (λ p. ends_peer (p.number == number) p) (peers_of ps cs)
+  peers_hung : (ps : Peers) (cs : List ConnContext) → AreThose ps cs → ctx_of number ps ≡ Some x → NoTwo same_number ps → NoTwo same_context ps
+      → peers_of ps (map (λ (c : ConnContext). ends_conn (if_cancelled (same c.id x) HangUp) c) cs) ≡ map (λ p. ends_peer (by_hang_up (p.number == number)) p) (peers_of ps cs)
   peers_hung [] cs those is numbers contexts = cc
   peers_hung (p ∷ ps) [] those is numbers contexts = cc
   peers_hung (p ∷ ps) (c ∷ cs) those is numbers contexts = ⊎_elim
       (λ (y : (p.0 == number) ≡ true).
       let its = its_first p ps c cs those y is numbers contexts in
-      rw (y, its.0) (ap (λ xs. peer p.0 (c.ended || true) ∷ xs) (none_hung ps cs its.1 its.2)))
+      rw (y, its.0) (ap (λ xs. peer p.0 (option_or c.ended (Some (Given HangUp))) ∷ xs) (none_hung ps cs its.1 its.2)))
       (λ (n : (p.0 == number) ≡ false).
       let there : ctx_of number ps ≡ Some x = rw n at is in
-      rw (n, other_first p ps c cs those there contexts) (ap (λ xs. peer p.0 (c.ended || false) ∷ xs) (peers_hung ps cs (rest_same _ _ _ _ those) there numbers.1 contexts.1)))
+      rw (n, other_first p ps c cs those there contexts) (ap (λ xs. peer p.0 (option_or c.ended None) ∷ xs) (peers_hung ps cs (rest_same _ _ _ _ those) there numbers.1 contexts.1)))
       (cases_Bool (p.0 == number))
 
-  -- whether its context has ended
-  ended_peer : (ps : Peers) (cs : List Conn) → AreThose ps cs → ctx_of number ps ≡ Some x → NoTwo same_context ps → is_ended_conn x cs ≡ is_ended_peer number (peers_of ps cs)
-  ended_peer [] cs those is contexts = cc
-  ended_peer (p ∷ ps) [] those is contexts = cc
-  ended_peer (p ∷ ps) (c ∷ cs) those is contexts = ⊎_elim
+  -- what ended its context
+  peer_ended : (new : Ended) (ps : Peers) (cs : List ConnContext) → AreThose ps cs → ctx_of number ps ≡ Some x → NoTwo same_context ps → ended_conn x cs ≡ ended_peer new number (peers_of ps cs)
+  peer_ended new [] cs those is contexts = cc
+  peer_ended new (p ∷ ps) [] those is contexts = cc
+  peer_ended new (p ∷ ps) (c ∷ cs) those is contexts = ⊎_elim
       (λ (y : (p.0 == number) ≡ true).
       let x_is : p.1 ≡ x = same_Some p.1 x (rw y at is) in
       let its : same c.id x ≡ true = ap (λ z. same z x) (first_same _ _ _ _ those ∙ x_is) ∙ same_itself x in
       rw (y, its) refl)
       (λ (n : (p.0 == number) ≡ false).
       let there : ctx_of number ps ≡ Some x = rw n at is in
-      rw (n, other_first p ps c cs those there contexts) (ended_peer ps cs (rest_same _ _ _ _ those) there contexts.1))
+      rw (n, other_first p ps c cs those there contexts) (peer_ended new ps cs (rest_same _ _ _ _ those) there contexts.1))
       (cases_Bool (p.0 == number))
 
-peers_drained : (ps : Peers) (cs : List Conn) → peers_of ps (map (λ (c : Conn). record { id = c.id; ended = true }) cs) ≡ map (λ p. ends_peer true p) (peers_of ps cs)
+peers_drained : (ps : Peers) (cs : List ConnContext) → peers_of ps (map (ends_conn (Some (Given Drain))) cs) ≡ map (λ p. ends_peer (by_drain true) p) (peers_of ps cs)
 peers_drained [] cs = refl
 peers_drained (p ∷ ps) [] = refl
-peers_drained (p ∷ ps) (c ∷ cs) = rw (or_true c.ended) (ap (λ xs. peer p.0 true ∷ xs) (peers_drained ps cs))
+peers_drained (p ∷ ps) (c ∷ cs) = ap (λ xs. peer p.0 (option_or c.ended (Some (Given Drain))) ∷ xs) (peers_drained ps cs)
 
 -- there is no connection of that number
-not_in : (number : ℕ) (ps : Peers) (cs : List Conn) → ctx_of number ps ≡ None → is_peer number (peers_of ps cs) ≡ false
+not_in : (number : ℕ) (ps : Peers) (cs : List ConnContext) → ctx_of number ps ≡ None → is_peer number (peers_of ps cs) ≡ false
 not_in number [] cs is = refl
 not_in number (p ∷ ps) [] is = refl
 not_in number (p ∷ ps) (c ∷ cs) is = ⊎_elim
@@ -259,67 +268,67 @@ not_in number (p ∷ ps) (c ∷ cs) is = ⊎_elim
     (λ (n : (p.0 == number) ≡ false). rw n (not_in number ps cs (rw n at is)))
     (cases_Bool (p.0 == number))
 
-peers_stay : (number : ℕ) (ps : List PeerValue) → is_peer number ps ≡ false → map (λ p. ends_peer (p.number == number) p) ps ≡ ps
+peers_stay : (number : ℕ) (ps : List PeerValue) → is_peer number ps ≡ false → map (λ p. ends_peer (by_hang_up (p.number == number)) p) ps ≡ ps
 peers_stay number [] none = refl
 peers_stay number (p ∷ ps) none =
     let two = or_parts (p.number == number) (is_peer number ps) none in
-    rw (two.0, or_false p.ended) (ap (λ xs. p ∷ xs) (peers_stay number ps two.1))
+    rw (two.0, or_nothing p.ended) (ap (λ xs. p ∷ xs) (peers_stay number ps two.1))
 
-lives_stay : (number : ℕ) (ls : List LifeValue) → first_life number ls ≡ None → map (λ l. ends_life (l.id.conn == number) l) ls ≡ ls
+lives_stay : (number : ℕ) (ls : List LifeValue) → first_life number ls ≡ None → map (λ l. ends_life (by_hang_up (l.id.conn == number)) l) ls ≡ ls
 lives_stay number [] none = refl
 lives_stay number (l ∷ ls) none = ⊎_elim
     (λ (y : (l.id.conn == number) ≡ true). let bad : Some l.id ≡ None = rw y at none in cc)
-    (λ (n : (l.id.conn == number) ≡ false). rw (n, or_false l.ended) (ap (λ xs. l ∷ xs) (lives_stay number ls (rw n at none))))
+    (λ (n : (l.id.conn == number) ≡ false). rw (n, or_nothing l.ended) (ap (λ xs. l ∷ xs) (lives_stay number ls (rw n at none))))
     (cases_Bool (l.id.conn == number))
 
 -- ---- calls
 
 module _ {V : Type 0} where
-  tied_more : (ps : Peers) (p : ℕ × Id) (ls : Lives) (cs : List (Call V)) → AreTied ps ls cs → AreTied (ps ++ p ∷ []) ls cs
+  tied_more : (ps : Peers) (p : ℕ × Id) (ls : Lives) (cs : List (CallContext V)) → AreTied ps ls cs → AreTied (ps ++ p ∷ []) ls cs
   tied_more ps p [] [] tied = tt
   tied_more ps p [] (c ∷ cs) tied = absurd tied
   tied_more ps p (l ∷ ls) [] tied = absurd tied
   tied_more ps p (l ∷ ls) (c ∷ cs) tied = (tied.0, ctx_more l.0.conn ps p c.conn tied.1, tied_more ps p ls cs tied.2)
 
-  tied_pushed : (ps : Peers) (ls : Lives) (cs : List (Call V)) (l : CallId × Id) (c : Call V) → AreTied ps ls cs → c.id ≡ l.1 → ctx_of l.0.conn ps ≡ Some c.conn
+  tied_pushed : (ps : Peers) (ls : Lives) (cs : List (CallContext V)) (l : CallId × Id) (c : CallContext V) → AreTied ps ls cs → c.id ≡ l.1 → ctx_of l.0.conn ps ≡ Some c.conn
       → AreTied ps (ls ++ l ∷ []) (cs ++ c ∷ [])
   tied_pushed ps [] [] l c tied its conn = (its, conn, tt)
   tied_pushed ps [] (d ∷ ds) l c tied its conn = absurd tied
   tied_pushed ps (m ∷ ms) [] l c tied its conn = absurd tied
   tied_pushed ps (m ∷ ms) (d ∷ ds) l c tied its conn = (tied.0, tied.1, tied_pushed ps ms ds l c tied.2 its conn)
 
-  pub lives_pushed : (text : V → List ℕ) (ps : Peers) (ls : Lives) (cs : List (Call V)) (l : CallId × Id) (c : Call V) → AreTied ps ls cs
+  pub lives_pushed : (text : V → List ℕ) (ps : Peers) (ls : Lives) (cs : List (CallContext V)) (l : CallId × Id) (c : CallContext V) → AreTied ps ls cs
       → lives_of text (ls ++ l ∷ []) (cs ++ c ∷ []) ≡ lives_of text ls cs ++ life_with text l.0 c ∷ []
   lives_pushed text ps [] [] l c tied = refl
   lives_pushed text ps [] (d ∷ ds) l c tied = absurd tied
   lives_pushed text ps (m ∷ ms) [] l c tied = absurd tied
   lives_pushed text ps (m ∷ ms) (d ∷ ds) l c tied = ap (λ xs. life_with text m.0 d ∷ xs) (lives_pushed text ps ms ds l c tied.2)
 
-  pub life_in : (text : V → List ℕ) (ps : Peers) (ls : Lives) (cs : List (Call V)) (id : CallId) → AreTied ps ls cs
+  pub life_in : (text : V → List ℕ) (ps : Peers) (ls : Lives) (cs : List (CallContext V)) (id : CallId) → AreTied ps ls cs
       → is_life id (lives_of text ls cs) ≡ list_any (λ l. is_call l.0 id) ls
   life_in text ps [] cs id tied = refl
   life_in text ps (l ∷ ls) [] id tied = absurd tied
   life_in text ps (l ∷ ls) (c ∷ cs) id tied = ap (λ b. is_call l.0 id || b) (life_in text ps ls cs id tied.2)
 
   -- no call has two contexts
-  pub lives_apart : (text : V → List ℕ) (ps : Peers) (ls : Lives) (cs : List (Call V)) → AreTied ps ls cs → NoTwo same_id ls → LivesApart (lives_of text ls cs)
+  pub lives_apart : (text : V → List ℕ) (ps : Peers) (ls : Lives) (cs : List (CallContext V)) → AreTied ps ls cs → NoTwo same_id ls → LivesApart (lives_of text ls cs)
   lives_apart text ps [] cs tied apart = tt
   lives_apart text ps (l ∷ ls) [] tied apart = absurd tied
   lives_apart text ps (l ∷ ls) (c ∷ cs) tied apart = (life_in text ps ls cs l.0 tied.2 ∙ apart.0, lives_apart text ps ls cs tied.2 apart.1)
 
-  pub first_in : (text : V → List ℕ) (ps : Peers) (ls : Lives) (cs : List (Call V)) (number : ℕ) → AreTied ps ls cs
+  pub first_in : (text : V → List ℕ) (ps : Peers) (ls : Lives) (cs : List (CallContext V)) (number : ℕ) → AreTied ps ls cs
       → first_life number (lives_of text ls cs) ≡ first_of number ls
   first_in text ps [] cs number tied = refl
   first_in text ps (l ∷ ls) [] number tied = absurd tied
   first_in text ps (l ∷ ls) (c ∷ cs) number tied = ap (λ o. if l.0.conn == number then Some l.0 else o) (first_in text ps ls cs number tied.2)
 
-  pub as_many : (text : V → List ℕ) (ps : Peers) (ls : Lives) (cs : List (Call V)) → AreTied ps ls cs → length (lives_of text ls cs) ≡ length ls
+  pub as_many : (text : V → List ℕ) (ps : Peers) (ls : Lives) (cs : List (CallContext V)) → AreTied ps ls cs → length (lives_of text ls cs) ≡ length ls
   as_many text ps [] cs tied = refl
   as_many text ps (l ∷ ls) [] tied = absurd tied
   as_many text ps (l ∷ ls) (c ∷ cs) tied = ap suc (as_many text ps ls cs tied.2)
 
   -- the context of a call is that of one that stands
-  pub stands_in : (ps : Peers) (ls : Lives) (cs : List (Call V)) (id : CallId) (x : Id) → AreTied ps ls cs → ctx_for id ls ≡ Some x → is_standing x cs ≡ true
+  pub stands_in : (ps : Peers) (ls : Lives) (cs : List (CallContext V)) (id : CallId) (x : Id) → AreTied ps ls cs → ctx_for id ls ≡ Some x → is_standing x cs ≡ true
   stands_in ps [] cs id x tied is = cc
   stands_in ps (l ∷ ls) [] id x tied is = absurd tied
   stands_in ps (l ∷ ls) (c ∷ cs) id x tied is = ⊎_elim
@@ -328,7 +337,7 @@ module _ {V : Type 0} where
       (cases_Bool (is_call l.0 id))
 
   -- without the call
-  pub tied_less : (text : V → List ℕ) (ps : Peers) (ls : Lives) (cs : List (Call V)) (id : CallId) (x : Id) → AreTied ps ls cs → AreApart cs → NoTwo same_id ls
+  pub tied_less : (text : V → List ℕ) (ps : Peers) (ls : Lives) (cs : List (CallContext V)) (id : CallId) (x : Id) → AreTied ps ls cs → AreApart cs → NoTwo same_id ls
       → ctx_for id ls ≡ Some x
       → AreTied ps (filter (λ l. not (is_call l.0 id)) ls) (filter (λ c. not (same c.id x)) cs)
       × (lives_of text (filter (λ l. not (is_call l.0 id)) ls) (filter (λ c. not (same c.id x)) cs) ≡ filter (λ l. not (is_call l.id id)) (lives_of text ls cs))
@@ -340,9 +349,9 @@ module _ {V : Type 0} where
       let x_is : c.id ≡ x = tied.0 ∙ same_Some l.1 x (rw y at is) in
       let its : same c.id x ≡ true = ap (λ z. same z x) x_is ∙ same_itself x in
       let no_call : list_any (λ (m : CallId × Id). is_call m.0 id) ls ≡ false = subst (λ k. list_any (λ (m : CallId × Id). is_call m.0 k) ls ≡ false) id_is calls.0 in
-      let no_ctx : list_any (λ (d : Call V). same d.id x) cs ≡ false = subst (λ z. list_any (λ (d : Call V). same d.id z) cs ≡ false) x_is apart.0 in
+      let no_ctx : list_any (λ (d : CallContext V). same d.id x) cs ≡ false = subst (λ z. list_any (λ (d : CallContext V). same d.id z) cs ≡ false) x_is apart.0 in
       let ls_are : filter (λ (m : CallId × Id). not (is_call m.0 id)) ls ≡ ls = all_stay (λ (m : CallId × Id). is_call m.0 id) ls no_call in
-      let cs_are : filter (λ (d : Call V). not (same d.id x)) cs ≡ cs = all_stay (λ (d : Call V). same d.id x) cs no_ctx in
+      let cs_are : filter (λ (d : CallContext V). not (same d.id x)) cs ≡ cs = all_stay (λ (d : CallContext V). same d.id x) cs no_ctx in
       let stays : filter (λ (k : LifeValue). not (is_call k.id id)) (lives_of text ls cs) ≡ lives_of text ls cs =
       all_stay (λ (k : LifeValue). is_call k.id id) (lives_of text ls cs) (life_in text ps ls cs id tied.2 ∙ no_call) in
       rw (y, its, ls_are, cs_are, stays) (tied.2, refl))
@@ -359,7 +368,7 @@ module _ {V : Type 0} where
       (cases_Bool (is_call l.0 id))
 
   -- no call is of the connection
-  pub none_of_it : (ps : Peers) (ls : Lives) (cs : List (Call V)) (number : ℕ) (x : Id) → AreTied ps ls cs → first_of number ls ≡ None → NoTwo same_context ps
+  pub none_of_it : (ps : Peers) (ls : Lives) (cs : List (CallContext V)) (number : ℕ) (x : Id) → AreTied ps ls cs → first_of number ls ≡ None → NoTwo same_context ps
       → ctx_of number ps ≡ Some x → list_any (λ c. same c.conn x) cs ≡ false
   none_of_it ps [] [] number x tied none apart is = refl
   none_of_it ps [] (c ∷ cs) number x tied none apart is = absurd tied
@@ -371,7 +380,7 @@ module _ {V : Type 0} where
       rw far (none_of_it ps ls cs number x tied.2 (rw n at none) apart is))
       (cases_Bool (l.0.conn == number))
 
-  tied_without : (ps : Peers) (ls : Lives) (cs : List (Call V)) (number : ℕ) → AreTied ps ls cs → first_of number ls ≡ None
+  tied_without : (ps : Peers) (ls : Lives) (cs : List (CallContext V)) (number : ℕ) → AreTied ps ls cs → first_of number ls ≡ None
       → AreTied (filter (λ p. not (p.0 == number)) ps) ls cs
   tied_without ps [] [] number tied none = tt
   tied_without ps [] (c ∷ cs) number tied none = absurd tied
@@ -383,14 +392,15 @@ module _ {V : Type 0} where
 
   -- ---- all of it
 
-  pub tied_opened : (ps : Peers) (ls : Lives) (v : Standing V) (number : ℕ) (x : Id) → IsTied ps ls v → is_fresh x v ≡ true
+  pub tied_opened : (ps : Peers) (ls : Lives) (v : AllContexts V) (number : ℕ) (x : Id) → IsTied ps ls v → is_fresh x v ≡ true
       → is_peer number (peers_of ps v.conns) ≡ false → IsTied (ps ++ (number, x) ∷ []) ls (standing_opened x v)
   tied_opened ps ls v number x tied fresh none = record {
-    conns_are = map_push (λ (c : Conn). c.id) v.conns (record { id = x; ended = v.drained }) ∙ ap (λ xs. xs ++ x ∷ []) tied.conns_are ∙ sym (map_push (λ (p : ℕ × Id). p.1) ps (number, x));
+    drained_is = tied.drained_is;
+    conns_are = map_push (λ (c : ConnContext). c.id) v.conns (record { id = x; ended = v.drained }) ∙ ap (λ xs. xs ++ x ∷ []) tied.conns_are ∙ sym (map_push (λ (p : ℕ × Id). p.1) ps (number, x));
     calls_are = tied_more ps (number, x) ls v.calls tied.calls_are;
     numbers_apart = no_two_pushed same_number number_turned ps (number, x) tied.numbers_apart (sym (peer_in number ps v.conns tied.conns_are) ∙ none);
     contexts_apart = no_two_pushed same_context context_turned ps (number, x) tied.contexts_apart (sym (any_map (λ z. same z x) (λ (p : ℕ × Id). p.1) ps)
-        ∙ ap (list_any (λ z. same z x)) (sym tied.conns_are) ∙ any_map (λ z. same z x) (λ (c : Conn). c.id) v.conns ∙ unknown (is_conn x v.conns) (is_standing x v.calls) fresh);
+        ∙ ap (list_any (λ z. same z x)) (sym tied.conns_are) ∙ any_map (λ z. same z x) (λ (c : ConnContext). c.id) v.conns ∙ unknown (is_conn x v.conns) (is_standing x v.calls) fresh);
     calls_apart = tied.calls_apart;
   }
     where
@@ -398,9 +408,10 @@ module _ {V : Type 0} where
       unknown true b e = cc
       unknown false b e = refl
 
-  pub tied_begun : (ps : Peers) (ls : Lives) (v : Standing V) (id : CallId) (x conn : Id) (deadline : Option ℕ) (now : ℕ) (request_id : Option V) → IsTied ps ls v
+  pub tied_begun : (ps : Peers) (ls : Lives) (v : AllContexts V) (id : CallId) (x conn : Id) (deadline : Option ℕ) (now : ℕ) (request_id : Option V) → IsTied ps ls v
       → ctx_of id.conn ps ≡ Some conn → list_any (λ l. is_call l.0 id) ls ≡ false → IsTied ps (ls ++ (id, x) ∷ []) (standing_begun x conn deadline now request_id v)
   tied_begun ps ls v id x conn deadline now request_id tied known none = record {
+    drained_is = tied.drained_is;
     conns_are = tied.conns_are;
     calls_are = tied_pushed ps ls v.calls (id, x) _ tied.calls_are refl known;
     numbers_apart = tied.numbers_apart;
@@ -408,9 +419,10 @@ module _ {V : Type 0} where
     calls_apart = no_two_pushed same_id call_turned ls (id, x) tied.calls_apart none;
   }
 
-  pub tied_gone : (text : V → List ℕ) (ps : Peers) (ls : Lives) (v : Standing V) (id : CallId) (x : Id) → IsTied ps ls v → AreApart v.calls → ctx_for id ls ≡ Some x
+  pub tied_gone : (text : V → List ℕ) (ps : Peers) (ls : Lives) (v : AllContexts V) (id : CallId) (x : Id) → IsTied ps ls v → AreApart v.calls → ctx_for id ls ≡ Some x
       → IsTied ps (filter (λ l. not (is_call l.0 id)) ls) (standing_without x v)
   tied_gone text ps ls v id x tied apart is = record {
+    drained_is = tied.drained_is;
     conns_are = tied.conns_are;
     calls_are = (tied_less text ps ls v.calls id x tied.calls_are apart tied.calls_apart is).0;
     numbers_apart = tied.numbers_apart;
@@ -418,14 +430,15 @@ module _ {V : Type 0} where
     calls_apart = no_two_kept same_id (λ l. not (is_call l.0 id)) ls tied.calls_apart;
   }
 
-  pub known_conn : (ps : Peers) (ls : Lives) (v : Standing V) (number : ℕ) (x : Id) → IsTied ps ls v → ctx_of number ps ≡ Some x → is_conn x v.conns ≡ true
+  pub known_conn : (ps : Peers) (ls : Lives) (v : AllContexts V) (number : ℕ) (x : Id) → IsTied ps ls v → ctx_of number ps ≡ Some x → is_conn x v.conns ≡ true
   known_conn ps ls v number x tied is =
-      sym (any_map (λ z. same z x) (λ (c : Conn). c.id) v.conns) ∙ ap (list_any (λ z. same z x)) tied.conns_are ∙ known_in number ps x is
+      sym (any_map (λ z. same z x) (λ (c : ConnContext). c.id) v.conns) ∙ ap (list_any (λ z. same z x)) tied.conns_are ∙ known_in number ps x is
 
-  pub tied_closed : (ps : Peers) (ls : Lives) (v : Standing V) (number : ℕ) (x : Id) → IsTied ps ls v → ctx_of number ps ≡ Some x → first_of number ls ≡ None
+  pub tied_closed : (ps : Peers) (ls : Lives) (v : AllContexts V) (number : ℕ) (x : Id) → IsTied ps ls v → ctx_of number ps ≡ Some x → first_of number ls ≡ None
       → IsTied (filter (λ p. not (p.0 == number)) ps) ls (standing_closed x v)
   tied_closed ps ls v number x tied is none = record {
-    conns_are = filter_map_both (λ z. not (same z x)) (λ (c : Conn). c.id) v.conns ∙ ap (filter (λ z. not (same z x))) tied.conns_are
+    drained_is = tied.drained_is;
+    conns_are = filter_map_both (λ z. not (same z x)) (λ (c : ConnContext). c.id) v.conns ∙ ap (filter (λ z. not (same z x))) tied.conns_are
         ∙ less_contexts number ps x is tied.numbers_apart tied.contexts_apart;
     calls_are = tied_without ps ls v.calls number tied.calls_are none;
     numbers_apart = no_two_kept same_number (λ p. not (p.0 == number)) ps tied.numbers_apart;
@@ -533,48 +546,48 @@ pub closed_stay : (number : ℕ) (v : ContextsValue) → is_peer number v.conns 
 closed_stay number v none no_call = ap (λ cs. contexts_value v.drained cs v.calls) (sym (all_stay (λ (p : PeerValue). p.number == number) v.conns none))
     ∙ ap (contexts_value v.drained (filter (λ p. not (p.number == number)) v.conns)) (sym (others_stay number v.calls no_call))
 
-pub not_known : (number : ℕ) (v : ContextsValue) (ps : Peers) (cs : List Conn) → peers_of ps cs ≡ v.conns → ctx_of number ps ≡ None → is_peer number v.conns ≡ false
+pub not_known : (number : ℕ) (v : ContextsValue) (ps : Peers) (cs : List ConnContext) → peers_of ps cs ≡ v.conns → ctx_of number ps ≡ None → is_peer number v.conns ≡ false
 not_known number v ps cs is none = ap (is_peer number) (sym is) ∙ not_in number ps cs none
 
 module _ {V : Type 0} where
-  pub no_life : (text : V → List ℕ) (ps : Peers) (ls : Lives) (v : Standing V) (u : ContextsValue) (id : CallId) → IsTied ps ls v → contexts_of text ps ls v ≡ u
+  pub no_life : (text : V → List ℕ) (ps : Peers) (ls : Lives) (v : AllContexts V) (u : ContextsValue) (id : CallId) → IsTied ps ls v → contexts_of text ps ls v ≡ u
       → ctx_for id ls ≡ None → is_life id u.calls ≡ false
   no_life text ps ls v u id tied is none = ap (λ (x : ContextsValue). is_life id x.calls) (sym is) ∙ life_in text ps ls v.calls id tied.calls_are ∙ no_ctx_for id ls none
 
-  pub no_such : (text : V → List ℕ) (ps : Peers) (ls : Lives) (v : Standing V) (u : ContextsValue) (id : CallId) → IsTied ps ls v → contexts_of text ps ls v ≡ u
+  pub no_such : (text : V → List ℕ) (ps : Peers) (ls : Lives) (v : AllContexts V) (u : ContextsValue) (id : CallId) → IsTied ps ls v → contexts_of text ps ls v ≡ u
       → is_life id u.calls ≡ false → list_any (λ l. is_call l.0 id) ls ≡ false
   no_such text ps ls v u id tied is none = sym (life_in text ps ls v.calls id tied.calls_are) ∙ ap (λ (x : ContextsValue). is_life id x.calls) is ∙ none
 
-  pub left_tied : (ps : Peers) (lives left : List Life) (v w : Standing V) (id : CallId) (x : Id) → left ≡ filter (λ l. not (is_call l.id id)) lives
+  pub left_tied : (ps : Peers) (lives left : List Life) (v w : AllContexts V) (id : CallId) (x : Id) → left ≡ filter (λ l. not (is_call l.id id)) lives
       → w ≡ standing_without x v → IsTied ps (life_ties lives) v → AreApart v.calls → ctx_for id (life_ties lives) ≡ Some x → IsTied ps (life_ties left) w
   left_tied ps lives left v w id x then_is w_is tied apart is =
       subst (IsTied ps (life_ties left)) (sym w_is)
       (subst (λ ls. IsTied ps ls (standing_without x v)) (sym (ap life_ties then_is ∙ filter_map_both (λ t. not (is_call t.0 id)) life_tie lives))
       (tied_gone (λ y. []) ps (life_ties lives) v id x tied apart is))
 
-  pub left_value : (text : V → List ℕ) (ps : Peers) (lives left : List Life) (v w : Standing V) (u : ContextsValue) (id : CallId) (x : Id) → left ≡ filter (λ l. not (is_call l.id id)) lives
+  pub left_value : (text : V → List ℕ) (ps : Peers) (lives left : List Life) (v w : AllContexts V) (u : ContextsValue) (id : CallId) (x : Id) → left ≡ filter (λ l. not (is_call l.id id)) lives
       → w ≡ standing_without x v → IsTied ps (life_ties lives) v → AreApart v.calls → ctx_for id (life_ties lives) ≡ Some x → contexts_of text ps (life_ties lives) v ≡ u
       → contexts_of text ps (life_ties left) w ≡ without id u
   left_value text ps lives left v w u id x then_is w_is tied apart is u_is =
       ap (contexts_of text ps (life_ties left)) w_is
       ∙ ap (λ ls. contexts_of text ps ls (standing_without x v)) (ap life_ties then_is ∙ filter_map_both (λ t. not (is_call t.0 id)) life_tie lives)
-      ∙ ap (contexts_value v.drained (peers_of ps v.conns)) (tied_less text ps (life_ties lives) v.calls id x tied.calls_are apart tied.calls_apart is).1
+      ∙ ap (contexts_value (is_some v.drained) (peers_of ps v.conns)) (tied_less text ps (life_ties lives) v.calls id x tied.calls_are apart tied.calls_apart is).1
       ∙ ap (without id) u_is
 
-  pub peer_gone : {H : Type 0} (peers left : List (Peer H)) (ls : Lives) (v w : Standing V) (number : ℕ) (x : Id) → left ≡ filter (λ p. not (p.number == number)) peers
+  pub peer_gone : {H : Type 0} (peers left : List (Peer H)) (ls : Lives) (v w : AllContexts V) (number : ℕ) (x : Id) → left ≡ filter (λ p. not (p.number == number)) peers
       → w ≡ standing_closed x v → IsTied (peer_ties peers) ls v → ctx_of number (peer_ties peers) ≡ Some x → first_of number ls ≡ None → IsTied (peer_ties left) ls w
   peer_gone peers left ls v w number x then_is w_is tied is none =
       subst (IsTied (peer_ties left) ls) (sym w_is)
       (subst (λ ps. IsTied ps ls (standing_closed x v)) (sym (ap peer_ties then_is ∙ filter_map_both (λ t. not (t.0 == number)) peer_tie peers))
       (tied_closed (peer_ties peers) ls v number x tied is none))
 
-  pub peer_gone_value : {H : Type 0} (text : V → List ℕ) (peers left : List (Peer H)) (ls : Lives) (v w : Standing V) (u : ContextsValue) (number : ℕ) (x : Id)
+  pub peer_gone_value : {H : Type 0} (text : V → List ℕ) (peers left : List (Peer H)) (ls : Lives) (v w : AllContexts V) (u : ContextsValue) (number : ℕ) (x : Id)
       → left ≡ filter (λ p. not (p.number == number)) peers → w ≡ standing_closed x v → IsTied (peer_ties peers) ls v → ctx_of number (peer_ties peers) ≡ Some x
       → contexts_of text (peer_ties peers) ls v ≡ u → first_life number u.calls ≡ None → contexts_of text (peer_ties left) ls w ≡ closed number u
   peer_gone_value text peers left ls v w u number x then_is w_is tied is u_is none =
       ap (contexts_of text (peer_ties left) ls) w_is
       ∙ ap (λ ps. contexts_of text ps ls (standing_closed x v)) (ap peer_ties then_is ∙ filter_map_both (λ t. not (t.0 == number)) peer_tie peers)
-      ∙ ap (λ cs. contexts_value v.drained cs (lives_of text ls v.calls)) (peers_less number x (peer_ties peers) v.conns tied.conns_are is tied.numbers_apart tied.contexts_apart)
+      ∙ ap (λ cs. contexts_value (is_some v.drained) cs (lives_of text ls v.calls)) (peers_less number x (peer_ties peers) v.conns tied.conns_are is tied.numbers_apart tied.contexts_apart)
       ∙ ap (λ (y : ContextsValue). contexts_value y.drained (filter (λ p. not (p.number == number)) y.conns) y.calls) u_is
       ∙ ap (contexts_value u.drained (filter (λ p. not (p.number == number)) u.conns)) (sym (others_stay number u.calls none))
 
@@ -595,7 +608,7 @@ module _ {H : Type 0} where
   ties_set (p ∷ ps) (suc i) x y same is = ap (λ ts. peer_tie p ∷ ts) (ties_set ps i x y same is)
 
 module _ {V : Type 0} where
-  pub begun_tied : (ps qs : Peers) (lives more : List Life) (v w : Standing V) (l : Life) (conn : Id) (deadline : Option ℕ) (now : ℕ) (request_id : Option V) → qs ≡ ps
+  pub begun_tied : (ps qs : Peers) (lives more : List Life) (v w : AllContexts V) (l : Life) (conn : Id) (deadline : Option ℕ) (now : ℕ) (request_id : Option V) → qs ≡ ps
       → more ≡ lives ++ l ∷ [] → w ≡ standing_begun l.ctx conn deadline now request_id v → IsTied ps (life_ties lives) v → ctx_of l.id.conn ps ≡ Some conn
       → list_any (λ t. is_call t.0 l.id) (life_ties lives) ≡ false → IsTied qs (life_ties more) w
   begun_tied ps qs lives more v w l conn deadline now request_id qs_are more_is w_is tied known none =
@@ -604,24 +617,24 @@ module _ {V : Type 0} where
       (subst (λ ls. IsTied ps ls (standing_begun l.ctx conn deadline now request_id v)) (sym (ap life_ties more_is ∙ map_push life_tie lives l))
       (tied_begun ps (life_ties lives) v l.id l.ctx conn deadline now request_id tied known none)))
 
-  pub begun_value : (text : V → List ℕ) (ps qs : Peers) (lives more : List Life) (v w : Standing V) (u : ContextsValue) (a : ArrivedCall) (l : Life) (conn : Id) (deadline : Option ℕ) (now : ℕ)
+  pub begun_value : (text : V → List ℕ) (ps qs : Peers) (lives more : List Life) (v w : AllContexts V) (u : ContextsValue) (a : ArrivedCall) (l : Life) (conn : Id) (deadline : Option ℕ) (now : ℕ)
       (request_id : Option V) → qs ≡ ps → more ≡ lives ++ l ∷ [] → w ≡ standing_begun l.ctx conn deadline now request_id v → IsTied ps (life_ties lives) v → ctx_of l.id.conn ps ≡ Some conn
       → contexts_of text ps (life_ties lives) v ≡ u → deadline ≡ a.deadline → option_map text request_id ≡ a.request_id → contexts_of text qs (life_ties more) w ≡ begun now l.id a u
   begun_value text ps qs lives more v w u a l conn deadline now request_id qs_are more_is w_is tied known u_is deadline_is id_is =
       ap (λ xs. contexts_of text xs (life_ties more) w) qs_are
       ∙ ap (contexts_of text ps (life_ties more)) w_is
       ∙ ap (λ ls. contexts_of text ps ls (standing_begun l.ctx conn deadline now request_id v)) (ap life_ties more_is ∙ map_push life_tie lives l)
-      ∙ ap (contexts_value v.drained (peers_of ps v.conns)) (lives_pushed text ps (life_ties lives) v.calls (life_tie l) _ tied.calls_are)
-      ∙ ap (λ b. contexts_value v.drained (peers_of ps v.conns) (lives_of text (life_ties lives) v.calls
-      ++ record { id = l.id; deadline = deadline; request_id = option_map text request_id; ended = b || is_due_there now deadline } ∷ []))
-      (ended_peer l.id.conn conn ps v.conns tied.conns_are known tied.contexts_apart)
+      ∙ ap (contexts_value (is_some v.drained) (peers_of ps v.conns)) (lives_pushed text ps (life_ties lives) v.calls (life_tie l) _ tied.calls_are)
+      ∙ ap (λ b. contexts_value (is_some v.drained) (peers_of ps v.conns) (lives_of text (life_ties lives) v.calls
+      ++ record { id = l.id; deadline = deadline; request_id = option_map text request_id; ended = option_or b (if_due now deadline) } ∷ []))
+      (peer_ended l.id.conn conn (by_drain (is_some v.drained)) ps v.conns tied.conns_are known tied.contexts_apart)
       ∙ ap (λ (y : ContextsValue). contexts_value y.drained y.conns (y.calls
-      ++ record { id = l.id; deadline = deadline; request_id = option_map text request_id; ended = is_ended_peer l.id.conn y.conns || is_due_there now deadline } ∷ [])) u_is
-      ∙ ap (λ b. contexts_value u.drained u.conns (u.calls ++ record { id = l.id; deadline = deadline; request_id = option_map text request_id; ended = is_ended_peer l.id.conn u.conns || b } ∷ [])) (due_same now deadline)
-      ∙ ap (λ d. contexts_value u.drained u.conns (u.calls ++ record { id = l.id; deadline = d; request_id = option_map text request_id; ended = is_ended_peer l.id.conn u.conns || is_due now d } ∷ [])) deadline_is
-      ∙ ap (λ r. contexts_value u.drained u.conns (u.calls ++ record { id = l.id; deadline = a.deadline; request_id = r; ended = is_ended_peer l.id.conn u.conns || is_due now a.deadline } ∷ [])) id_is
+      ++ record { id = l.id; deadline = deadline; request_id = option_map text request_id; ended = option_or (ends_of y l.id.conn) (if_due now deadline) } ∷ [])) u_is
+      ∙ ap (λ b. contexts_value u.drained u.conns (u.calls ++ record { id = l.id; deadline = deadline; request_id = option_map text request_id; ended = option_or (ends_of u l.id.conn) b } ∷ [])) (due_same now deadline)
+      ∙ ap (λ d. contexts_value u.drained u.conns (u.calls ++ record { id = l.id; deadline = d; request_id = option_map text request_id; ended = option_or (ends_of u l.id.conn) (by_deadline now d) } ∷ [])) deadline_is
+      ∙ ap (λ r. contexts_value u.drained u.conns (u.calls ++ record { id = l.id; deadline = a.deadline; request_id = r; ended = option_or (ends_of u l.id.conn) (by_deadline now a.deadline) } ∷ [])) id_is
 
-  pub opened_tied : {H : Type 0} (peers more : List (Peer H)) (lives : Lives) (v w : Standing V) (u : ContextsValue) (text : V → List ℕ) (p : Peer H) → more ≡ peers ++ p ∷ []
+  pub opened_tied : {H : Type 0} (peers more : List (Peer H)) (lives : Lives) (v w : AllContexts V) (u : ContextsValue) (text : V → List ℕ) (p : Peer H) → more ≡ peers ++ p ∷ []
       → w ≡ standing_opened p.ctx v → IsTied (peer_ties peers) lives v → is_fresh p.ctx v ≡ true → contexts_of text (peer_ties peers) lives v ≡ u → is_peer p.number u.conns ≡ false
       → IsTied (peer_ties more) lives w
   opened_tied peers more lives v w u text p more_is w_is tied fresh u_is none =
@@ -629,40 +642,42 @@ module _ {V : Type 0} where
       (subst (λ ps. IsTied ps lives (standing_opened p.ctx v)) (sym (ap peer_ties more_is ∙ map_push peer_tie peers p))
       (tied_opened (peer_ties peers) lives v p.number p.ctx tied fresh (ap (λ (y : ContextsValue). is_peer p.number y.conns) u_is ∙ none)))
 
-  pub opened_value : {H : Type 0} (peers more : List (Peer H)) (lives : Lives) (v w : Standing V) (u : ContextsValue) (text : V → List ℕ) (p : Peer H) → more ≡ peers ++ p ∷ []
+  pub opened_value : {H : Type 0} (peers more : List (Peer H)) (lives : Lives) (v w : AllContexts V) (u : ContextsValue) (text : V → List ℕ) (p : Peer H) → more ≡ peers ++ p ∷ []
       → w ≡ standing_opened p.ctx v → IsTied (peer_ties peers) lives v → contexts_of text (peer_ties peers) lives v ≡ u → contexts_of text (peer_ties more) lives w ≡ opened p.number u
   opened_value peers more lives v w u text p more_is w_is tied u_is =
       ap (contexts_of text (peer_ties more) lives) w_is
       ∙ ap (λ ps. contexts_of text ps lives (standing_opened p.ctx v)) (ap peer_ties more_is ∙ map_push peer_tie peers p)
-      ∙ ap (λ ns. contexts_value v.drained ns (lives_of text lives v.calls)) (peers_pushed (peer_ties peers) v.conns (peer_tie p) (record { id = p.ctx; ended = v.drained }) tied.conns_are)
+      ∙ ap (λ ns. contexts_value (is_some v.drained) ns (lives_of text lives v.calls)) (peers_pushed (peer_ties peers) v.conns (peer_tie p) (record { id = p.ctx; ended = v.drained }) tied.conns_are)
+      ∙ ap (λ e. contexts_value (is_some v.drained) (peers_of (peer_ties peers) v.conns ++ peer p.number e ∷ []) (lives_of text lives v.calls)) tied.drained_is
       ∙ ap (opened p.number) u_is
 
 -- ---- what may end them is told
 
-conns_told : (h : Conn → Bool) (cs : List Conn) → map (λ (c : Conn). c.id) (map (λ (c : Conn). record { id = c.id; ended = h c }) cs) ≡ map (λ (c : Conn). c.id) cs
-conns_told h [] = refl
-conns_told h (c ∷ cs) = ap (λ ids. c.id ∷ ids) (conns_told h cs)
+conns_told : (g : ConnContext → Ended) (cs : List ConnContext) → map (λ (c : ConnContext). c.id) (map (λ (c : ConnContext). ends_conn (g c) c) cs) ≡ map (λ (c : ConnContext). c.id) cs
+conns_told g [] = refl
+conns_told g (c ∷ cs) = ap (λ ids. c.id ∷ ids) (conns_told g cs)
 
 module _ {V : Type 0} where
-  calls_told : (ps : Peers) (ls : Lives) (cs : List (Call V)) (g : Call V → Bool) → AreTied ps ls cs → AreTied ps ls (map (λ c. ends_if (g c) c) cs)
+  calls_told : (ps : Peers) (ls : Lives) (cs : List (CallContext V)) (g : CallContext V → Ended) → AreTied ps ls cs → AreTied ps ls (map (λ c. ends_call (g c) c) cs)
   calls_told ps [] [] g tied = tt
   calls_told ps [] (c ∷ cs) g tied = absurd tied
   calls_told ps (l ∷ ls) [] g tied = absurd tied
   calls_told ps (l ∷ ls) (c ∷ cs) g tied = (tied.0, tied.1, calls_told ps ls cs g tied.2)
 
-  -- each call ends by this whose context does
-  lives_told : (text : V → List ℕ) (ps : Peers) (ls : Lives) (cs : List (Call V)) (g : Call V → Bool) (h : LifeValue → Bool)
-      → ((l : CallId × Id) (c : Call V) → ctx_of l.0.conn ps ≡ Some c.conn → g c ≡ h (life_with text l.0 c)) → AreTied ps ls cs
-      → lives_of text ls (map (λ c. ends_if (g c) c) cs) ≡ map (λ l. ends_life (h l) l) (lives_of text ls cs)
+  -- each call ends by what its context ends by
+  lives_told : (text : V → List ℕ) (ps : Peers) (ls : Lives) (cs : List (CallContext V)) (g : CallContext V → Ended) (h : LifeValue → Ended)
+      → ((l : CallId × Id) (c : CallContext V) → ctx_of l.0.conn ps ≡ Some c.conn → g c ≡ h (life_with text l.0 c)) → AreTied ps ls cs
+      → lives_of text ls (map (λ c. ends_call (g c) c) cs) ≡ map (λ l. ends_life (h l) l) (lives_of text ls cs)
   lives_told text ps [] cs g h each tied = refl
   lives_told text ps (l ∷ ls) [] g h each tied = refl
   lives_told text ps (l ∷ ls) (c ∷ cs) g h each tied =
-      ap (λ b. ends_life b (life_with text l.0 c) ∷ lives_of text ls (map (λ d. ends_if (g d) d) cs)) (each l c tied.1)
+      ap (λ e. ends_life e (life_with text l.0 c) ∷ lives_of text ls (map (λ d. ends_call (g d) d) cs)) (each l c tied.1)
       ∙ ap (λ xs. ends_life (h (life_with text l.0 c)) (life_with text l.0 c) ∷ xs) (lives_told text ps ls cs g h each tied.2)
 
-  pub told_tied : (ps : Peers) (ls : Lives) (v w : Standing V) (g : Call V → Bool) → w.calls ≡ map (λ c. ends_if (g c) c) v.calls
-      → map (λ (c : Conn). c.id) w.conns ≡ map (λ (c : Conn). c.id) v.conns → IsTied ps ls v → IsTied ps ls w
-  told_tied ps ls v w g calls_is conns_is tied = record {
+  pub told_tied : (ps : Peers) (ls : Lives) (v w : AllContexts V) (g : CallContext V → Ended) → w.drained ≡ by_drain (is_some w.drained) → w.calls ≡ map (λ c. ends_call (g c) c) v.calls
+      → map (λ (c : ConnContext). c.id) w.conns ≡ map (λ (c : ConnContext). c.id) v.conns → IsTied ps ls v → IsTied ps ls w
+  told_tied ps ls v w g drained_is calls_is conns_is tied = record {
+    drained_is = drained_is;
     conns_are = conns_is ∙ tied.conns_are;
     calls_are = subst (AreTied ps ls) (sym calls_is) (calls_told ps ls v.calls g tied.calls_are);
     numbers_apart = tied.numbers_apart;
@@ -670,18 +685,33 @@ module _ {V : Type 0} where
     calls_apart = tied.calls_apart;
   }
 
-  pub reached_value : (text : V → List ℕ) (ps : Peers) (ls : Lives) (v w : Standing V) (u : ContextsValue) (now : ℕ) → w ≡ standing_expired now v → IsTied ps ls v
+  -- a drain is what all were drained for
+  pub drained_by : (ps : Peers) (ls : Lives) (v w : AllContexts V) → w ≡ standing_ended Drain v → IsTied ps ls v → w.drained ≡ by_drain (is_some w.drained)
+  drained_by ps ls v w w_is tied = subst (λ (x : AllContexts V). x.drained ≡ by_drain (is_some x.drained)) (sym w_is)
+      (subst (λ d. option_or d (Some (Given Drain)) ≡ by_drain (is_some (option_or d (Some (Given Drain))))) (sym tied.drained_is) (by (is_some v.drained)))
+    where
+      by : (b : Bool) → option_or (by_drain b) (Some (Given Drain)) ≡ by_drain (is_some (option_or (by_drain b) (Some (Given Drain))))
+      by true = refl
+      by false = refl
+
+  -- it stays what it was
+  pub drained_stays : (ps : Peers) (ls : Lives) (v w : AllContexts V) → w.drained ≡ v.drained → IsTied ps ls v → w.drained ≡ by_drain (is_some w.drained)
+  drained_stays ps ls v w same_drained tied = same_drained ∙ tied.drained_is ∙ ap (λ d. by_drain (is_some d)) (sym same_drained)
+
+  pub reached_value : (text : V → List ℕ) (ps : Peers) (ls : Lives) (v w : AllContexts V) (u : ContextsValue) (now : ℕ) → w ≡ standing_expired now v → IsTied ps ls v
       → contexts_of text ps ls v ≡ u → contexts_of text ps ls w ≡ told (Reached now) u
   reached_value text ps ls v w u now w_is tied u_is = ap (contexts_of text ps ls) w_is
-      ∙ ap (contexts_value v.drained (peers_of ps v.conns)) (lives_told text ps ls v.calls (λ c. is_due_there now c.deadline) (λ l. is_due now l.deadline) (λ l c is. due_same now c.deadline) tied.calls_are)
+      ∙ ap (contexts_value (is_some v.drained) (peers_of ps v.conns))
+      (lives_told text ps ls v.calls (λ c. if_due now c.deadline) (λ l. by_deadline now l.deadline) (λ l c is. due_same now c.deadline) tied.calls_are)
       ∙ ap (told (Reached now)) u_is
 
-  pub hung_value : (text : V → List ℕ) (ps : Peers) (ls : Lives) (v w : Standing V) (u : ContextsValue) (number : ℕ) (x : Id) → w ≡ standing_cancelled x v → IsTied ps ls v
+  pub hung_value : (text : V → List ℕ) (ps : Peers) (ls : Lives) (v w : AllContexts V) (u : ContextsValue) (number : ℕ) (x : Id) → w ≡ standing_cancelled x HangUp v → IsTied ps ls v
       → ctx_of number ps ≡ Some x → contexts_of text ps ls v ≡ u → contexts_of text ps ls w ≡ told (HungUp number) u
   hung_value text ps ls v w u number x w_is tied is u_is = ap (contexts_of text ps ls) w_is
-      ∙ ap (λ cs. contexts_value v.drained cs (lives_of text ls (map (λ c. ends_if (same c.conn x) c) v.calls))) (peers_hung number x ps v.conns tied.conns_are is tied.numbers_apart tied.contexts_apart)
-      ∙ ap (contexts_value v.drained (map (λ p. ends_peer (p.number == number) p) (peers_of ps v.conns)))
-      (lives_told text ps ls v.calls (λ c. same c.conn x) (λ l. l.id.conn == number) (λ l c at. its l.0.conn c.conn at) tied.calls_are)
+      ∙ ap (λ cs. contexts_value (is_some v.drained) cs (lives_of text ls (map (λ c. ends_call (if_cancelled (same c.conn x) HangUp) c) v.calls)))
+      (peers_hung number x ps v.conns tied.conns_are is tied.numbers_apart tied.contexts_apart)
+      ∙ ap (contexts_value (is_some v.drained) (map (λ p. ends_peer (by_hang_up (p.number == number)) p) (peers_of ps v.conns)))
+      (lives_told text ps ls v.calls (λ c. if_cancelled (same c.conn x) HangUp) (λ l. by_hang_up (l.id.conn == number)) (λ l c at. ap by_hang_up (its l.0.conn c.conn at)) tied.calls_are)
       ∙ ap (told (HungUp number)) u_is
     where
       its : (m : ℕ) (y : Id) → ctx_of m ps ≡ Some y → same y x ≡ (m == number)
@@ -690,23 +720,29 @@ module _ {V : Type 0} where
           (λ (n : (m == number) ≡ false). two_apart m number ps y x tied.contexts_apart at is n ∙ sym n)
           (cases_Bool (m == number))
 
-  pub drained_value : (text : V → List ℕ) (ps : Peers) (ls : Lives) (v w : Standing V) (u : ContextsValue) → w ≡ standing_ended v → IsTied ps ls v
+  pub drained_value : (text : V → List ℕ) (ps : Peers) (ls : Lives) (v w : AllContexts V) (u : ContextsValue) → w ≡ standing_ended Drain v → IsTied ps ls v
       → contexts_of text ps ls v ≡ u → contexts_of text ps ls w ≡ told Drained u
   drained_value text ps ls v w u w_is tied u_is = ap (contexts_of text ps ls) w_is
-      ∙ ap (λ cs. contexts_value true cs (lives_of text ls (map (λ c. ends_if true c) v.calls))) (peers_drained ps v.conns)
-      ∙ ap (contexts_value true (map (λ p. ends_peer true p) (peers_of ps v.conns))) (lives_told text ps ls v.calls (λ c. true) (λ l. true) (λ l c at. refl) tied.calls_are)
+      ∙ ap (λ b. contexts_value b (peers_of ps (map (ends_conn (Some (Given Drain))) v.conns)) (lives_of text ls (map (λ c. ends_call (Some (Given Drain)) c) v.calls))) (is_there v.drained)
+      ∙ ap (λ cs. contexts_value true cs (lives_of text ls (map (λ c. ends_call (Some (Given Drain)) c) v.calls))) (peers_drained ps v.conns)
+      ∙ ap (contexts_value true (map (λ p. ends_peer (by_drain true) p) (peers_of ps v.conns)))
+      (lives_told text ps ls v.calls (λ c. Some (Given Drain)) (λ l. by_drain true) (λ l c at. refl) tied.calls_are)
       ∙ ap (told Drained) u_is
+    where
+      is_there : (d : Ended) → is_some (option_or d (Some (Given Drain))) ≡ true
+      is_there None = refl
+      is_there (Some e) = refl
 
   -- of a connection that is not there there is nothing to tell
-  pub untold_value : (text : V → List ℕ) (ps : Peers) (ls : Lives) (v : Standing V) (u : ContextsValue) (number : ℕ) → IsTied ps ls v → ctx_of number ps ≡ None
+  pub untold_value : (text : V → List ℕ) (ps : Peers) (ls : Lives) (v : AllContexts V) (u : ContextsValue) (number : ℕ) → IsTied ps ls v → ctx_of number ps ≡ None
       → contexts_of text ps ls v ≡ u → u ≡ told (HungUp number) u
   untold_value text ps ls v u number tied none u_is =
       let no_peer : is_peer number u.conns ≡ false = ap (λ (y : ContextsValue). is_peer number y.conns) (sym u_is) ∙ not_in number ps v.conns none in
       let no_life : first_life number u.calls ≡ None = ap (λ (y : ContextsValue). first_life number y.calls) (sym u_is) ∙ no_first ls v.calls tied.calls_are in
       ap (λ cs. contexts_value u.drained cs u.calls) (sym (peers_stay number u.conns no_peer))
-      ∙ ap (contexts_value u.drained (map (λ p. ends_peer (p.number == number) p) u.conns)) (sym (lives_stay number u.calls no_life))
+      ∙ ap (contexts_value u.drained (map (λ p. ends_peer (by_hang_up (p.number == number)) p) u.conns)) (sym (lives_stay number u.calls no_life))
     where
-      no_first : (ls : Lives) (cs : List (Call V)) → AreTied ps ls cs → first_life number (lives_of text ls cs) ≡ None
+      no_first : (ls : Lives) (cs : List (CallContext V)) → AreTied ps ls cs → first_life number (lives_of text ls cs) ≡ None
       no_first [] cs tied = refl
       no_first (l ∷ ls) [] tied = refl
       no_first (l ∷ ls) (c ∷ cs) tied = ⊎_elim
@@ -714,6 +750,48 @@ module _ {V : Type 0} where
           (λ (n : (l.0.conn == number) ≡ false). rw n (no_first ls cs tied.2))
           (cases_Bool (l.0.conn == number))
 
-  pub conns_ended : (w : Standing V) (h : Conn → Bool) (cs : List Conn) → w.conns ≡ map (λ (c : Conn). record { id = c.id; ended = h c }) cs
-      → map (λ (c : Conn). c.id) w.conns ≡ map (λ (c : Conn). c.id) cs
-  conns_ended w h cs is = ap (map (λ (c : Conn). c.id)) is ∙ conns_told h cs
+  pub conns_ended : (w : AllContexts V) (g : ConnContext → Ended) (cs : List ConnContext) → w.conns ≡ map (λ (c : ConnContext). ends_conn (g c) c) cs
+      → map (λ (c : ConnContext). c.id) w.conns ≡ map (λ (c : ConnContext). c.id) cs
+  conns_ended w g cs is = ap (map (λ (c : ConnContext). c.id)) is ∙ conns_told g cs
+
+  -- what ended the context of a call
+  pub life_ended : (text : V → List ℕ) (ps : Peers) (ls : Lives) (cs : List (CallContext V)) (id : CallId) (x : Id) → AreTied ps ls cs → AreApart cs → ctx_for id ls ≡ Some x
+      → ended_call x cs ≡ ended_life id (lives_of text ls cs)
+  life_ended text ps [] cs id x tied apart is = cc
+  life_ended text ps (l ∷ ls) [] id x tied apart is = absurd tied
+  life_ended text ps (l ∷ ls) (c ∷ cs) id x tied apart is = ⊎_elim
+      (λ (y : is_call l.0 id ≡ true). let its : c.id ≡ x = tied.0 ∙ same_Some l.1 x (rw y at is) in rw (y, its, same_itself x) refl)
+      (λ (n : is_call l.0 id ≡ false).
+      let there : ctx_for id ls ≡ Some x = rw n at is in
+      let far : same c.id x ≡ false = ⊎_elim
+      (λ (e : same c.id x ≡ true).
+      let bad : is_standing x cs ≡ false = subst (λ z. is_standing z cs ≡ false) (same_true c.id x e) apart.0 in
+      let clash : true ≡ false = sym (stands_in ps ls cs id x tied.2 there) ∙ bad in cc)
+      (λ (f : same c.id x ≡ false). f)
+      (cases_Bool (same c.id x)) in
+      rw (n, far) (life_ended text ps ls cs id x tied.2 apart.1 there))
+      (cases_Bool (is_call l.0 id))
+
+  pub no_life_ended : (text : V → List ℕ) (ps : Peers) (ls : Lives) (cs : List (CallContext V)) (id : CallId) → AreTied ps ls cs → ctx_for id ls ≡ None → ended_life id (lives_of text ls cs) ≡ None
+  no_life_ended text ps [] cs id tied is = refl
+  no_life_ended text ps (l ∷ ls) [] id tied is = absurd tied
+  no_life_ended text ps (l ∷ ls) (c ∷ cs) id tied is = ⊎_elim
+      (λ (y : is_call l.0 id ≡ true). let bad : Some l.1 ≡ None = rw y at is in cc)
+      (λ (n : is_call l.0 id ≡ false). rw n (no_life_ended text ps ls cs id tied.2 (rw n at is)))
+      (cases_Bool (is_call l.0 id))
+
+  -- where the least deadline is not reached, none is
+  pub none_due : (text : V → List ℕ) (ps : Peers) (ls : Lives) (cs : List (CallContext V)) (moment : ℕ) (first : Option ℕ) → option_map_or (λ at. nat_le at moment) first false ≡ false
+      → AreTied ps ls cs → All (IsNoSooner first) cs → All (IsNotDue moment) (lives_of text ls cs)
+  none_due text ps [] cs moment first low tied all = All-nil (IsNotDue moment)
+  none_due text ps (l ∷ ls) [] moment first low tied all = absurd tied
+  none_due text ps (l ∷ ls) (c ∷ cs) moment first low tied all = All-cons (IsNotDue moment) (life_with text l.0 c) (lives_of text ls cs)
+      (λ on. by c.deadline refl on) (none_due text ps ls cs moment first low tied.2 (All-tail (IsNoSooner first) c cs all))
+    where
+      later : (o : Option ℕ) (at : ℕ) → option_map_or (λ a. nat_le a moment) o false ≡ false → IsNotAfter o at → nat_le at moment ≡ false
+      later None at none after = absurd after
+      later (Some a) at none after = grind (arith, none, after)
+
+      by : (d : Option ℕ) → c.deadline ≡ d → c.ended ≡ None → is_due moment d ≡ false
+      by None d_is on = refl
+      by (Some at) d_is on = later first at low (All-head (IsNoSooner first) c cs all at on d_is)

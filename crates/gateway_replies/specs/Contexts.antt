@@ -1,27 +1,56 @@
 -- The contexts of the open connections and of the calls that can be decided, by the connections' numbers and the calls' ids.
-use Rattle.std.specs.Prelude.{◌≡◌, ℕ, Bool, true, false, not, if◌then◌else◌, ◌==◌, ◌||◌, List, [], ◌∷◌, ◌++◌, map, filter, Option, None, Some, option_map}
+use Rattle.std.specs.Prelude.{◌≡◌, ℕ, Bool, true, false, is_some, not, if◌then◌else◌, ◌==◌, List, [], ◌∷◌, ◌++◌, map, filter, Option, None, Some, option_map}
 use Rattle.std.specs.List.{list_any}
+use Rattle.std.specs.Option.{option_or}
+use Rattle.context_tree.specs.declared.error.Cause.{Cause as EndCause}
+use Rattle.context_tree.specs.declared.error.Cause.TheVariants.{Given, Plain}
+use Rattle.context_tree.specs.declared.error.CtxErr.TheVariants.{DeadlineExceeded}
 use Rattle.context_tree.specs.Context.{Id, same}
-use Rattle.call_contexts.specs.Standing.{Call, Conn, Standing}
+use Rattle.call_contexts.specs.Standing.{Call, Conn, Standing, if_cancelled}
+use Rattle.gateway_replies.specs.declared.contexts.cancelled.CancelledBy.{CancelledBy}
+use Rattle.gateway_replies.specs.declared.contexts.cancelled.CancelledBy.TheVariants.{HangUp, Drain}
+use Rattle.gateway_model.specs.declared.call_event.CallEvent.{CallEvent}
+use Rattle.gateway_model.specs.declared.call_event.CallEvent.TheVariants.{Expired, HungUp as HungUpNow, Drained as DrainedNow}
 use Rattle.gateway_theory.specs.declared.cause.Cause.{Cause}
 use Rattle.gateway_theory.specs.declared.cause.Cause.TheVariants.{Reached, HungUp, Drained}
 use Rattle.gateway_model.specs.declared.id.CallId.{CallId}
 use Rattle.gateway_model.specs.Past.{ArrivedCall, is_call, is_due}
 
--- a connection that has a context, and whether that has ended
+-- what ended a context, if anything did: its deadline, or what it was cancelled for
+abbrev pub Ended : Type 0
+Ended = Option (EndCause CancelledBy)
+
+-- by a deadline, if the moment has reached it
+abbrev pub by_deadline : ℕ → Option ℕ → Ended
+by_deadline now deadline = if is_due now deadline then Some (Plain DeadlineExceeded) else None
+
+-- by a hang-up, and by the drain, where that has come
+abbrev pub by_hang_up : Bool → Ended
+by_hang_up came = if_cancelled came HangUp
+
+abbrev pub by_drain : Bool → Ended
+by_drain came = if_cancelled came Drain
+
+-- the event by which a call ends whose context ended so, at a moment
+abbrev pub event_of : ℕ → EndCause CancelledBy → CallEvent
+event_of moment (Given HangUp) = HungUpNow
+event_of moment (Given Drain) = DrainedNow
+event_of moment (Plain error) = Expired moment
+
+-- a connection that has a context, and what ended that
 pub record PeerValue : Type 0 where
   pub number : ℕ
-  pub ended : Bool
+  pub ended : Ended
 
-abbrev pub peer : ℕ → Bool → PeerValue
+abbrev pub peer : ℕ → Ended → PeerValue
 peer number ended = record { number = number; ended = ended }
 
--- a call that has a context and a hook: the deadline and the request id that its context has, and whether that has ended
+-- a call that has a context and a hook: the deadline and the request id that its context has, and what ended that
 pub record LifeValue : Type 0 where
   pub id : CallId
   pub deadline : Option ℕ
   pub request_id : Option (List ℕ)
-  pub ended : Bool
+  pub ended : Ended
 
 -- whether all were ended, the connections and the calls, by beginning
 pub record ContextsValue : Type 0 where
@@ -36,48 +65,62 @@ abbrev pub no_contexts : ContextsValue
 no_contexts = contexts_value false [] []
 
 -- the context that is made for a call
-abbrev pub life_by : Bool → CallId → ArrivedCall → LifeValue
+abbrev pub life_by : Ended → CallId → ArrivedCall → LifeValue
 life_by ended id a = record { id = id; deadline = a.deadline; request_id = a.request_id; ended = ended }
 
 -- the connection of that number has a context
 abbrev pub is_peer : ℕ → List PeerValue → Bool
 is_peer number conns = list_any (λ p. p.number == number) conns
 
--- it has one that has ended
-abbrev pub is_ended_peer : ℕ → List PeerValue → Bool
-is_ended_peer number [] = false
-is_ended_peer number (p ∷ ps) = if p.number == number then p.ended else is_ended_peer number ps
-
 -- the call has a context
 abbrev pub is_life : CallId → List LifeValue → Bool
 is_life id calls = list_any (λ l. is_call l.id id) calls
+
+-- what ended it
+abbrev pub ended_life : CallId → List LifeValue → Ended
+ended_life id [] = None
+ended_life id (l ∷ ls) = if is_call l.id id then l.ended else ended_life id ls
+
+-- where the call's context has not ended, the moment has not reached its deadline
+abbrev pub IsNotDue : ℕ → LifeValue → Type 0
+IsNotDue moment l = l.ended ≡ None → is_due moment l.deadline ≡ false
 
 -- the calls of other connections
 abbrev pub others : ℕ → List LifeValue → List LifeValue
 others number calls = filter (λ l. not (l.id.conn == number)) calls
 
+-- what ended the context of the connection of that number; one that opens has ended from the start where all were
+abbrev pub ended_peer : Ended → ℕ → List PeerValue → Ended
+ended_peer new number [] = new
+ended_peer new number (p ∷ ps) = if p.number == number then p.ended else ended_peer new number ps
+
+abbrev pub ends_of : ContextsValue → ℕ → Ended
+ends_of v number = ended_peer (by_drain v.drained) number v.conns
+
 -- ---- what is done to them
 
 abbrev pub opened : ℕ → ContextsValue → ContextsValue
-opened number v = contexts_value v.drained (v.conns ++ peer number v.drained ∷ []) v.calls
+opened number v = contexts_value v.drained (v.conns ++ peer number (by_drain v.drained) ∷ []) v.calls
 
--- a call's context begins; it has ended where that of its connection has, or its deadline is reached
+-- a call's context begins; it has ended by what ended that of its connection, or where its deadline is reached
 abbrev pub begun : ℕ → CallId → ArrivedCall → ContextsValue → ContextsValue
-begun now id a v = contexts_value v.drained v.conns (v.calls ++ life_by (is_ended_peer id.conn v.conns || is_due now a.deadline) id a ∷ [])
+begun now id a v = contexts_value v.drained v.conns (v.calls ++ life_by (option_or (ends_of v id.conn) (by_deadline now a.deadline)) id a ∷ [])
 
--- the context of the connection, or of the call, ends if the condition holds
-abbrev pub ends_peer : Bool → PeerValue → PeerValue
-ends_peer b p = record { number = p.number; ended = p.ended || b }
+-- the context of the connection, or of the call, ends by this, unless it has ended before
+abbrev pub ends_peer : Ended → PeerValue → PeerValue
+ends_peer e p = record { number = p.number; ended = option_or p.ended e }
 
-abbrev pub ends_life : Bool → LifeValue → LifeValue
-ends_life b l = record { id = l.id; deadline = l.deadline; request_id = l.request_id; ended = l.ended || b }
+abbrev pub ends_life : Ended → LifeValue → LifeValue
+ends_life e l = record { id = l.id; deadline = l.deadline; request_id = l.request_id; ended = option_or l.ended e }
 
 -- they are told what may end calls
 abbrev pub told : Cause → ContextsValue → ContextsValue
-told (Reached now) v = contexts_value v.drained v.conns (map (λ l. ends_life (is_due now l.deadline) l) v.calls)
+told (Reached now) v = contexts_value v.drained v.conns (map (λ l. ends_life (by_deadline now l.deadline) l) v.calls)
 told (HungUp number) v =
-    contexts_value v.drained (map (λ p. ends_peer (p.number == number) p) v.conns) (map (λ l. ends_life (l.id.conn == number) l) v.calls)
-told Drained v = contexts_value true (map (λ p. ends_peer true p) v.conns) (map (λ l. ends_life true l) v.calls)
+    contexts_value v.drained
+    (map (λ p. ends_peer (by_hang_up (p.number == number)) p) v.conns)
+    (map (λ l. ends_life (by_hang_up (l.id.conn == number)) l) v.calls)
+told Drained v = contexts_value true (map (λ p. ends_peer (by_drain true) p) v.conns) (map (λ l. ends_life (by_drain true) l) v.calls)
 
 -- the context of the call is gone
 abbrev pub without : CallId → ContextsValue → ContextsValue
@@ -151,34 +194,45 @@ same_life l m = is_call m.id l.id
 abbrev pub LivesApart : List LifeValue → Type 0
 LivesApart calls = NoTwo same_life calls
 
+-- as the tree of contexts keeps them
+abbrev pub ConnContext : Type 0
+ConnContext = Conn CancelledBy
+
+abbrev pub CallContext : Type 0 → Type 0
+CallContext V = Call CancelledBy V
+
+abbrev pub AllContexts : Type 0 → Type 0
+AllContexts V = Standing CancelledBy V
+
 -- the connections, by their contexts
-abbrev pub peers_of : Peers → List Conn → List PeerValue
+abbrev pub peers_of : Peers → List ConnContext → List PeerValue
 peers_of [] cs = []
 peers_of (p ∷ ps) [] = []
 peers_of (p ∷ ps) (c ∷ cs) = peer p.0 c.ended ∷ peers_of ps cs
 
 module _ {V : Type 0} where
   -- what a call's context has
-  abbrev pub life_with : (V → List ℕ) → CallId → Call V → LifeValue
+  abbrev pub life_with : (V → List ℕ) → CallId → CallContext V → LifeValue
   life_with text id c = record { id = id; deadline = c.deadline; request_id = option_map text c.request_id; ended = c.ended }
 
-  abbrev pub lives_of : (V → List ℕ) → Lives → List (Call V) → List LifeValue
+  abbrev pub lives_of : (V → List ℕ) → Lives → List (CallContext V) → List LifeValue
   lives_of text [] cs = []
   lives_of text (l ∷ ls) [] = []
   lives_of text (l ∷ ls) (c ∷ cs) = life_with text l.0 c ∷ lives_of text ls cs
 
-  abbrev pub contexts_of : (V → List ℕ) → Peers → Lives → Standing V → ContextsValue
-  contexts_of text peers lives v = contexts_value v.drained (peers_of peers v.conns) (lives_of text lives v.calls)
+  abbrev pub contexts_of : (V → List ℕ) → Peers → Lives → AllContexts V → ContextsValue
+  contexts_of text peers lives v = contexts_value (is_some v.drained) (peers_of peers v.conns) (lives_of text lives v.calls)
 
   -- each call has its context, which derives from that of its connection
-  abbrev pub AreTied : Peers → Lives → List (Call V) → Type 0
+  abbrev pub AreTied : Peers → Lives → List (CallContext V) → Type 0
   AreTied peers [] [] = Unit {0}
   AreTied peers [] (c ∷ cs) = ⊥
   AreTied peers (l ∷ ls) [] = ⊥
   AreTied peers (l ∷ ls) (c ∷ cs) = (c.id ≡ l.1) × (ctx_of l.0.conn peers ≡ Some c.conn) × AreTied peers ls cs
 
   -- there are contexts of these connections and calls, and no others
-  pub record IsTied (peers : Peers) (lives : Lives) (v : Standing V) : Type 0 where
+  pub record IsTied (peers : Peers) (lives : Lives) (v : AllContexts V) : Type 0 where
+    pub drained_is : v.drained ≡ by_drain (is_some v.drained)
     pub conns_are : map (λ c. c.id) v.conns ≡ map (λ p. p.1) peers
     pub calls_are : AreTied peers lives v.calls
     pub numbers_apart : NoTwo same_number peers

@@ -1,14 +1,11 @@
 ghost use Rattle.std.specs.Prelude.{◌≡◌, ◌≤◌, ◌+◌, ◌^◌, ◌∷◌, [], IfOk, IfSome, option_map};
 ghost use Rattle.http_pieces.specs.declared.largest.TheConstants.{MAX_DECIMAL};
 ghost use Rattle.std.specs.Arc.{arc_value};
-ghost use Rattle.gateway_theory.specs.Begins.{ends_first};
-ghost use Rattle.gateway_theory.specs.Ends.{caused};
-ghost use Rattle.gateway_model.specs.Past.{asked_of, is_due, smaller};
+ghost use Rattle.gateway_model.specs.Past.{asked_of, smaller};
 ghost use Rattle.gateway_model.specs.Queue.{record_of};
 
 use call_plan::Plan;
-use gateway_model::{CallEvent, CallId, CallRecord};
-use gateway_theory::Cause;
+use gateway_model::{CallEvent, CallRecord};
 use http_pieces::{Bytes, Request};
 use std::alloc::{AllocError, Global};
 use std::marker::Model;
@@ -61,41 +58,6 @@ impl ArrivedCall {
             start,
             deadline,
         })
-    }
-
-    /// Whether the moment has reached the deadline.
-    pub fn is_due(&self, moment: u64) -> bool
-        ensures { result ≡ is_due moment self.now.deadline }
-    {
-        match self.deadline {
-            Some(deadline) => deadline <= moment,
-            None => false,
-        }
-    }
-
-    /// The event that ends the call as it comes, if one does.
-    pub fn ends_first(&self, moment: u64, drained: bool) -> Option<CallEvent>
-        ensures { result ≡ ends_first moment drained self.now }
-    {
-        if drained {
-            return Some(CallEvent::Drained);
-        }
-        if self.is_due(moment) {
-            return Some(CallEvent::Expired(moment));
-        }
-        None
-    }
-
-    /// The event by which this ends the call, if it does.
-    pub fn ending(&self, cause: &Cause, id: &CallId) -> Option<CallEvent>
-        ensures { result ≡ caused cause.now id.now self.now }
-    {
-        match cause {
-            Cause::Reached(moment) if self.is_due(*moment) => Some(CallEvent::Expired(*moment)),
-            Cause::HungUp(conn) if *conn == id.conn.number() => Some(CallEvent::HungUp),
-            Cause::Drained => Some(CallEvent::Drained),
-            _ => None,
-        }
     }
 
     /// The record of a call that this event ends as it comes.

@@ -1,23 +1,25 @@
 //! The contexts of the open connections and of their undecided calls, found by the connections' numbers and the calls' ids.
+mod cancelled;
 mod life;
 mod peer;
 
-ghost use Rattle.std.specs.Prelude.{◌≡◌, ◌==◌, IfErr, IfOk, None as Nothing, OnErr, OnOk, filter, false, not, option_map, true};
+ghost use Rattle.std.specs.Prelude.{All, ◌≡◌, ◌==◌, IfErr, IfOk, None as Nothing, OnErr, OnOk, filter, false, not, option_map, true};
 ghost use Rattle.std.specs.Arc.{arc_value};
-ghost use Rattle.gateway_replies.specs.Contexts.{KeepsOthers, LivesApart, begun, closed, ctx_for, ctx_of, first_life, first_of, is_life, is_peer, no_contexts, opened, told, without, without_calls, without_first};
+ghost use Rattle.gateway_replies.specs.Contexts.{IsNotDue, KeepsOthers, LivesApart, begun, closed, ctx_for, ctx_of, ended_life, event_of, first_life, first_of, is_life, is_peer, no_contexts, opened, told, without, without_calls, without_first};
 ghost use Rattle.gateway_model.specs.Duty.{MeetsDuty};
 ghost use Rattle.gateway_model.specs.Past.{is_call};
 ghost use Rattle.gateway_model.specs.declared.id.CallId.{CallId as AnyCall};
 ghost use Rattle.gateway_replies.specs.Ties.{life_ties, peer_ties};
 
 use crate::arrived_call::ArrivedCall;
+use crate::contexts::cancelled::CancelledBy;
 use crate::contexts::life::Life;
 use crate::contexts::peer::Peer;
 use crate::hook::ReplyHook;
 use crate::stock::Stock;
 use call_contexts::CallContexts;
-use context_tree::CtxId;
-use gateway_model::{CallId, Ending};
+use context_tree::{Cause as EndCause, CtxId};
+use gateway_model::{CallEvent, CallId, Ending};
 use gateway_theory::Cause;
 use http_pieces::Bytes;
 use std::alloc::{AllocError, Global};
@@ -27,7 +29,7 @@ use std::sync::Arc;
 /// The contexts of the open connections and of their undecided calls, and the hooks of these calls.
 #[derive(Drop)]
 pub struct Contexts<H> {
-    contexts: CallContexts<Arc<Bytes>, H>,
+    contexts: CallContexts<CancelledBy, Arc<Bytes>, H>,
     /// One of each connection that is open and not broken.
     peers: Vec<Peer<H>>,
     /// One of each call that can be decided.
@@ -108,11 +110,32 @@ impl<H: ReplyHook + Drop> Contexts<H> {
             Cause::Reached(moment) => self.contexts.expire(*moment),
             Cause::HungUp(number) => {
                 if let Some(conn) = ctx_of(&self.peers, *number) {
-                    self.contexts.cancel(conn);
+                    self.contexts.cancel(conn, CancelledBy::HangUp);
                 }
             }
-            Cause::Drained => self.contexts.drain(),
+            Cause::Drained => self.contexts.drain(CancelledBy::Drain),
         }
+    }
+
+    /// Whether a call's context may end at this moment: it has reached the least of their deadlines.
+    pub fn is_due(&self, moment: u64) -> bool
+        ensures { result ≡ false → All (IsNotDue moment) self.now.calls }
+    {
+        match self.contexts.next_deadline() {
+            Some(deadline) => deadline <= moment,
+            None => false,
+        }
+    }
+
+    /// The event that ended the call's context, as it is at this moment: its deadline, the hang-up of its connection's peer or
+    /// the drain, whichever came first. None where nothing has, or the call has no context.
+    pub fn ending(&self, id: &CallId, moment: u64) -> Option<CallEvent>
+        ensures { result ≡ option_map (event_of moment) (ended_life id.now self.now.calls) }
+    {
+        self.contexts.apart_law();
+        let ctx = ctx_for(&self.lives, id)?;
+        let cause = self.contexts.ended(ctx)?;
+        Some(event_of(cause, moment))
     }
 
     /// Calls the hook of the call with what ended it, and lets go of its context.
@@ -196,6 +219,17 @@ impl<H: ReplyHook + Drop> Contexts<H> {
             return;
         };
         self.abandon(&id);
+    }
+}
+
+/// The event by which a call ends whose context ended for this, at a moment.
+fn event_of(cause: EndCause<CancelledBy>, moment: u64) -> CallEvent
+    ensures { result ≡ event_of moment cause }
+{
+    match cause {
+        EndCause::Given(CancelledBy::HangUp) => CallEvent::HungUp,
+        EndCause::Given(CancelledBy::Drain) => CallEvent::Drained,
+        EndCause::Plain(_) => CallEvent::Expired(moment),
     }
 }
 

@@ -9,6 +9,7 @@ use std::alloc::Global;
 use std::collections::VecDeque;
 use std::marker::Model;
 use std::sync::Wait;
+use std::time::Clock;
 
 /// A desk in memory: it gives the jobs that it was made with, and keeps what is recorded, up to so many records.
 #[derive(Drop)]
@@ -59,11 +60,11 @@ impl Desk for MemoryDesk {
 
     ghost took = { λ d. length d.told.records };
 
-    fn next<R: Wait>(&mut self, _rt: &R) -> Option<Job> {
+    fn next<R: Clock + Wait>(&mut self, _rt: &R) -> Option<Job> {
         self.jobs.pop_front()
     }
 
-    fn record<R: Wait>(&mut self, _rt: &R, job: &Job, outcome: Option<Outcome>) -> bool {
+    fn record<R: Clock + Wait>(&mut self, _rt: &R, job: &Job, outcome: Option<Outcome>) -> bool {
         if self.records.len() >= self.most {
             return false;
         }

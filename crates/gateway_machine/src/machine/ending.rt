@@ -1,5 +1,7 @@
-ghost use Rattle.std.specs.Prelude.{◌≡◌, ◌<◌, length};
-ghost use Rattle.gateway_machine.specs.Linked.{Over, linked, linked_by, over_by};
+ghost use Rattle.std.specs.Prelude.{◌≡◌, ◌<◌, ℕ, length};
+ghost use Rattle.gateway_theory.specs.declared.cause.Cause.{Cause as AnyCause};
+ghost use Rattle.gateway_machine.specs.Linked.{IsNow, Over, linked, linked_by, over_by};
+ghost use Rattle.gateway_replies.specs.Contexts.{Ended, ends_of};
 ghost use Rattle.gateway_theory.specs.Heads.{conn_heads};
 ghost use Rattle.gateway_theory.specs.Ends.{AreApart, CallsEnd, EndedAt, IsSettled, settled_at, SettledBelow};
 
@@ -9,21 +11,23 @@ use gateway_theory::Cause;
 use std::alloc::Global;
 
 impl Machine {
-    /// Ends the call at that place, if this does; its connection breaks where memory is refused to its reply.
+    /// Ends the call at that place, if its context has ended; its connection breaks where memory is refused to its reply.
     pub(crate) fn end_call<H: ReplyHook + Drop>(
         &mut self,
         alloc: Global,
         contexts: &mut Contexts<H>,
         index: usize,
-        cause: &Cause,
     )
         requires there { index < length self.old.calls }
-        requires linked { contexts.old ≡ linked_by (over_by cause.now) self.old }
-        ensures ended { EndedAt cause.now index self.old self.new }
-        ensures linked { contexts.new ≡ linked_by (over_by cause.now) self.new }
+        requires live { (ends : ℕ → Ended) × (over : Over) × (contexts.old ≡ linked_by ends over self.old) }
+        ensures ended { (ends : ℕ → Ended) (cause : AnyCause) → IsNow cause self.old.moment
+            → contexts.old ≡ linked_by ends (over_by cause) self.old → EndedAt cause index self.old self.new }
+        ensures linked { (ends : ℕ → Ended) (cause : AnyCause) → IsNow cause self.old.moment
+            → contexts.old ≡ linked_by ends (over_by cause) self.old → contexts.new ≡ linked_by ends (over_by cause) self.new }
     {
         contexts.apart_law();
-        if self.calls[index].end_by(alloc, contexts, cause).is_err() {
+        let moment = self.moment;
+        if self.calls[index].end(alloc, contexts, moment).is_err() {
             let id = self.calls[index].id();
             self.break_conn(contexts, id.conn.number());
         }
@@ -33,28 +37,30 @@ impl Machine {
     pub(crate) fn settle(&mut self, index: usize)
         requires { index < length self.old.calls }
         ensures settled { self.new ≡ settled_at index self.old }
-        ensures linked { (over : Over) → linked_by over self.new ≡ linked_by over self.old }
+        ensures linked { (ends : ℕ → Ended) (over : Over) → linked_by ends over self.new ≡ linked_by ends over self.old }
     {
         let reply = self.calls[index].take_reply();
         self.fill(reply);
     }
 
-    /// Ends all calls that this ends: their replies go into their slots. Where memory is refused to one of them, its connection breaks.
+    /// Ends all calls whose contexts have ended: their replies go into their slots. Where memory is refused to one of them, its
+    /// connection breaks.
     pub(crate) fn end_calls<H: ReplyHook + Drop>(
         &mut self,
         alloc: Global,
         contexts: &mut Contexts<H>,
         cause: &Cause,
     )
+        requires now { IsNow cause.now self.old.moment }
         requires settled { IsSettled self.old }
         requires apart { AreApart self.old.calls }
-        requires linked { contexts.old ≡ linked_by (over_by cause.now) self.old }
+        requires linked { contexts.old ≡ linked_by (ends_of contexts.old) (over_by cause.now) self.old }
         ensures ended { CallsEnd cause.now self.old self.new }
-        ensures linked { contexts.new ≡ linked self.new }
+        ensures linked { contexts.new ≡ linked contexts.old self.new }
         ensures heads { conn_heads self.new.conns ≡ conn_heads self.old.conns }
     {
         for index in 0..self.calls.len() {
-            self.end_call(alloc, contexts, index, cause);
+            self.end_call(alloc, contexts, index);
         }
         self.settle_all();
     }
@@ -62,7 +68,7 @@ impl Machine {
     /// Puts the replies that were made into their slots.
     fn settle_all(&mut self)
         ensures settled { SettledBelow (length self.old.calls) self.old self.new }
-        ensures linked { (over : Over) → linked_by over self.new ≡ linked_by over self.old }
+        ensures linked { (ends : ℕ → Ended) (over : Over) → linked_by ends over self.new ≡ linked_by ends over self.old }
         ensures heads { conn_heads self.new.conns ≡ conn_heads self.old.conns }
     {
         for index in 0..self.calls.len() {

@@ -3,7 +3,7 @@ ghost use Rattle.std.specs.VecDeque.{deque_capacity};
 ghost use Rattle.gateway_model.specs.Arrival.{arrival_of};
 ghost use Rattle.gateway_theory.specs.Begins.{begins};
 ghost use Rattle.gateway_theory.specs.Conn.{next_of};
-ghost use Rattle.gateway_replies.specs.Contexts.{KeepsOthers, is_ended_peer, is_life};
+ghost use Rattle.gateway_replies.specs.Contexts.{KeepsOthers, by_drain, ends_of, is_life};
 ghost use Rattle.gateway_theory.specs.Enters.{arriving_at, asking_at, entered_at, Enters};
 ghost use Rattle.gateway_machine.specs.Comes.{ComesTo};
 ghost use Rattle.gateway_theory.specs.Task.{job_at};
@@ -47,11 +47,11 @@ impl Machine {
     ) -> Result<(), StepFault>
         requires there { index < length self.old.conns }
         requires on { (conn_at index self.old.conns).broken ≡ false }
-        requires heard { is_ended_peer (conn_at index self.old.conns).number contexts.old.conns ≡ self.old.drained }
+        requires heard { ends_of contexts.old (conn_at index self.old.conns).number ≡ by_drain self.old.drained }
         requires fresh { is_life (next_of (conn_at index self.old.conns)) contexts.old.calls ≡ false }
-        requires linked { contexts.old ≡ linked self.old }
+        requires linked { contexts.old ≡ linked contexts.old self.old }
         ensures made { IsMade index (Coming.Request request (arrival_of plans.now request)) begun.old self.old begun.new self.new result }
-        ensures linked { contexts.new ≡ linked self.new }
+        ensures linked { contexts.new ≡ linked contexts.old self.new }
     {
         let came = self.take_in(alloc, contexts, plans, index, request, begun);
         if came.is_err() {
@@ -70,11 +70,11 @@ impl Machine {
         refusal: Refusal,
     ) -> Result<(), StepFault>
         requires there { index < length self.old.conns }
-        requires linked { contexts.old ≡ linked self.old }
+        requires linked { contexts.old ≡ linked contexts.old self.old }
         ensures ok { OnOk result (self.new ≡ entered_at index (arriving_at index (Coming.Refused refusal) self.old) self.old) }
         ensures err { OnErr result (self.new ≡ broken_at (conn_at index self.old.conns).number self.old) }
         ensures fault { IfErr result (λ f. f ≡ fault.Memory) }
-        ensures linked { contexts.new ≡ linked self.new }
+        ensures linked { contexts.new ≡ linked contexts.old self.new }
     {
         let stopped = self.refuse(alloc, index, refusal);
         if stopped.is_err() {
@@ -96,14 +96,14 @@ impl Machine {
     ) -> Result<(), StepFault>
         requires there { index < length self.old.conns }
         requires on { (conn_at index self.old.conns).broken ≡ false }
-        requires heard { is_ended_peer (conn_at index self.old.conns).number contexts.old.conns ≡ self.old.drained }
+        requires heard { ends_of contexts.old (conn_at index self.old.conns).number ≡ by_drain self.old.drained }
         requires fresh { is_life (next_of (conn_at index self.old.conns)) contexts.old.calls ≡ false }
-        requires linked { contexts.old ≡ linked self.old }
+        requires linked { contexts.old ≡ linked contexts.old self.old }
         ensures ok { OnOk result (self.new
             ≡ entered_at index (arriving_at index (Coming.Request request (arrival_of plans.now request)) self.old) self.old) }
-        ensures linked { OnOk result (contexts.new ≡ linked self.new) }
+        ensures linked { OnOk result (contexts.new ≡ linked contexts.old self.new) }
         ensures err { OnErr result (self.new ≡ self.old) }
-        ensures others { OnErr result (IsLinkedBut (conn_at index self.old.conns).number contexts.new self.new) }
+        ensures others { OnErr result (IsLinkedBut (ends_of contexts.old) (conn_at index self.old.conns).number contexts.new self.new) }
         ensures fault { IfErr result (λ f. IsFault f begun.new) }
         ensures grows { begun.old ≤ begun.new }
         ensures counts { begun.new + length self.old.calls ≡ begun.old + length self.new.calls }
@@ -152,9 +152,9 @@ impl Machine {
     ) -> Result<Arriving, AllocError>
         requires there { index < length self.now.conns }
         requires on { (conn_at index self.now.conns).broken ≡ false }
-        requires heard { is_ended_peer (conn_at index self.now.conns).number contexts.old.conns ≡ self.now.drained }
+        requires heard { ends_of contexts.old (conn_at index self.now.conns).number ≡ by_drain self.now.drained }
         requires fresh { is_life (next_of (conn_at index self.now.conns)) contexts.old.calls ≡ false }
-        requires linked { contexts.old ≡ linked self.now }
+        requires linked { contexts.old ≡ linked contexts.old self.now }
         ensures ok { IfOk result (λ arriving. ComesTo arriving (next_of (conn_at index self.now.conns)) self.now.moment
             (arriving_at index (Coming.Request request (arrival_of plans.now request)) self.now)) }
         ensures contexts { IfOk result (λ arriving. ComesWith arriving (next_of (conn_at index self.now.conns)) contexts.old contexts.new) }
@@ -191,7 +191,8 @@ impl Machine {
         }
     }
 
-    /// What a call that is asked for on the connection at that place comes to: it is crowded out, ends as it comes, or begins.
+    /// What a call that is asked for on the connection at that place comes to: it is crowded out, ends as it comes, where its
+    /// context has ended by its making, or begins.
     fn asking<H: ReplyHook + Drop>(
         &self,
         alloc: Global,
@@ -201,9 +202,9 @@ impl Machine {
     ) -> Result<Arriving, AllocError>
         requires there { index < length self.now.conns }
         requires on { (conn_at index self.now.conns).broken ≡ false }
-        requires heard { is_ended_peer (conn_at index self.now.conns).number contexts.old.conns ≡ self.now.drained }
+        requires heard { ends_of contexts.old (conn_at index self.now.conns).number ≡ by_drain self.now.drained }
         requires fresh { is_life (next_of (conn_at index self.now.conns)) contexts.old.calls ≡ false }
-        requires linked { contexts.old ≡ linked self.now }
+        requires linked { contexts.old ≡ linked contexts.old self.now }
         ensures ok { IfOk result (λ arriving. ComesTo arriving (next_of (conn_at index self.now.conns)) self.now.moment (asking_at index asked self.now)) }
         ensures contexts { IfOk result (λ arriving. ComesWith arriving (next_of (conn_at index self.now.conns)) contexts.old contexts.new) }
         ensures others { OnErr result (KeepsOthers (conn_at index self.now.conns).number contexts.old contexts.new) }
@@ -215,7 +216,7 @@ impl Machine {
         }
         let id = conn.next_id();
         contexts.begin(&id, &asked, self.moment)?;
-        match asked.ends_first(self.moment, self.drained) {
+        match contexts.ending(&id, self.moment) {
             Some(event) => {
                 let reply = reply_to(alloc, contexts, id, asked.end(alloc, event)?)?;
                 Ok(Arriving::Answered(reply))

@@ -2,7 +2,8 @@ ghost use Rattle.std.specs.Prelude.{◌≡◌, ℕ, OnOk, OnErr, true, false, if
 ghost use Rattle.std.specs.List.{count_by, list_any};
 ghost use Rattle.gateway_replies.specs.Contexts.{KeepsOthers, is_life, without};
 ghost use Rattle.gateway_machine.specs.KeptCall.{IsStep};
-ghost use Rattle.gateway_theory.specs.Ends.{ended_call, ended_kept, unanswered, without_reply};
+ghost use Rattle.gateway_theory.specs.Ends.{unanswered, without_reply};
+ghost use Rattle.gateway_machine.specs.Linked.{ended_with, ends_with, event_for};
 ghost use Rattle.gateway_theory.specs.Replies.{reply_with};
 ghost use Rattle.gateway_theory.specs.Results.{back_kept, is_spent};
 ghost use Rattle.gateway_model.specs.Past.{is_call};
@@ -16,7 +17,6 @@ use connect_codec::Outcome;
 use err_group::Group;
 use gateway_model::{CallEvent, CallId, CallRecord, Seen};
 use gateway_replies::{Contexts, Reply, ReplyHook, reply_to};
-use gateway_theory::Cause;
 use std::alloc::{AllocError, Global};
 use std::marker::Model;
 
@@ -167,24 +167,25 @@ impl Kept {
         self.id
     }
 
-    /// Ends the call, if this does, and makes its reply. Where memory is refused to that, it has none.
-    pub(crate) fn end_by<H: ReplyHook + Drop>(
+    /// Ends the call, if its context has ended by this moment, and makes its reply. Where memory is refused to that, it has none.
+    pub(crate) fn end<H: ReplyHook + Drop>(
         &mut self,
         alloc: Global,
         contexts: &mut Contexts<H>,
-        cause: &Cause,
+        moment: u64,
     ) -> Result<(), AllocError>
         requires { is_some self.old.call.live ≡ true → is_life self.old.id contexts.old.calls ≡ true }
-        ensures ended { OnOk result (self.new ≡ ended_kept cause.now self.old) }
+        ensures ended { OnOk result (self.new ≡ ended_with (event_for moment self.old.id contexts.old) self.old) }
         ensures gone { OnOk result (contexts.new
-            ≡ (if is_some (ended_call cause.now self.old.id self.old.call).reply then without self.old.id contexts.old else contexts.old)) }
+            ≡ (if is_some (ends_with (event_for moment self.old.id contexts.old) self.old.call.out self.old.call.live).reply then without self.old.id contexts.old else contexts.old)) }
         ensures others { OnErr result (KeepsOthers self.old.id.conn contexts.old contexts.new) }
-        ensures refused { OnErr result ((is_some (ended_call cause.now self.old.id self.old.call).reply ≡ true) × (self.new ≡ unanswered self.old)) }
+        ensures refused { OnErr result ((is_some (ends_with (event_for moment self.old.id contexts.old) self.old.call.out self.old.call.live).reply ≡ true)
+            × (self.new ≡ unanswered self.old)) }
     {
         let Some(live) = self.live.take() else {
             return Ok(());
         };
-        let Some(event) = live.asked.ending(cause, &self.id) else {
+        let Some(event) = contexts.ending(&self.id, moment) else {
             self.live = Some(live);
             return Ok(());
         };

@@ -1,9 +1,10 @@
-ghost use Rattle.std.specs.Prelude.{◌≡◌, ◌+◌, ◌<◌, ◌≤◌, ◌++◌, None as Nothing, false, true, if◌then◌else◌, filter, length, map, not, option_to_list};
+ghost use Rattle.std.specs.Prelude.{◌≡◌, ◌+◌, ◌<◌, ◌≤◌, ◌++◌, ℕ, None as Nothing, false, true, if◌then◌else◌, filter, length, map, not, option_to_list};
 ghost use Rattle.gateway_model.specs.Past.{is_call};
 ghost use Rattle.std.specs.VecDeque.{deque_capacity};
 ghost use Rattle.gateway_theory.specs.Ends.{AreApart};
 ghost use Rattle.gateway_theory.specs.Task.{job_at};
-ghost use Rattle.gateway_machine.specs.Linked.{IsLinkedWith, linked};
+ghost use Rattle.gateway_machine.specs.Linked.{IsLinkedWith, linked, linked_by, none_over};
+ghost use Rattle.gateway_replies.specs.Contexts.{Ended, ends_of};
 ghost use Rattle.gateway_theory.specs.Orderly.{IsOrderly};
 ghost use Rattle.gateway_theory.specs.Results.{back_at, DecidedBy, Forgets, NoneSpent, ResultTaken, Starved};
 ghost use Rattle.gateway_theory.specs.Step.{has_out};
@@ -31,9 +32,9 @@ impl Machine {
         branch: u32,
         outcome: Outcome,
     ) -> Took
-        requires { contexts.old ≡ linked self.old }
+        requires { contexts.old ≡ linked contexts.old self.old }
         ensures taken { ResultTaken id.now branch outcome self.old self.new result }
-        ensures linked { contexts.new ≡ linked self.new }
+        ensures linked { contexts.new ≡ linked contexts.old self.new }
     {
         let Some(index) = self.find(id) else {
             return Took::unknown();
@@ -58,12 +59,12 @@ impl Machine {
         branch: u32,
         outcome: Outcome,
     ) -> Took
-        requires linked { contexts.old ≡ linked self.old }
+        requires linked { contexts.old ≡ linked contexts.old self.old }
         requires orderly { IsOrderly self.old }
         ensures taken { (between : MachineValue) × ResultTaken id.now branch outcome self.old between result × Forgets id.now between self.new }
         ensures unknown { result.seen ≡ Seen.Unknown → self.new ≡ self.old }
         ensures none_spent { (result.seen ≡ Seen.Unknown → ⊥) → NoneSpent id.now self.new.calls }
-        ensures linked { contexts.new ≡ linked self.new }
+        ensures linked { contexts.new ≡ linked contexts.old self.new }
     {
         let took = self.result(alloc, contexts, id, branch, outcome);
         self.forget_unless(took.seen, id);
@@ -77,12 +78,12 @@ impl Machine {
         id: &CallId,
         branch: u32,
     ) -> Took
-        requires linked { contexts.old ≡ linked self.old }
+        requires linked { contexts.old ≡ linked contexts.old self.old }
         requires orderly { IsOrderly self.old }
         ensures taken { (between : MachineValue) × Starved id.now branch self.old between result × Forgets id.now between self.new }
         ensures unknown { result.seen ≡ Seen.Unknown → self.new ≡ self.old }
         ensures none_spent { (result.seen ≡ Seen.Unknown → ⊥) → NoneSpent id.now self.new.calls }
-        ensures linked { contexts.new ≡ linked self.new }
+        ensures linked { contexts.new ≡ linked contexts.old self.new }
     {
         let took = self.come_back(contexts, id, branch);
         self.forget_unless(took.seen, id);
@@ -96,9 +97,9 @@ impl Machine {
         id: &CallId,
         branch: u32,
     ) -> Took
-        requires { contexts.old ≡ linked self.old }
+        requires { contexts.old ≡ linked contexts.old self.old }
         ensures taken { Starved id.now branch self.old self.new result }
-        ensures linked { contexts.new ≡ linked self.new }
+        ensures linked { contexts.new ≡ linked contexts.old self.new }
     {
         let Some(index) = self.find(id) else {
             return Took::unknown();
@@ -120,9 +121,9 @@ impl Machine {
         broke: bool,
         number: u64,
     )
-        requires { contexts.old ≡ linked self.old }
+        requires { contexts.old ≡ linked contexts.old self.old }
         ensures broken { self.new ≡ (if broke then broken_at number self.old else self.old) }
-        ensures linked { contexts.new ≡ linked self.new }
+        ensures linked { contexts.new ≡ linked contexts.old self.new }
     {
         if broke {
             self.break_conn(contexts, number);
@@ -135,7 +136,7 @@ impl Machine {
         requires out { has_out (kept_at index self.old.calls).call branch ≡ true }
         requires over { (kept_at index self.old.calls).call.live ≡ Nothing }
         ensures back { self.new ≡ back_at index branch self.old }
-        ensures linked { linked self.new ≡ linked self.old }
+        ensures linked { (ends : ℕ → Ended) → linked_by ends none_over self.new ≡ linked_by ends none_over self.old }
     {
         self.calls[index].come_back(branch);
     }
@@ -144,7 +145,7 @@ impl Machine {
     fn forget_unless(&mut self, seen: Seen, id: &CallId)
         requires { AreApart self.old.calls }
         ensures forgets { Forgets id.now self.old self.new }
-        ensures linked { linked self.new ≡ linked self.old }
+        ensures linked { (ends : ℕ → Ended) → linked_by ends none_over self.new ≡ linked_by ends none_over self.old }
         ensures kept { seen ≡ Seen.Unknown → self.new ≡ self.old }
         ensures none_spent { (seen ≡ Seen.Unknown → ⊥) → NoneSpent id.now self.new.calls }
     {
@@ -158,7 +159,7 @@ impl Machine {
     fn forget(&mut self, id: &CallId)
         requires { AreApart self.old.calls }
         ensures forgets { Forgets id.now self.old self.new }
-        ensures linked { linked self.new ≡ linked self.old }
+        ensures linked { (ends : ℕ → Ended) → linked_by ends none_over self.new ≡ linked_by ends none_over self.old }
         ensures none_spent { NoneSpent id.now self.new.calls }
     {
         let Some(index) = self.find(id) else {
@@ -177,9 +178,9 @@ impl Machine {
         id: &CallId,
         decided: Option<CallRecord>,
     ) -> bool
-        requires { IsLinkedWith id.now decided contexts.old self.old }
+        requires { IsLinkedWith (ends_of contexts.old) id.now decided contexts.old self.old }
         ensures decided { DecidedBy id.now decided self.old self.new result }
-        ensures linked { contexts.new ≡ linked self.new }
+        ensures linked { contexts.new ≡ linked contexts.old self.new }
     {
         let Some(decided) = decided else {
             return false;

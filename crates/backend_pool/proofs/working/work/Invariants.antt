@@ -9,3 +9,4 @@ invariant-loop g l =
     × WorksAt g.B.Backend.gives 0 (g.D.Desk.told l.initial.desk) (g.D.Desk.told l.desk)
     × (g.D.Desk.gave l.initial.desk ≤ g.D.Desk.gave l.desk)
     × (g.D.Desk.took l.desk + g.D.Desk.gave l.initial.desk ≡ g.D.Desk.took l.initial.desk + g.D.Desk.gave l.desk)
+    × (g.D.Desk.took l.initial.desk ≤ g.D.Desk.took l.desk)

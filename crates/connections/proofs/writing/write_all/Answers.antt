@@ -1,18 +1,29 @@
-use Rattle.std.proofs.Common.{rules, ◌∙◌}
+use Rattle.std.proofs.Common.{arith, ◌++◌, [], refl, length-append}
+use Rattle.connections.proofs.TellLemmas.{Tells-refl, Tells-trans}
 use Rattle.connections.proofs.WriteLemmas.{Writes-refl, Writes-join, Writes-on}
 use Rattle.connections.proofs.writing.write_all.Goals as goal
 
 pub loop-init : goal.loop-init
-loop-init g c = (tt, tt, rw c.requires (Writes-refl _ _ _))
+loop-init g c = (tt, tt, ([], refl, Tells-refl _, Writes-refl _ _ _))
 
 pub loop-preserved : goal.loop-preserved
 loop-preserved g c =
-    let next = c.write_next.ensures in
-    let all = Writes-join _ _ _ _ _ _ _ _ _ _ _ _ c.loop.invariant.2 next.4 (search rules) next.3 in
-    (tt, tt, Writes-on _ _ _ _ _ _ _ _ c.if-not-write_next.false next.2 all)
+    let before = c.loop.invariant.2 in
+    let next = c.in-Some-write_next.ensures in
+    let all = Writes-join _ _ _ _ _ _ _ _ _ _ _ _ before.3 next.4 before.1 refl in (
+      tt,
+      tt,
+      (
+        before.0 ++ next.1,
+        omega (arith, next.2.1, before.1, length-append before.0 next.1),
+        Tells-trans _ _ _ _ _ before.2 next.3,
+        Writes-on _ _ _ _ _ _ _ _ refl next.2.0 all,
+      ),
+    )
 
-pub returns-then-not-write_next : goal.returns-then-not-write_next
-returns-then-not-write_next g c =
-    let next = c.write_next.ensures in
-    let all = Writes-join _ _ _ _ _ _ _ _ _ _ _ _ c.loop.invariant.2 next.4 (search rules) next.3 in
-    (next.0, next.2 ∙ c.if-not-write_next.true, all)
+pub returns-in_default : goal.returns-in_default
+returns-in_default g c =
+    let before = c.loop.invariant.2 in
+    let next = c.in_default.ensures in
+    let all = Writes-join _ _ _ _ _ _ _ _ _ _ _ _ before.3 next.4 before.1 refl in
+    (next.0, before.0 ++ next.1, next.2, Tells-trans _ _ _ _ _ before.2 next.3, all)

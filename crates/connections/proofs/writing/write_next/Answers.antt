@@ -1,37 +1,53 @@
-use Rattle.std.proofs.Common.{rules, arith, ◌≡◌, ◌<◌, ◌≤◌, ◌++◌, [], ◌∷◌, length, refl, sym, ap, ◌∙◌, true, false, nat_eq, vec_len, append-nil}
+use Rattle.std.proofs.Common.{rules, arith, ◌≡◌, ◌+◌, ◌<◌, ◌≤◌, ◌++◌, [], ◌∷◌, length, refl, true, false, nat_eq, Some, None, subst}
 use Rattle.std.proofs.lemmas.Grind.{common_steps}
 use Rattle.std.specs.Prelude.{take}
 use Rattle.std.specs.Io.KnownBytes.{Appends}
 use Rattle.gateway_model.specs.Past.{call_id}
-use Rattle.connections.specs.Writes.{Unwritten, bytes_of}
-use Rattle.connections.proofs.WriteLemmas.{Writes-none, Writes-sent}
-use Rattle.connections.proofs.writing.write_next.Goals.{then-ne-via-then-ne, then-ne-via-else-ne+then-is_err}
+use Rattle.connections.specs.Told.{Tells}
+use Rattle.connections.specs.Writes.{IsOver, NotYet, Unwritten, CutShort, bytes_of, told_by}
+use Rattle.connections.proofs.TellLemmas.{Tells-refl, Tells-trans}
+use Rattle.connections.proofs.WriteLemmas.{Writes-over, Writes-none, Writes-one, Writes-part}
+use Rattle.connections.proofs.writing.write_next.Goals.{then-ne-via-then-ne, then-ne-via-else-ne+then-not-make_room}
 use Rattle.connections.proofs.writing.write_next.Goals as goal
+
+pub returns-in_default : goal.returns-in_default
+returns-in_default g c = (IsOver, [], refl, Tells-refl _, Writes-over _ _ _ _ _ c.in_default.ensures)
 
 pub returns-then-ne : goal.returns-then-ne
 returns-then-ne g c =
-    let same : c.then-ne.written.items ≡ c.args.written.now.items =
+    let kept : Tells (g.K.Keeping.told c.args.kept.now) (g.K.Keeping.told c.then-ne.kept) [] =
     elim c.then-ne.branch [
-      | then-ne-via-then-ne w ↦ ap (λ v. v.items) w.written-is
-      | then-ne-via-else-ne+then-is_err w ↦ ap (λ v. v.items) w.written-is ∙ w.reserve.ensures.items
-    ] in (
-      Unwritten c.in-Some.reply.id,
-      [],
-      refl,
-      rw same (sym (append-nil _)),
-      Writes-none _ _ _ _ _ c.in-Some.reply.id c.in-Some.ensures,
-    )
+      | then-ne-via-then-ne w ↦ rw w.kept-is (Tells-refl _)
+      | then-ne-via-else-ne+then-not-make_room w ↦ rw w.kept-is w.make_room.ensures.told
+    ] in
+    (Unwritten c.in-Some.reply.id, [], refl, kept, Writes-none _ _ _ _ _ c.in-Some.reply.id c.in-Some.ensures)
 
-pub returns : goal.returns
-returns g c =
+pub returns-in_default-checked_add : goal.returns-in_default-checked_add
+returns-in_default-checked_add g c =
+    (Unwritten c.in-Some.reply.id, [], refl, c.make_room.ensures.told, Writes-none _ _ _ _ _ c.in-Some.reply.id c.in-Some.ensures)
+
+pub returns-then-sent-length : goal.returns-then-sent-length
+returns-then-sent-length g c =
     let r = c.in-Some.reply in
-    let all = nat_eq c.send-sent.result (length c.bytes-length.result.now) in
-    let id : r.id ≡ call_id c.args.conn (vec_len c.args.written.now) = search rules in
+    let id : r.id ≡ call_id c.args.conn c.args.request = search rules in
     let long : length c.bytes-length.result.now ≡ length (bytes_of r) = search rules in
-    let whole : all ≡ true → length (bytes_of r) ≤ c.send-sent.result = λ is. grind (arith, common_steps) in
-    let less : all ≡ false → c.send-sent.result < length (bytes_of r) =
-    λ is. let most : c.send-sent.result ≤ length (bytes_of r) = search rules in grind (arith, common_steps) in
+    let same : c.send-sent.result ≡ length c.bytes-length.result.now = search rules in
+    let whole : length (bytes_of r) ≤ c.send-sent.result = omega (arith, long, same) in
     let bytes : Appends (g.W.Write.contents c.args.writer.now) (g.W.Write.contents c.send-sent.new.writer) (take c.send-sent.result (bytes_of r)) = search rules in
-    let items : c.push_reserved.new.self.items ≡ c.args.written.now.items ++ r ∷ [] = search rules in
-    let ended = Writes-sent c.args.conn (vec_len c.args.written.now) _ _ _ _ r c.send-sent.result all id c.in-Some.ensures bytes whole less in
-    (ended.0, r ∷ [], ended.1, items, ended.2)
+    let kept : Tells (g.K.Keeping.told c.args.kept.now) (g.K.Keeping.told c.keep.new.self) (r ∷ []) =
+    Tells-trans _ _ _ _ _ c.make_room.ensures.told (search rules) in
+    let next : c.in-Some-checked_add.next ≡ c.args.request + 1 = search rules in
+    (NotYet, r ∷ [], (refl, next), kept, Writes-one _ _ _ _ _ _ r c.send-sent.result id c.in-Some.ensures bytes whole)
+
+pub returns-else-sent-length : goal.returns-else-sent-length
+returns-else-sent-length g c =
+    let r = c.in-Some.reply in
+    let id : r.id ≡ call_id c.args.conn c.args.request = search rules in
+    let long : length c.bytes-length.result.now ≡ length (bytes_of r) = search rules in
+    let differs : nat_eq c.send-sent.result (length c.bytes-length.result.now) ≡ false = search rules in
+    let most : c.send-sent.result ≤ length (bytes_of r) = search rules in
+    let less : c.send-sent.result < length (bytes_of r) = grind (arith, common_steps) in
+    let bytes : Appends (g.W.Write.contents c.args.writer.now) (g.W.Write.contents c.send-sent.new.writer) (take c.send-sent.result (bytes_of r)) = search rules in
+    let kept : Tells (g.K.Keeping.told c.args.kept.now) (g.K.Keeping.told c.keep.new.self) (r ∷ []) =
+    Tells-trans _ _ _ _ _ c.make_room.ensures.told (search rules) in
+    (CutShort r c.send-sent.result, r ∷ [], refl, kept, Writes-part _ _ _ _ _ _ r c.send-sent.result id c.in-Some.ensures bytes less)

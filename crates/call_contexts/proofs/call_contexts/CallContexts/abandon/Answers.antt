@@ -13,8 +13,8 @@ pub returns-in_default : goal.returns-in_default
 returns-in_default g c =
     let s = c.self.invariant in
     let none : list_any (λ l. same l.ctx c.args.ctx) c.self.inside.calls.items ≡ false = none_found c.args.ctx c.self.inside.calls.items (ap (life_at c.args.ctx) (sym c.deref.ensures.value) ∙ sym c.find.ensures ∙ c.in_default.is) in
-    pair_is _ _ (ap (λ (v : WithHooks _ _). v.standing) (sym c.self.view_is) ∙ none_gone s c.args.ctx none ∙ ap (λ (v : WithHooks _ _). without c.args.ctx v.standing) c.self.view_is)
-    (ap (λ (v : WithHooks _ _). v.hooks) (sym c.self.view_is) ∙ no_hook_gone c.self.inside.hooks s.hooks s.hooks_are c.args.ctx c.self.inside.calls.items s.hook_waits none ∙ ap (λ (v : WithHooks _ _). filter (λ p. not (same p.0 c.args.ctx)) v.hooks) c.self.view_is)
+    pair_is _ _ (ap (λ (v : WithHooks _ _ _). v.standing) (sym c.self.view_is) ∙ none_gone s c.args.ctx none ∙ ap (λ (v : WithHooks _ _ _). without c.args.ctx v.standing) c.self.view_is)
+    (ap (λ (v : WithHooks _ _ _). v.hooks) (sym c.self.view_is) ∙ no_hook_gone c.self.inside.hooks s.hooks s.hooks_are c.args.ctx c.self.inside.calls.items s.hook_waits none ∙ ap (λ (v : WithHooks _ _ _). filter (λ p. not (same p.0 c.args.ctx)) v.hooks) c.self.view_is)
 
 pub invariant_of-self : goal.invariant_of-self
 invariant_of-self g c =
@@ -32,6 +32,6 @@ returns g c =
     let at : life_at c.args.ctx c.self.inside.calls.items ≡ Some c.in-Some.life = ap (life_at c.args.ctx) (sym c.deref.ensures.value) ∙ sym c.find.ensures ∙ c.in-Some.is in
     rw c.remove.ensures
     (pair_is _ _
-    (seen_left laws s c.args.ctx c.in-Some.life at c.release.new.tree (call_let_go laws s c.args.ctx c.in-Some.life at c.release.new.tree (c.release.ensures s.past s.tree_is)) ∙ ap (λ (v : WithHooks _ _). without c.args.ctx v.standing) c.self.view_is)
+    (seen_left laws s c.args.ctx c.in-Some.life at c.release.new.tree (call_let_go laws s c.args.ctx c.in-Some.life at c.release.new.tree (c.release.ensures s.past s.tree_is)) ∙ ap (λ (v : WithHooks _ _ _). without c.args.ctx v.standing) c.self.view_is)
     (stopped_hooks c.args.ctx c.in-Some.life s.hooks c.self.inside.calls.items (c.order_law.ensures.registered s.hooks) s.hook_waits s.distinct at c.self.inside.hooks c.stop.new.self s.hooks_are (c.stop.ensures.stands s.hooks s.hooks_are)
-    ∙ ap (λ (v : WithHooks _ _). filter (λ p. not (same p.0 c.args.ctx)) v.hooks) c.self.view_is))
+    ∙ ap (λ (v : WithHooks _ _ _). filter (λ p. not (same p.0 c.args.ctx)) v.hooks) c.self.view_is))

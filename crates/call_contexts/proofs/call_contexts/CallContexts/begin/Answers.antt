@@ -21,12 +21,12 @@ returns-in_default-clause-unchanged g c =
     let s = c.self.invariant in
     let r = c.in_default.ensures.refused s.past s.tree_is in
     rw c.reserve.ensures.items
-    (pair_is _ _ (seen_alike c.tree_laws.ensures s r.later c.make.new.tree r.stands r.alike ∙ ap (λ (v : WithHooks _ _). v.standing) c.self.view_is) (ap (λ (v : WithHooks _ _). v.hooks) c.self.view_is))
+    (pair_is _ _ (seen_alike c.tree_laws.ensures s r.later c.make.new.tree r.stands r.alike ∙ ap (λ (v : WithHooks _ _ _). v.standing) c.self.view_is) (ap (λ (v : WithHooks _ _ _). v.hooks) c.self.view_is))
 
 pub invariant_of-self-in-Ok-after_func : goal.invariant_of-self-in-Ok-after_func
 invariant_of-self-in-Ok-after_func g c =
     let s = c.self.invariant in
-    let is : held c.args.conn s.past ≡ Some (Cancel c.self.inside.base) = conn_held c.self.inside.base s.past c.self.inside.tree.slots c.self.inside.conns.items c.args.conn s.conns_are (ap (λ (v : WithHooks _ _). is_conn c.args.conn v.standing.conns) c.self.view_is ∙ c.requires) in
+    let is : held c.args.conn s.past ≡ Some (Cancel c.self.inside.base) = conn_held c.self.inside.base s.past c.self.inside.tree.slots c.self.inside.conns.items c.args.conn s.conns_are (ap (λ (v : WithHooks _ _ _). is_conn c.args.conn v.standing.conns) c.self.view_is ∙ c.requires) in
     rw (c.push_reserved.ensures.items, c.reserve.ensures.items)
     (sound_begun c.tree_laws.ensures s (record { ctx = c.in-Ok.made.0; holder = c.in-Ok.made.1; conn = c.args.conn; deadline = c.args.deadline; hook = c.in-Ok-after_func.id }) c.args.now c.args.request_id
     c.in-Ok.ensures.held c.make.new.tree is (c.in-Ok.ensures.made s.past s.tree_is) c.args.hook c.after_func.new.self
@@ -46,20 +46,20 @@ invariant_of-self-in-Err g c =
 pub returns-in-Ok-after_func-clause-stands : goal.returns-in-Ok-after_func-clause-stands
 returns-in-Ok-after_func-clause-stands g c =
     let s = c.self.invariant in
-    let known = ap (λ (v : WithHooks _ _). is_conn c.args.conn v.standing.conns) c.self.view_is ∙ c.requires in
+    let known = ap (λ (v : WithHooks _ _ _). is_conn c.args.conn v.standing.conns) c.self.view_is ∙ c.requires in
     let is : held c.args.conn s.past ≡ Some (Cancel c.self.inside.base) = conn_held c.self.inside.base s.past c.self.inside.tree.slots c.self.inside.conns.items c.args.conn s.conns_are known in
     rw (c.push_reserved.ensures.items, c.reserve.ensures.items)
     (pair_is _ _
     (seen_begun c.tree_laws.ensures s (record { ctx = c.in-Ok.made.0; holder = c.in-Ok.made.1; conn = c.args.conn; deadline = c.args.deadline; hook = c.in-Ok-after_func.id }) c.args.now c.args.request_id
     c.in-Ok.ensures.held c.make.new.tree is (c.in-Ok.ensures.made s.past s.tree_is) known
-    ∙ ap (λ (v : WithHooks _ _). begun c.in-Ok.made.0 c.args.conn c.args.deadline c.args.now c.args.request_id v.standing) c.self.view_is)
+    ∙ ap (λ (v : WithHooks _ _ _). begun c.in-Ok.made.0 c.args.conn c.args.deadline c.args.now c.args.request_id v.standing) c.self.view_is)
     (more_hooks c.self.inside.hooks c.after_func.new.self s.hooks s.hooks_are c.in-Ok.made.0 c.args.hook (c.in-Ok-after_func.ensures.stands s.hooks s.hooks_are)
-    ∙ ap (λ (v : WithHooks _ _). v.hooks ++ (c.in-Ok.made.0, c.args.hook) ∷ []) c.self.view_is))
+    ∙ ap (λ (v : WithHooks _ _ _). v.hooks ++ (c.in-Ok.made.0, c.args.hook) ∷ []) c.self.view_is))
 
 pub returns-in-Ok-after_func-clause-fresh : goal.returns-in-Ok-after_func-clause-fresh
 returns-in-Ok-after_func-clause-fresh g c =
     let s = c.self.invariant in
-    let is : held c.args.conn s.past ≡ Some (Cancel c.self.inside.base) = conn_held c.self.inside.base s.past c.self.inside.tree.slots c.self.inside.conns.items c.args.conn s.conns_are (ap (λ (v : WithHooks _ _). is_conn c.args.conn v.standing.conns) c.self.view_is ∙ c.requires) in
+    let is : held c.args.conn s.past ≡ Some (Cancel c.self.inside.base) = conn_held c.self.inside.base s.past c.self.inside.tree.slots c.self.inside.conns.items c.args.conn s.conns_are (ap (λ (v : WithHooks _ _ _). is_conn c.args.conn v.standing.conns) c.self.view_is ∙ c.requires) in
     rw (← c.self.view_is)
     (is_new s c.in-Ok.made.0 (begun_unheld c.tree_laws.ensures s (record { ctx = c.in-Ok.made.0; holder = c.in-Ok.made.1; conn = c.args.conn; deadline = c.args.deadline; hook = c.in-Ok-after_func.id }) c.args.now c.args.request_id
     c.in-Ok.ensures.held c.make.new.tree is (c.in-Ok.ensures.made s.past s.tree_is)))
@@ -79,5 +79,5 @@ returns-in-Err-clause-unchanged g c =
     (pair_is _ _
     (seen_alike laws s (let_go c.in-Ok.made.0 c.in-Ok.made.1 (with_call c.in-Ok.made.0 c.in-Ok.made.1 c.args.conn c.args.deadline c.args.now c.args.request_id s.past)) c.release.new.tree (c.release.ensures _ made free)
     (call_unmade laws c.in-Ok.made.0 c.args.conn c.args.deadline c.args.now s.past c.in-Ok.made.1 c.args.request_id c.in-Ok.ensures.held made.contexts.lawful)
-    ∙ ap (λ (v : WithHooks _ _). v.standing) c.self.view_is)
-    (kept_hooks c.self.inside.hooks c.after_func.new.self s.hooks s.hooks_are (c.in-Err.ensures.unchanged s.hooks s.hooks_are) ∙ ap (λ (v : WithHooks _ _). v.hooks) c.self.view_is))
+    ∙ ap (λ (v : WithHooks _ _ _). v.standing) c.self.view_is)
+    (kept_hooks c.self.inside.hooks c.after_func.new.self s.hooks s.hooks_are (c.in-Err.ensures.unchanged s.hooks s.hooks_are) ∙ ap (λ (v : WithHooks _ _ _). v.hooks) c.self.view_is))

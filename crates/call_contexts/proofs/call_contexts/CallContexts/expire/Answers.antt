@@ -11,4 +11,4 @@ invariant_of-self g c =
 pub returns : goal.returns
 returns g c =
     let s = c.self.invariant in
-    pair_is _ _ (seen_expired c.tree_laws.ensures s c.advance.new.self c.args.now (c.advance.ensures s.past s.tree_is) ∙ ap (λ (v : WithHooks _ _). expired c.args.now v.standing) c.self.view_is) (ap (λ (v : WithHooks _ _). v.hooks) c.self.view_is)
+    pair_is _ _ (seen_expired c.tree_laws.ensures s c.advance.new.self c.args.now (c.advance.ensures s.past s.tree_is) ∙ ap (λ (v : WithHooks _ _ _). expired c.args.now v.standing) c.self.view_is) (ap (λ (v : WithHooks _ _ _). v.hooks) c.self.view_is)

@@ -9,4 +9,4 @@ pub returns : goal.returns
 returns g c =
     c.is_among.ensures ∙ ap (list_any (λ x. same x c.args.conn)) c.deref.ensures.value
     ∙ sym (any_map (λ d. same d.id c.args.conn) (seen_conn c.self.inside.tree.slots) c.self.inside.conns.items)
-    ∙ ap (λ (v : WithHooks _ _). is_conn c.args.conn v.standing.conns) c.self.view_is
+    ∙ ap (λ (v : WithHooks _ _ _). is_conn c.args.conn v.standing.conns) c.self.view_is

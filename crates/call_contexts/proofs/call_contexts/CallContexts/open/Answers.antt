@@ -13,7 +13,7 @@ pub returns-clause-stands : goal.returns-clause-stands
 returns-clause-stands g c =
     let s = c.self.invariant in
     rw (c.push_reserved.ensures.items, c.reserve.ensures.items)
-    (pair_is _ _ (seen_opened c.tree_laws.ensures s c.in-Ok.conn c.with_cancel.new.self (c.in-Ok.ensures.made s.past s.tree_is).1 ∙ ap (λ (v : WithHooks _ _). opened c.in-Ok.conn v.standing) c.self.view_is) (ap (λ (v : WithHooks _ _). v.hooks) c.self.view_is))
+    (pair_is _ _ (seen_opened c.tree_laws.ensures s c.in-Ok.conn c.with_cancel.new.self (c.in-Ok.ensures.made s.past s.tree_is).1 ∙ ap (λ (v : WithHooks _ _ _). opened c.in-Ok.conn v.standing) c.self.view_is) (ap (λ (v : WithHooks _ _ _). v.hooks) c.self.view_is))
 
 pub returns-clause-fresh : goal.returns-clause-fresh
 returns-clause-fresh g c =

@@ -11,7 +11,7 @@ use Rattle.call_contexts.proofs.call_contexts.CallContexts.request_id.Goals as g
 pub returns-in_default : goal.returns-in_default
 returns-in_default g c =
     let none : life_at c.args.ctx c.self.inside.calls.items ≡ None = ap (life_at c.args.ctx) (sym c.deref.ensures.value) ∙ sym c.find.ensures ∙ c.in_default.is in
-    sym (no_request c.self.inside.tree.slots c.args.ctx c.self.inside.calls.items (none_found c.args.ctx c.self.inside.calls.items none)) ∙ ap (λ (v : WithHooks _ _). request_for c.args.ctx v.standing.calls) c.self.view_is
+    sym (no_request c.self.inside.tree.slots c.args.ctx c.self.inside.calls.items (none_found c.args.ctx c.self.inside.calls.items none)) ∙ ap (λ (v : WithHooks _ _ _). request_for c.args.ctx v.standing.calls) c.self.view_is
 
 pub unreachable-requires : goal.unreachable-requires
 unreachable-requires g c =
@@ -25,4 +25,4 @@ returns g c =
     let at : life_at c.args.ctx c.self.inside.calls.items ≡ Some c.in-Some.field-0 = ap (life_at c.args.ctx) (sym c.deref.ensures.value) ∙ sym c.find.ensures ∙ c.in-Some.is in
     same_Some (option_copied c.in-Ok.request_id) (nearest 0 (line c.args.ctx s.past))
     (c.in-Ok.ensures s.past s.tree_is ∙ asked_held (held c.args.ctx s.past) (nearest 0 (line c.args.ctx s.past)) (call_known c.tree_laws.ensures s c.args.ctx c.in-Some.field-0 at))
-    ∙ request_told c.tree_laws.ensures s c.args.ctx c.in-Some.field-0 at ∙ ap (λ (v : WithHooks _ _). request_for c.args.ctx v.standing.calls) c.self.view_is
+    ∙ request_told c.tree_laws.ensures s c.args.ctx c.in-Some.field-0 at ∙ ap (λ (v : WithHooks _ _ _). request_for c.args.ctx v.standing.calls) c.self.view_is

@@ -1,10 +1,13 @@
+use Rattle.std.specs.Prelude.{All}
 use Rattle.std.proofs.Common.{ap, sym, ◌∙◌, subst}
 use Rattle.gateway_theory.specs.Ends.{AreApart, CallsEnd, IsSettled, noted}
 use Rattle.gateway_theory.specs.Heads.{conn_heads, noted_heads}
 use Rattle.gateway_theory.specs.Store.{MachineValue}
 use Rattle.gateway_theory.specs.lemmas.HeadLemmas.{noted_apart, noted_conns, noted_settled}
 use Rattle.gateway_machine.proofs.LinkedLemmas.{told_linked}
-use Rattle.gateway_machine.specs.Linked.{linked_by, over_by}
+use Rattle.gateway_replies.specs.Contexts.{ContextsValue, ends_of}
+use Rattle.gateway_machine.specs.Linked.{Hears, IsNow, linked_by, over_by}
+use Rattle.gateway_machine.proofs.HeardLemmas.{noted_moment, stays_linked, told_heard}
 use Rattle.gateway_machine.proofs.linked.LinkedMachine.end_calls.Goals as goal
 
 pub end_calls-requires-clause-settled : goal.end_calls-requires-clause-settled
@@ -18,7 +21,7 @@ end_calls-requires-clause-apart g c =
 
 pub end_calls-requires-clause-linked : goal.end_calls-requires-clause-linked
 end_calls-requires-clause-linked g c =
-    told_linked c.args.cause.now c.self.inside.machine c.self.inside.contexts c.tell.new.self c.self.invariant c.tell.ensures ∙ ap (linked_by (over_by c.args.cause.now)) (sym c.note.ensures)
+    told_linked c.args.cause.now c.self.inside.machine c.self.inside.contexts c.tell.new.self c.self.invariant.are c.tell.ensures ∙ ap (linked_by (ends_of c.tell.new.self) (over_by c.args.cause.now)) (sym c.note.ensures)
 
 pub returns-clause-ended : goal.returns-clause-ended
 returns-clause-ended g c =
@@ -29,3 +32,17 @@ pub returns-clause-heads : goal.returns-clause-heads
 returns-clause-heads g c =
     c.end_calls.ensures.heads ∙ ap (λ (m : MachineValue). conn_heads m.conns) c.note.ensures ∙ noted_conns c.args.cause.now c.self.inside.machine
     ∙ ap (λ (m : MachineValue). noted_heads c.args.cause.now (conn_heads m.conns)) c.self.view_is
+
+pub end_calls-requires-clause-now : goal.end_calls-requires-clause-now
+end_calls-requires-clause-now g c = subst (λ (m : MachineValue). IsNow c.args.cause.now m.moment) (sym c.note.ensures)
+    (subst (IsNow c.args.cause.now) (sym (noted_moment c.args.cause.now c.self.inside.machine)) (subst (λ (m : MachineValue). IsNow c.args.cause.now m.moment) (sym c.self.view_is) c.requires.now))
+
+pub invariant_of-self : goal.invariant_of-self
+invariant_of-self g c =
+    let heads = c.end_calls.ensures.heads ∙ ap (λ (m : MachineValue). conn_heads m.conns) c.note.ensures ∙ noted_conns c.args.cause.now c.self.inside.machine in
+    stays_linked c.tell.new.self c.end_calls.new.contexts c.end_calls.new.self c.end_calls.ensures.linked
+    (ap (λ (z : ContextsValue). z.drained) (told_linked c.args.cause.now c.self.inside.machine c.self.inside.contexts c.tell.new.self c.self.invariant.are c.tell.ensures)
+    ∙ ap (λ (m : MachineValue). m.drained) (sym c.note.ensures) ∙ sym c.end_calls.ensures.ended.drained_is)
+    (subst (λ hs. All (Hears c.tell.new.self) hs) (sym heads)
+    (subst (λ x. All (Hears x) (noted_heads c.args.cause.now (conn_heads c.self.inside.machine.conns))) (sym c.tell.ensures)
+    (told_heard c.args.cause.now c.self.inside.contexts (conn_heads c.self.inside.machine.conns) c.self.invariant.heard)))

@@ -17,11 +17,11 @@ invariant_of-self g c =
     let at : ctx_for c.args.id.now (life_ties c.self.inside.lives.items) ≡ Some c.in-Some.ctx =
     ap (λ ls. ctx_for c.args.id.now (life_ties ls)) (sym c.deref.ensures.value) ∙ sym c.ctx_for.ensures ∙ c.in-Some.is in
     left_tied (peer_ties c.self.inside.peers.items) c.self.inside.lives.items c.remove_life.new.lives.items c.self.inside.contexts.standing c.abandon.new.self.standing c.args.id.now c.in-Some.ctx
-    c.remove_life.ensures (ap (λ (v : WithHooks _ _). v.standing) c.abandon.ensures) c.self.invariant c.apart_law.ensures.apart at
+    c.remove_life.ensures (ap (λ (v : WithHooks _ _ _). v.standing) c.abandon.ensures) c.self.invariant c.apart_law.ensures.apart at
 
 pub returns : goal.returns
 returns g c =
     let at : ctx_for c.args.id.now (life_ties c.self.inside.lives.items) ≡ Some c.in-Some.ctx =
     ap (λ ls. ctx_for c.args.id.now (life_ties ls)) (sym c.deref.ensures.value) ∙ sym c.ctx_for.ensures ∙ c.in-Some.is in
     left_value arc_value (peer_ties c.self.inside.peers.items) c.self.inside.lives.items c.remove_life.new.lives.items c.self.inside.contexts.standing c.abandon.new.self.standing c.args.self.now
-    c.args.id.now c.in-Some.ctx c.remove_life.ensures (ap (λ (v : WithHooks _ _). v.standing) c.abandon.ensures) c.self.invariant c.apart_law.ensures.apart at c.self.view_is
+    c.args.id.now c.in-Some.ctx c.remove_life.ensures (ap (λ (v : WithHooks _ _ _). v.standing) c.abandon.ensures) c.self.invariant c.apart_law.ensures.apart at c.self.view_is

@@ -28,7 +28,7 @@ invariant_of-self-2 g c =
     begun_tied (peer_ties c.self.inside.peers.items) (peer_ties c.take_hook.new.peers.items) c.self.inside.lives.items c.push_reserved.new.self.items c.self.inside.contexts.standing c.begin.new.self.standing
     (record { id = c.args.id.now; ctx = c.in-Ok.ctx }) c.in-Some.conn _ _ _ c.take_hook.ensures
     (c.push_reserved.ensures.items ∙ ap (λ ls. ls ++ record { id = c.args.id.now; ctx = c.in-Ok.ctx } ∷ []) c.in_ok-reserve.ensures.items)
-    (ap (λ (v : WithHooks _ _). v.standing) c.in-Ok.ensures.stands) c.self.invariant at
+    (ap (λ (v : WithHooks _ _ _). v.standing) c.in-Ok.ensures.stands) c.self.invariant at
     (no_such arc_value (peer_ties c.self.inside.peers.items) (life_ties c.self.inside.lives.items) c.self.inside.contexts.standing c.args.self.now c.args.id.now c.self.invariant c.self.view_is c.requires.fresh)
 
 pub returns-clause-ok : goal.returns-clause-ok
@@ -38,6 +38,6 @@ returns-clause-ok g c =
     begun_value arc_value (peer_ties c.self.inside.peers.items) (peer_ties c.take_hook.new.peers.items) c.self.inside.lives.items c.push_reserved.new.self.items c.self.inside.contexts.standing
     c.begin.new.self.standing c.args.self.now c.args.asked.now (record { id = c.args.id.now; ctx = c.in-Ok.ctx }) c.in-Some.conn _ _ _ c.take_hook.ensures
     (c.push_reserved.ensures.items ∙ ap (λ ls. ls ++ record { id = c.args.id.now; ctx = c.in-Ok.ctx } ∷ []) c.in_ok-reserve.ensures.items)
-    (ap (λ (v : WithHooks _ _). v.standing) c.in-Ok.ensures.stands) c.self.invariant at c.self.view_is
+    (ap (λ (v : WithHooks _ _ _). v.standing) c.in-Ok.ensures.stands) c.self.invariant at c.self.view_is
     (ap (λ (a : ArrivedCall). a.deadline) c.asked.view_is)
     (c.in_ok-request_id.ensures ∙ ap (λ (a : ArrivedCall). a.request_id) c.asked.view_is)

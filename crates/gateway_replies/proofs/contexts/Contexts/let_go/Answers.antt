@@ -26,7 +26,7 @@ close-requires-clause-none g c =
 pub invariant_of-self : goal.invariant_of-self
 invariant_of-self g c =
     peer_gone c.self.inside.peers.items c.remove_peer.new.peers.items (life_ties c.self.inside.lives.items) c.self.inside.contexts.standing c.close.new.self.standing c.args.number c.in-Some.conn
-    c.remove_peer.ensures (ap (λ (v : WithHooks _ _). v.standing) c.close.ensures) c.self.invariant
+    c.remove_peer.ensures (ap (λ (v : WithHooks _ _ _). v.standing) c.close.ensures) c.self.invariant
     (ap (λ ps. ctx_of c.args.number (peer_ties ps)) (sym c.deref.ensures.value) ∙ sym c.ctx_of.ensures ∙ c.in-Some.is)
     (sym (first_in arc_value (peer_ties c.self.inside.peers.items) (life_ties c.self.inside.lives.items) c.self.inside.contexts.standing.calls c.args.number c.self.invariant.calls_are)
     ∙ ap (λ (v : ContextsValue). first_life c.args.number v.calls) c.self.view_is ∙ c.requires)
@@ -34,5 +34,5 @@ invariant_of-self g c =
 pub returns : goal.returns
 returns g c =
     peer_gone_value arc_value c.self.inside.peers.items c.remove_peer.new.peers.items (life_ties c.self.inside.lives.items) c.self.inside.contexts.standing c.close.new.self.standing c.args.self.now
-    c.args.number c.in-Some.conn c.remove_peer.ensures (ap (λ (v : WithHooks _ _). v.standing) c.close.ensures) c.self.invariant
+    c.args.number c.in-Some.conn c.remove_peer.ensures (ap (λ (v : WithHooks _ _ _). v.standing) c.close.ensures) c.self.invariant
     (ap (λ ps. ctx_of c.args.number (peer_ties ps)) (sym c.deref.ensures.value) ∙ sym c.ctx_of.ensures ∙ c.in-Some.is) c.self.view_is c.requires

@@ -10,11 +10,11 @@ invariant_of-self-2 g c =
     opened_tied c.self.inside.peers.items c.push_reserved.new.self.items (life_ties c.self.inside.lives.items) c.self.inside.contexts.standing c.open.new.self.standing c.args.self.now arc_value
     (record { number = c.args.number; ctx = c.in-Ok.ctx; stock = c.args.stock })
     (c.push_reserved.ensures.items ∙ ap (λ ps. ps ++ record { number = c.args.number; ctx = c.in-Ok.ctx; stock = c.args.stock } ∷ []) c.reserve.ensures.items)
-    (ap (λ (v : WithHooks _ _). v.standing) c.in-Ok.ensures.stands) c.self.invariant c.in-Ok.ensures.fresh c.self.view_is c.requires
+    (ap (λ (v : WithHooks _ _ _). v.standing) c.in-Ok.ensures.stands) c.self.invariant c.in-Ok.ensures.fresh c.self.view_is c.requires
 
 pub returns-clause-ok : goal.returns-clause-ok
 returns-clause-ok g c =
     opened_value c.self.inside.peers.items c.push_reserved.new.self.items (life_ties c.self.inside.lives.items) c.self.inside.contexts.standing c.open.new.self.standing c.args.self.now arc_value
     (record { number = c.args.number; ctx = c.in-Ok.ctx; stock = c.args.stock })
     (c.push_reserved.ensures.items ∙ ap (λ ps. ps ++ record { number = c.args.number; ctx = c.in-Ok.ctx; stock = c.args.stock } ∷ []) c.reserve.ensures.items)
-    (ap (λ (v : WithHooks _ _). v.standing) c.in-Ok.ensures.stands) c.self.invariant c.self.view_is
+    (ap (λ (v : WithHooks _ _ _). v.standing) c.in-Ok.ensures.stands) c.self.invariant c.self.view_is

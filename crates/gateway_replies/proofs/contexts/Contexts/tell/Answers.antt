@@ -1,13 +1,13 @@
-use Rattle.std.proofs.Common.{◌∙◌, true, ap, map, sym}
-use Rattle.std.specs.Prelude.{◌||◌}
+use Rattle.std.proofs.Common.{◌∙◌, Some, ap, map, sym}
 use Rattle.std.specs.Arc.{arc_value}
 use Rattle.context_tree.specs.Context.{same}
-use Rattle.context_tree.specs.Frames.{is_due}
-use Rattle.call_contexts.specs.Standing.{Conn, WithHooks}
+use Rattle.context_tree.specs.declared.error.Cause.TheVariants.{Given}
+use Rattle.call_contexts.specs.Standing.{WithHooks, if_cancelled, if_due}
+use Rattle.gateway_replies.specs.declared.contexts.cancelled.CancelledBy.TheVariants.{HangUp, Drain}
 use Rattle.gateway_theory.specs.declared.cause.Cause.{Cause}
-use Rattle.gateway_replies.specs.Contexts.{ctx_of, told}
+use Rattle.gateway_replies.specs.Contexts.{ConnContext, ctx_of, told}
 use Rattle.gateway_replies.specs.Ties.{life_ties, peer_ties}
-use Rattle.gateway_replies.proofs.ContextLemmas.{conns_ended, drained_value, hung_value, known_conn, reached_value, told_tied, untold_value}
+use Rattle.gateway_replies.proofs.ContextLemmas.{conns_ended, drained_by, drained_stays, drained_value, hung_value, known_conn, reached_value, told_tied, untold_value}
 use Rattle.gateway_replies.proofs.contexts.Contexts.tell.Goals as goal
 
 pub cancel-requires : goal.cancel-requires
@@ -17,36 +17,39 @@ cancel-requires g c =
 
 pub invariant_of-self : goal.invariant_of-self
 invariant_of-self g c =
-    told_tied (peer_ties c.self.inside.peers.items) (life_ties c.self.inside.lives.items) c.self.inside.contexts.standing c.expire.new.self.standing (λ d. is_due c.in-Reached.moment d.deadline)
-    (ap (λ (v : WithHooks _ _). v.standing.calls) c.expire.ensures) (ap (λ (v : WithHooks _ _). map (λ (d : Conn). d.id) v.standing.conns) c.expire.ensures) c.self.invariant
+    told_tied (peer_ties c.self.inside.peers.items) (life_ties c.self.inside.lives.items) c.self.inside.contexts.standing c.expire.new.self.standing (λ d. if_due c.in-Reached.moment d.deadline)
+    (drained_stays (peer_ties c.self.inside.peers.items) (life_ties c.self.inside.lives.items) c.self.inside.contexts.standing c.expire.new.self.standing (ap (λ (v : WithHooks _ _ _). v.standing.drained) c.expire.ensures) c.self.invariant)
+    (ap (λ (v : WithHooks _ _ _). v.standing.calls) c.expire.ensures) (ap (λ (v : WithHooks _ _ _). map (λ (d : ConnContext). d.id) v.standing.conns) c.expire.ensures) c.self.invariant
 
 pub returns-in-Reached : goal.returns-in-Reached
 returns-in-Reached g c =
     reached_value arc_value (peer_ties c.self.inside.peers.items) (life_ties c.self.inside.lives.items) c.self.inside.contexts.standing c.expire.new.self.standing c.args.self.now c.in-Reached.moment
-    (ap (λ (v : WithHooks _ _). v.standing) c.expire.ensures) c.self.invariant c.self.view_is
+    (ap (λ (v : WithHooks _ _ _). v.standing) c.expire.ensures) c.self.invariant c.self.view_is
     ∙ sym (ap (λ (k : Cause). told k c.args.self.now) c.in-Reached.is)
 
 pub invariant_of-self-in-Some : goal.invariant_of-self-in-Some
 invariant_of-self-in-Some g c =
-    told_tied (peer_ties c.self.inside.peers.items) (life_ties c.self.inside.lives.items) c.self.inside.contexts.standing c.cancel.new.self.standing (λ d. same d.conn c.in-Some.conn)
-    (ap (λ (v : WithHooks _ _). v.standing.calls) c.cancel.ensures) (conns_ended c.cancel.new.self.standing (λ d. d.ended || same d.id c.in-Some.conn) c.self.inside.contexts.standing.conns (ap (λ (v : WithHooks _ _). v.standing.conns) c.cancel.ensures)) c.self.invariant
+    told_tied (peer_ties c.self.inside.peers.items) (life_ties c.self.inside.lives.items) c.self.inside.contexts.standing c.cancel.new.self.standing (λ d. if_cancelled (same d.conn c.in-Some.conn) HangUp)
+    (drained_stays (peer_ties c.self.inside.peers.items) (life_ties c.self.inside.lives.items) c.self.inside.contexts.standing c.cancel.new.self.standing (ap (λ (v : WithHooks _ _ _). v.standing.drained) c.cancel.ensures) c.self.invariant)
+    (ap (λ (v : WithHooks _ _ _). v.standing.calls) c.cancel.ensures) (conns_ended c.cancel.new.self.standing (λ d. if_cancelled (same d.id c.in-Some.conn) HangUp) c.self.inside.contexts.standing.conns (ap (λ (v : WithHooks _ _ _). v.standing.conns) c.cancel.ensures)) c.self.invariant
 
 pub returns-in-Some : goal.returns-in-Some
 returns-in-Some g c =
     hung_value arc_value (peer_ties c.self.inside.peers.items) (life_ties c.self.inside.lives.items) c.self.inside.contexts.standing c.cancel.new.self.standing c.args.self.now c.in-HungUp.number c.in-Some.conn
-    (ap (λ (v : WithHooks _ _). v.standing) c.cancel.ensures) c.self.invariant
+    (ap (λ (v : WithHooks _ _ _). v.standing) c.cancel.ensures) c.self.invariant
     (ap (λ ps. ctx_of c.in-HungUp.number (peer_ties ps)) (sym c.deref.ensures.value) ∙ sym c.ctx_of.ensures ∙ c.in-Some.is) c.self.view_is
     ∙ sym (ap (λ (k : Cause). told k c.args.self.now) c.in-HungUp.is)
 
 pub invariant_of-self-in-Drained : goal.invariant_of-self-in-Drained
 invariant_of-self-in-Drained g c =
-    told_tied (peer_ties c.self.inside.peers.items) (life_ties c.self.inside.lives.items) c.self.inside.contexts.standing c.drain.new.self.standing (λ d. true)
-    (ap (λ (v : WithHooks _ _). v.standing.calls) c.drain.ensures) (conns_ended c.drain.new.self.standing (λ d. true) c.self.inside.contexts.standing.conns (ap (λ (v : WithHooks _ _). v.standing.conns) c.drain.ensures)) c.self.invariant
+    told_tied (peer_ties c.self.inside.peers.items) (life_ties c.self.inside.lives.items) c.self.inside.contexts.standing c.drain.new.self.standing (λ d. Some (Given Drain))
+    (drained_by (peer_ties c.self.inside.peers.items) (life_ties c.self.inside.lives.items) c.self.inside.contexts.standing c.drain.new.self.standing (ap (λ (v : WithHooks _ _ _). v.standing) c.drain.ensures) c.self.invariant)
+    (ap (λ (v : WithHooks _ _ _). v.standing.calls) c.drain.ensures) (conns_ended c.drain.new.self.standing (λ d. Some (Given Drain)) c.self.inside.contexts.standing.conns (ap (λ (v : WithHooks _ _ _). v.standing.conns) c.drain.ensures)) c.self.invariant
 
 pub returns-in-Drained : goal.returns-in-Drained
 returns-in-Drained g c =
     drained_value arc_value (peer_ties c.self.inside.peers.items) (life_ties c.self.inside.lives.items) c.self.inside.contexts.standing c.drain.new.self.standing c.args.self.now
-    (ap (λ (v : WithHooks _ _). v.standing) c.drain.ensures) c.self.invariant c.self.view_is
+    (ap (λ (v : WithHooks _ _ _). v.standing) c.drain.ensures) c.self.invariant c.self.view_is
     ∙ sym (ap (λ (k : Cause). told k c.args.self.now) c.in-Drained.is)
 
 pub returns-in_default : goal.returns-in_default

@@ -1,6 +1,7 @@
 use Rattle.std.proofs.Common.{◌≡◌, ℕ, true, refl, sym, ap, ◌∙◌, inl, inr}
 use Rattle.std.specs.Prelude.{if◌then◌else◌, is_some}
 use Rattle.gateway_model.specs.declared.seen.Seen.TheVariants.{Counted, Late, Unknown}
+use Rattle.gateway_replies.specs.Contexts.{ends_of}
 use Rattle.gateway_theory.specs.Kept.{KeptValue}
 use Rattle.gateway_theory.specs.Step.{has_out}
 use Rattle.gateway_theory.specs.Results.{back_at}
@@ -85,4 +86,4 @@ returns-clause-taken g c =
     )
 
 pub returns-clause-linked : goal.returns-clause-linked
-returns-clause-linked g c = c.break_if.ensures.linked ∙ sym c.give_back.ensures.linked
+returns-clause-linked g c = c.break_if.ensures.linked ∙ sym (c.give_back.ensures.linked (ends_of c.args.contexts.now))

@@ -2,7 +2,8 @@ use Rattle.std.proofs.Common.{◌≡◌}
 use Rattle.gateway_theory.specs.Ends.{EndedBelow}
 use Rattle.gateway_theory.specs.Heads.{conn_heads}
 use Rattle.gateway_machine.specs.Linked.{linked_by, over_by}
+use Rattle.gateway_replies.specs.Contexts.{ends_of}
 use Rattle.gateway_machine.proofs.machine.store.Machine.end_calls.Given as goal
 
 abbrev pub invariant-loop-index : goal.invariant-loop-index
-invariant-loop-index g l = EndedBelow l.cause l.index l.fn.self l.self × (l.contexts ≡ linked_by (over_by l.cause) l.self) × (conn_heads l.self.conns ≡ conn_heads l.fn.self.conns)
+invariant-loop-index g l = EndedBelow l.cause l.index l.fn.self l.self × (l.contexts ≡ linked_by (ends_of l.fn.contexts) (over_by l.cause) l.self) × (conn_heads l.self.conns ≡ conn_heads l.fn.self.conns)

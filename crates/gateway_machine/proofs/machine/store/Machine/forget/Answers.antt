@@ -32,9 +32,9 @@ returns-then-is_spent c =
         ap (λ ks. machine_value c.self.inside.moment c.self.inside.drained c.self.inside.conns.items ks (map (λ (j : HandedJob). j.job) c.self.inside.jobs.items)) c.forget_in.ensures
             ∙ ap (without_call c.args.id.now) c.self.view_is,
       );
-      linked = ap (λ ks. contexts_value c.self.inside.drained (linked_conns c.self.inside.drained c.self.inside.conns.items) (linked_calls none_over ks)) c.forget_in.ensures
-          ∙ ap (λ (m : MachineValue). contexts_value m.drained (linked_conns m.drained m.conns) (linked_calls none_over (filter (λ (k : KeptValue). not (is_call k.id c.args.id.now)) m.calls))) c.self.view_is
-          ∙ ap (contexts_value s.drained (linked_conns s.drained s.conns)) (forgot_linked none_over c.args.id.now s.calls c.in-Some.index c.in-Some.ensures c.requires
+      linked = λ ends. ap (λ ks. contexts_value c.self.inside.drained (linked_conns ends c.self.inside.conns.items) (linked_calls none_over ks)) c.forget_in.ensures
+          ∙ ap (λ (m : MachineValue). contexts_value m.drained (linked_conns ends m.conns) (linked_calls none_over (filter (λ (k : KeptValue). not (is_call k.id c.args.id.now)) m.calls))) c.self.view_is
+          ∙ ap (contexts_value s.drained (linked_conns ends s.conns)) (forgot_linked ends none_over c.args.id.now s.calls c.in-Some.index c.in-Some.ensures c.requires
           (spent_dead (kept_at c.in-Some.index s.calls) (ap (λ (k : KeptValue). is_spent k.call) (sym was) ∙ sym c.is_spent.ensures ∙ c.if-is_spent.true)));
       none_spent = subst (NoneSpent c.args.id.now) (sym c.forget_in.ensures) (none_left c.args.id.now c.self.inside.calls.items);
     }

@@ -6,6 +6,7 @@ use Rattle.gateway_theory.specs.Task.{job_at}
 use Rattle.gateway_theory.specs.Step.{has_out}
 use Rattle.gateway_theory.specs.Store.{MachineValue, machine_value, kept_at}
 use Rattle.gateway_theory.specs.lemmas.LimitLemmas.{same_call}
+use Rattle.gateway_replies.specs.Contexts.{ends_of}
 use Rattle.gateway_machine.proofs.LinkedLemmas.{stepped_linked}
 use Rattle.gateway_theory.specs.lemmas.StoreLemmas.{call_missing, item_is}
 use Rattle.gateway_machine.proofs.ResultLemmas.{found_out, its_at, next_waits, waits_then, steps_at}
@@ -92,7 +93,7 @@ decide-broke-requires g c =
     let i : ℕ = c.in-Some.index in
     let items : c.self.inside.calls.items ≡ s.calls = ap (λ (m : MachineValue). m.calls) c.self.view_is in
     let at : c.index_mut.result.now ≡ kept_at i s.calls = item_is c.self.inside.calls.items s.calls i c.index_mut.result.now items c.in-Some.ensures.0 c.index_mut.ensures.value in
-    stepped_linked s.moment c.args.branch c.args.outcome s _ i (slice_set c.index_mut.result.now.call.out c.args.branch false) c.index_mut.result.now c.take_result-taken.new.self
+    stepped_linked (ends_of c.args.contexts.now) s.moment c.args.branch c.args.outcome s _ i (slice_set c.index_mut.result.now.call.out c.args.branch false) c.index_mut.result.now c.take_result-taken.new.self
     c.take_result-taken.result.decided c.take_result-taken.result.next c.args.id.now c.args.contexts.now c.in-Some.ensures.0 at (c.take_result-taken.ensures s.moment)
     (same_call (kept_at i s.calls).id c.args.id.now c.in-Some.ensures.1) c.apart_law.ensures c.requires (ap (λ (m : MachineValue). m.drained) c.self.view_is) (ap (λ (m : MachineValue). m.conns) c.self.view_is)
     (ap (λ (m : MachineValue). slice_set m.calls i c.take_result-taken.new.self) c.self.view_is)

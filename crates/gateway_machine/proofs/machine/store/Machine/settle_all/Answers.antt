@@ -5,13 +5,13 @@ use Rattle.gateway_theory.specs.lemmas.HeadLemmas.{heads_settled_at}
 use Rattle.gateway_machine.proofs.machine.store.Machine.settle_all.Goals as goal
 
 pub loop-index-init : goal.loop-index-init
-loop-index-init c = (settles_start c.args.self.now, λ over. refl, refl)
+loop-index-init c = (settles_start c.args.self.now, λ ends over. refl, refl)
 
 pub loop-index-preserved : goal.loop-index-preserved
 loop-index-preserved c = (
   settles_next c.loop-index.index c.args.self.now c.loop-index.self c.settle.new.self c.loop-index.invariant.0
       (omega (arith, c.loop-index-test.true, c.len-index-end.ensures, c.loop-index.invariant.0.size_is, ap (λ (m : MachineValue). length m.calls) c.self.view_is)) c.settle.ensures.settled,
-  λ over. c.settle.ensures.linked over ∙ c.loop-index.invariant.1 over,
+  λ ends over. c.settle.ensures.linked ends over ∙ c.loop-index.invariant.1 ends over,
   heads_settled_at c.loop-index.index c.loop-index.self c.settle.new.self c.settle.ensures.settled ∙ c.loop-index.invariant.2,
 )
 

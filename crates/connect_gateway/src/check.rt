@@ -1,0 +1,90 @@
+ghost use Rattle.std.specs.Prelude.{◌≡◌, Err, IfErr, OnOk, string_bytes};
+ghost use Rattle.std.specs.Io.KnownBytes.{Appends};
+ghost use Rattle.connect_gateway.specs.Fault.{IsOfInput, IsOfPlanInput, IsOfReading};
+ghost use Rattle.connect_gateway.specs.Input.{FindsPlans, FindsScript, ReadsNoPlans, ReadsNoScript, WritesApproval, WritesRefusal};
+
+use crate::fault::Fault;
+use crate::input::read_text;
+use crate::task::Checked;
+use input_check::{plan_report, script_report, too_long};
+use std::alloc::Global;
+use std::fs::{File, Files};
+use std::io::{self, Read, Write};
+
+/// Checks the file that is named, and prints what is to be said of it.
+pub(crate) fn check<R: Print + AllocGlobal + Files>(
+    rt: &R,
+    checked: &Checked,
+) -> Result<(), Fault> {
+    let alloc = rt.alloc();
+    let mut writer = io::writer(rt);
+    match checked {
+        Checked::Plans(path) => {
+            let mut file = File::open(rt, path.as_str())?;
+            check_plans(alloc, &mut file, &mut writer)
+        }
+        Checked::Script(path) => {
+            let mut file = File::open(rt, path.as_str())?;
+            check_script(alloc, &mut file, &mut writer)
+        }
+    }
+}
+
+/// Reads a plan file and writes what is to be said of it: that it is fine and what it serves, or why it is refused.
+/// `Plans` where it is refused, `Io` where a read or a write failed, `Memory` for want of memory.
+pub(crate) fn check_plans<R: Read, W: Write>(
+    alloc: Global,
+    reader: &mut R,
+    writer: &mut W,
+) -> Result<(), Fault>
+    ensures faults { IfErr result IsOfPlanInput }
+    ensures fine { OnOk result (FindsPlans (R.remaining reader.old) (R.remaining reader.new)
+        × WritesApproval (W.contents writer.old) (W.contents writer.new)) }
+    ensures plans { result ≡ Err Fault.Plans → ReadsNoPlans (R.remaining reader.old) (R.remaining reader.new)
+        × WritesRefusal (W.contents writer.old) (W.contents writer.new) }
+{
+    let Some(text) = read_text(alloc, reader)? else {
+        write_text(&too_long(alloc)?, writer)?;
+        return Err(Fault::Plans);
+    };
+    let report = plan_report(alloc, text.as_slice())?;
+    write_text(&report.text, writer)?;
+    match report.fault {
+        None => Ok(()),
+        Some(_) => Err(Fault::Plans),
+    }
+}
+
+/// Reads a script and writes what is to be said of it, as `check_plans` does. `Script` where it is refused.
+pub(crate) fn check_script<R: Read, W: Write>(
+    alloc: Global,
+    reader: &mut R,
+    writer: &mut W,
+) -> Result<(), Fault>
+    ensures faults { IfErr result IsOfInput }
+    ensures fine { OnOk result (FindsScript (R.remaining reader.old) (R.remaining reader.new)
+        × WritesApproval (W.contents writer.old) (W.contents writer.new)) }
+    ensures script { result ≡ Err Fault.Script → ReadsNoScript (R.remaining reader.old) (R.remaining reader.new)
+        × WritesRefusal (W.contents writer.old) (W.contents writer.new) }
+{
+    let Some(text) = read_text(alloc, reader)? else {
+        write_text(&too_long(alloc)?, writer)?;
+        return Err(Fault::Script);
+    };
+    let report = script_report(alloc, text.as_slice())?;
+    write_text(&report.text, writer)?;
+    match report.fault {
+        None => Ok(()),
+        Some(_) => Err(Fault::Script),
+    }
+}
+
+fn write_text<W: Write>(text: &String, writer: &mut W) -> Result<(), Fault>
+    ensures faults { IfErr result IsOfReading }
+    ensures written { OnOk result (Appends (W.contents writer.old) (W.contents writer.new) (string_bytes text.now)) }
+{
+    match writer.write_all(text.as_bytes()) {
+        Ok(()) => Ok(()),
+        Err(_) => Err(Fault::Io),
+    }
+}

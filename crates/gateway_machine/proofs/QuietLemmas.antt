@@ -1,0 +1,105 @@
+-- A moment that has reached no deadline ends no call.
+use Rattle.std.proofs.Common.{◌≡◌, ℕ, ◌+◌, ◌<◌, zero, suc, arith, refl, sym, ap, ◌∙◌, List, [], ◌∷◌, ◌++◌, Option, Some, None, Bool, true, false, ⊎_elim, subst, map, length}
+use Rattle.std.specs.Prelude.{All, if◌then◌else◌}
+use Rattle.std.specs.Option.{option_or}
+use Rattle.std.proofs.lemmas.Bool.{cases_Bool}
+use Rattle.std.proofs.lemmas.List.Elements.{All-cons, All-head, All-nil, All-tail}
+use Rattle.gateway_model.specs.declared.id.CallId.{CallId}
+use Rattle.gateway_model.specs.declared.entry.ReplyEntry.{ReplyEntry}
+use Rattle.gateway_model.specs.Past.{ArrivedCall, call_id, is_call, is_due}
+use Rattle.gateway_theory.specs.declared.cause.Cause.{Cause}
+use Rattle.gateway_theory.specs.declared.cause.Cause.TheVariants.{Reached}
+use Rattle.gateway_theory.specs.Conn.{ConnValue}
+use Rattle.gateway_theory.specs.Ends.{CallsEnd, ConnEnds, EndsOn, IsSettled, MayEnd, caused, ended_below, ended_call, ended_if, ended_kept, is_stopped_in, without_reply}
+use Rattle.gateway_theory.specs.Kept.{KeptValue}
+use Rattle.gateway_theory.specs.Machine.{slot_at}
+use Rattle.gateway_theory.specs.Step.{CallState, Live, Step, call_state, kept}
+use Rattle.gateway_theory.specs.Store.{MachineValue, call_at, conn_of, given_up, kept_at}
+use Rattle.gateway_replies.specs.Contexts.{ContextsValue, IsNotDue, LifeValue}
+use Rattle.gateway_machine.specs.Linked.{EndsNone, IsLinked, linked_calls, lives_in, none_over}
+use Rattle.gateway_theory.specs.lemmas.LimitLemmas.{same_call}
+
+-- the cause ends no call of these
+abbrev pub IsLeft : Cause → KeptValue → Type 0
+IsLeft cause k = (l : Live) → k.call.live ≡ Some l → caused cause k.id l.asked ≡ None
+
+left_call : (cause : Cause) (k : KeptValue) → IsLeft cause k → ended_call cause k.id k.call ≡ kept k.call
+left_call cause k left = by k.call.live left refl
+  where
+    by : (o : Option Live) → ((l : Live) → o ≡ Some l → caused cause k.id l.asked ≡ None) → k.call.live ≡ o → ended_if cause k.id k.call.out o ≡ kept k.call
+    by None left o_is = ap (λ o. kept (call_state k.call.out o)) (sym o_is)
+    by (Some l) left o_is = rw (left l refl) (ap (λ o. kept (call_state k.call.out o)) (sym o_is))
+
+map_same : (f : KeptValue → KeptValue) (ks : List KeptValue) → ((j : ℕ) → j < length ks → f (kept_at j ks) ≡ kept_at j ks) → ks ≡ map f ks
+map_same f [] same = refl
+map_same f (k ∷ ks) same = ap (λ l. k ∷ l) (map_same f ks (λ j lt. same (suc j) (omega (arith, lt)))) ∙ ap (λ x. x ∷ map f ks) (sym (same 0 (omega arith)))
+
+all_at : (P : KeptValue → Type 0) (ks : List KeptValue) (j : ℕ) → j < length ks → All P ks → P (kept_at j ks)
+all_at P [] j lt all = absurd (omega (arith, lt))
+all_at P (k ∷ ks) zero lt all = All-head P k ks all
+all_at P (k ∷ ks) (suc j) lt all = all_at P ks j (omega (arith, lt)) (All-tail P k ks all)
+
+-- a call that is not kept is not ended
+none_replied : (cause : Cause) (id : CallId) (ks : List KeptValue) → All (IsLeft cause) ks → (ended_call cause id (call_at id ks)).reply ≡ None
+none_replied cause id [] all = refl
+none_replied cause id (k ∷ ks) all = by (is_call k.id id) refl (none_replied cause id ks (All-tail (IsLeft cause) k ks all))
+  where
+    by : (b : Bool) → is_call k.id id ≡ b → (ended_call cause id (call_at id ks)).reply ≡ None → (ended_call cause id (if b then k.call else call_at id ks)).reply ≡ None
+    by true its rest = ap (λ d. (ended_call cause d k.call).reply) (sym (same_call k.id id its)) ∙ ap (λ (s : Step). s.reply) (left_call cause k (All-head (IsLeft cause) k ks all))
+    by false far rest = rest
+
+-- what is ended by nothing stays
+pub none_end : (cause : Cause) (v : MachineValue) → All (IsLeft cause) v.calls → IsSettled v → CallsEnd cause v v
+none_end cause v left settled = record {
+  moment_is = refl;
+  drained_is = refl;
+  jobs_are = refl;
+  calls_are = map_same (λ k. without_reply (ended_below cause (is_stopped_in k.id.conn v.conns) true k)) v.calls (λ j lt. one j lt (is_stopped_in (kept_at j v.calls).id.conn v.conns) refl);
+  numbers_are = refl;
+  conns_are = λ c. same (conn_of c v.conns);
+  breaks_are = λ c now before. let clash : true ≡ false = sym now ∙ before in absurd (cc);
+}
+  where
+    -- of a call that is settled nothing waits for its slot
+    rests : (k : KeptValue) → k.reply ≡ None → without_reply k ≡ k
+    rests k none = ap (λ r. record { id = k.id; call = k.call; reply = r }) (sym none)
+
+    one : (j : ℕ) → j < length v.calls → (b : Bool) → is_stopped_in (kept_at j v.calls).id.conn v.conns ≡ b → without_reply (ended_below cause b true (kept_at j v.calls)) ≡ kept_at j v.calls
+    one j lt true stopped = ap (λ o. record { id = (kept_at j v.calls).id; call = call_state (kept_at j v.calls).call.out o; reply = None }) (sym (settled.none_live j stopped)) ∙ rests (kept_at j v.calls) (settled.no_reply j)
+    one j lt false going = ap (λ (s : Step). record { id = (kept_at j v.calls).id; call = s.call; reply = None }) (left_call cause (kept_at j v.calls) (all_at (IsLeft cause) v.calls j lt left)) ∙ rests (kept_at j v.calls) (settled.no_reply j)
+
+    or_none : (o : Option ReplyEntry) (b : Bool) (r : Option ReplyEntry) → r ≡ None → o ≡ option_or o (if b then None else r)
+    or_none (Some e) b r none = refl
+    or_none None true r none = refl
+    or_none None false r none = sym none
+
+    same : (o : Option ConnValue) → MayEnd cause v.calls o o
+    same None = tt
+    same (Some k) = record {
+      number_is = refl;
+      taken_is = refl;
+      stays_broken = λ b. b;
+      size_is = refl;
+      each = λ j lt. or_none (slot_at j k.slots) k.broken _ (none_replied cause (call_id k.number (k.taken + j)) v.calls left);
+    }
+
+-- contexts of which none is due
+left_by : (moment : ℕ) (ks : List KeptValue) → All (IsNotDue moment) (linked_calls none_over ks) → All (IsLeft (Reached moment)) ks
+left_by moment [] all = All-nil (IsLeft (Reached moment))
+left_by moment (k ∷ ks) all = by k.call.live refl (λ rest. left_by moment ks rest)
+  where
+    by : (o : Option Live) → k.call.live ≡ o → (All (IsNotDue moment) (linked_calls none_over ks) → All (IsLeft (Reached moment)) ks) → All (IsLeft (Reached moment)) (k ∷ ks)
+    by None o_is rest = All-cons (IsLeft (Reached moment)) k ks (λ l is. let bad : None ≡ Some l = sym o_is ∙ is in cc) (rest (rw o_is at all))
+    by (Some m) o_is rest =
+        let both : All (IsNotDue moment) (record { id = k.id; deadline = m.asked.deadline; request_id = m.asked.request_id; ended = None } ∷ linked_calls none_over ks) = rw o_is at all in
+        All-cons (IsLeft (Reached moment)) k ks
+        (λ l is. let same : m ≡ l = Rattle.std.proofs.lemmas.Option.same_Some m l (sym o_is ∙ is) in
+        rw (← same, All-head (IsNotDue moment) _ _ both refl) refl)
+        (rest (All-tail (IsNotDue moment) _ _ both))
+
+pub not_due : (moment : ℕ) (c : ContextsValue) (v : MachineValue) → IsLinked c v → All (IsNotDue moment) c.calls → EndsNone (Reached moment) v
+not_due moment c v l all = record {
+  noted_is = refl;
+  heads_are = refl;
+  none_ends = none_end (Reached moment) v (left_by moment v.calls (subst (λ (z : ContextsValue). All (IsNotDue moment) z.calls) l.are all));
+}

@@ -1,0 +1,111 @@
+/// What is wrong with a file, or will not work as it seems to be meant. All texts of lines stand here.
+#[derive(Clone, Copy, PartialEq, Eq, Debug)]
+pub(crate) enum Complaint {
+    // of the file as a text
+    TooLong,
+    Utf16,
+    ByteOrderMark,
+    NotUtf8,
+    Empty,
+    CutOff,
+    CommaBeforeEnd,
+    NotJson,
+    // of its shape
+    NotPlans,
+    NotAScript,
+    NotAnArray,
+    NotAnObject,
+    Missing,
+    NotAText,
+    NotALimit,
+    NotATimeout,
+    // of a plan
+    BadPath,
+    BadAddress,
+    BadName,
+    NoBranch,
+    TooManyBranches,
+    ZeroLimit,
+    RepeatedName,
+    RepeatedPath,
+    TooManyPlans,
+    // of an event
+    NoWord,
+    UnknownWord,
+    WrongCount,
+    NotANumber,
+    NotABranch,
+    NotAStatus,
+    NotAType,
+    // what is taken and will not work
+    IgnoredKey,
+    NoTimeout,
+    AddressWithSlashes,
+    NoSuchPort,
+    LimitAboveBranches,
+    BareLf,
+    // of what the places above do not tell
+    Refused,
+}
+
+impl Complaint {
+    /// What the line says behind the place.
+    pub(crate) fn text(&self) -> &'static str {
+        match self {
+            Complaint::TooLong => "a file is at most 16,777,216 bytes long",
+            Complaint::Utf16 => "this looks like UTF-16: save the file as UTF-8",
+            Complaint::ByteOrderMark => "a byte order mark: save the file as UTF-8 without one",
+            Complaint::NotUtf8 => "here it is no UTF-8",
+            Complaint::Empty => "the file is empty",
+            Complaint::CutOff => "the text ends before its JSON does",
+            Complaint::CommaBeforeEnd =>
+                "behind the last comma nothing follows: take the comma out",
+            Complaint::NotJson => {
+                "here it is no JSON, or nests more than 127 deep, or a number is too large"
+            }
+            Complaint::NotPlans => "a plan file is an array of plans",
+            Complaint::NotAScript => "a script is an object with the keys plans and events",
+            Complaint::NotAnArray => "an array belongs here",
+            Complaint::NotAnObject => "an object belongs here",
+            Complaint::Missing => "the key is missing",
+            Complaint::NotAText => "a text belongs here",
+            Complaint::NotALimit => "a whole number from 1 to 4,294,967,295, in digits alone",
+            Complaint::NotATimeout => {
+                "a whole number of milliseconds from 0 to 9,999,999,999, in digits alone; leave the key out for no timeout"
+            }
+            Complaint::BadPath => {
+                "a path begins with /, has bytes from ! to ~ but no ? and no #, and is at most 1,024 bytes long"
+            }
+            Complaint::BadAddress => {
+                "a host and a port, as 127.0.0.1:9001: at most 255 bytes from ! to ~, at the end : and 1 to 5 digits"
+            }
+            Complaint::BadName => {
+                "a letter from a to z, then letters from a to z, digits and _, at most 64 bytes"
+            }
+            Complaint::NoBranch => "a plan has at least one branch",
+            Complaint::TooManyBranches => "a plan has at most 16 branches",
+            Complaint::ZeroLimit => "at least 1, or no branch would ever start",
+            Complaint::RepeatedName => "an earlier branch of the plan has this name",
+            Complaint::RepeatedPath => "an earlier plan has this path",
+            Complaint::TooManyPlans => "a file has at most 256 plans",
+            Complaint::NoWord | Complaint::UnknownWord => {
+                "an event begins with open, piece, hangup, moment, result, lost, drain or close"
+            }
+            Complaint::WrongCount => "it has more or fewer elements than that",
+            Complaint::NotANumber => {
+                "a whole number from 0 to 18,446,744,073,709,551,615, in digits alone"
+            }
+            Complaint::NotABranch => "a whole number from 0 to 4,294,967,295, in digits alone",
+            Complaint::NotAStatus => "a whole number from 200 to 999, in digits alone",
+            Complaint::NotAType => "a text belongs here, or null for no content type",
+            Complaint::IgnoredKey => "no such key, so it is ignored; there is",
+            Complaint::NoTimeout => "no timeout_ms: its calls wait as long as a backend lets them",
+            Complaint::AddressWithSlashes => "a host and a port alone, with no scheme and no //",
+            Complaint::NoSuchPort => "there are ports from 1 to 65535",
+            Complaint::LimitAboveBranches => "more than the plan has branches",
+            Complaint::BareLf =>
+                "a line of a head ends in CR LF (\\r\\n), and one here in LF alone",
+            Complaint::Refused => "the file is refused",
+        }
+    }
+}

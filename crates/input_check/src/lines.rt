@@ -1,0 +1,110 @@
+use crate::finding::{Finding, Place};
+use itoa::Buffer;
+use serde_json::Value;
+use std::alloc::{AllocError, Global};
+
+/// So many letters of a value or a path are shown.
+const MOST_SHOWN: usize = 80;
+
+/// Adds the line of a finding: the place, the key or element with what stands there, and what is wrong.
+pub(crate) fn push_finding(
+    alloc: Global,
+    lines: &mut String,
+    finding: &Finding<'_>,
+) -> Result<(), AllocError> {
+    push_place(lines, alloc, &finding.place)?;
+    let has_name = !finding.name.is_empty();
+    if has_name {
+        push_shown(lines, finding.name)?;
+    }
+    if let Some(value) = finding.value {
+        if has_name {
+            lines.push_str(" ")?;
+        }
+        push_value(lines, alloc, value)?;
+    }
+    if has_name || finding.value.is_some() {
+        lines.push_str(": ")?;
+    }
+    lines.push_str(finding.complaint.text())?;
+    if !finding.meant.is_empty() {
+        lines.push_str(" ")?;
+        lines.push_str(finding.meant)?;
+    }
+    lines.push_str("\n")
+}
+
+fn push_place(lines: &mut String, alloc: Global, place: &Place<'_>) -> Result<(), AllocError> {
+    match place {
+        Place::File => Ok(()),
+        Place::Text(line, column) => {
+            push_count(lines, "line ", *line)?;
+            push_count(lines, ", column ", *column)?;
+            lines.push_str(": ")
+        }
+        Place::Plan(plan, path) => {
+            push_plan(lines, alloc, *plan, *path)?;
+            lines.push_str(": ")
+        }
+        Place::Branch(plan, path, branch) => {
+            push_plan(lines, alloc, *plan, *path)?;
+            push_count(lines, ", branch ", *branch)?;
+            lines.push_str(": ")
+        }
+        Place::Event(event) => {
+            push_count(lines, "event ", *event)?;
+            lines.push_str(": ")
+        }
+        Place::FormedEvent(event, form) => {
+            push_count(lines, "event ", *event)?;
+            lines.push_str(", ")?;
+            lines.push_str(form.text())?;
+            lines.push_str(": ")
+        }
+    }
+}
+
+/// Adds a plan's number, and its path where it has a text there.
+fn push_plan(
+    lines: &mut String,
+    alloc: Global,
+    plan: usize,
+    path: Option<&Value>,
+) -> Result<(), AllocError> {
+    push_count(lines, "plan ", plan)?;
+    let Some(path) = path.and_then(Value::as_str) else {
+        return Ok(());
+    };
+    lines.push_str(" (")?;
+    push_shown(lines, path)?;
+    lines.push_str(")")
+}
+
+/// Adds a number, with a text in front of it.
+pub(crate) fn push_count(lines: &mut String, before: &str, count: usize) -> Result<(), AllocError> {
+    let mut buffer = Buffer::new();
+    lines.push_str(before)?;
+    lines.push_str(buffer.format(count))
+}
+
+/// Adds a value as JSON; of an array or an object what it is alone.
+fn push_value(lines: &mut String, alloc: Global, value: &Value) -> Result<(), AllocError> {
+    if value.is_array() {
+        lines.push_str("[..]")
+    } else if value.is_object() {
+        lines.push_str("{..}")
+    } else {
+        push_shown(lines, value.to_string(alloc)?.as_str())
+    }
+}
+
+/// Adds the first letters of a text, so that a line stays one.
+pub(crate) fn push_shown(lines: &mut String, text: &str) -> Result<(), AllocError> {
+    for (k, letter) in text.chars().enumerate() {
+        if k == MOST_SHOWN {
+            return lines.push_str("..");
+        }
+        lines.push(if letter.is_control() { '?' } else { letter })?;
+    }
+    Ok(())
+}

@@ -1,0 +1,133 @@
+//! What the gateway takes of a plan and what will not work as it seems to be meant.
+use crate::complaint::Complaint;
+use crate::finding::{Finding, Place};
+use crate::lines::push_finding;
+use crate::plan_fault::{branches_of, text_of};
+use crate::spelling::meant_key;
+use serde_json::Value;
+use std::alloc::{AllocError, Global};
+
+const PLAN_KEYS: [&str; 4] = ["path", "limit", "timeout_ms", "branches"];
+
+const BRANCH_KEYS: [&str; 3] = ["name", "address", "path"];
+
+const MOST_PORT: u64 = 65_535;
+
+/// Adds the warnings of an array of plans.
+pub(crate) fn push_plan_warnings(
+    alloc: Global,
+    lines: &mut String,
+    plans: &[Value],
+) -> Result<(), AllocError> {
+    for (k, plan) in plans.iter().enumerate() {
+        if plan.is_object() {
+            push_warnings_of_plan(alloc, lines, Place::Plan(k + 1, plan.get("path")), plan)?;
+        }
+    }
+    Ok(())
+}
+
+fn push_warnings_of_plan<'v>(
+    alloc: Global,
+    lines: &mut String,
+    place: Place<'v>,
+    plan: &'v Value,
+) -> Result<(), AllocError> {
+    push_key_warnings(alloc, lines, place, plan, &PLAN_KEYS)?;
+    if plan.get("timeout_ms").is_none() {
+        push_warning(alloc, lines, &Finding::at(place, Complaint::NoTimeout))?;
+    }
+    let branches = branches_of(plan);
+    if is_above(plan.get("limit"), branches.len()) {
+        let found = Finding::of(
+            place,
+            "limit",
+            plan.get("limit"),
+            Complaint::LimitAboveBranches,
+        );
+        push_warning(alloc, lines, &found)?;
+    }
+    for (k, branch) in branches.iter().enumerate() {
+        let place = place.branch(k + 1);
+        push_key_warnings(alloc, lines, place, branch, &BRANCH_KEYS)?;
+        push_address_warnings(alloc, lines, place, branch)?;
+    }
+    Ok(())
+}
+
+/// Whether a limit lets more branches out than there are, of which there is one at least.
+fn is_above(limit: Option<&Value>, branches: usize) -> bool {
+    branches > 0
+        && limit
+            .and_then(Value::as_u64)
+            .is_some_and(|limit| limit > branches as u64)
+}
+
+fn push_address_warnings<'v>(
+    alloc: Global,
+    lines: &mut String,
+    place: Place<'v>,
+    branch: &'v Value,
+) -> Result<(), AllocError> {
+    let address = text_of(branch, "address");
+    if address.contains("//") {
+        let found = Finding::of(
+            place,
+            "address",
+            branch.get("address"),
+            Complaint::AddressWithSlashes,
+        );
+        push_warning(alloc, lines, &found)?;
+    }
+    if has_no_port(address) {
+        let found = Finding::of(
+            place,
+            "address",
+            branch.get("address"),
+            Complaint::NoSuchPort,
+        );
+        push_warning(alloc, lines, &found)?;
+    }
+    Ok(())
+}
+
+/// Whether the number at the end of an address is no port.
+fn has_no_port(address: &str) -> bool {
+    match address
+        .rsplit(':')
+        .next()
+        .and_then(|port| port.parse::<u64>().ok())
+    {
+        Some(port) => port == 0 || MOST_PORT < port,
+        None => false,
+    }
+}
+
+/// Adds a warning for each key of an object that is not known and near to one that is.
+pub(crate) fn push_key_warnings<'v>(
+    alloc: Global,
+    lines: &mut String,
+    place: Place<'v>,
+    object: &'v Value,
+    known: &[&'static str],
+) -> Result<(), AllocError> {
+    let Some(members) = object.as_object() else {
+        return Ok(());
+    };
+    for key in members.keys() {
+        if let Some(meant) = meant_key(alloc, key.as_str(), known)? {
+            let found = Finding::of(place, key.as_str(), None, Complaint::IgnoredKey);
+            push_warning(alloc, lines, &found.meaning(meant))?;
+        }
+    }
+    Ok(())
+}
+
+pub(crate) fn push_warning(
+    alloc: Global,
+    lines: &mut String,
+    found: &Finding<'_>,
+) -> Result<(), AllocError> {
+    lines.push_str("warning: ")?;
+    push_finding(alloc, lines, found)
+}

@@ -1,0 +1,171 @@
+ghost use Rattle.std.specs.Prelude.{IfOk, string_bytes};
+ghost use Rattle.call_plan.specs.PlanFile.{plans_in};
+ghost use Rattle.gateway_run.specs.Script.{script_in};
+ghost use Rattle.input_check.specs.Report.{IsApproval, IsRefusal, IsVerdict, Says};
+
+use crate::complaint::Complaint;
+use crate::event_fault::elements_of;
+use crate::finding::{Finding, Place};
+use crate::json_fault::json_fault;
+use crate::lines::push_finding;
+use crate::plan_fault::plans_fault;
+use crate::plan_warnings::push_plan_warnings;
+use crate::script_fault::{plans_of, script_fault};
+use crate::script_warnings::push_script_warnings;
+use crate::served::{push_number, push_served};
+use call_plan::{PlanError, Plans, read_plans};
+use gateway_run::{ScriptError, read_script};
+use serde_json::{Error, Value};
+use std::alloc::{AllocError, Global};
+
+/// What is to be said of a plan file.
+#[derive(Drop)]
+pub struct PlanReport {
+    /// Why `read_plans` refuses it, if it does; never want of memory.
+    pub fault: Option<PlanError>,
+    /// Lines, each ended by LF. The first begins with `fine: ` where there is no fault, else with `refused: `.
+    pub text: String,
+}
+
+/// What is to be said of a script.
+#[derive(Drop)]
+pub struct ScriptReport {
+    /// Why `read_script` refuses it, if it does; never want of memory.
+    pub fault: Option<ScriptError>,
+    /// Lines, as those of a `PlanReport`.
+    pub text: String,
+}
+
+/// The report on the text of a plan file.
+pub fn plan_report(alloc: Global, text: &[u8]) -> Result<PlanReport, AllocError>
+    ensures fault { IfOk result (λ report. IsVerdict report.fault (plans_in text.now)) }
+    ensures says { IfOk result (λ report. Says report.fault (string_bytes report.text)) }
+{
+    match read_plans(alloc, text) {
+        Ok(plans) => Ok(PlanReport {
+            fault: None,
+            text: fine(alloc, &fine_plans(alloc, &plans, text)?)?,
+        }),
+        Err(PlanError::Memory) => Err(AllocError),
+        Err(fault) => Ok(PlanReport {
+            fault: Some(fault),
+            text: refused(alloc, &refused_plans(alloc, text)?)?,
+        }),
+    }
+}
+
+/// The report on the text of a script.
+pub fn script_report(alloc: Global, text: &[u8]) -> Result<ScriptReport, AllocError>
+    ensures fault { IfOk result (λ report. IsVerdict report.fault (script_in text.now)) }
+    ensures says { IfOk result (λ report. Says report.fault (string_bytes report.text)) }
+{
+    match read_script(alloc, text) {
+        Ok((plans, events)) => Ok(ScriptReport {
+            fault: None,
+            text: fine(alloc, &fine_script(alloc, &plans, events.len(), text)?)?,
+        }),
+        Err(ScriptError::Memory) => Err(AllocError),
+        Err(fault) => Ok(ScriptReport {
+            fault: Some(fault),
+            text: refused(alloc, &refused_script(alloc, text)?)?,
+        }),
+    }
+}
+
+/// The text for a file that is longer than one may be.
+pub fn too_long(alloc: Global) -> Result<String, AllocError>
+    ensures { IfOk result (λ text. IsRefusal (string_bytes text)) }
+{
+    let mut lines = String::new(alloc);
+    push_finding(
+        alloc,
+        &mut lines,
+        &Finding::at(Place::File, Complaint::TooLong),
+    )?;
+    refused(alloc, &lines)
+}
+
+fn fine(alloc: Global, lines: &String) -> Result<String, AllocError>
+    ensures { IfOk result (λ text. IsApproval (string_bytes text)) }
+{
+    let mut text = String::from_str(alloc, "fine: ")?;
+    text.push_str(lines.as_str())?;
+    Ok(text)
+}
+
+fn refused(alloc: Global, lines: &String) -> Result<String, AllocError>
+    ensures { IfOk result (λ text. IsRefusal (string_bytes text)) }
+{
+    let mut text = String::from_str(alloc, "refused: ")?;
+    text.push_str(lines.as_str())?;
+    Ok(text)
+}
+
+fn fine_plans(alloc: Global, plans: &Plans, text: &[u8]) -> Result<String, AllocError> {
+    let mut lines = String::new(alloc);
+    push_number(&mut lines, plans.len(), " plan\n", " plans\n")?;
+    if let Ok(value) = read_value(alloc, text)? {
+        push_served(&mut lines, plans, elements_of(&value))?;
+        push_plan_warnings(alloc, &mut lines, elements_of(&value))?;
+    }
+    Ok(lines)
+}
+
+fn refused_plans(alloc: Global, text: &[u8]) -> Result<String, AllocError> {
+    let mut lines = String::new(alloc);
+    match read_value(alloc, text)? {
+        Ok(value) => {
+            push_fault(alloc, &mut lines, plans_fault(&value))?;
+            push_plan_warnings(alloc, &mut lines, elements_of(&value))?;
+        }
+        Err(error) => push_finding(alloc, &mut lines, &json_fault(text, &error))?,
+    }
+    Ok(lines)
+}
+
+fn fine_script(
+    alloc: Global,
+    plans: &Plans,
+    events: usize,
+    text: &[u8],
+) -> Result<String, AllocError> {
+    let mut lines = String::new(alloc);
+    push_number(&mut lines, plans.len(), " plan, ", " plans, ")?;
+    push_number(&mut lines, events, " event\n", " events\n")?;
+    if let Ok(script) = read_value(alloc, text)? {
+        push_served(&mut lines, plans, plans_of(&script))?;
+        push_script_warnings(alloc, &mut lines, &script)?;
+    }
+    Ok(lines)
+}
+
+fn refused_script(alloc: Global, text: &[u8]) -> Result<String, AllocError> {
+    let mut lines = String::new(alloc);
+    match read_value(alloc, text)? {
+        Ok(script) => {
+            push_fault(alloc, &mut lines, script_fault(&script))?;
+            push_script_warnings(alloc, &mut lines, &script)?;
+        }
+        Err(error) => push_finding(alloc, &mut lines, &json_fault(text, &error))?,
+    }
+    Ok(lines)
+}
+
+/// The value of a text, or what the reader of JSON says of it.
+fn read_value(alloc: Global, text: &[u8]) -> Result<Result<Value, Error>, AllocError> {
+    match Value::from_slice(alloc, text) {
+        Err(error) if error.is_memory() => Err(AllocError),
+        read => Ok(read),
+    }
+}
+
+fn push_fault(
+    alloc: Global,
+    lines: &mut String,
+    found: Option<Finding<'_>>,
+) -> Result<(), AllocError> {
+    match found {
+        Some(found) => push_finding(alloc, lines, &found),
+        None => push_finding(alloc, lines, &Finding::at(Place::File, Complaint::Refused)),
+    }
+}

@@ -1,0 +1,298 @@
+"""What the cases of tests/program.py share: the room that a case has, and what it does to a program, a client and a backend."""
+import contextlib
+import json
+import os
+import resource
+import signal
+import socket
+import subprocess
+import tempfile
+import threading
+import time
+
+HERE = os.path.dirname(os.path.abspath(__file__))
+
+# a case may take so many seconds, and what it waits for comes within so many
+CASE_TIME = 60
+WAIT = 20
+
+WORDS = (2, "connect_gateway: bad arguments\n")
+PLANS = (3, "connect_gateway: bad plan file\n")
+SCRIPT = (4, "connect_gateway: bad script\n")
+MEMORY = (5, "connect_gateway: no memory\n")
+IO = (6, "connect_gateway: input or output fault\n")
+DONE = (0, "")
+
+EMPTY_SCRIPT = b'{"plans":[],"events":[]}'
+LONGEST = 16_777_216
+
+# a request to no plan, whose answer needs no backend
+STRAY = b"POST /none HTTP/1.1\r\nHost: g\r\nContent-Length: 0\r\n\r\n"
+NOT_FOUND = b"HTTP/1.1 404 Not Found\r\nContent-Length: 0\r\n\r\n"
+
+# the user and group that own nothing
+NOBODY = 65534
+
+
+class Wrong(Exception):
+    """What came is not what should."""
+
+
+class Untried(Exception):
+    """This machine has no means for the case."""
+
+
+def expect(what, found, wanted):
+    if found != wanted:
+        raise Wrong(f"{what}: {found!r}, expected {wanted!r}")
+
+
+class Room:
+    """What one case uses: a folder, the program, and what was started."""
+
+    def __init__(self, folder, program):
+        self.folder, self.program = folder, program
+        self.started = []
+
+    def file(self, name, content):
+        path = f"{self.folder}/{name}"
+        with open(path, "wb") as file:
+            file.write(content)
+        os.chmod(path, 0o644)
+        return path
+
+    def start(self, words, limit=lambda: None, variables=None, **streams):
+        """Starts the program with its streams as pipes, but for those that are given."""
+        how = {"stdin": subprocess.DEVNULL, "stdout": subprocess.PIPE, "stderr": subprocess.PIPE, **streams}
+        variables = {**os.environ, **(variables or {})}
+        run = subprocess.Popen([self.program, *words], cwd=self.folder, preexec_fn=limit, env=variables, **how)
+        self.started.append(run)
+        return run
+
+    def ends(self, what, run, wanted, printed=b""):
+        """Sees that a run ends by itself, with this status and line, and has printed that."""
+        found, output = end_of(run)
+        expect(what, found, wanted)
+        if output is not None:
+            expect(f"{what}: its output", output, printed)
+
+    def replay(self, what, script, wanted, printed=b"", **how):
+        with tempfile.TemporaryFile(dir=self.folder) as given:
+            given.write(script)
+            given.seek(0)
+            self.ends(what, self.start(["replay"], stdin=given, **how), wanted, printed)
+
+    def serve(self, plans, workers=1, streams=None, **how):
+        """Starts the gateway, and returns its run and the port that it will listen at."""
+        port = free_port()
+        words = serve_words(port, self.file("plans", plans), workers, streams)
+        return self.start(words, **how), port
+
+    def end_all(self):
+        for run in self.started:
+            run.kill()
+            run.wait()
+            for stream in (run.stdout, run.stderr):
+                if stream:
+                    stream.close()
+
+
+def end_of(run):
+    """How a run ended: its status and what stands on standard error; and what it printed, if that was asked for."""
+    try:
+        output, said = run.communicate(timeout=WAIT)
+    except subprocess.TimeoutExpired:
+        raise Wrong(f"it has not ended after {WAIT} seconds") from None
+    return (run.returncode, said.decode(errors="replace")), output
+
+
+def serve_words(port, plans, workers=1, streams=None):
+    words = ["serve", "--listen", f"127.0.0.1:{port}", "--plans", plans, "--workers", str(workers)]
+    return words + (["--connections", str(streams)] if streams else [])
+
+
+def free_port():
+    with socket.socket() as taken:
+        taken.bind(("127.0.0.1", 0))
+        return taken.getsockname()[1]
+
+
+def listener():
+    """A socket that listens at a port of its own."""
+    made = socket.create_server(("127.0.0.1", 0))
+    made.settimeout(WAIT)
+    return made
+
+
+def client(port):
+    """A stream to the gateway, as soon as that listens."""
+    end = time.monotonic() + WAIT
+    while True:
+        try:
+            return socket.create_connection(("127.0.0.1", port), timeout=WAIT)
+        except ConnectionRefusedError:
+            if time.monotonic() > end:
+                raise Wrong("nobody listens") from None
+            time.sleep(0.02)
+
+
+def read_to(stream, count):
+    """So many bytes of a stream, or those before its end."""
+    got = b""
+    try:
+        while len(got) < count:
+            piece = stream.recv(count - len(got))
+            if not piece:
+                break
+            got += piece
+    except socket.timeout:
+        raise Wrong(f"no more came in {WAIT} seconds than {got!r}") from None
+    except ConnectionResetError:
+        got += b" (reset)"
+    return got
+
+
+def is_refused(port):
+    """Whether nobody listens at the port any more."""
+    try:
+        socket.create_connection(("127.0.0.1", port), timeout=WAIT).close()
+    except ConnectionRefusedError:
+        return True
+    return False
+
+
+def sees_end(what, stream):
+    expect(what, read_to(stream, 1), b"")
+
+
+def answers(what, stream):
+    """Sees that a request which needs no backend is answered on the stream."""
+    stream.sendall(STRAY)
+    expect(what, read_to(stream, len(NOT_FOUND)), NOT_FOUND)
+
+
+def plan(backends, limit, timeout=None):
+    """A plan file: one plan, with a branch for each of these ports."""
+    branches = [{"name": f"b{at}", "address": f"127.0.0.1:{port}", "path": "/ask"} for at, port in enumerate(backends)]
+    made = {"path": "/call", "limit": limit, "branches": branches}
+    return json.dumps([{**made, "timeout_ms": timeout} if timeout else made]).encode()
+
+
+def call(stream, further=""):
+    fields = "Host: g\r\nContent-Type: application/json\r\nContent-Length: 2\r\n" + further
+    stream.sendall(f"POST /call HTTP/1.1\r\n{fields}\r\n{{}}".encode())
+
+
+def reply(body):
+    return f"HTTP/1.1 200 OK\r\nContent-Type: application/json\r\nContent-Length: {len(body)}\r\n\r\n{body}".encode()
+
+
+def read_reply(stream):
+    """The status and the body of the next reply on a stream."""
+    head = b""
+    while not head.endswith(b"\r\n\r\n"):
+        piece = read_to(stream, 1)
+        if not piece:
+            raise Wrong(f"the stream ended behind {head!r}")
+        head += piece
+    length = next(int(line[16:]) for line in head.split(b"\r\n") if line.startswith(b"Content-Length: "))
+    return head[9:12].decode(), read_to(stream, length)
+
+
+class Backend:
+    """A backend that answers each request on a connection of its own, after a while, in a thread of its own."""
+
+    def __init__(self, body, pause=0.0):
+        self.socket, self.answer, self.pause = listener(), reply(body), pause
+        self.port = self.socket.getsockname()[1]
+        self.socket.settimeout(None)
+        threading.Thread(target=self.serve, daemon=True).start()
+
+    def serve(self):
+        with contextlib.suppress(OSError):
+            while True:
+                stream = self.socket.accept()[0]
+                if self.pause:
+                    threading.Thread(target=self.answer_on, args=(stream,), daemon=True).start()
+                else:
+                    self.answer_on(stream)
+
+    def answer_on(self, stream):
+        with contextlib.suppress(OSError), stream:
+            stream.recv(65536)
+            time.sleep(self.pause)
+            stream.sendall(self.answer)
+
+    def __enter__(self):
+        return self
+
+    def __exit__(self, *_why):
+        # which ends the accept too
+        with contextlib.suppress(OSError):
+            self.socket.shutdown(socket.SHUT_RDWR)
+        self.socket.close()
+
+
+def stop_now(run):
+    """Stops a program, and waits until all its threads stand: one that is not yet told could still read."""
+    run.send_signal(signal.SIGSTOP)
+    os.waitid(os.P_PID, run.pid, os.WSTOPPED)
+
+
+def be_nobody():
+    """Gives up the rights of root, for which there is no limit of threads."""
+    if os.getuid() == 0:
+        os.setgroups([])
+        os.setgid(NOBODY)
+        os.setuid(NOBODY)
+
+
+def limit_now(run, kind, most):
+    """Sets a limit of a program that runs."""
+    resource.prlimit(run.pid, kind, (most, resource.getrlimit(kind)[1]))
+
+
+def limit_threads_now(run, most):
+    """Sets the limit of threads of a program that runs as nobody, which nobody may do, and root not always."""
+    child = os.fork()
+    if child == 0:
+        with contextlib.suppress(OSError):
+            be_nobody()
+            limit_now(run, resource.RLIMIT_NPROC, most)
+            os._exit(0)
+        os._exit(1)
+    if os.waitpid(child, 0)[1]:
+        raise Untried("the limit of threads can't be set")
+
+
+def threads_of_nobody():
+    """How many threads run as nobody."""
+    count = 0
+    for process in os.listdir("/proc"):
+        with contextlib.suppress(OSError):
+            if process.isdigit() and os.stat(f"/proc/{process}").st_uid == NOBODY:
+                count += len(os.listdir(f"/proc/{process}/task"))
+    return count
+
+
+def waits_of(run):
+    """How often the threads of a program have gone to sleep so far, as to wait for each other."""
+    count = 0
+    for thread in os.listdir(f"/proc/{run.pid}/task"):
+        with open(f"/proc/{run.pid}/task/{thread}/status", encoding="ascii") as file:
+            count += next(int(line.split()[1]) for line in file if line.startswith("voluntary_ctxt_switches"))
+    return count
+
+
+def processor_time_of(run):
+    """The seconds of processor time that a program has used so far."""
+    with open(f"/proc/{run.pid}/stat", encoding="ascii") as file:
+        fields = file.read().rsplit(")", 1)[1].split()
+    return (int(fields[11]) + int(fields[12])) / os.sysconf("SC_CLK_TCK")
+
+
+def size_of(run, what="VmSize"):
+    """The bytes of memory that a program has asked for; `VmData` are those without its stack and its code."""
+    with open(f"/proc/{run.pid}/status", encoding="ascii") as file:
+        found = dict(line.split(":", 1) for line in file)
+    return int(found[what].split()[0]) * 1024
