@@ -327,6 +327,31 @@ def case_deadline(room):
     room.ends("the program", run, DONE)
 
 
+def case_branch_deadline(room):
+    """a silent backend ends its call by the time of its branch, and its worker asks the next one"""
+    with listener() as silent, Backend("1") as backend:
+        branches = [("first", backend.port, {}), ("hotel", silent.getsockname()[1], {"timeout_ms": 50})]
+        made = [{"name": name, "address": f"127.0.0.1:{port}", "path": "/ask", **time} for name, port, time in branches]
+        slow = {"path": "/slow", "limit": 1, "branches": made}
+        run, port = room.serve(json.dumps(json.loads(plan([backend.port], 1)) + [slow]).encode(), streams=1)
+        late = ("504", b'{"code":"deadline_exceeded","message":"hotel: context deadline exceeded"}')
+        took = []
+        with client(port) as stream:
+            for _ in range(10):
+                began = time.monotonic()
+                call(stream, path="/slow")
+                expect("how it ended", read_reply(stream), late)
+                took.append(time.monotonic() - began)
+                with silent.accept()[0] as asked:
+                    line = b"POST /ask HTTP/1.1\r\n"
+                    expect("what the silent one was asked", read_to(asked, len(line)), line)
+                    call(stream)
+                    expect("what its worker asked next", read_reply(stream), ("200", b'{"b0":1}'))
+        expect(f"whether none came early, {min(took):.4f} seconds", min(took) > 0.048, True)
+        expect(f"whether one came within a second, {min(took):.4f} seconds", min(took) < 1, True)
+    room.ends("the program", run, DONE)
+
+
 def case_whole_time(room):
     """a call that comes while nothing else happens has its whole time"""
     with listener() as backend:

@@ -178,9 +178,9 @@ def plan(backends, limit, timeout=None):
     return json.dumps([{**made, "timeout_ms": timeout} if timeout else made]).encode()
 
 
-def call(stream, further=""):
+def call(stream, further="", path="/call"):
     fields = "Host: g\r\nContent-Type: application/json\r\nContent-Length: 2\r\n" + further
-    stream.sendall(f"POST /call HTTP/1.1\r\n{fields}\r\n{{}}".encode())
+    stream.sendall(f"POST {path} HTTP/1.1\r\n{fields}\r\n{{}}".encode())
 
 
 def reply(body):

@@ -304,7 +304,7 @@ impl<H: ReplyHook + Drop, L: Ledger, J: Ledger, K: Ledger> Book<H, L, J, K> {
             (handed : List JobValue) (occurred : List Placed)
             → Served self.now.core opened es taken handed → Occurs self.now.core.plans opened es occurred
             → conn_of id.conn self.now.core.machine.conns ≡ Some k → k.broken ≡ false → (call_at id self.now.core.machine.calls).live ≡ Some l
-            → (is_lawful (record_of l.asked l.events) ≡ true) × (is_decided (record_of l.asked l.events) ≡ false) }
+            → (is_lawful (record_of l.asked l.deadlines l.events) ≡ true) × (is_decided (record_of l.asked l.deadlines l.events) ≡ false) }
         ensures limit { (id : CallId) (a : ArrivedCall) (opened : List ℕ) (es : List Event) (taken : ℕ → List ReplyEntry)
             (handed : List JobValue) (occurred : List Placed)
             → Served self.now.core opened es taken handed → Occurs self.now.core.plans opened es occurred

@@ -10,9 +10,9 @@ use std::io::ErrorKind;
 use std::net::{Net, OpenStream, TcpStream, ToSocketAddrs};
 use std::time::{Clock, Duration, Instant};
 
-/// Asks each job's backend over a TCP connection of its own, for no longer than the job's call had yet as the branch
-/// started and 50 milliseconds more: a wait that lasts longer fails, and the job is lost. A job whose call has no deadline
-/// waits as long as its backend lets it.
+/// Asks each job's backend over a TCP connection of its own, for no longer than the job had yet as its branch started and
+/// 50 milliseconds more: a wait that lasts longer fails, and the job is lost. A job without a deadline, of its call or of
+/// its branch, waits as long as its backend lets it.
 #[derive(Clone, Copy, Debug)]
 pub struct RemoteBackend {
     alloc: Global,
@@ -51,8 +51,8 @@ impl Backend for RemoteBackend {
     }
 }
 
-/// How long a backend is waited for beyond its call's deadline, in milliseconds. The clock's side ends the call meanwhile, so
-/// that a silent backend is not taken for the call's first failure.
+/// How long a backend is waited for beyond its job's deadline, in milliseconds. Whoever hands in a moment meanwhile ends the
+/// call, so that a silent backend is not taken for the call's first failure.
 const GRACE: u64 = 50;
 
 /// A new connection to the address, for so many milliseconds from now on, and a little longer.

@@ -84,8 +84,9 @@ impl<H: ReplyHook + Drop, L: Ledger, J: Ledger, K: Ledger> Shared<H, L, J, K> {
         self.open_doors(&[true; DOORS]);
     }
 
-    /// Lets the lock go behind an event of this connection, and wakes those who have something to do by it: one worker
-    /// where a job waits, and the connection's write side where it has a reply to take or nothing more to wait for.
+    /// Lets the lock go behind an event of this connection, and wakes those who have something to do by it: one worker and
+    /// the clock's side where a job waits, and the connection's write side where it has a reply to take or nothing more to
+    /// wait for.
     pub fn let_go(&self, state: MutexGuard<'_, State<H, L, J, K>>, conn: ConnId) {
         let mut state = state;
         let is_due = state.book.has_news(conn) && state.waiting.take_note(conn);

@@ -4,16 +4,18 @@ use Rattle.std.specs.Prelude.{◌⊎◌, All, unwrap_or}
 use Rattle.std.specs.List.{list_any}
 use Rattle.std.proofs.lemmas.List.Elements.{All-head, All-tail}
 use Rattle.std.proofs.lemmas.Bool.{cases_Bool}
-use Rattle.std.proofs.Math.Bool.{or-false}
+use Rattle.std.proofs.Math.Bool.{or-false, or-true}
 use Rattle.std.proofs.lemmas.Option.{same_Some}
 use Rattle.context_tree.specs.declared.node.Kind.{Kind}
-use Rattle.context_tree.specs.declared.node.Kind.TheVariants.{Background, Cancel, Value}
+use Rattle.context_tree.specs.declared.node.Kind.TheVariants.{Background, Cancel, Deadline, Value}
 use Rattle.context_tree.specs.Context.{Id, same, held, parent_of}
 use Rattle.context_tree.specs.Tree.{TreeValue, is_among}
 use Rattle.after_funcs.specs.declared.callbacks.AfterFuncs.{AfterFuncs}
 use Rattle.call_contexts.specs.declared.life.Life.{Life}
-use Rattle.call_contexts.specs.Sound.{Op, IsSound, IsLife, IsConn, IsHolder, kind_of, contexts, owns, is_kept}
-use Rattle.call_contexts.proofs.Trees.{same_true, apart_kinds}
+use Rattle.call_contexts.specs.declared.twig.Twig.{Twig}
+use Rattle.call_contexts.specs.Sound.{Op, IsSound, IsLife, IsConn, IsHolder, IsTwig, kind_of, contexts, owns, is_kept, is_twig}
+use Rattle.call_contexts.proofs.Trees.{same_refl, same_true, apart_kinds}
+use Rattle.call_contexts.proofs.Lists.{life_in, twig_in}
 
 pub kind_parent : (C V : Type 0) (p q : Id) (d : Option ℕ) → parent_of (kind_of {C = C} {V = V} p d) ≡ Some q → p ≡ q
 kind_parent C V p q None e = cc
@@ -124,6 +126,60 @@ module _ {C V : Type 0} (past : List (Op C V)) (root base : Id) (root_is : held 
     pub holder_call : (x conn : Id) (r : V) → held x past ≡ Some (Value conn 0 r) → x ≡ l.ctx → ⊥
     holder_call x conn r x_is = differ x l.ctx (Value conn 0 r) kind past x_is is.call_is (λ e. kind_not_value (unwrap_or l.holder l.conn) l.deadline conn r (sym e))
 
+  -- ---- a branch's context
+
+  parent_call : (o : Life) → IsLife past base o → (conn : Id) → IsConn base past conn → (holder : Option Id) → IsHolder past conn holder → unwrap_or holder conn ≡ o.ctx → ⊥
+  parent_call o o_is conn c None is e = conn_call o o_is conn c e
+  parent_call o o_is conn c (Some x) is e = holder_call o o_is x conn is.0 is.1 e
+
+  module _ (t : Twig) (t_is : held t.ctx past ≡ Some (Deadline t.call t.at None)) where
+    abbrev twig : Kind C V
+    twig = Deadline t.call t.at None
+
+    pub root_far_twig : same root t.ctx ≡ false
+    root_far_twig = apart_kinds root t.ctx Background (Deadline t.call t.at None) past root_is t_is (λ e. cc)
+
+    pub base_far_twig : same base t.ctx ≡ false
+    base_far_twig = apart_kinds base t.ctx (Cancel root) (Deadline t.call t.at None) past base_is t_is (λ e. cc)
+
+    pub conn_far_twig : (c : Id) → IsConn base past c → same c t.ctx ≡ false
+    conn_far_twig c c_is = apart_kinds c t.ctx (Cancel base) (Deadline t.call t.at None) past c_is t_is (λ e. cc)
+
+    pub twig_far_conn : (c : Id) → IsConn base past c → same t.ctx c ≡ false
+    twig_far_conn c c_is = apart_kinds t.ctx c (Deadline t.call t.at None) (Cancel base) past t_is c_is (λ e. cc)
+
+    pub holder_far_twig : (x conn : Id) (r : V) → held x past ≡ Some (Value conn 0 r) → same x t.ctx ≡ false
+    holder_far_twig x conn r x_is = apart_kinds x t.ctx (Value conn 0 r) (Deadline t.call t.at None) past x_is t_is (λ e. cc)
+
+    pub twig_far_holder : (x conn : Id) (r : V) → held x past ≡ Some (Value conn 0 r) → same t.ctx x ≡ false
+    twig_far_holder x conn r x_is = apart_kinds t.ctx x (Deadline t.call t.at None) (Value conn 0 r) past t_is x_is (λ e. cc)
+
+    pub twig_root : t.ctx ≡ root → ⊥
+    twig_root = differ t.ctx root (Deadline t.call t.at None) Background past t_is root_is (λ e. cc)
+
+    pub twig_base : t.ctx ≡ base → ⊥
+    twig_base = differ t.ctx base (Deadline t.call t.at None) (Cancel root) past t_is base_is (λ e. cc)
+
+    pub conn_twig : (c : Id) → IsConn base past c → c ≡ t.ctx → ⊥
+    conn_twig c c_is = differ c t.ctx (Cancel base) (Deadline t.call t.at None) past c_is t_is (λ e. cc)
+
+    pub holder_twig : (x conn : Id) (r : V) → held x past ≡ Some (Value conn 0 r) → x ≡ t.ctx → ⊥
+    holder_twig x conn r x_is = differ x t.ctx (Value conn 0 r) (Deadline t.call t.at None) past x_is t_is (λ e. cc)
+
+    -- of one kind with a call's, it derives from a call's context, and no call's does
+    module _ (o : Life) (o_is : IsLife past base o) (of : o.ctx ≡ t.call) (m : Life) (m_is : IsLife past base m) where
+      other_kind : kind_of (unwrap_or m.holder m.conn) m.deadline ≡ twig → ⊥
+      other_kind e = parent_call o o_is m.conn m_is.conn_is m.holder m_is.holder_is (kind_parent C V (unwrap_or m.holder m.conn) t.call m.deadline (ap parent_of e) ∙ sym of)
+
+      pub call_twig : m.ctx ≡ t.ctx → ⊥
+      call_twig = differ m.ctx t.ctx (kind_of (unwrap_or m.holder m.conn) m.deadline) (Deadline t.call t.at None) past m_is.call_is t_is other_kind
+
+      pub call_far_twig : same m.ctx t.ctx ≡ false
+      call_far_twig = apart_kinds m.ctx t.ctx (kind_of (unwrap_or m.holder m.conn) m.deadline) (Deadline t.call t.at None) past m_is.call_is t_is other_kind
+
+      pub twig_far_call : same t.ctx m.ctx ≡ false
+      twig_far_call = apart_kinds t.ctx m.ctx (Deadline t.call t.at None) (kind_of (unwrap_or m.holder m.conn) m.deadline) past t_is m_is.call_is (λ e. other_kind (sym e))
+
 -- ---- what derives from what
 
 -- a call that derives from that context, by its connection or by the one that has its request id
@@ -153,7 +209,7 @@ owned y ctx (Some x) is = ⊎_elim
     (λ (n : same y ctx ≡ false). let e : y ≡ x = same_true y x (sym (or-false (same y x)) ∙ (rw n at is)) in inr (ap (λ z. Some z) (sym e)))
     (cases_Bool (same y ctx))
 
-module _ {C V H : Type 0} {f : AfterFuncs H} {base : Id} {conns : List Id} {calls : List Life} {old : TreeValue C V} (s : IsSound old f base conns calls)
+module _ {C V H : Type 0} {f : AfterFuncs H} {base : Id} {conns : List Id} {calls : List Life} {twigs : List Twig} {old : TreeValue C V} (s : IsSound old f twigs base conns calls)
     (P : Life → Type 0) (each : All (λ l. IsLife s.past base l × P l) calls) where
   of_parent : (x : Id) (k : Kind C V) (y : Id) (l : Kind C V) → held y s.past ≡ Some k → held y s.past ≡ Some l → parent_of k ≡ Some x → parent_of l ≡ Some x
   of_parent x k y l ks ls is = ap parent_of (same_Some l k (sym ls ∙ ks)) ∙ is
@@ -168,8 +224,22 @@ module _ {C V H : Type 0} {f : AfterFuncs H} {base : Id} {conns : List Id} {call
   by_call x y ctx conn None e same_ctx = inl e
   by_call x y ctx conn (Some z) e same_ctx = inr (ap (λ w. Some w) e, same_ctx)
 
-  -- from the root derives the base, from it the connections, and from each of these its calls
-  pub origin : (x y : Id) (k : Kind C V) → held y s.past ≡ Some k → parent_of k ≡ Some x → (x ≡ s.root) ⊎ ((x ≡ base) ⊎ Derives P x y)
+  -- a branch's context derives from its call's
+  from_twig : (x y : Id) (k : Kind C V) → held y s.past ≡ Some k → parent_of k ≡ Some x → (ts : List Twig) → All (IsTwig s.past calls) ts → is_twig y ts ≡ true → list_any (λ t. same t.call x) ts ≡ true
+  from_twig x y k ks is [] all any = cc
+  from_twig x y k ks is (t ∷ ts) all any = ⊎_elim
+      (λ (h : same y t.ctx ≡ true).
+      let of : IsTwig s.past calls t = All-head (IsTwig s.past calls) t ts all in
+      let e : Some t.call ≡ Some x = of_parent x k y (Deadline t.call t.at None) ks (subst (λ z. held z s.past ≡ Some (Deadline t.call t.at None)) (sym (same_true y t.ctx h)) of.0) is in
+      let here : same t.call x ≡ true = subst (λ z. same t.call z ≡ true) (same_Some t.call x e) (same_refl t.call) in
+      rw here refl)
+      (λ (n : same y t.ctx ≡ false).
+      let rest : list_any (λ u. same u.call x) ts ≡ true = from_twig x y k ks is ts (All-tail (IsTwig s.past calls) t ts all) (rw n at any) in
+      rw rest (or-true (same t.call x)))
+      (cases_Bool (same y t.ctx))
+
+  -- from the root derives the base, from it the connections, from each of these its calls, and from each of these its branches
+  pub origin : (x y : Id) (k : Kind C V) → held y s.past ≡ Some k → parent_of k ≡ Some x → (x ≡ s.root) ⊎ ((x ≡ base) ⊎ (Derives P x y ⊎ (list_any (λ t. same t.call x) twigs ≡ true)))
   origin x y k ks is = ⊎_elim
       (λ (r : same y s.root ≡ true).
       let bad : parent_of {C = C} {V = V} Background ≡ Some x = of_parent x k y Background ks (subst (λ z. held z s.past ≡ Some Background) (sym (same_true y s.root r)) s.root_is) is in
@@ -183,11 +253,14 @@ module _ {C V H : Type 0} {f : AfterFuncs H} {base : Id} {conns : List Id} {call
       let e : Some base ≡ Some x = of_parent x k y (Cancel base) ks (among_in (IsConn base s.past) y conns s.conns_are c) is in
       inr (inl (sym (same_Some base x e))))
       (λ (nc : is_among y conns ≡ false). ⊎_elim
-      (λ (o : list_any (owns y) calls ≡ true). inr (inr (of_call (owner_in (λ l. IsLife s.past base l × P l) y calls each o))))
-      (λ (none : list_any (owns y) calls ≡ false).
-      let kept : is_kept s.root base conns calls y ≡ false = rw (nr, nb, nc, none) refl in
+      (λ (o : list_any (owns y) calls ≡ true). inr (inr (inl (of_call (owner_in (λ l. IsLife s.past base l × P l) y calls each o)))))
+      (λ (none : list_any (owns y) calls ≡ false). ⊎_elim
+      (λ (t : is_twig y twigs ≡ true). inr (inr (inr (from_twig x y k ks is twigs s.twigs_are t))))
+      (λ (nt : is_twig y twigs ≡ false).
+      let kept : is_kept twigs s.root base conns calls y ≡ false = rw (nt, nr, nb, nc, none) refl in
       let bad : None ≡ Some k = sym (s.none_else y kept) ∙ ks in
       cc)
+      (cases_Bool (is_twig y twigs)))
       (cases_Bool (list_any (owns y) calls)))
       (cases_Bool (is_among y conns)))
       (cases_Bool (same y base)))
@@ -204,3 +277,21 @@ module _ {C V H : Type 0} {f : AfterFuncs H} {base : Id} {conns : List Id} {call
             (λ (h : o.0.holder ≡ Some y). inl (by_holder x y k ks is o.0.conn o.0.holder o.1.0.holder_is h))
             (owned y o.0.ctx o.0.holder o.2);
       }
+
+-- the call of a branch stands
+module _ {C V H : Type 0} {f : AfterFuncs H} {base : Id} {conns : List Id} {calls : List Life} {twigs : List Twig} {old : TreeValue C V} (s : IsSound old f twigs base conns calls) where
+  pub owner : (t : Twig) → IsTwig s.past calls t → (l : Life) × IsLife s.past base l × (l.ctx ≡ t.call)
+  owner t is = life_in (IsLife s.past base) t.call calls s.calls_are is.1
+
+  pub called : (x : Id) → list_any (λ t. same t.call x) twigs ≡ true → (l : Life) × IsLife s.past base l × (l.ctx ≡ x)
+  called x any =
+      let t = twig_in (IsTwig s.past calls) x twigs s.twigs_are any in
+      let o = owner t.0 t.1 in
+      (o.0, o.1, o.2 ∙ t.2)
+
+  -- a branch's context is no call's
+  pub call_apart_twig : (t : Twig) → IsTwig s.past calls t → (m : Life) → IsLife s.past base m → same m.ctx t.ctx ≡ false
+  call_apart_twig t is m m_is = let o = owner t is in call_far_twig s.past s.root base s.root_is s.base_is t is.0 o.0 o.1 o.2 m m_is
+
+  pub twig_apart_call : (t : Twig) → IsTwig s.past calls t → (m : Life) → IsLife s.past base m → same t.ctx m.ctx ≡ false
+  twig_apart_call t is m m_is = let o = owner t is in twig_far_call s.past s.root base s.root_is s.base_is t is.0 o.0 o.1 o.2 m m_is

@@ -13,6 +13,7 @@ use Rattle.after_funcs.specs.declared.registration.Registration.{Registration}
 use Rattle.after_funcs.specs.Hooks.{Operation, AfterFunc, Fire, RunNext, Stop, registered, waiting, due, is_on, IsAnswerOfFirst}
 use Rattle.after_funcs.specs.Stands.{StandsFor as HooksStand}
 use Rattle.call_contexts.specs.declared.life.Life.{Life}
+use Rattle.call_contexts.specs.declared.twig.Twig.{Twig}
 use Rattle.call_contexts.specs.Standing.{WithHooks, Slots, on_ctx, hook_for, seen_call}
 use Rattle.call_contexts.specs.Sound.{hook_of, kept_of, life_at, NoTwo, same_ctx}
 use Rattle.call_contexts.proofs.Trees.{same_true}
@@ -194,11 +195,11 @@ module _ {H : Type 0} (f f' : AfterFuncs H) (hooks : List (Operation H)) (hs : H
       ∙ ap (λ rs. filter (λ p. not (same p.0 id)) (map on_ctx rs)) (sym hs.waiting_is)
 
 -- the hooks are those of the calls, in their order
-pub hooks_of_calls : {C V H : Type 0} (slots : Slots C V) (f : AfterFuncs H) (hooks : List (Operation H)) (hs : HooksStand f hooks) (calls : List Life) → map hook_of (waiting hooks) ≡ map kept_of calls
-    → map (λ p. p.0) (map on_ctx f.waiting.items) ≡ map (λ c. c.id) (map (seen_call slots) calls)
-hooks_of_calls slots f hooks hs calls waits =
+pub hooks_of_calls : {C V H : Type 0} (slots : Slots C V) (twigs : List Twig) (f : AfterFuncs H) (hooks : List (Operation H)) (hs : HooksStand f hooks) (calls : List Life) → map hook_of (waiting hooks) ≡ map kept_of calls
+    → map (λ p. p.0) (map on_ctx f.waiting.items) ≡ map (λ c. c.id) (map (seen_call slots twigs) calls)
+hooks_of_calls slots twigs f hooks hs calls waits =
     map_twice (λ p. p.0) on_ctx f.waiting.items ∙ ap (map (λ r. r.ctx)) hs.waiting_is ∙ sym (map_twice (λ (p : ℕ × Id). p.1) hook_of (waiting hooks)) ∙ ap (map (λ (p : ℕ × Id). p.1)) waits
-    ∙ map_twice (λ (p : ℕ × Id). p.1) kept_of calls ∙ sym (map_twice (λ c. c.id) (seen_call slots) calls)
+    ∙ map_twice (λ (p : ℕ × Id). p.1) kept_of calls ∙ sym (map_twice (λ c. c.id) (seen_call slots twigs) calls)
 
 -- where no call has that context, no hook has it
 pub no_hook_gone : {H : Type 0} (f : AfterFuncs H) (hooks : List (Operation H)) (hs : HooksStand f hooks) (id : Id) (calls : List Life) → map hook_of (waiting hooks) ≡ map kept_of calls → list_any (λ l. same l.ctx id) calls ≡ false

@@ -8,3 +8,8 @@ pub mod Lists
 pub mod Hooking
 pub mod Beginning
 pub mod Leaving
+pub mod Branching
+pub mod Branches
+pub mod Counting
+pub mod Sooner
+pub mod Deadlines

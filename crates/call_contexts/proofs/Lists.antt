@@ -1,18 +1,17 @@
 -- Lists of calls and of connections.
 use Rattle.std.proofs.Common.{◌≡◌, refl, sym, ap, ◌∙◌, List, [], ◌∷◌, ◌++◌, Option, Some, None, Bool, true, false, inl, inr, ⊎_elim, subst}
-use Rattle.std.specs.Prelude.{◌⊎◌, ◌||◌, not, map, filter, All}
+use Rattle.std.specs.Prelude.{◌⊎◌, ◌||◌, ◌&&◌, not, map, filter, All}
 use Rattle.std.specs.List.{list_any}
 use Rattle.std.specs.Option.{option_map_or}
-use Rattle.std.proofs.lemmas.Bool.{cases_Bool, or_parts}
+use Rattle.std.proofs.lemmas.Bool.{cases_Bool, or_left, or_parts, or_right}
 use Rattle.std.proofs.lemmas.List.Elements.{All-nil, All-cons, All-head, All-tail}
-use Rattle.std.proofs.Math.Bool.{or-true}
 use Rattle.std.proofs.lemmas.Option.{same_Some}
 use Rattle.context_tree.specs.Context.{Id, same}
 use Rattle.context_tree.specs.Tree.{is_among}
 use Rattle.call_contexts.specs.declared.life.Life.{Life}
-use Rattle.call_contexts.specs.Standing.{Conn, is_conn}
+use Rattle.call_contexts.specs.declared.twig.Twig.{Twig}
 use Rattle.call_contexts.specs.Sound.{NoTwo, same_ctx, same_holder, owns, life_at}
-use Rattle.call_contexts.proofs.Trees.{same_refl, same_true, same_turned}
+use Rattle.call_contexts.proofs.Trees.{same_true, same_turned}
 
 pub any_map : {A B : Type 0} (p : B → Bool) (f : A → B) (xs : List A) → list_any p (map f xs) ≡ list_any (λ x. p (f x)) xs
 any_map p f [] = refl
@@ -46,7 +45,7 @@ pub both_all : {A : Type 0} (P Q : A → Type 0) (xs : List A) → All P xs → 
 both_all P Q [] ps qs = All-nil (λ x. P x × Q x)
 both_all P Q (x ∷ xs) ps qs = All-cons (λ x. P x × Q x) x xs (All-head P x xs ps, All-head Q x xs qs) (both_all P Q xs (All-tail P x xs ps) (All-tail Q x xs qs))
 
-any_kept : {A : Type 0} (p q : A → Bool) (xs : List A) → list_any p xs ≡ false → list_any p (filter q xs) ≡ false
+pub any_kept : {A : Type 0} (p q : A → Bool) (xs : List A) → list_any p xs ≡ false → list_any p (filter q xs) ≡ false
 any_kept p q [] is = refl
 any_kept p q (x ∷ xs) is =
     let two = or_parts (p x) (list_any p xs) is in
@@ -55,19 +54,79 @@ any_kept p q (x ∷ xs) is =
     (λ (n : q x ≡ false). rw n (any_kept p q xs two.1))
     (cases_Bool (q x))
 
+pub none_kept : {A : Type 0} (p : A → Bool) (xs : List A) → list_any p xs ≡ false → filter p xs ≡ []
+none_kept p [] is = refl
+none_kept p (x ∷ xs) is =
+    let two = or_parts (p x) (list_any p xs) is in
+    rw two.0 (none_kept p xs two.1)
+
+-- the branches of a call
+pub twigs_of : (P : Twig → Type 0) (x : Id) (ts : List Twig) → All P ts → All (λ t. P t × (t.call ≡ x)) (filter (λ t. same t.call x) ts)
+twigs_of P x [] all = All-nil (λ t. P t × (t.call ≡ x))
+twigs_of P x (t ∷ ts) all =
+    let rest = twigs_of P x ts (All-tail P t ts all) in
+    ⊎_elim
+    (λ (y : same t.call x ≡ true). rw y (All-cons (λ t. P t × (t.call ≡ x)) t (filter (λ u. same u.call x) ts) (All-head P t ts all, same_true t.call x y) rest))
+    (λ (n : same t.call x ≡ false). rw n rest)
+    (cases_Bool (same t.call x))
+
+-- one of these passes a test; what else it passes, one of these does
+pub picked : {A : Type 0} (P : A → Type 0) (p : A → Bool) (xs : List A) → All P xs → list_any p xs ≡ true
+    → (a : A) × P a × (p a ≡ true) × ((q : A → Bool) → q a ≡ true → list_any q xs ≡ true)
+picked P p [] all is = cc
+picked P p (x ∷ xs) all is = ⊎_elim
+    (λ (y : p x ≡ true). (x, All-head P x xs all, y, λ q here. or_left (q x) (list_any q xs) here))
+    (λ (n : p x ≡ false).
+    let rest = picked P p xs (All-tail P x xs all) (rw n at is) in
+    (rest.0, rest.1, rest.2, λ q here. or_right (q x) (list_any q xs) (rest.3 q here)))
+    (cases_Bool (p x))
+
+pub any_filter : {A : Type 0} (p q : A → Bool) (xs : List A) → list_any p (filter q xs) ≡ list_any (λ x. q x && p x) xs
+any_filter p q [] = refl
+any_filter p q (x ∷ xs) = ⊎_elim
+    (λ (y : q x ≡ true). rw y (ap (λ b. p x || b) (any_filter p q xs)))
+    (λ (n : q x ≡ false). rw n (any_filter p q xs))
+    (cases_Bool (q x))
+
+-- the call of a context that is one of these
+pub life_in : (P : Life → Type 0) (x : Id) (ls : List Life) → All P ls → list_any (λ l. same l.ctx x) ls ≡ true → (l : Life) × P l × (l.ctx ≡ x)
+life_in P x [] all is = cc
+life_in P x (l ∷ ls) all is = ⊎_elim
+    (λ (y : same l.ctx x ≡ true). (l, All-head P l ls all, same_true l.ctx x y))
+    (λ (n : same l.ctx x ≡ false). life_in P x ls (All-tail P l ls all) (rw n at is))
+    (cases_Bool (same l.ctx x))
+
+-- the branch of a call that has one
+pub twig_in : (P : Twig → Type 0) (x : Id) (ts : List Twig) → All P ts → list_any (λ t. same t.call x) ts ≡ true → (t : Twig) × P t × (t.call ≡ x)
+twig_in P x [] all is = cc
+twig_in P x (t ∷ ts) all is = ⊎_elim
+    (λ (y : same t.call x ≡ true). (t, All-head P t ts all, same_true t.call x y))
+    (λ (n : same t.call x ≡ false). twig_in P x ts (All-tail P t ts all) (rw n at is))
+    (cases_Bool (same t.call x))
+
+-- a call of another context stays
+pub any_other : (x id : Id) (ls : List Life) → same x id ≡ false → list_any (λ l. same l.ctx x) (filter (λ m. not (same m.ctx id)) ls) ≡ list_any (λ l. same l.ctx x) ls
+any_other x id [] far = refl
+any_other x id (m ∷ ms) far = ⊎_elim
+    (λ (y : same m.ctx id ≡ true).
+    let e : same m.ctx x ≡ false = same_turned m.ctx x ∙ subst (λ z. same x z ≡ false) (sym (same_true m.ctx id y)) far in
+    rw (y, e) (any_other x id ms far))
+    (λ (n : same m.ctx id ≡ false). rw n (ap (λ b. same m.ctx x || b) (any_other x id ms far)))
+    (cases_Bool (same m.ctx id))
+
 -- ---- no two
 
-pub no_two_kept : (r : Life → Life → Bool) (q : Life → Bool) (ls : List Life) → NoTwo r ls → NoTwo r (filter q ls)
+pub no_two_kept : {A : Type 0} (r : A → A → Bool) (q : A → Bool) (ls : List A) → NoTwo r ls → NoTwo r (filter q ls)
 no_two_kept r q [] all = tt
 no_two_kept r q (l ∷ ls) all = ⊎_elim
     (λ (y : q l ≡ true). rw y (any_kept (r l) q ls all.0, no_two_kept r q ls all.1))
     (λ (n : q l ≡ false). rw n (no_two_kept r q ls all.1))
     (cases_Bool (q l))
 
-any_pushed : (p : Life → Bool) (ls : List Life) (l : Life) → list_any p ls ≡ false → p l ≡ false → list_any p (ls ++ l ∷ []) ≡ false
+any_pushed : {A : Type 0} (p : A → Bool) (ls : List A) (l : A) → list_any p ls ≡ false → p l ≡ false → list_any p (ls ++ l ∷ []) ≡ false
 any_pushed p ls l none one = any_append p ls (l ∷ []) ∙ rw (none, one) refl
 
-pub no_two_pushed : (r : Life → Life → Bool) (ls : List Life) (l : Life) → NoTwo r ls → All (λ m. r m l ≡ false) ls → NoTwo r (ls ++ l ∷ [])
+pub no_two_pushed : {A : Type 0} (r : A → A → Bool) (ls : List A) (l : A) → NoTwo r ls → All (λ m. r m l ≡ false) ls → NoTwo r (ls ++ l ∷ [])
 no_two_pushed r [] l none apart = (refl, tt)
 no_two_pushed r (m ∷ ms) l none apart =
     (any_pushed (r m) ms l none.0 (All-head (λ m. r m l ≡ false) m ms apart), no_two_pushed r ms l none.1 (All-tail (λ m. r m l ≡ false) m ms apart))

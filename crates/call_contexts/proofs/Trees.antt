@@ -14,8 +14,10 @@ use Rattle.context_tree.specs.declared.node.Kind.{Kind}
 use Rattle.context_tree.specs.declared.node.Kind.TheVariants.{Background, Cancel, Deadline, Value}
 use Rattle.context_tree.specs.Context.{Id, Member, own_value, own_due, same, Makes, Cancels, Advances, Releases, HasChild, Ended, cause_or, expiry, first_due, first_of, held, line, chain, deadline, least, nearest, sooner, has_cancel, ending}
 use Rattle.context_tree.specs.declared.node.Node.{Node}
+use Rattle.context_tree.specs.Frames.{is_due}
 use Rattle.context_tree.specs.Links.{bare}
 use Rattle.context_tree.specs.Tree.{TreeValue, StandsFor, IsLawful, is_among, node_at, told}
+use Rattle.call_contexts.specs.declared.twig.Twig.{Twig}
 use Rattle.call_contexts.specs.Standing.{cause_in, if_cancelled, if_due, value_in, request_id_key}
 use Rattle.call_contexts.specs.Sound.{Op, TreeLaws, IsFree, IsHolder, Touches, StandsAlike, kind_of, why}
 
@@ -137,7 +139,7 @@ module _ {C V : Type 0} (laws : TreeLaws C V) (past : List (Op C V)) (lawful : I
     parent_due now None is = ap (first_due now) (conn_chain conn conn_is)
     parent_due now (Some x) is = ap (first_due now) (laws.chain_goes_on past x (Value conn 0 is.0) lawful is.1) ∙ ap (λ d. first_of None d) (ap (first_due now) (conn_chain conn conn_is))
 
-    parent_least : (holder : Option Id) → IsHolder past conn holder → least (chain (unwrap_or holder conn) past) ≡ None
+    pub parent_least : (holder : Option Id) → IsHolder past conn holder → least (chain (unwrap_or holder conn) past) ≡ None
     parent_least None is = ap least (conn_chain conn conn_is)
     parent_least (Some x) is = ap least (laws.chain_goes_on past x (Value conn 0 is.0) lawful is.1) ∙ ap least (conn_chain conn conn_is)
 
@@ -169,6 +171,42 @@ module _ {C V : Type 0} (laws : TreeLaws C V) (past : List (Op C V)) (lawful : I
           → nearest 0 (line ctx past) ≡ option_and_then (value_in t.slots) holder
       call_value t st None is = ap (nearest 0) (laws.line_goes_on past ctx (Cancel (unwrap_or holder conn)) lawful is) ∙ parent_value t st holder holder_is
       call_value t st (Some at) is = ap (nearest 0) (laws.line_goes_on past ctx (Deadline (unwrap_or holder conn) at None) lawful is) ∙ parent_value t st holder holder_is
+
+-- ---- the chain of a branch's context
+
+-- of two deadlines that are reached one is the first
+picks : {C : Type 0} (x y : _) → (first_of {C = C} (Some x) (Some y) ≡ Some x) ⊎ (first_of {C = C} (Some x) (Some y) ≡ Some y)
+picks x y = ⊎_elim (λ (h : nat_le y.at x.at ≡ true). inr (rw h refl)) (λ (h : nat_le y.at x.at ≡ false). inl (rw h refl)) (cases_Bool (nat_le y.at x.at))
+
+-- of two deadlines that are reached, neither of which has a cause of its own
+module _ {C D : Type 0} (f : Option D → Option D → Option D) (c : D → Cause C) (k : Cause C)
+    (left : (b : Option D) → f None b ≡ b) (right : (x : D) → f (Some x) None ≡ Some x) (one : (x y : D) → (f (Some x) (Some y) ≡ Some x) ⊎ (f (Some x) (Some y) ≡ Some y)) where
+  first_plain : (a b : Option D) (m n : Bool) → option_map c a ≡ (if m then Some k else None) → option_map c b ≡ (if n then Some k else None)
+      → option_map c (f a b) ≡ option_or (if n then Some k else None) (if m then Some k else None)
+  first_plain None b true n am bn = cc
+  first_plain None b false true am bn = ap (option_map c) (left b) ∙ bn
+  first_plain None b false false am bn = ap (option_map c) (left b) ∙ bn
+  first_plain (Some x) None m true am bn = cc
+  first_plain (Some x) None m false am bn = ap (option_map c) (right x) ∙ am
+  first_plain (Some x) (Some y) true true am bn = ⊎_elim (λ e. ap (option_map c) e ∙ am) (λ e. ap (option_map c) e ∙ bn) (one x y)
+  first_plain (Some x) (Some y) false n am bn = cc
+  first_plain (Some x) (Some y) true false am bn = cc
+
+module _ {C V : Type 0} (laws : TreeLaws C V) (past : List (Op C V)) (lawful : IsLawful past) (t : Twig) (is : held t.ctx past ≡ Some (Deadline t.call t.at None)) where
+  twig_chain : chain t.ctx past ≡ (t.ctx, Deadline t.call t.at None) ∷ chain t.call past
+  twig_chain = laws.chain_goes_on past t.ctx (Deadline t.call t.at None) lawful is
+
+  pub twig_hit : (id : Id) → has_cancel id (chain t.ctx past) ≡ ((same t.ctx id && true) || has_cancel id (chain t.call past))
+  twig_hit id = ap (has_cancel id) twig_chain
+
+  -- a moment ends it where it has reached its own deadline or its call's
+  pub twig_due : (now : ℕ) (d : Option ℕ) → due_on now (chain t.call past) ≡ if_due now d → due_on now (chain t.ctx past) ≡ option_or (if_due now d) (if_due now (Some t.at))
+  twig_due now d call_is = ap (due_on now) twig_chain
+      ∙ first_plain first_of (λ d. cause_or DeadlineExceeded d.cause) (Plain DeadlineExceeded) (λ b. refl) (λ x. refl) picks (own_due {C = C} {V = V} now (t.ctx, Deadline t.call t.at None)) (first_due now (chain t.call past))
+      (nat_le t.at now) (is_due now d) (map_if _ (nat_le t.at now) _) call_is
+
+  pub twig_deadline : deadline t.ctx past ≡ sooner (Some t.at) (deadline t.call past)
+  twig_deadline = ap least twig_chain
 
 -- ---- what operations leave
 

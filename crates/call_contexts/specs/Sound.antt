@@ -1,5 +1,5 @@
 -- How the connections and calls are kept in a tree of contexts and a table of hooks.
-use Rattle.std.specs.Prelude.{◌≡◌, ◌||◌, ℕ, Bool, true, false, is_some, List, [], ◌∷◌, map, if◌then◌else◌, All, Option, Some, None, option_map, unwrap_or}
+use Rattle.std.specs.Prelude.{◌≡◌, ◌||◌, ◌&&◌, ◌==◌, ℕ, Bool, true, false, is_some, nat_le, List, [], ◌∷◌, map, if◌then◌else◌, All, Option, Some, None, option_map, unwrap_or}
 use Rattle.std.specs.List.{list_any}
 use Rattle.std.specs.Option.{option_map_or}
 use Rattle.context_tree.specs.declared.error.Cause.{Cause}
@@ -12,6 +12,7 @@ use Rattle.after_funcs.specs.declared.registration.Registration.{Registration}
 use Rattle.after_funcs.specs.Hooks.{Operation, waiting, due}
 use Rattle.after_funcs.specs.Stands.{StandsFor as HooksStand}
 use Rattle.call_contexts.specs.declared.life.Life.{Life}
+use Rattle.call_contexts.specs.declared.twig.Twig.{Twig}
 use Rattle.call_contexts.specs.Standing.{request_id_key}
 
 -- an operation on the tree
@@ -109,6 +110,10 @@ module _ {C V : Type 0} where
     pub holder_is : IsHolder past life.conn life.holder
     pub conn_is : held life.conn past ≡ Some (Cancel base)
 
+  -- a branch's context is held as it was made, from that of a call
+  abbrev pub IsTwig : List (Op C V) → List Life → Twig → Type 0
+  IsTwig past calls t = (held t.ctx past ≡ Some (Deadline t.call t.at None)) × (list_any (λ l. same l.ctx t.call) calls ≡ true)
+
 -- ---- the calls
 
 -- the number of its hook, and its context
@@ -116,7 +121,7 @@ abbrev pub kept_of : Life → ℕ × Id
 kept_of l = (l.hook, l.ctx)
 
 -- no two of them stand in this relation
-abbrev pub NoTwo : (Life → Life → Bool) → List Life → Type 0
+abbrev pub NoTwo : {A : Type 0} → (A → A → Bool) → List A → Type 0
 NoTwo r [] = Unit {0}
 NoTwo r (l ∷ ls) = (list_any (r l) ls ≡ false) × NoTwo r ls
 
@@ -137,18 +142,50 @@ abbrev pub life_at : Id → List Life → Option Life
 life_at id [] = None
 life_at id (l ∷ ls) = if same l.ctx id then Some l else life_at id ls
 
+-- the branches have one context
+abbrev pub same_twig : Twig → Twig → Bool
+same_twig t u = same u.ctx t.ctx
+
+-- the context of a branch
+abbrev pub is_twig : Id → List Twig → Bool
+is_twig x twigs = list_any (λ t. same x t.ctx) twigs
+
+-- a branch of that number of the call of that context
+abbrev pub is_branch : Id → ℕ → Twig → Bool
+is_branch call n t = same t.call call && (t.branch == n)
+
+-- the first branch of that number of a call
+abbrev pub twig_at : Id → ℕ → List Twig → Option Twig
+twig_at call n [] = None
+twig_at call n (t ∷ ts) = if is_branch call n t then Some t else twig_at call n ts
+
+-- the first branch of a call
+abbrev pub twig_of : Id → List Twig → Option Twig
+twig_of call [] = None
+twig_of call (t ∷ ts) = if same t.call call then Some t else twig_of call ts
+
+-- of these two the branch of the lesser deadline, and of equal ones the first
+abbrev pub sooner_twig : Twig → Option Twig → Twig
+sooner_twig t None = t
+sooner_twig t (Some u) = if nat_le t.at u.at then t else u
+
+-- the branch of a call of the least deadline, and of equal ones the first
+abbrev pub soonest_of : Id → List Twig → Option Twig
+soonest_of call [] = None
+soonest_of call (t ∷ ts) = if same t.call call then Some (sooner_twig t (soonest_of call ts)) else soonest_of call ts
+
 -- one of the contexts that are kept
-abbrev pub is_kept : Id → Id → List Id → List Life → Id → Bool
-is_kept root base conns calls x = same x root || (same x base || (is_among x conns || list_any (owns x) calls))
+abbrev pub is_kept : List Twig → Id → Id → List Id → List Life → Id → Bool
+is_kept twigs root base conns calls x = is_twig x twigs || (same x root || (same x base || (is_among x conns || list_any (owns x) calls)))
 
 -- the number of a hook, and the context that it waits on
 abbrev pub hook_of : {H : Type 0} → Registration H → ℕ × Id
 hook_of r = (r.id, r.ctx)
 
 module _ {C V H : Type 0} where
-  -- Some operations lead to these contexts and hooks. Each call has its contexts, and its hook which waits on it; no other
-  -- context is held, and no hook is due.
-  pub record IsSound (t : TreeValue C V) (f : AfterFuncs H) (base : Id) (conns : List Id) (calls : List Life) : Type 0 where
+  -- Some operations lead to these contexts and hooks. Each call has its contexts, those of its branches, and its hook which
+  -- waits on it; no other context is held, and no hook is due.
+  pub record IsSound (t : TreeValue C V) (f : AfterFuncs H) (twigs : List Twig) (base : Id) (conns : List Id) (calls : List Life) : Type 0 where
     pub past : List (Op C V)
     pub hooks : List (Operation H)
     pub tree_is : StandsFor t past
@@ -158,8 +195,10 @@ module _ {C V H : Type 0} where
     pub base_is : held base past ≡ Some (Cancel root)
     pub conns_are : All (IsConn base past) conns
     pub calls_are : All (IsLife past base) calls
-    pub none_else : (x : Id) → is_kept root base conns calls x ≡ false → held x past ≡ None
+    pub twigs_are : All (IsTwig past calls) twigs
+    pub none_else : (x : Id) → is_kept twigs root base conns calls x ≡ false → held x past ≡ None
     pub distinct : NoTwo same_ctx calls
     pub apart : NoTwo same_holder calls
+    pub twigs_apart : NoTwo same_twig twigs
     pub hook_waits : map hook_of (waiting hooks) ≡ map kept_of calls
     pub none_due : due hooks ≡ []

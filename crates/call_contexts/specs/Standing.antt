@@ -1,7 +1,7 @@
 -- What is seen of the connections and calls of a gateway: who stands, and who has ended.
-use Rattle.std.specs.Prelude.{◌≡◌, ℕ, Bool, true, false, ◌||◌, not, if◌then◌else◌, List, [], ◌∷◌, ◌++◌, map, filter, Option, Some, None, option_map, option_and_then}
+use Rattle.std.specs.Prelude.{◌≡◌, ℕ, ◌==◌, Bool, true, false, ◌||◌, ◌&&◌, not, nat_le, if◌then◌else◌, List, [], ◌∷◌, ◌++◌, is_some, is_none, map, filter, drop, All, Option, Some, None, option_map, option_and_then}
 use Rattle.std.specs.List.{list_any}
-use Rattle.std.specs.Option.{option_or}
+use Rattle.std.specs.Option.{option_or, option_map_or}
 use Rattle.context_tree.specs.declared.error.Cause.{Cause}
 use Rattle.context_tree.specs.declared.error.Cause.TheVariants.{Given, Plain}
 use Rattle.context_tree.specs.declared.error.CtxErr.TheVariants.{DeadlineExceeded}
@@ -11,19 +11,27 @@ use Rattle.context_tree.specs.Frames.{is_due}
 use Rattle.context_tree.specs.Tree.{IsNotAfter, ending_in, node_at}
 use Rattle.after_funcs.specs.declared.registration.Registration.{Registration}
 use Rattle.call_contexts.specs.declared.life.Life.{Life}
+use Rattle.call_contexts.specs.declared.twig.Twig.{Twig}
 
 -- a connection's context, and what ended it, if anything did
 pub record Conn (C : Type 0) : Type 0 where
   pub id : Id
   pub ended : Option (Cause C)
 
--- a call's context, that of its connection, its deadline, its request id, and what ended it, if anything did
+-- a branch of a call that is out and has a time of its own: its number, its deadline, and what ended its context, if anything did
+pub record Branch (C : Type 0) : Type 0 where
+  pub branch : ℕ
+  pub deadline : ℕ
+  pub ended : Option (Cause C)
+
+-- a call's context, that of its connection, its deadline, its request id, what ended it, if anything did, and its branches, by start
 pub record Call (C V : Type 0) : Type 0 where
   pub id : Id
   pub conn : Id
   pub deadline : Option ℕ
   pub request_id : Option V
   pub ended : Option (Cause C)
+  pub branches : List (Branch C)
 
 -- the connections and the calls that stand, by beginning, and what ended all, if anything did
 pub record Standing (C V : Type 0) : Type 0 where
@@ -38,6 +46,10 @@ request_id_key = 0
 -- the slots of a tree
 abbrev pub Slots : Type 0 → Type 0 → Type 0
 Slots C V = List (Option (Node C V))
+
+-- the number of a branch of this deadline, where that is before its call's
+abbrev pub if_before : Option ℕ → ℕ → ℕ → Option ℕ
+if_before call at branch = if is_due at call then None else Some branch
 
 module _ {C : Type 0} where
   abbrev pub is_conn : Id → List (Conn C) → Bool
@@ -56,6 +68,34 @@ module _ {C : Type 0} where
   abbrev pub if_cancelled : Bool → C → Option (Cause C)
   if_cancelled reached cause = if reached then Some (Given cause) else None
 
+  -- the branch, which this ends, unless it has ended before
+  abbrev pub ends_branch : Option (Cause C) → Branch C → Branch C
+  ends_branch e b = record { branch = b.branch; deadline = b.deadline; ended = option_or b.ended e }
+
+  -- a moment comes to a branch
+  abbrev pub expires_branch : ℕ → Branch C → Branch C
+  expires_branch now b = ends_branch (if_due now (Some b.deadline)) b
+
+  -- of these two the branch of the lesser deadline, and of equal ones the first
+  abbrev pub sooner_branch : Branch C → Option (Branch C) → Branch C
+  sooner_branch b None = b
+  sooner_branch b (Some d) = if nat_le b.deadline d.deadline then b else d
+
+  -- the branch of the least deadline, and of equal ones the first
+  abbrev pub first_branch : List (Branch C) → Option (Branch C)
+  first_branch [] = None
+  first_branch (b ∷ bs) = Some (sooner_branch b (first_branch bs))
+
+  -- the branch of a call that ended before the call: of the deadlines of those that have ended, the call's among them, the least, of
+  -- equal ones the call's, and then that of the branch that started first. So the one of the least deadline, if it has ended
+  abbrev pub branch_before : Option ℕ → List (Branch C) → Option ℕ
+  branch_before call bs = option_and_then (λ b. if is_some b.ended then if_before call b.deadline b.branch else None) (first_branch bs)
+
+  -- the first branch of that number is gone
+  abbrev pub drop_branch : ℕ → List (Branch C) → List (Branch C)
+  drop_branch n [] = []
+  drop_branch n (b ∷ bs) = if b.branch == n then bs else b ∷ drop_branch n bs
+
   -- the connection, which this ends, unless it has ended before
   abbrev pub ends_conn : Option (Cause C) → Conn C → Conn C
   ends_conn e c = record { id = c.id; ended = option_or c.ended e }
@@ -72,6 +112,19 @@ module _ {C V : Type 0} where
   -- where the call has not ended, its deadline is not before this one; without one, it has none
   abbrev pub IsNoSooner : Option ℕ → Call C V → Type 0
   IsNoSooner first c = (at : ℕ) → c.ended ≡ None → c.deadline ≡ Some at → IsNotAfter first at
+
+  -- where a branch of the call has not ended, its deadline is not before this one; without one, there is none
+  abbrev pub AreNoSooner : Option ℕ → Call C V → Type 0
+  AreNoSooner first c = All (λ b. b.ended ≡ None → IsNotAfter first b.deadline) c.branches
+
+  -- the call has not ended and has this deadline, or a branch of it has not ended and has it
+  abbrev pub has_deadline : ℕ → Call C V → Bool
+  has_deadline at c = (is_none c.ended && option_map_or (λ d. d == at) c.deadline false) || list_any (λ b. is_none b.ended && (b.deadline == at)) c.branches
+
+  -- of the call of that context the branch that ended before it
+  abbrev pub ended_branch : Id → List (Call C V) → Option ℕ
+  ended_branch id [] = None
+  ended_branch id (c ∷ cs) = if same c.id id then branch_before c.deadline c.branches else ended_branch id cs
 
   -- the request id of the call of that context
   abbrev pub request_for : Id → List (Call C V) → Option V
@@ -102,16 +155,58 @@ module _ {C V : Type 0} where
       record {
         drained = v.drained;
         conns = v.conns;
-        calls = v.calls ++ record { id = id; conn = conn; deadline = deadline; request_id = request_id; ended = option_or (ended_conn conn v.conns) (if_due now deadline) } ∷ [];
+        calls = v.calls ++ record { id = id; conn = conn; deadline = deadline; request_id = request_id; ended = option_or (ended_conn conn v.conns) (if_due now deadline); branches = [] } ∷ [];
       }
 
-  -- the call, which this ends, unless it has ended before
+  -- the call with these branches
+  abbrev pub with_branches : List (Branch C) → Call C V → Call C V
+  with_branches bs c = record { id = c.id; conn = c.conn; deadline = c.deadline; request_id = c.request_id; ended = c.ended; branches = bs }
+
+  -- the call, which this ends with its branches, each unless it has ended before
   abbrev pub ends_call : Option (Cause C) → Call C V → Call C V
-  ends_call e c = record { id = c.id; conn = c.conn; deadline = c.deadline; request_id = c.request_id; ended = option_or c.ended e }
+  ends_call e c =
+      record { id = c.id; conn = c.conn; deadline = c.deadline; request_id = c.request_id; ended = option_or c.ended e; branches = map (ends_branch e) c.branches }
+
+  -- a moment comes to a call: it ends by its own deadline and with it its branches, and each of these by its own
+  abbrev pub expires_call : ℕ → Call C V → Call C V
+  expires_call now c =
+      record {
+        id = c.id;
+        conn = c.conn;
+        deadline = c.deadline;
+        request_id = c.request_id;
+        ended = option_or c.ended (if_due now c.deadline);
+        branches = map (λ b. expires_branch now (ends_branch (if_due now c.deadline) b)) c.branches;
+      }
+
+  -- the branches of the call of that context
+  abbrev pub on_branches : Id → (Call C V → List (Branch C)) → Standing C V → Standing C V
+  on_branches id f v = record { drained = v.drained; conns = v.conns; calls = map (λ c. if same c.id id then with_branches (f c) c else c) v.calls }
+
+  -- a branch of a call starts: it has ended by what had ended its call, or where its own deadline is reached
+  abbrev pub branched : Id → ℕ → ℕ → ℕ → Standing C V → Standing C V
+  branched id branch at now =
+      on_branches id (λ c. c.branches ++ record { branch = branch; deadline = at; ended = option_or c.ended (if_due now (Some at)) } ∷ [])
+
+  -- the first branch of that number of a call is gone
+  abbrev pub unbranched : Id → ℕ → Standing C V → Standing C V
+  unbranched id branch = on_branches id (λ c. drop_branch branch c.branches)
+
+  -- the first branches of a call are gone
+  abbrev pub branches_fewer : Id → ℕ → Standing C V → Standing C V
+  branches_fewer id n = on_branches id (λ c. drop n c.branches)
+
+  -- all branches of a call are gone
+  abbrev pub bare_call : Id → Standing C V → Standing C V
+  bare_call id = on_branches id (λ c. [])
+
+  -- no call of that context has a branch
+  abbrev pub IsBare : Id → List (Call C V) → Type 0
+  IsBare id calls = All (λ c. same c.id id ≡ true → c.branches ≡ []) calls
 
   -- a moment comes
   abbrev pub expired : ℕ → Standing C V → Standing C V
-  expired now v = record { drained = v.drained; conns = v.conns; calls = map (λ c. ends_call (if_due now c.deadline) c) v.calls }
+  expired now v = record { drained = v.drained; conns = v.conns; calls = map (expires_call now) v.calls }
 
   -- a connection's context ends for this cause
   abbrev pub cancelled : Id → C → Standing C V → Standing C V
@@ -152,18 +247,26 @@ module _ {C V : Type 0} where
   abbrev pub seen_conn : Slots C V → Id → Conn C
   seen_conn slots id = record { id = id; ended = cause_in slots id }
 
-  abbrev pub seen_call : Slots C V → Life → Call C V
-  seen_call slots life =
+  abbrev pub seen_branch : Slots C V → Twig → Branch C
+  seen_branch slots t = record { branch = t.branch; deadline = t.at; ended = cause_in slots t.ctx }
+
+  -- the branches of the call of that context
+  abbrev pub seen_branches : Slots C V → List Twig → Id → List (Branch C)
+  seen_branches slots twigs call = map (seen_branch slots) (filter (λ t. same t.call call) twigs)
+
+  abbrev pub seen_call : Slots C V → List Twig → Life → Call C V
+  seen_call slots twigs life =
       record {
         id = life.ctx;
         conn = life.conn;
         deadline = life.deadline;
         request_id = option_and_then (value_in slots) life.holder;
         ended = cause_in slots life.ctx;
+        branches = seen_branches slots twigs life.ctx;
       }
 
-  abbrev pub seen : Slots C V → Id → List Id → List Life → Standing C V
-  seen slots base conns calls = record { drained = cause_in slots base; conns = map (seen_conn slots) conns; calls = map (seen_call slots) calls }
+  abbrev pub seen : Slots C V → List Twig → Id → List Id → List Life → Standing C V
+  seen slots twigs base conns calls = record { drained = cause_in slots base; conns = map (seen_conn slots) conns; calls = map (seen_call slots twigs) calls }
 
 -- ---- the calls' hooks
 

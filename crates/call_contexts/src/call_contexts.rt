@@ -2,11 +2,12 @@ ghost use Rattle.std.specs.Prelude.{All, ◌≡◌, ◌∷◌, [], ◌++◌, Som
 ghost use Rattle.std.specs.List.{list_any};
 ghost use Rattle.std.specs.Option.{option_copied};
 ghost use Rattle.context_tree.specs.Context.{same};
-ghost use Rattle.call_contexts.specs.Standing.{IsNoSooner, empty, opened, begun, expired, cancelled, all_ended, closed, gone, with_standing, with_hook, hook_for, request_for, ended_call, AreApart, is_fresh, is_call, is_conn};
+ghost use Rattle.call_contexts.specs.Standing.{IsNoSooner, AreNoSooner, has_deadline, ended_branch, empty, opened, begun, expired, cancelled, all_ended, closed, gone, with_standing, with_hook, hook_for, request_for, ended_call, branched, unbranched, branches_fewer, bare_call, IsBare, AreApart, is_fresh, is_call, is_conn};
 
-use crate::calls;
 use crate::contexts::{REQUEST_ID, cause_of, free, make, release, tree_laws};
 use crate::life::Life;
+use crate::twig::Twig;
+use crate::{calls, twigs};
 use after_funcs::laws::order_law;
 use after_funcs::{AfterFuncs, Hook};
 use context_tree::{Cause, CtxId, Tree};
@@ -26,6 +27,8 @@ pub struct CallContexts<C, V, H> {
     base: CtxId,
     conns: Vec<CtxId>,
     calls: Vec<Life>,
+    // of branches that have a time of their own, by start
+    twigs: Vec<Twig>,
 }
 
 impl<C, V, H> Model for CallContexts<C, V, H> {
@@ -36,11 +39,11 @@ impl<C, V, H> Model for CallContexts<C, V, H> {
     ghost Value = { WithHooks C V H };
 
     ghost view = { λ s. record {
-      standing = seen s.tree.slots s.base s.conns.items s.calls.items;
+      standing = seen s.tree.slots s.twigs.items s.base s.conns.items s.calls.items;
       hooks = map on_ctx s.hooks.waiting.items;
     } };
 
-    ghost invariant = { λ s. IsSound s.tree s.hooks s.base s.conns.items s.calls.items };
+    ghost invariant = { λ s. IsSound s.tree s.hooks s.twigs.items s.base s.conns.items s.calls.items };
 }
 
 impl<C: Copy, V: Drop, H: Drop> CallContexts<C, V, H> {
@@ -62,6 +65,7 @@ impl<C: Copy, V: Drop, H: Drop> CallContexts<C, V, H> {
             base,
             conns: Vec::new(alloc),
             calls: Vec::new(alloc),
+            twigs: Vec::new(alloc),
         })
     }
 
@@ -173,9 +177,27 @@ impl<C: Copy, V: Drop, H: Drop> CallContexts<C, V, H> {
         }
     }
 
-    /// The least deadline of the calls that have not ended, if any has one: no moment before it ends a call.
+    /// The branch of the call of that context which ended before the call, or while that has not: of the deadlines of those that
+    /// have ended, the call's among them, it has the least, of equal ones the call's stands first, and then that of the branch
+    /// that started first. None where that is the call's, or no branch has ended.
+    pub fn ended_branch(&self, ctx: CtxId) -> Option<u32>
+        ensures { result ≡ ended_branch ctx self.now.standing.calls }
+    {
+        tree_laws::<C, V>();
+        let life = calls::find(&self.calls, ctx)?;
+        let twig = twigs::soonest(&self.twigs, ctx)?;
+        if cause_of(&self.tree, twig.ctx).is_some() {
+            twigs::if_before(twig, life.deadline)
+        } else {
+            None
+        }
+    }
+
+    /// The least deadline of the calls and their branches that have not ended, if any has one: no moment before it ends one.
     pub fn next_deadline(&self) -> Option<u64>
-        ensures { All (IsNoSooner result) self.now.standing.calls }
+        ensures calls { All (IsNoSooner result) self.now.standing.calls }
+        ensures branches { All (AreNoSooner result) self.now.standing.calls }
+        ensures its { IfSome result (λ first. list_any (has_deadline first) self.now.standing.calls ≡ true) }
     {
         tree_laws::<C, V>();
         self.tree.next_deadline()
@@ -195,11 +217,86 @@ impl<C: Copy, V: Drop, H: Drop> CallContexts<C, V, H> {
         calls::has_of(&self.calls, conn)
     }
 
-    /// Calls the hook of a call with what ended it, and lets go of its contexts. None where no call has that context.
+    /// A branch of a call starts that has a time of its own, with a context that ends at this moment or with its call's.
+    pub fn branch(&mut self, call: CtxId, branch: u32, at: u64, now: u64) -> Result<(), AllocError>
+        requires { is_call call self.old.standing.calls ≡ true }
+        ensures stands { IfOk result (λ _. self.new ≡ with_standing (branched call branch at now self.old.standing) self.old) }
+        ensures unchanged { OnErr result (self.new ≡ self.old) }
+    {
+        tree_laws::<C, V>();
+        self.twigs.reserve(1)?;
+        let Ok(ctx) = self.tree.with_deadline(call, at, now, None) else {
+            return Err(AllocError);
+        };
+        self.twigs.push_reserved(Twig {
+            ctx,
+            call,
+            branch,
+            at,
+        });
+        Ok(())
+    }
+
+    /// Lets go of the context of the first branch of that number of a call, if it has one.
+    pub fn let_branch_go(&mut self, call: CtxId, branch: u32)
+        ensures { self.new ≡ with_standing (unbranched call branch self.old.standing) self.old }
+    {
+        let Some(twig) = twigs::find(&self.twigs, call, branch) else {
+            return;
+        };
+        tree_laws::<C, V>();
+        twigs::remove(&mut self.twigs, twig.ctx);
+        free(&mut self.tree, twig.ctx);
+    }
+
+    /// Lets go of the context of the first branch of a call.
+    fn let_first_branch_go(&mut self, call: CtxId)
+        ensures { self.new ≡ with_standing (branches_fewer call 1 self.old.standing) self.old }
+    {
+        let Some(twig) = twigs::first(&self.twigs, call) else {
+            return;
+        };
+        self.let_branch_go(call, twig.branch);
+    }
+
+    /// Lets go of the contexts of all branches of a call.
+    fn let_branches_go(&mut self, call: CtxId)
+        ensures { self.new ≡ with_standing (bare_call call self.old.standing) self.old }
+    {
+        for _index in 0..twigs::count(&self.twigs, call) {
+            self.let_first_branch_go(call);
+        }
+    }
+
+    /// Calls the hook of a call with what ended it, and lets go of its contexts and those of its branches. None where no
+    /// call has that context.
     pub fn end<E: Drop, O>(&mut self, ctx: CtxId, event: E) -> Option<Result<O, AllocError>>
     where
         H: Hook<E, O>,
         requires { H.allows event }
+        ensures duty { IfSome result (λ ran. IfOk ran (λ answer. H.meets event answer)) }
+        ensures called { (h : H) → hook_for ctx self.old.hooks ≡ Some h → IfSome result (λ ran. H.gives h event ran) }
+        ensures ran { is_some result ≡ is_call ctx self.old.standing.calls }
+        ensures left { self.new ≡ gone ctx self.old }
+    {
+        self.let_branches_go(ctx);
+        self.end_bare(ctx, event)
+    }
+
+    /// Drops the hook of a call uncalled, and lets go of its contexts and those of its branches.
+    pub fn abandon(&mut self, ctx: CtxId)
+        ensures { self.new ≡ gone ctx self.old }
+    {
+        self.let_branches_go(ctx);
+        self.abandon_bare(ctx);
+    }
+
+    /// Calls the hook of a call that has no branches with what ended it, and lets go of its contexts.
+    fn end_bare<E: Drop, O>(&mut self, ctx: CtxId, event: E) -> Option<Result<O, AllocError>>
+    where
+        H: Hook<E, O>,
+        requires allowed { H.allows event }
+        requires bare { IsBare ctx self.old.standing.calls }
         ensures duty { IfSome result (λ ran. IfOk ran (λ answer. H.meets event answer)) }
         ensures called { (h : H) → hook_for ctx self.old.hooks ≡ Some h → IfSome result (λ ran. H.gives h event ran) }
         ensures ran { is_some result ≡ is_call ctx self.old.standing.calls }
@@ -219,8 +316,9 @@ impl<C: Copy, V: Drop, H: Drop> CallContexts<C, V, H> {
         }
     }
 
-    /// Drops the hook of a call uncalled, and lets go of its contexts.
-    pub fn abandon(&mut self, ctx: CtxId)
+    /// Drops the hook of a call that has no branches uncalled, and lets go of its contexts.
+    fn abandon_bare(&mut self, ctx: CtxId)
+        requires { IsBare ctx self.old.standing.calls }
         ensures { self.new ≡ gone ctx self.old }
     {
         let Some(life) = calls::find(&self.calls, ctx) else {

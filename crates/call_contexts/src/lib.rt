@@ -6,5 +6,7 @@ mod call_contexts;
 mod calls;
 mod contexts;
 mod life;
+mod twig;
+mod twigs;
 
 pub use call_contexts::CallContexts;

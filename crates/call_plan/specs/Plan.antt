@@ -1,5 +1,5 @@
 -- A plan as contracts see it, when it is lawful, why it is refused, and the text that joins its answers.
-use Rattle.std.specs.Prelude.{◌≡◌, ℕ, ◌<◌, ◌≤◌, List, [], ◌∷◌, ◌++◌, map, zip, length, codes, Bool, true, false, not, ◌&&◌, ◌||◌, ◌==◌, nat_lt, nat_le, if◌then◌else◌, IsTrue, bytes_eq, Option, Some, None}
+use Rattle.std.specs.Prelude.{◌≡◌, ℕ, ◌<◌, ◌≤◌, List, [], ◌∷◌, ◌++◌, map, zip, length, codes, Bool, true, false, not, ◌&&◌, ◌||◌, ◌==◌, nat_lt, nat_le, if◌then◌else◌, IsTrue, bytes_eq, slice_get, Option, Some, None, option_and_then}
 use Rattle.std.specs.List.{list_all, list_any, join_with_byte}
 use Rattle.http_pieces.specs.declared.largest.TheConstants.{MAX_DECIMAL}
 use Rattle.call_plan.specs.declared.branch.Branch.{Branch}
@@ -24,9 +24,22 @@ is_timeout (Some ms) = nat_le ms MAX_DECIMAL
 abbrev pub has_target : Branch → Bool
 has_target b = is_address b.address && is_path b.path
 
--- the paths and addresses are lawful, and the timeout is in its range
+-- a branch's timeout is one of the milliseconds from 1 to 9,999,999,999, or absent
+abbrev pub is_branch_timeout : Option ℕ → Bool
+is_branch_timeout None = true
+is_branch_timeout (Some ms) = nat_le 1 ms && nat_le ms MAX_DECIMAL
+
+-- the branch's timeout is in its range
+abbrev pub has_time : Branch → Bool
+has_time b = is_branch_timeout b.timeout_ms
+
+-- the paths and addresses are lawful, and the timeouts are in their ranges
 abbrev pub is_well_formed : List ℕ → Option ℕ → List Branch → Bool
-is_well_formed path timeout branches = is_path path && is_timeout timeout && list_all has_target branches
+is_well_formed path timeout branches = is_path path && is_timeout timeout && list_all has_target branches && list_all has_time branches
+
+-- the time of its own that the branch of that number has, in milliseconds
+abbrev pub time_of : PlanRecord → ℕ → Option ℕ
+time_of p i = option_and_then (λ (b : Branch). b.timeout_ms) (slice_get p.branches i)
 
 -- the branch's name is lawful
 abbrev pub has_name : Branch → Bool

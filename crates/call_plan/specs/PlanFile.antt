@@ -39,12 +39,21 @@ abbrev pub each_of : {A : Type 0} → (Data → Option A) → Items → Option (
 each_of f no_items = Some []
 each_of f (item d ds) = option_and_then (λ x. option_map (λ xs. x ∷ xs) (each_of f ds)) (f d)
 
--- a branch is an object with the texts `name`, `address` and `path`
+-- n, if it is at least the least
+abbrev pub at_least : ℕ → ℕ → Option ℕ
+at_least least n = if nat_le least n then Some n else None
+
+-- the timeout of a branch, from 1 to 9,999,999,999, or none where the key is absent
+unfoldable pub branch_timeout_of : Data → Option (Option ℕ)
+branch_timeout_of d =
+    option_map_or (λ ms. option_map Some (option_and_then (at_least 1) (whole_number MAX_DECIMAL ms))) (get (codes "timeout_ms") d) (Some None)
+
+-- a branch is an object with the texts `name`, `address` and `path`, and `timeout_ms` if it is there
 unfoldable pub branch_of : Data → Option Branch
 branch_of d =
-    option_and_then (λ name. option_and_then (λ address. option_map (λ path.
-    record { name = name; address = address; path = path })
-    (text_at (codes "path") d)) (text_at (codes "address") d)) (text_at (codes "name") d)
+    option_and_then (λ name. option_and_then (λ address. option_and_then (λ path. option_map (λ timeout.
+    record { name = name; address = address; path = path; timeout_ms = timeout })
+    (branch_timeout_of d)) (text_at (codes "path") d)) (text_at (codes "address") d)) (text_at (codes "name") d)
 
 -- the branches of the array at `branches`
 unfoldable pub branches_of : Data → Option (List Branch)

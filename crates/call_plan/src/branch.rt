@@ -9,4 +9,7 @@ pub struct Branch {
     pub address: Text,
     /// The path that the backend is asked for.
     pub path: Text,
+    /// How long the branch may take from its start, in milliseconds, 1 to 9,999,999,999; without it, as long as its
+    /// call.
+    pub timeout_ms: Option<u64>,
 }

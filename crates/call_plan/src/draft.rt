@@ -4,7 +4,7 @@ ghost use Rattle.std.specs.Result.{result_err};
 ghost use Rattle.serde_json.specs.View.{view, items_view};
 ghost use Rattle.call_plan.specs.Plan.{plan_fault};
 ghost use Rattle.json_values.specs.Json.{text_at};
-ghost use Rattle.call_plan.specs.PlanFile.{array_at, whole_number, limit_of, timeout_of, branch_of, branches_of, plan_of, entries_of, Reads};
+ghost use Rattle.call_plan.specs.PlanFile.{array_at, whole_number, limit_of, timeout_of, at_least, branch_timeout_of, branch_of, branches_of, plan_of, entries_of, Reads};
 
 use crate::branch::Branch;
 use crate::error::PlanError;
@@ -95,10 +95,12 @@ fn read_branch(alloc: Global, entry: &Value) -> Result<Branch, PlanError>
     let name = read_text(alloc, entry, "name")?;
     let address = read_text(alloc, entry, "address")?;
     let path = read_text(alloc, entry, "path")?;
+    let timeout_ms = branch_timeout_of(entry).ok_or(PlanError::NotAPlan)?;
     Ok(Branch {
         name,
         address,
         path,
+        timeout_ms,
     })
 }
 
@@ -132,6 +134,22 @@ fn timeout_of(entry: &Value) -> Option<Option<u64>>
         None => Some(None),
         Some(timeout_ms) => whole_number(timeout_ms, MAX_DECIMAL).map(Some),
     }
+}
+
+#[tactic(auto, unfolding(crate::specs::PlanFile::branch_timeout_of))]
+fn branch_timeout_of(entry: &Value) -> Option<Option<u64>>
+    ensures { result ≡ branch_timeout_of (view entry.now) }
+{
+    match entry.get("timeout_ms") {
+        None => Some(None),
+        Some(timeout_ms) => at_least_one(whole_number(timeout_ms, MAX_DECIMAL)?).map(Some),
+    }
+}
+
+fn at_least_one(number: u64) -> Option<u64>
+    ensures { result ≡ at_least 1 number }
+{
+    if number >= 1 { Some(number) } else { None }
 }
 
 // `as_u64` gives what is written in digits alone: `-0`, `1.0` and `1e2` are kept as floats.

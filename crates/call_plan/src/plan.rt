@@ -1,7 +1,8 @@
-ghost use Rattle.std.specs.Prelude.{◌≡◌, ◌++◌, length, IfOk, OnOk, bytes_eq};
+ghost use Rattle.std.specs.Prelude.{◌≡◌, ◌≤◌, ◌++◌, length, IfOk, IfSome, OnOk, bytes_eq};
+ghost use Rattle.http_pieces.specs.declared.largest.TheConstants.{MAX_DECIMAL};
 ghost use Rattle.std.specs.List.{list_all, list_any};
 ghost use Rattle.std.specs.Result.{result_err};
-ghost use Rattle.call_plan.specs.Plan.{IsLawful, has_target, has_name, is_well_formed, names, has_repeat, plan_fault, member_text, join_text};
+ghost use Rattle.call_plan.specs.Plan.{IsLawful, has_target, has_time, has_name, is_well_formed, names, has_repeat, plan_fault, time_of, member_text, join_text};
 
 use crate::branch::Branch;
 use crate::error::PlanError;
@@ -82,6 +83,18 @@ impl Plan {
         self.timeout_ms
     }
 
+    /// How long the branch of that number may take from its start, in milliseconds, 1 to 9,999,999,999, if it has a time
+    /// of its own.
+    pub fn branch_timeout(&self, branch: usize) -> Option<u64>
+        ensures timeout { result ≡ time_of self.now branch }
+        ensures range { IfSome result (λ ms. (1 ≤ ms) × (ms ≤ MAX_DECIMAL)) }
+    {
+        match self.branches.get(branch) {
+            Some(branch) => branch.timeout_ms,
+            None => None,
+        }
+    }
+
     /// The branches, in declared order: 1 to 16.
     pub fn branches(&self) -> &[Branch]
         ensures branches { result.now ≡ self.now.branches }
@@ -153,7 +166,24 @@ fn check_rules(
 fn is_well_formed(path: &str, timeout_ms: Option<u64>, branches: &[Branch]) -> bool
     ensures { result ≡ is_well_formed path.now timeout_ms branches.now }
 {
-    rules::is_path(path) && timeout_ms.is_none_or(|ms| ms <= MAX_DECIMAL) && have_targets(branches)
+    rules::is_path(path)
+        && timeout_ms.is_none_or(|ms| ms <= MAX_DECIMAL)
+        && have_targets(branches)
+        && have_times(branches)
+}
+
+fn have_times(branches: &[Branch]) -> bool
+    ensures { result ≡ list_all has_time branches.now }
+{
+    branches.iter().all(has_time)
+}
+
+fn has_time(branch: &Branch) -> bool
+    ensures { result ≡ has_time branch.now }
+{
+    branch
+        .timeout_ms
+        .is_none_or(|ms| 1 <= ms && ms <= MAX_DECIMAL)
 }
 
 fn have_targets(branches: &[Branch]) -> bool

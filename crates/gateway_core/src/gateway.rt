@@ -99,7 +99,8 @@ impl<H: ReplyHook + Drop> Core<H> {
         self.streams.hang_up(conn.number())
     }
 
-    /// A moment has come, in milliseconds. True where a connection broke in the step.
+    /// A moment has come, in milliseconds: the calls end whose deadlines it has reached, or that of a branch of theirs which is
+    /// out. True where a connection broke in the step.
     pub fn moment(&mut self, moment: u64) -> bool
         ensures stands { TakesEvent (Moment moment) self.old self.new }
         ensures broke { Breaks self.old self.new result }
@@ -131,7 +132,7 @@ impl<H: ReplyHook + Drop> Core<H> {
         self.streams.close(conn.number())
     }
 
-    /// A branch of a call ends with that outcome.
+    /// A branch of a call ends with that outcome. Where memory is refused to what this starts or decides, the connection breaks.
     pub fn result(&mut self, call: &CallId, branch: u32, outcome: Outcome) -> Took
         ensures stands { TakesEvent (BranchResult call.now.conn call.now.request branch outcome) self.old self.new }
         ensures tells { TellsTook call.now branch outcome result self.old self.new }

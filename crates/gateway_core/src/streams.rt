@@ -5,7 +5,8 @@ ghost use Rattle.gateway_theory.specs.Heads.{IsOfAll};
 ghost use Rattle.gateway_theory.specs.Gateway.{is_broken_conn, is_ended, outs_of, untaken_of};
 ghost use Rattle.gateway_theory.specs.Step.{moment_after};
 ghost use Rattle.gateway_theory.specs.Refused.{RefusesOpening};
-ghost use Rattle.gateway_theory.specs.Results.{Forgets, NoneSpent, ResultTaken, Starved};
+ghost use Rattle.gateway_theory.specs.Results.{Forgets, NoneSpent, Starved};
+ghost use Rattle.gateway_machine.specs.Ended.{BranchEnds};
 ghost use Rattle.gateway_model.specs.declared.seen.Seen.{Seen};
 ghost use Rattle.gateway_theory.specs.Opens.{JobTaken};
 ghost use Rattle.gateway_theory.specs.Serving.{Breaks, BringsAt, Closes, Ends, FedTo, gateway_value, HangsUp, IsListening, IsPlaced, IsServing, ListensAt, Opens, ReadsAt, TakesReply};
@@ -132,7 +133,8 @@ impl<H: ReplyHook + Drop> Streams<H> {
         Ok(())
     }
 
-    /// A moment has come, in milliseconds: the calls end whose deadlines it has reached. True where a connection broke in the step.
+    /// A moment has come, in milliseconds: the calls end whose deadlines it has reached, or that of a branch of theirs which is
+    /// out. True where a connection broke in the step.
     pub(crate) fn moment(&mut self, moment: u64) -> bool
         ensures ends { Ends (Cause.Reached (moment_after self.old.machine.moment moment))
             (record self.old.machine { moment = moment_after self.old.machine.moment moment }) self.old self.new }
@@ -162,9 +164,10 @@ impl<H: ReplyHook + Drop> Streams<H> {
         true
     }
 
-    /// A branch of a call ends with that outcome.
+    /// A branch of a call ends with that outcome. Where memory is refused to the context of the branch that starts next, its
+    /// connection breaks.
     pub(crate) fn result(&mut self, id: &CallId, branch: u32, outcome: Outcome) -> Took
-        ensures taken { (between : MachineValue) × ResultTaken id.now branch outcome self.old.machine between result
+        ensures taken { (between : MachineValue) × BranchEnds id.now branch outcome self.old.machine between result
             × Forgets id.now between self.new.machine }
         ensures unknown { result.seen ≡ Seen.Unknown → self.new.machine ≡ self.old.machine }
         ensures none_spent { (result.seen ≡ Seen.Unknown → ⊥) → NoneSpent id.now self.new.machine.calls }

@@ -20,17 +20,17 @@ pub first_queued : (moment : ℕ) (id : CallId) (a : ArrivedCall) (first : List 
 first_queued moment id a first first_is = ap (map (job_at moment)) first_is ∙ map-map (job_at moment) (task_of id a) (range_with_len 0 (first_ones a))
 
 pub begun_at : (v : MachineValue) (i : ℕ) (id : CallId) (a : ArrivedCall) (call : KeptValue) (first : List TaskValue) (was : ConnValue) → i < length v.conns → id ≡ next_of (conn_at i v.conns)
-    → IsBegun id a call first → was ≡ slice_index_or v.conns i was
+    → IsBegun v.moment id a call first → was ≡ slice_index_or v.conns i was
     → machine_value v.moment v.drained (slice_set v.conns i (added None was)) (v.calls ++ call ∷ []) (v.jobs ++ map (job_at v.moment) first) ≡ entered_at i (begins v.moment None id a) v
 begun_at v i id a call first was lt its b was_is =
     let conn : was ≡ conn_at i v.conns = was_is ∙ get_or_default v.conns i was no_conn lt in
-    let made : call ≡ record { id = next_of (conn_at i v.conns); call = call_state (first_out a) (Some (begun_live id a)); reply = None } =
+    let made : call ≡ record { id = next_of (conn_at i v.conns); call = call_state (first_out a) (Some (begun_live v.moment id a)); reply = None } =
     b.call_is ∙ ap (λ (n : CallId). with_id n) its in
     ap (λ k. machine_value v.moment v.drained (slice_set v.conns i (added None k)) (v.calls ++ call ∷ []) (v.jobs ++ map (job_at v.moment) first)) conn
     ∙ ap (λ k. machine_value v.moment v.drained (slice_set v.conns i (added None (conn_at i v.conns))) (v.calls ++ k ∷ []) (v.jobs ++ map (job_at v.moment) first)) made
     ∙ ap (λ js. machine_value v.moment v.drained (slice_set v.conns i (added None (conn_at i v.conns)))
-    (v.calls ++ record { id = next_of (conn_at i v.conns); call = call_state (first_out a) (Some (begun_live id a)); reply = None } ∷ []) (v.jobs ++ js))
+    (v.calls ++ record { id = next_of (conn_at i v.conns); call = call_state (first_out a) (Some (begun_live v.moment id a)); reply = None } ∷ []) (v.jobs ++ js))
     (first_queued v.moment id a first b.first_are)
   where
     with_id : CallId → KeptValue
-    with_id n = record { id = n; call = call_state (first_out a) (Some (begun_live id a)); reply = None }
+    with_id n = record { id = n; call = call_state (first_out a) (Some (begun_live v.moment id a)); reply = None }

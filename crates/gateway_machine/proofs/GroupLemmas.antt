@@ -3,16 +3,18 @@ use Rattle.std.proofs.Common.{◌≡◌, ℕ, zero, suc, ◌+◌, ◌≤◌, ◌
 use Rattle.std.specs.Prelude.{IsTrue, if◌then◌else◌, nat_lt, slice_index_or, option_to_list}
 use Rattle.std.specs.List.{range_with_len}
 use Rattle.std.proofs.lemmas.Bool.{cases_lt, cases_Bool, lt-ltb, le-ltb, ltb-true, ltb-false}
+use Rattle.std.proofs.lemmas.List.{length-map}
+use Rattle.std.proofs.lemmas.Simd.{map-map}
 use Rattle.std.proofs.lemmas.List.FromFn.{length-map-range_with_len, get_or-map-range_with_len, map-range_with_len_more}
 use Rattle.std.proofs.lemmas.List.Sums.{sum_by_push}
 use Rattle.std.proofs.Math.ListN.{get_or-eq_default}
 use Rattle.err_group.specs.GroupState.{GroupState, has_room}
 use Rattle.gateway_model.specs.declared.call_event.CallEvent.{CallEvent}
 use Rattle.gateway_model.specs.declared.id.CallId.{CallId}
-use Rattle.gateway_theory.specs.Begins.{first_ones, first_out}
+use Rattle.gateway_theory.specs.Begins.{first_deadlines, first_ones, first_out}
 use Rattle.gateway_theory.specs.Task.{TaskValue, task_of}
 use Rattle.gateway_theory.specs.LiveStands.{tasks_from}
-use Rattle.gateway_model.specs.Past.{ArrivedCall}
+use Rattle.gateway_model.specs.Past.{ArrivedCall, deadline_from}
 use Rattle.gateway_machine.specs.KeptCall.{live_value, kept_value, IsKept, IsBegun, HasGone}
 use Rattle.gateway_machine.proofs.KeptLemmas.{outs}
 
@@ -82,12 +84,18 @@ out_at n k i above =
     (λ (ge : n ≤ i). get_or-eq_default (map (λ j. nat_lt j k) (range_with_len 0 n)) false {n = i} (omega (arith, ge, length-map-range_with_len (λ j. nat_lt j k) 0 n)))
     (cases_lt i n)
 
-pub begun_kept : (id : CallId) (a : ArrivedCall) (n first : ℕ) (out : List Bool) (g : Tasks) (tasks : List TaskValue) (events : List CallEvent) → n ≡ length a.plan.branches → first ≡ min n a.plan.limit
-    → out ≡ map (λ i. nat_lt i first) (range_with_len 0 n) → HasGone id a n g tasks → events ≡ [] → IsKept id out g (Some (live_value a events))
-begun_kept id a n first out g tasks events n_is first_is out_is k events_are = rw (events_are, out_is) (record {
+-- as many of the branches that start at once as have started
+pub begun_few : (id : CallId) (a : ArrivedCall) (n : ℕ) (g : Tasks) (tasks : List TaskValue) → HasGone id a n g tasks → length tasks ≡ min n a.plan.limit
+begun_few id a n g tasks k = ap length k.first_are ∙ length-map-range_with_len (task_of id a) 0 (min n a.plan.limit)
+
+pub begun_kept : (moment : ℕ) (id : CallId) (a : ArrivedCall) (n first : ℕ) (out : List Bool) (g : Tasks) (tasks : List TaskValue) (events : List CallEvent) (deadlines : List (Option ℕ)) → n ≡ length a.plan.branches → first ≡ min n a.plan.limit
+    → out ≡ map (λ i. nat_lt i first) (range_with_len 0 n) → HasGone id a n g tasks → events ≡ []
+    → deadlines ≡ map (λ (t : TaskValue). deadline_from moment t.asked.plan t.branch) tasks → IsKept id out g (Some (live_value a events deadlines))
+begun_kept moment id a n first out g tasks events deadlines n_is first_is out_is k events_are times_are = rw (events_are, out_is) (record {
   active_is = k.active_is ∙ sym (first_count first n ∙ omega (arith, first_is));
   live_is = record {
     size_is = length-map-range_with_len (λ i. nat_lt i first) 0 n ∙ n_is;
+    timed = ap length times_are ∙ length-map tasks (λ (t : TaskValue). deadline_from moment t.asked.plan t.branch) ∙ begun_few id a n g tasks k ∙ omega (arith, n_is);
     waiting_are = k.queue_is ∙ ap (λ m. map (task_of id a) (range_with_len (min m a.plan.limit) (m - min m a.plan.limit))) n_is ∙ ap (λ m. tasks_from m id a) same;
     unstarted = λ j le. out_at n first j (omega (arith, first_is, n_is, le, same));
   };
@@ -96,15 +104,20 @@ begun_kept id a n first out g tasks events n_is first_is out_is k events_are = r
     same : min (length a.plan.branches) a.plan.limit ≡ min (length a.plan.branches) (a.plan.limit + 0)
     same = omega arith
 
-pub is_begun : (id : CallId) (a asked : ArrivedCall) (n first : ℕ) (out : List Bool) (g : Tasks) (tasks : List TaskValue) (events : List CallEvent) → asked ≡ a → n ≡ length a.plan.branches
+pub is_begun : (moment : ℕ) (id : CallId) (a asked : ArrivedCall) (n first : ℕ) (out : List Bool) (g : Tasks) (tasks : List TaskValue) (events : List CallEvent) (deadlines : List (Option ℕ)) → asked ≡ a → n ≡ length a.plan.branches
     → first ≡ min n a.plan.limit → out ≡ map (λ i. nat_lt i first) (range_with_len 0 n) → HasGone id a n g tasks → events ≡ []
-    → IsBegun id a (kept_value id out g.queue (Some (live_value asked events)) None) tasks
-is_begun id a asked n first out g tasks events asked_is n_is first_is out_is k events_are =
+    → deadlines ≡ map (λ (t : TaskValue). deadline_from moment t.asked.plan t.branch) tasks
+    → IsBegun moment id a (kept_value id out g.queue (Some (live_value asked events deadlines)) None) tasks
+is_begun moment id a asked n first out g tasks events deadlines asked_is n_is first_is out_is k events_are times_are =
     let ones : min n a.plan.limit ≡ first_ones a = omega (arith, n_is) in
     let first_one : first ≡ first_ones a = omega (arith, first_is, ones) in
     let queue : g.queue ≡ tasks_from (first_ones a) id a = k.queue_is ∙ ap (λ m. map (task_of id a) (range_with_len m (n - m))) ones ∙ ap (λ m. map (task_of id a) (range_with_len (first_ones a) (m - first_ones a))) n_is in
     let outs_are : out ≡ first_out a = out_is ∙ ap (λ m. map (λ i. nat_lt i m) (range_with_len 0 n)) first_one ∙ ap (λ m. map (λ i. nat_lt i (first_ones a)) (range_with_len 0 m)) n_is in
+    let tasks_are : tasks ≡ map (task_of id a) (range_with_len 0 (first_ones a)) = k.first_are ∙ ap (λ m. map (task_of id a) (range_with_len 0 m)) ones in
+    let times : deadlines ≡ first_deadlines moment a =
+    times_are ∙ ap (map (λ (t : TaskValue). deadline_from moment t.asked.plan t.branch)) tasks_are
+    ∙ map-map (λ (t : TaskValue). deadline_from moment t.asked.plan t.branch) (task_of id a) (range_with_len 0 (first_ones a)) in
     record {
-      call_is = rw (asked_is, events_are, queue, outs_are) refl;
+      call_is = rw (asked_is, events_are, queue, outs_are, times) refl;
       first_are = k.first_are ∙ ap (λ m. map (task_of id a) (range_with_len 0 m)) ones;
     }

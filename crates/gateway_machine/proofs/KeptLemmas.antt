@@ -17,10 +17,10 @@ use Rattle.gateway_model.specs.CallRecord.{CallRecord}
 use Rattle.gateway_model.specs.Job.{JobValue}
 use Rattle.gateway_theory.specs.Task.{TaskValue, task_of, job_at}
 use Rattle.gateway_theory.specs.LiveStands.{tasks_from}
-use Rattle.gateway_model.specs.Past.{ArrivedCall}
+use Rattle.gateway_model.specs.Past.{ArrivedCall, deadline_from}
 use Rattle.call_plan.specs.Plan.{IsLawful}
 use Rattle.gateway_model.specs.Queue.{record_of}
-use Rattle.gateway_theory.specs.Step.{result_on, next_out, rest_of, first_of}
+use Rattle.gateway_theory.specs.Step.{deadlines_next, result_on, next_out, rest_of, first_of}
 use Rattle.gateway_theory.specs.Kept.{KeptValue}
 use Rattle.gateway_machine.specs.KeptCall.{LiveValue, live_value, kept_value, started_of, IsGoing, IsKept, IsStep}
 use Rattle.gateway_theory.specs.lemmas.StepLemmas.{tasks_none, tasks_next}
@@ -118,6 +118,10 @@ pub rest_next : (queue : List TaskValue) → drop 1 queue ≡ rest_of queue
 rest_next [] = refl
 rest_next (t ∷ ts) = refl
 
+pub times_next : (moment : ℕ) (queue : List TaskValue) → deadlines_next moment (option_to_list (slice_get queue 0)) ≡ deadlines_next moment queue
+times_next moment [] = refl
+times_next moment (t ∷ ts) = refl
+
 pub jobs_next : (moment : ℕ) (queue : List TaskValue) → map (job_at moment) (option_to_list (slice_get queue 0)) ≡ first_of moment queue
 jobs_next moment [] = refl
 jobs_next moment (t ∷ ts) = refl
@@ -126,13 +130,15 @@ jobs_next moment (t ∷ ts) = refl
 apart : (out : List Bool) (i j : ℕ) → slice_index_or out i false ≡ true → slice_index_or out j false ≡ false → (j ≡ i → ⊥)
 apart out i j it not_so e = let clash : false ≡ true = sym not_so ∙ ap (λ k. slice_index_or out k false) e ∙ it in cc
 
-pub going_kept : (id : CallId) (out : List Bool) (i : ℕ) (e : CallEvent) (g h : GroupState TaskValue (Unit {0})) (l : LiveValue) → IsKept id out g (Some l) → slice_index_or out i false ≡ true
-    → (0 < g.active → Finishes g h (Ok tt)) → IsKept id (next_out g.queue (slice_set out i false)) h (Some (live_value l.asked (l.events ++ e ∷ [])))
-going_kept id out i e g h l k it finishes =
+pub going_kept : (moment : ℕ) (id : CallId) (out : List Bool) (i : ℕ) (e : CallEvent) (g h : GroupState TaskValue (Unit {0})) (l : LiveValue) → IsKept id out g (Some l) → slice_index_or out i false ≡ true
+    → (0 < g.active → Finishes g h (Ok tt)) → IsKept id (next_out g.queue (slice_set out i false)) h
+    (Some (live_value l.asked (l.events ++ e ∷ []) (l.deadlines ++ deadlines_next moment g.queue)))
+going_kept moment id out i e g h l k it finishes =
     ⊎_elim (λ (a : AllHave id g.queue l). record {
       active_is = f.active ∙ rw a.none (omega (arith, k.active_is, count_back out i it));
       live_is = record {
         size_is = rw a.none (length-set out i false ∙ k.live_is.size_is);
+        timed = rw a.none (length-append l.deadlines [] ∙ omega (arith, k.live_is.timed, more, a.all));
         waiting_are = f.queue ∙ rw a.none (sym (tasks_none (started_of later) id l.asked (omega (arith, more, a.all))));
         unstarted = λ j le. rw a.none (get_or-set_other out i j false false (apart out i j it (unstarted j (omega (arith, le, more)))) ∙ unstarted j (omega (arith, le, more)));
       };
@@ -146,6 +152,7 @@ going_kept id out i e g h l k it finishes =
           ∙ rw w.first (omega (arith, count_back out i it, count_out (slice_set out i false) (started_of l) there k_back));
       live_is = record {
         size_is = rw w.first (length-set (slice_set out i false) (started_of l) true ∙ length-set out i false ∙ k.live_is.size_is);
+        timed = rw w.first (length-append l.deadlines (deadline_from moment l.asked.plan (started_of l) ∷ []) ∙ omega (arith, k.live_is.timed, one_more w));
         waiting_are = f.queue ∙ rw w.first (ap (λ n. tasks_from n id l.asked) (one_more w));
         unstarted = λ j le. rw w.first
             (get_or-set_other (slice_set out i false) (started_of l) j true false (λ same. absurd (omega (arith, same, le, one_more w)))
@@ -158,7 +165,7 @@ going_kept id out i e g h l k it finishes =
     f = finishes (some_active id out i g (Some l) k it)
 
     later : LiveValue
-    later = live_value l.asked (l.events ++ e ∷ [])
+    later = live_value l.asked (l.events ++ e ∷ []) (l.deadlines ++ deadlines_next moment g.queue)
 
     unstarted : (j : ℕ) → started_of l ≤ j → slice_index_or out j false ≡ false
     unstarted = k.live_is.unstarted
@@ -189,15 +196,31 @@ answer_last_kept id out i g h was new l k was_is it lawful last finishes new_is 
     subst (λ x. IsKept id (slice_set out i false) h x) (sym new_is)
     (last_kept id out i g h l live it (last_waits_none id out g.queue l live.live_is lawful (eqb-true (length l.events + 1) (length l.asked.plan.branches) last)) finishes)
 
-pub answer_going_kept : (id : CallId) (out after : List Bool) (i : ℕ) (e : CallEvent) (g h : GroupState TaskValue (Unit {0})) (was : Option LiveValue) (l later : LiveValue) (next : Option TaskValue)
+-- with the branches that have started, and the one that starts, a call has no more deadlines than branches
+pub room_next : (id : CallId) (out : List Bool) (i : ℕ) (g : GroupState TaskValue (Unit {0})) (was : Option LiveValue) (l : LiveValue) (next : Option TaskValue) → IsKept id out g was → was ≡ Some l
+    → slice_index_or out i false ≡ true → next ≡ (freed_by (Ok tt) g).next → length l.deadlines + length (option_to_list next) ≤ length l.asked.plan.branches
+room_next id out i g was l next k was_is it next_as =
+    let live : IsKept id out g (Some l) = subst (λ x. IsKept id out g x) was_is k in
+    let n : next ≡ slice_get g.queue 0 = next_is id out i g was next (Ok tt) k it next_as in
+    rw n (⊎_elim
+    (λ (a : AllHave id g.queue l). rw a.none (omega (arith, live.live_is.timed, a.all)))
+    (λ (w : OneWaits id g.queue l). rw w.first (omega (arith, live.live_is.timed, w.within)))
+    (waits_or_not id out g.queue l live.live_is))
+
+pub answer_going_kept : (moment : ℕ) (id : CallId) (out after : List Bool) (i : ℕ) (e : CallEvent) (g h : GroupState TaskValue (Unit {0})) (was : Option LiveValue) (l later : LiveValue) (next : Option TaskValue)
     → IsKept id out g was → was ≡ Some l → slice_index_or out i false ≡ true → next ≡ (freed_by (Ok tt) g).next → (0 < g.active → Finishes g h (Ok tt))
-    → after ≡ next_out (option_to_list next) (slice_set out i false) → later ≡ live_value l.asked (l.events ++ e ∷ []) → IsKept id after h (Some later)
-answer_going_kept id out after i e g h was l later next k was_is it next_as finishes after_is later_is =
+    → after ≡ next_out (option_to_list next) (slice_set out i false) → later ≡ live_value l.asked (l.events ++ e ∷ []) (l.deadlines ++ deadlines_next moment (option_to_list next))
+    → IsKept id after h (Some later)
+answer_going_kept moment id out after i e g h was l later next k was_is it next_as finishes after_is later_is =
     let live : IsKept id out g (Some l) = subst (λ x. IsKept id out g x) was_is k in
     let out_is : after ≡ next_out g.queue (slice_set out i false) =
     after_is ∙ ap (λ n. next_out (option_to_list n) (slice_set out i false)) (next_is id out i g was next (Ok tt) k it next_as) ∙ outs_next g.queue (slice_set out i false) in
+    let n : next ≡ slice_get g.queue 0 = next_is id out i g was next (Ok tt) k it next_as in
+    let times : deadlines_next moment (option_to_list next) ≡ deadlines_next moment g.queue = ap (λ n. deadlines_next moment (option_to_list n)) n ∙ times_next moment g.queue in
+    let now_is : later ≡ live_value l.asked (l.events ++ e ∷ []) (l.deadlines ++ deadlines_next moment g.queue) =
+    later_is ∙ ap (λ ds. live_value l.asked (l.events ++ e ∷ []) (l.deadlines ++ ds)) times in
     subst (λ x. IsKept id x h (Some later)) (sym out_is)
-    (subst (λ x. IsKept id (next_out g.queue (slice_set out i false)) h (Some x)) (sym later_is) (going_kept id out i e g h l live it finishes))
+    (subst (λ x. IsKept id (next_out g.queue (slice_set out i false)) h (Some x)) (sym now_is) (going_kept moment id out i e g h l live it finishes))
 
 -- the job of the first of a call's tasks is of that call
 first_its : (moment : ℕ) (id : CallId) (k : ℕ) (a : ArrivedCall) (queue : List TaskValue) → queue ≡ tasks_from k id a → All (λ (j : JobValue). j.call ≡ id) (first_of moment queue)
@@ -211,7 +234,7 @@ first_its moment id k a queue e = subst (λ q. All (λ (j : JobValue). j.call �
 pub last_step : (moment : ℕ) (old : KeptValue) (id : CallId) (out : List Bool) (i : ℕ) (body : List ℕ) (g h : GroupState TaskValue (Unit {0})) (was new : Option LiveValue) (l : LiveValue)
     (reply : Option ReplyEntry) (decided : CallRecord) (next : Option TaskValue) (outcome : Outcome)
     → kept_value id out g.queue was reply ≡ old → IsKept id out g was → was ≡ Some l → slice_index_or out i false ≡ true → outcome ≡ Answer body → IsLawful l.asked.plan
-    → (length l.events + 1 == length l.asked.plan.branches) ≡ true → decided ≡ record_of l.asked (l.events ++ Answered i body ∷ []) → next ≡ (freed_by (Ok tt) g).next → new ≡ None
+    → (length l.events + 1 == length l.asked.plan.branches) ≡ true → decided ≡ record_of l.asked (l.deadlines ++ deadlines_next moment (option_to_list next)) (l.events ++ Answered i body ∷ []) → next ≡ (freed_by (Ok tt) g).next → new ≡ None
     → IsStep moment old (kept_value id (slice_set out i false) h.queue new reply) (Some decided) next (result_on moment i outcome (slice_set old.call.out i false) old.call.live)
 last_step moment old id out i body g h was new l reply decided next outcome old_is k was_is it outcome_is lawful last decided_is next_as new_is =
     let live : IsKept id out g (Some l) = subst (λ x. IsKept id out g x) was_is k in
@@ -224,7 +247,7 @@ pub going_step : (moment : ℕ) (old : KeptValue) (id : CallId) (out after : Lis
     (reply : Option ReplyEntry) (next : Option TaskValue) (outcome : Outcome)
     → kept_value id out g.queue was reply ≡ old → IsKept id out g was → was ≡ Some l → slice_index_or out i false ≡ true → outcome ≡ Answer body
     → (length l.events + 1 == length l.asked.plan.branches) ≡ false → next ≡ (freed_by (Ok tt) g).next → (0 < g.active → Finishes g h (Ok tt))
-    → after ≡ next_out (option_to_list next) (slice_set out i false) → later ≡ live_value l.asked (l.events ++ Answered i body ∷ [])
+    → after ≡ next_out (option_to_list next) (slice_set out i false) → later ≡ live_value l.asked (l.events ++ Answered i body ∷ []) (l.deadlines ++ deadlines_next moment (option_to_list next))
     → IsStep moment old (kept_value id after h.queue (Some later) reply) None next (result_on moment i outcome (slice_set old.call.out i false) old.call.live)
 going_step moment old id out after i body g h was l later reply next outcome old_is k was_is it outcome_is last next_as finishes after_is later_is =
     let live : IsKept id out g (Some l) = subst (λ x. IsKept id out g x) was_is k in
@@ -232,9 +255,10 @@ going_step moment old id out after i body g h was l later reply next outcome old
     let f : Finishes g h (Ok tt) = finishes (some_active id out i g was k it) in
     let out_is : after ≡ next_out g.queue (slice_set out i false) =
     after_is ∙ ap (λ m. next_out (option_to_list m) (slice_set out i false)) n ∙ outs_next g.queue (slice_set out i false) in
+    let times : deadlines_next moment (option_to_list next) ≡ deadlines_next moment g.queue = ap (λ m. deadlines_next moment (option_to_list m)) n ∙ times_next moment g.queue in
     subst (λ x. IsStep moment x (kept_value id after h.queue (Some later) reply) None next (result_on moment i outcome (slice_set x.call.out i false) x.call.live)) old_is
     (rw (was_is, outcome_is, last) (record {
-      new_is = rw (out_is, later_is, f.queue, rest_next g.queue) refl;
+      new_is = rw (out_is, later_is, times, f.queue, rest_next g.queue) refl;
       reply_is = refl;
       jobs_are = ap (λ m. map (job_at moment) (option_to_list m)) n ∙ jobs_next moment g.queue;
       alone = inl refl;

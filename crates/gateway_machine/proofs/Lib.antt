@@ -1,4 +1,6 @@
 pub mod HeardLemmas
+pub mod DueLemmas
+pub mod TimedLemmas
 pub mod LinkedLemmas
 pub mod KeptLemmas
 pub mod GroupLemmas

@@ -18,22 +18,26 @@ use Rattle.gateway_theory.specs.declared.cause.Cause.TheVariants.{Reached, HungU
 use Rattle.gateway_model.specs.declared.call_event.CallEvent.{CallEvent}
 use Rattle.gateway_model.specs.declared.call_event.CallEvent.TheVariants.{Expired, HungUp as HungUpNow, Drained as DrainedNow}
 use Rattle.gateway_model.specs.CallRecord.{CallRecord}
-use Rattle.gateway_theory.specs.Begins.{begins, ends_first}
+use Rattle.gateway_theory.specs.Begins.{begins, begun_live, ends_first, first_ones, first_out}
 use Rattle.gateway_theory.specs.Conn.{ConnValue, added, conn_value, fill_at, filled, next_of, without_first}
-use Rattle.gateway_replies.specs.Contexts.{ContextsValue, Ended, KeepsOthers, LifeValue, LivesApart, PeerValue, begun, by_deadline, by_drain, by_hang_up, closed, contexts_value, ended_life, ended_peer, ends_life, ends_of, ends_peer, event_of, is_life, is_peer, life_by, opened, others, peer, told, without}
+use Rattle.gateway_replies.specs.Contexts.{ContextsValue, Ended, KeepsOthers, LifeValue, LivesApart, PeerValue, begun, TimedBranch, by_deadline, by_drain, by_hang_up, closed, contexts_value, ended_peer, ending_at, ending_life, ends_life, expires_life, ends_of, ends_peer, event_of, finished, is_life, is_peer, life_by, on_branches, opened, others, peer, told, with_branches, without}
 use Rattle.gateway_theory.specs.Ends.{AreApart, CallsEnd, caused, ended_below, ended_call, ended_if, ended_kept, is_stopped_in, noted, settled_at, unanswered, without_reply}
 use Rattle.gateway_theory.specs.Enters.{asking_at, entered_at}
 use Rattle.gateway_theory.specs.Machine.{is_full}
 use Rattle.gateway_theory.specs.Task.{TaskValue}
 use Rattle.gateway_theory.specs.Kept.{KeptValue}
-use Rattle.gateway_machine.specs.KeptCall.{IsStep}
-use Rattle.gateway_machine.specs.Linked.{IsLinkedBut, IsLinkedWith, IsNow, Over, ended_with, ends_with, event_for, linked, linked_by, linked_calls, linked_conns, lives_in, none_over, over_by}
+use Rattle.gateway_machine.specs.KeptCall.{GoesOn, IsStep}
+use Rattle.gateway_machine.specs.Linked.{IsLinkedBut, IsLinkedWith, IsNow, Over, ended_with, ends_with, event_for, branch_started, first_started, linked, linked_by, linked_calls, life_in, linked_conns, lives_in, none_over, over_by, passed_by, passed_on, timed}
 use Rattle.gateway_theory.specs.Opens.{ReplyTaken, opened_as}
 use Rattle.gateway_theory.specs.Orderly.{ConnsApart, IsInOrder, IsOrderly}
-use Rattle.gateway_model.specs.Past.{ArrivedCall, is_call, is_due}
+use Rattle.gateway_model.specs.Past.{ArrivedCall, deadline_from, due_by, expiry, is_call, is_due, least_of, smaller}
+use Rattle.call_contexts.specs.Standing.{branch_before, ends_branch, expires_branch}
+use Rattle.gateway_theory.specs.lemmas.Deadlines.{due_smaller}
+use Rattle.gateway_machine.proofs.DueLemmas.{least_first, moment_event}
+use Rattle.gateway_machine.proofs.TimedLemmas.{first_is, first_timed, life_on, mapped, none_mapped, passed_branches, passed_is, passed_timed, with_last}
 use Rattle.gateway_theory.specs.Replies.{ReplyValue}
 use Rattle.gateway_theory.specs.Results.{is_spent}
-use Rattle.gateway_theory.specs.Step.{Live, Step, ended_by, is_last_answer, result_on, step_to}
+use Rattle.gateway_theory.specs.Step.{Live, Step, deadlines_in, ended_by, has_out, is_last_answer, result_on, step_to}
 use Rattle.gateway_theory.specs.Store.{MachineValue, IsFound, broken_at, broken_if, conn_at, conn_of, fill_first, filled_in, given_up, given_up_if, hung_if, kept_at, machine_value}
 use Rattle.gateway_theory.specs.lemmas.Cases.{all_stay, or_false, or_true, sym_eqb}
 use Rattle.gateway_theory.specs.lemmas.LimitLemmas.{same_call}
@@ -205,7 +209,7 @@ module _ (over : Over) where
       by rest true its = rw (its, its_others c k.id k.call.live k.call.out k.reply its) rest
       by rest false far = rw (far, far_others c k.id k.call.live k.call.out k.reply far) (ap (λ ls. lives_in over k ++ ls) rest)
 
-  live_life : (k : KeptValue) (l : Live) → k.call.live ≡ Some l → lives_in over k ≡ life_by (over k.id l.asked) k.id l.asked ∷ []
+  live_life : (k : KeptValue) (l : Live) → k.call.live ≡ Some l → lives_in over k ≡ life_in over k.id k.call.out l ∷ []
   live_life k l is = rw is refl
 
   pub dead_life : (k : KeptValue) → k.call.live ≡ None → lives_in over k ≡ []
@@ -247,7 +251,31 @@ module _ (over : Over) where
           let clash : true ≡ false = sym there ∙ gone in cc)
           (λ (n : is_call k.id (kept_at i ks).id ≡ false). n)
           (cases_Bool (is_call k.id (kept_at i ks).id)) in
-          rw (live_life k m o_is, off) (ap (λ ls. life_by (over k.id m.asked) k.id m.asked ∷ ls) (rest two.1))
+          rw (live_life k m o_is, off) (ap (λ ls. life_in over k.id k.call.out m ∷ ls) (rest two.1))
+
+  -- a call whose contexts change
+  pub set_live : (h : LifeValue → LifeValue) (ks : List KeptValue) (i : ℕ) (y : KeptValue) (l : Live) → LivesApart (linked_calls over ks) → i < length ks → (kept_at i ks).call.live ≡ Some l
+      → lives_in over y ≡ h (life_in over (kept_at i ks).id (kept_at i ks).call.out l) ∷ [] → linked_calls over (slice_set ks i y) ≡ mapped (kept_at i ks).id h (linked_calls over ks)
+  set_live h [] i y l apart lt is after = absurd (omega (arith, lt))
+  set_live h (k ∷ ks) zero y l apart lt is after =
+      let far : list_any (λ (m : LifeValue). is_call m.id k.id) (linked_calls over ks) ≡ false =
+      (subst (λ ls. LivesApart (ls ++ linked_calls over ks)) (live_life k l is) apart).0 in
+      rw (after, live_life k l is, call_itself k.id) (ap (λ ls. h (life_in over k.id k.call.out l) ∷ ls) (sym (none_mapped k.id h (linked_calls over ks) far)))
+  set_live h (k ∷ ks) (suc i) y l apart lt is after = by (λ tail. set_live h ks i y l tail (omega (arith, lt)) is after) k.call.live refl
+    where
+      by : (LivesApart (linked_calls over ks) → linked_calls over (slice_set ks i y) ≡ mapped (kept_at i ks).id h (linked_calls over ks)) → (o : Option Live)
+          → k.call.live ≡ o → lives_in over k ++ linked_calls over (slice_set ks i y) ≡ mapped (kept_at i ks).id h (lives_in over k ++ linked_calls over ks)
+      by rest None o_is = rw (dead_life k o_is) (rest (subst (λ ls. LivesApart (ls ++ linked_calls over ks)) (dead_life k o_is) apart))
+      by rest (Some m) o_is =
+          let two = subst (λ ls. LivesApart (ls ++ linked_calls over ks)) (live_life k m o_is) apart in
+          let off : is_call k.id (kept_at i ks).id ≡ false = ⊎_elim
+          (λ (e : is_call k.id (kept_at i ks).id ≡ true).
+          let there : is_life (kept_at i ks).id (linked_calls over ks) ≡ true = live_linked ks i l is in
+          let gone : is_life (kept_at i ks).id (linked_calls over ks) ≡ false = subst (λ d. is_life d (linked_calls over ks) ≡ false) (same_call k.id (kept_at i ks).id e) two.0 in
+          let clash : true ≡ false = sym there ∙ gone in cc)
+          (λ (n : is_call k.id (kept_at i ks).id ≡ false). n)
+          (cases_Bool (is_call k.id (kept_at i ks).id)) in
+          rw (live_life k m o_is, off) (ap (λ ls. life_in over k.id k.call.out m ∷ ls) (rest two.1))
 
   -- of a call of the connection the others know nothing
   pub set_others : (c : ℕ) (ks : List KeptValue) (i : ℕ) (y : KeptValue) → i < length ks → ((kept_at i ks).id.conn == c) ≡ true → y.call.live ≡ None
@@ -288,10 +316,8 @@ module _ (e : ℕ → Ended) (over : Over) where
           let same : d ≡ c = f ∙ rw o_is refl in
           same ∙ c_is ∙ ap (contexts_value b ns) (sym (set_alike over ks i y lt (dead_life over y dead ∙ sym (dead_life over (kept_at i ks) o_is))))
       by (Some l) o_is None q_is e f =
-          let id_is : y.id ≡ (kept_at i ks).id = ap (λ (k : KeptValue). k.id) e in
-          let stays : y.call.live ≡ Some l = ap (λ (k : KeptValue). k.call.live) e ∙ rw (o_is, q_is) refl in
           let same : d ≡ c = f ∙ rw (o_is, q_is) refl in
-          same ∙ c_is ∙ ap (contexts_value b ns) (sym (set_alike over ks i y lt (live_life over y l stays ∙ ap (λ d. life_by (over d l.asked) d l.asked ∷ []) id_is ∙ sym (live_life over (kept_at i ks) l o_is))))
+          same ∙ c_is ∙ ap (contexts_value b ns) (sym (set_alike over ks i y lt (ap (lives_in over) e ∙ rw (o_is, q_is) refl)))
       by (Some l) o_is (Some ev) q_is e f =
           let dead : y.call.live ≡ None = ap (λ (k : KeptValue). k.call.live) e ∙ rw (o_is, q_is) refl in
           let gone : d ≡ without (kept_at i ks).id c = f ∙ rw (o_is, q_is) refl in
@@ -383,18 +409,52 @@ module _ (e : ℕ → Ended) (over : Over) where
 
 -- ---- what may end calls
 
--- each context of a call has ended by this
-lives_told : (g : LifeValue → Ended) (over : Over) → ((id : CallId) (a : ArrivedCall) → g (life_by None id a) ≡ over id a) → (ks : List KeptValue)
-    → map (λ l. ends_life (g l) l) (linked_calls none_over ks) ≡ linked_calls over ks
-lives_told g over same [] = refl
-lives_told g over same (k ∷ ks) =
-    map-append (λ (l : LifeValue). ends_life (g l) l) (lives_in none_over k) (linked_calls none_over ks)
-    ∙ ap (λ ls. map (λ (l : LifeValue). ends_life (g l) l) (lives_in none_over k) ++ ls) (lives_told g over same ks)
+-- what becomes of each branch's context
+timed_told : (g : TimedBranch → TimedBranch) (over : Over) (id : CallId) (call : Option ℕ)
+    → ((k at : ℕ) → g (record { branch = k; deadline = at; ended = None }) ≡ record { branch = k; deadline = at; ended = option_or (over id call) (over id (Some at)) })
+    → (k : ℕ) (ds : List (Option ℕ)) → map g (timed none_over id call k ds) ≡ timed over id call k ds
+timed_told g over id call each k [] = refl
+timed_told g over id call each k (None ∷ ds) = timed_told g over id call each (suc k) ds
+timed_told g over id call each k (Some at ∷ ds) =
+    ap (λ b. b ∷ map g (timed none_over id call (suc k) ds)) (each k at)
+    ∙ ap (λ bs. record { branch = k; deadline = at; ended = option_or (over id call) (over id (Some at)) } ∷ bs) (timed_told g over id call each (suc k) ds)
+
+-- each context of a call, and of its branches, has ended by this
+lives_told : (h : LifeValue → LifeValue) (over : Over) → ((id : CallId) (out : List Bool) (l : Live) → h (life_in none_over id out l) ≡ life_in over id out l) → (ks : List KeptValue)
+    → map h (linked_calls none_over ks) ≡ linked_calls over ks
+lives_told h over same [] = refl
+lives_told h over same (k ∷ ks) =
+    map-append h (lives_in none_over k) (linked_calls none_over ks)
+    ∙ ap (λ ls. map h (lives_in none_over k) ++ ls) (lives_told h over same ks)
     ∙ ap (λ ls. ls ++ linked_calls over ks) (by k.call.live refl)
   where
-    by : (o : Option Live) → k.call.live ≡ o → map (λ (l : LifeValue). ends_life (g l) l) (lives_in none_over k) ≡ lives_in over k
+    by : (o : Option Live) → k.call.live ≡ o → map h (lives_in none_over k) ≡ lives_in over k
     by None o_is = rw (dead_life none_over k o_is, dead_life over k o_is) refl
-    by (Some l) o_is = rw (live_life none_over k l o_is, live_life over k l o_is) (ap (λ b. life_by b k.id l.asked ∷ []) (same k.id l.asked))
+    by (Some l) o_is = rw (live_life none_over k l o_is, live_life over k l o_is) (ap (λ x. x ∷ []) (same k.id k.call.out l))
+
+or_itself : (e : Ended) → e ≡ option_or e e
+or_itself None = refl
+or_itself (Some x) = refl
+
+-- of one call, its deadline and what ended it
+abbrev life_of : CallId → Live → Ended → List TimedBranch → LifeValue
+life_of id l ended branches = record { id = id; deadline = l.asked.deadline; request_id = l.asked.request_id; ended = ended; branches = branches }
+
+reached_life : (now : ℕ) (id : CallId) (out : List Bool) (l : Live) → expires_life now (life_in none_over id out l) ≡ life_in (over_by (Reached now)) id out l
+reached_life now id out l =
+    ap (life_of id l (by_deadline now l.asked.deadline))
+    (timed_told (λ (b : TimedBranch). expires_branch now (ends_branch (by_deadline now l.asked.deadline) b)) (over_by (Reached now)) id l.asked.deadline (λ k at. refl) 0 (deadlines_in out l.deadlines))
+
+hung_life : (c : ℕ) (id : CallId) (out : List Bool) (l : Live) → ends_life (by_hang_up (id.conn == c)) (life_in none_over id out l) ≡ life_in (over_by (HungUp c)) id out l
+hung_life c id out l =
+    ap (λ b. ends_life (by_hang_up b) (life_in none_over id out l)) (sym_eqb id.conn c)
+    ∙ ap (life_of id l (by_hang_up (c == id.conn)))
+    (timed_told (ends_branch (by_hang_up (c == id.conn))) (over_by (HungUp c)) id l.asked.deadline
+    (λ k at. ap (λ e. record { branch = k; deadline = at; ended = e }) (or_itself (by_hang_up (c == id.conn)))) 0 (deadlines_in out l.deadlines))
+
+drained_life : (id : CallId) (out : List Bool) (l : Live) → ends_life (by_drain true) (life_in none_over id out l) ≡ life_in (over_by Drained) id out l
+drained_life id out l =
+    ap (life_of id l (by_drain true)) (timed_told (ends_branch (by_drain true)) (over_by Drained) id l.asked.deadline (λ k at. refl) 0 (deadlines_in out l.deadlines))
 
 -- what ended the connections' contexts, once this was told
 abbrev ends_told : Cause → (ℕ → Ended) → ℕ → Ended
@@ -404,14 +464,14 @@ ends_told Drained e n = option_or (e n) (by_drain true)
 
 -- what may end calls was told to their contexts, and noted
 told_as : (e : ℕ → Ended) (cause : Cause) (v : MachineValue) → told cause (linked_by e none_over v) ≡ linked_by (ends_told cause e) (over_by cause) (noted cause v)
-told_as e (Reached now) v = ap (contexts_value v.drained (linked_conns e v.conns)) (lives_told (λ l. by_deadline now l.deadline) (over_by (Reached now)) (λ id a. refl) v.calls)
+told_as e (Reached now) v = ap (contexts_value v.drained (linked_conns e v.conns)) (lives_told (expires_life now) (over_by (Reached now)) (reached_life now) v.calls)
 told_as e (HungUp c) v =
     ap (λ ps. contexts_value v.drained ps (map (λ l. ends_life (by_hang_up (l.id.conn == c)) l) (linked_calls none_over v.calls))) (sym (hung_linked e c v.conns))
     ∙ ap (contexts_value v.drained (linked_conns (ends_told (HungUp c) e) (map (hung_if c) v.conns)))
-    (lives_told (λ l. by_hang_up (l.id.conn == c)) (over_by (HungUp c)) (λ id a. ap by_hang_up (sym_eqb id.conn c)) v.calls)
+    (lives_told (λ l. ends_life (by_hang_up (l.id.conn == c)) l) (over_by (HungUp c)) (hung_life c) v.calls)
 told_as e Drained v =
     ap (λ ps. contexts_value true ps (map (λ l. ends_life (by_drain true) l) (linked_calls none_over v.calls))) (sym (drained_linked e v.conns))
-    ∙ ap (contexts_value true (linked_conns (ends_told Drained e) v.conns)) (lives_told (λ l. by_drain true) (over_by Drained) (λ id a. refl) v.calls)
+    ∙ ap (contexts_value true (linked_conns (ends_told Drained e) v.conns)) (lives_told (λ l. ends_life (by_drain true) l) (over_by Drained) drained_life v.calls)
 
 -- they are linked by what they tell themselves
 pub relinked : (e : ℕ → Ended) (over : Over) (v : MachineValue) (x : ContextsValue) → x ≡ linked_by e over v → x ≡ linked_by (ends_of x) over v
@@ -421,28 +481,38 @@ relinked e over v x is = is ∙ ap (λ ps. contexts_value v.drained ps (linked_c
 pub told_linked : (cause : Cause) (v : MachineValue) (x y : ContextsValue) → x ≡ linked x v → y ≡ told cause x → y ≡ linked_by (ends_of y) (over_by cause) (noted cause v)
 told_linked cause v x y x_is y_is = relinked (ends_told cause (ends_of x)) (over_by cause) (noted cause v) y (y_is ∙ ap (told cause) x_is ∙ told_as (ends_of x) cause v)
 
--- the event that ends a call by this is the one that its context tells
-pub event_is : (cause : Cause) (moment : ℕ) (id : CallId) (a : ArrivedCall) → IsNow cause moment → option_map (event_of moment) (over_by cause id a) ≡ caused cause id a
-event_is (Reached now) moment id a is = ⊎_elim
-    (λ (y : is_due now a.deadline ≡ true). rw y (ap (λ m. Some (Expired m)) (sym is)))
-    (λ (n : is_due now a.deadline ≡ false). rw n refl)
-    (cases_Bool (is_due now a.deadline))
-event_is (HungUp c) moment id a is = by (c == id.conn)
+-- where no context has ended, no branch has before its call
+never_before : (over : Over) (id : CallId) (call : Option ℕ) (ds : List (Option ℕ)) → ((d : Option ℕ) → over id d ≡ None) → branch_before call (timed over id call 0 ds) ≡ None
+never_before over id call ds never = by (least_of ds) refl
   where
-    by : (b : Bool) → option_map (event_of moment) (by_hang_up b) ≡ (if b then Some HungUpNow else None)
-    by true = refl
-    by false = refl
-event_is Drained moment id a is = refl
+    by : (o : Option ℕ) → least_of ds ≡ o → branch_before call (timed over id call 0 ds) ≡ None
+    by None o_is = rw (least_first over id call 0 ds, o_is) refl
+    by (Some y) o_is = rw (least_first over id call 0 ds, o_is, never call, never (Some y)) refl
 
--- what ended the context of a call that can be decided
-pub life_over : (over : Over) (ks : List KeptValue) (i : ℕ) (l : Live) → LivesApart (linked_calls over ks) → (kept_at i ks).call.live ≡ Some l
-    → ended_life (kept_at i ks).id (linked_calls over ks) ≡ over (kept_at i ks).id l.asked
-life_over over [] i l apart is = cc
-life_over over (k ∷ ks) zero l apart is = rw (live_life over k l is, call_itself k.id) refl
-life_over over (k ∷ ks) (suc i) l apart is = by (λ tail. life_over over ks i l tail is) k.call.live refl
+-- the event that ends a call by this is the one that its contexts tell
+pub event_is : (cause : Cause) (moment : ℕ) (id : CallId) (out : List Bool) (l : Live) → IsNow cause moment
+    → ending_at moment (life_in (over_by cause) id out l) ≡ caused cause id l.asked (deadlines_in out l.deadlines)
+event_is (Reached now) moment id out l is =
+    subst (λ m. event_of m (by_deadline now l.asked.deadline) (branch_before l.asked.deadline (timed (over_by (Reached now)) id l.asked.deadline 0 (deadlines_in out l.deadlines)))
+    ≡ due_by now l.asked.deadline (deadlines_in out l.deadlines)) is (moment_event now id l.asked.deadline (deadlines_in out l.deadlines))
+event_is (HungUp c) moment id out l is = ⊎_elim
+    (λ (its : (c == id.conn) ≡ true). rw its refl)
+    (λ (far : (c == id.conn) ≡ false).
+    ap (λ o. event_of moment (by_hang_up (c == id.conn)) o)
+    (never_before (over_by (HungUp c)) id l.asked.deadline (deadlines_in out l.deadlines) (λ d. ap by_hang_up far))
+    ∙ rw far refl)
+    (cases_Bool (c == id.conn))
+event_is Drained moment id out l is = refl
+
+-- by which event the contexts of a call that can be decided end it
+pub life_over : (over : Over) (moment : ℕ) (ks : List KeptValue) (i : ℕ) (l : Live) → LivesApart (linked_calls over ks) → (kept_at i ks).call.live ≡ Some l
+    → ending_life moment (kept_at i ks).id (linked_calls over ks) ≡ ending_at moment (life_in over (kept_at i ks).id (kept_at i ks).call.out l)
+life_over over moment [] i l apart is = cc
+life_over over moment (k ∷ ks) zero l apart is = rw (live_life over k l is, call_itself k.id) refl
+life_over over moment (k ∷ ks) (suc i) l apart is = by (λ tail. life_over over moment ks i l tail is) k.call.live refl
   where
-    by : (LivesApart (linked_calls over ks) → ended_life (kept_at i ks).id (linked_calls over ks) ≡ over (kept_at i ks).id l.asked) → (o : Option Live) → k.call.live ≡ o
-        → ended_life (kept_at i ks).id (lives_in over k ++ linked_calls over ks) ≡ over (kept_at i ks).id l.asked
+    by : (LivesApart (linked_calls over ks) → ending_life moment (kept_at i ks).id (linked_calls over ks) ≡ ending_at moment (life_in over (kept_at i ks).id (kept_at i ks).call.out l)) → (o : Option Live) → k.call.live ≡ o
+        → ending_life moment (kept_at i ks).id (lives_in over k ++ linked_calls over ks) ≡ ending_at moment (life_in over (kept_at i ks).id (kept_at i ks).call.out l)
     by rest None o_is = rw (dead_life over k o_is) (rest (subst (λ ls. LivesApart (ls ++ linked_calls over ks)) (dead_life over k o_is) apart))
     by rest (Some m) o_is =
         let two = subst (λ ls. LivesApart (ls ++ linked_calls over ks)) (live_life over k m o_is) apart in
@@ -456,36 +526,65 @@ life_over over (k ∷ ks) (suc i) l apart is = by (λ tail. life_over over ks i 
         rw (live_life over k m o_is, off) (rest two.1)
 
 -- a call ends by its context as it does by the cause
-pub ends_as : (cause : Cause) (event : Option CallEvent) (k : KeptValue) → ((l : Live) → k.call.live ≡ Some l → event ≡ caused cause k.id l.asked)
+pub ends_as : (cause : Cause) (event : Option CallEvent) (k : KeptValue) → ((l : Live) → k.call.live ≡ Some l → event ≡ caused cause k.id l.asked (deadlines_in k.call.out l.deadlines))
     → ends_with event k.call.out k.call.live ≡ ended_call cause k.id k.call
 ends_as cause event k its = by k.call.live its
   where
-    by : (o : Option Live) → ((l : Live) → o ≡ Some l → event ≡ caused cause k.id l.asked) → ends_with event k.call.out o ≡ ended_if cause k.id k.call.out o
+    by : (o : Option Live) → ((l : Live) → o ≡ Some l → event ≡ caused cause k.id l.asked (deadlines_in k.call.out l.deadlines)) → ends_with event k.call.out o ≡ ended_if cause k.id k.call.out o
     by None its = refl
     by (Some l) its = ap (λ q. ended_by q l k.call.out) (its l refl)
 
-pub ended_as : (cause : Cause) (event : Option CallEvent) (k : KeptValue) → ((l : Live) → k.call.live ≡ Some l → event ≡ caused cause k.id l.asked) → ended_with event k ≡ ended_kept cause k
+pub ended_as : (cause : Cause) (event : Option CallEvent) (k : KeptValue) → ((l : Live) → k.call.live ≡ Some l → event ≡ caused cause k.id l.asked (deadlines_in k.call.out l.deadlines)) → ended_with event k ≡ ended_kept cause k
 ended_as cause event k its = ap (λ (t : Step). record { id = k.id; call = t.call; reply = option_or t.reply k.reply }) (ends_as cause event k its)
 
 -- the event that its context tells of a call at a place
 pub event_at : (cause : Cause) (moment : ℕ) (e : ℕ → Ended) (v : MachineValue) (c : ContextsValue) (i : ℕ) (x : KeptValue) → x ≡ kept_at i v.calls → IsNow cause moment → LivesApart c.calls
-    → c ≡ linked_by e (over_by cause) v → (l : Live) → x.call.live ≡ Some l → event_for moment x.id c ≡ caused cause x.id l.asked
-event_at cause moment e v c i x x_is now apart c_is l l_is = subst (λ (k : KeptValue). k.call.live ≡ Some l → event_for moment k.id c ≡ caused cause k.id l.asked) (sym x_is)
+    → c ≡ linked_by e (over_by cause) v → (l : Live) → x.call.live ≡ Some l → event_for moment x.id c ≡ caused cause x.id l.asked (deadlines_in x.call.out l.deadlines)
+event_at cause moment e v c i x x_is now apart c_is l l_is = subst (λ (k : KeptValue). k.call.live ≡ Some l → event_for moment k.id c ≡ caused cause k.id l.asked (deadlines_in k.call.out l.deadlines)) (sym x_is)
     (λ is. ap (λ (z : ContextsValue). event_for moment (kept_at i v.calls).id z) c_is
-    ∙ ap (option_map (event_of moment)) (life_over (over_by cause) v.calls i l (subst (λ (z : ContextsValue). LivesApart z.calls) c_is apart) is)
-    ∙ event_is cause moment (kept_at i v.calls).id l.asked now) l_is
+    ∙ life_over (over_by cause) moment v.calls i l (subst (λ (z : ContextsValue). LivesApart z.calls) c_is apart) is
+    ∙ event_is cause moment (kept_at i v.calls).id (kept_at i v.calls).call.out l now) l_is
 
--- what ends no call has ended no call's context
-not_caused : (cause : Cause) (id : CallId) (a : ArrivedCall) → caused cause id a ≡ None → over_by cause id a ≡ None
-not_caused (Reached now) id a none = ⊎_elim
-    (λ (y : is_due now a.deadline ≡ true). let bad : Some (Expired now) ≡ None = rw y at none in cc)
-    (λ (n : is_due now a.deadline ≡ false). rw n refl)
-    (cases_Bool (is_due now a.deadline))
-not_caused (HungUp c) id a none = ⊎_elim
+-- where neither the call's context nor those of these branches have ended
+timed_alike : (over : Over) (id : CallId) (call : Option ℕ) (k : ℕ) (ds : List (Option ℕ)) → over id call ≡ None → All (λ d. over id d ≡ None) ds → timed over id call k ds ≡ timed none_over id call k ds
+timed_alike over id call k [] none all = refl
+timed_alike over id call k (None ∷ ds) none all = timed_alike over id call (suc k) ds none (All-tail (λ d. over id d ≡ None) None ds all)
+timed_alike over id call k (Some at ∷ ds) none all =
+    ap (λ e. record { branch = k; deadline = at; ended = option_or e (over id (Some at)) } ∷ timed over id call (suc k) ds) none
+    ∙ ap (λ e. record { branch = k; deadline = at; ended = e } ∷ timed over id call (suc k) ds) (All-head (λ d. over id d ≡ None) (Some at) ds all)
+    ∙ ap (λ bs. record { branch = k; deadline = at; ended = None } ∷ bs) (timed_alike over id call (suc k) ds none (All-tail (λ d. over id d ≡ None) (Some at) ds all))
+
+not_reached : (now : ℕ) (d : Option ℕ) → is_due now d ≡ false → by_deadline now d ≡ None
+not_reached now d n = rw n refl
+
+none_reached : (now : ℕ) (ds : List (Option ℕ)) → is_due now (least_of ds) ≡ false → All (λ d. by_deadline now d ≡ None) ds
+none_reached now [] n = All-nil (λ d. by_deadline now d ≡ None)
+none_reached now (d ∷ ds) n =
+    let two = or_parts (is_due now d) (is_due now (least_of ds)) (sym (due_smaller now d (least_of ds)) ∙ n) in
+    All-cons (λ d. by_deadline now d ≡ None) d ds (not_reached now d two.0) (none_reached now ds two.1)
+
+all_never : (over : Over) (id : CallId) → ((d : Option ℕ) → over id d ≡ None) → (ds : List (Option ℕ)) → All (λ d. over id d ≡ None) ds
+all_never over id never [] = All-nil (λ d. over id d ≡ None)
+all_never over id never (d ∷ ds) = All-cons (λ d. over id d ≡ None) d ds (never d) (all_never over id never ds)
+
+-- what ends no call has ended no context of it
+not_caused : (cause : Cause) (id : CallId) (out : List Bool) (l : Live) → caused cause id l.asked (deadlines_in out l.deadlines) ≡ None → life_in (over_by cause) id out l ≡ life_in none_over id out l
+not_caused (Reached now) id out l none = ⊎_elim
+    (λ (y : is_due now (smaller l.asked.deadline (least_of (deadlines_in out l.deadlines))) ≡ true).
+    let bad : Some (expiry now l.asked.deadline (deadlines_in out l.deadlines)) ≡ None = rw y at none in cc)
+    (λ (n : is_due now (smaller l.asked.deadline (least_of (deadlines_in out l.deadlines))) ≡ false).
+    let two = or_parts (is_due now l.asked.deadline) (is_due now (least_of (deadlines_in out l.deadlines))) (sym (due_smaller now l.asked.deadline (least_of (deadlines_in out l.deadlines))) ∙ n) in
+    ap (λ e. life_of id l e (timed (over_by (Reached now)) id l.asked.deadline 0 (deadlines_in out l.deadlines))) (not_reached now l.asked.deadline two.0)
+    ∙ ap (life_of id l None) (timed_alike (over_by (Reached now)) id l.asked.deadline 0 (deadlines_in out l.deadlines) (not_reached now l.asked.deadline two.0) (none_reached now (deadlines_in out l.deadlines) two.1)))
+    (cases_Bool (is_due now (smaller l.asked.deadline (least_of (deadlines_in out l.deadlines)))))
+not_caused (HungUp c) id out l none = ⊎_elim
     (λ (y : (c == id.conn) ≡ true). let bad : Some HungUpNow ≡ None = rw y at none in cc)
-    (λ (n : (c == id.conn) ≡ false). rw n refl)
+    (λ (n : (c == id.conn) ≡ false).
+    ap (λ e. life_of id l e (timed (over_by (HungUp c)) id l.asked.deadline 0 (deadlines_in out l.deadlines))) (ap by_hang_up n)
+    ∙ ap (life_of id l None) (timed_alike (over_by (HungUp c)) id l.asked.deadline 0 (deadlines_in out l.deadlines) (ap by_hang_up n)
+    (all_never (over_by (HungUp c)) id (λ d. ap by_hang_up n) (deadlines_in out l.deadlines))))
     (cases_Bool (c == id.conn))
-not_caused Drained id a none = cc
+not_caused Drained id out l none = cc
 
 -- of those that can be decided still, none has ended by it
 ended_one : (cause : Cause) (stopped : Bool) (k : KeptValue)
@@ -495,10 +594,10 @@ ended_one cause false k = by k.call.live refl
   where
     by : (o : Option Live) → k.call.live ≡ o → lives_in (over_by cause) (without_reply (ended_kept cause k)) ≡ lives_in none_over (without_reply (ended_kept cause k))
     by None o_is = rw o_is refl
-    by (Some l) o_is = on (caused cause k.id l.asked) refl
+    by (Some l) o_is = on (caused cause k.id l.asked (deadlines_in k.call.out l.deadlines)) refl
       where
-        on : (q : Option CallEvent) → caused cause k.id l.asked ≡ q → lives_in (over_by cause) (without_reply (ended_kept cause k)) ≡ lives_in none_over (without_reply (ended_kept cause k))
-        on None q_is = rw (o_is, q_is) (ap (λ e. life_by e k.id l.asked ∷ []) (not_caused cause k.id l.asked q_is))
+        on : (q : Option CallEvent) → caused cause k.id l.asked (deadlines_in k.call.out l.deadlines) ≡ q → lives_in (over_by cause) (without_reply (ended_kept cause k)) ≡ lives_in none_over (without_reply (ended_kept cause k))
+        on None q_is = rw (o_is, q_is) (ap (λ x. x ∷ []) (not_caused cause k.id k.call.out l q_is))
         on (Some e) q_is = rw (o_is, q_is) refl
 
 not_over : (cause : Cause) (stop : CallId → Bool) (ks : List KeptValue)
@@ -528,20 +627,20 @@ begun_gone now id a x none =
     ap (contexts_value x.drained x.conns) (filter-append (λ (l : LifeValue). not (is_call l.id id)) x.calls (life_by (option_or (ends_of x id.conn) (by_deadline now a.deadline)) id a ∷ [])
     ∙ rw (call_itself id) (append-nil (filter (λ (l : LifeValue). not (is_call l.id id)) x.calls) ∙ all_stay (λ (l : LifeValue). is_call l.id id) x.calls none))
 
-life_pushed : (id : CallId) (ls : List LifeValue) (l : LifeValue) → is_life id ls ≡ false → is_call l.id id ≡ true → ended_life id (ls ++ l ∷ []) ≡ l.ended
-life_pushed id [] l none its = rw its refl
-life_pushed id (m ∷ ms) l none its =
+life_pushed : (moment : ℕ) (id : CallId) (ls : List LifeValue) (l : LifeValue) → is_life id ls ≡ false → is_call l.id id ≡ true → ending_life moment id (ls ++ l ∷ []) ≡ ending_at moment l
+life_pushed moment id [] l none its = rw its refl
+life_pushed moment id (m ∷ ms) l none its =
     let two = or_parts (is_call m.id id) (is_life id ms) none in
-    rw two.0 (life_pushed id ms l two.1 its)
+    rw two.0 (life_pushed moment id ms l two.1 its)
 
 -- a call that arrives ends by what its context tells
 pub first_event : (moment : ℕ) (id : CallId) (a : ArrivedCall) (x : ContextsValue) (d : Bool) → is_life id x.calls ≡ false → ends_of x id.conn ≡ by_drain d
     → event_for moment id (begun moment id a x) ≡ ends_first moment d a
 first_event moment id a x d fresh heard =
-    ap (option_map (event_of moment)) (life_pushed id x.calls (life_by (option_or (ends_of x id.conn) (by_deadline moment a.deadline)) id a) fresh (call_itself id)
-    ∙ ap (λ e. option_or e (by_deadline moment a.deadline)) heard) ∙ by d
+    life_pushed moment id x.calls (life_by (option_or (ends_of x id.conn) (by_deadline moment a.deadline)) id a) fresh (call_itself id)
+    ∙ ap (λ e. event_of moment (option_or e (by_deadline moment a.deadline)) None) heard ∙ by d
   where
-    by : (d : Bool) → option_map (event_of moment) (option_or (by_drain d) (by_deadline moment a.deadline)) ≡ ends_first moment d a
+    by : (d : Bool) → event_of moment (option_or (by_drain d) (by_deadline moment a.deadline)) None ≡ ends_first moment d a
     by true = refl
     by false = ⊎_elim
         (λ (y : is_due moment a.deadline ≡ true). rw y refl)
@@ -568,13 +667,20 @@ pub asking_first : (i : ℕ) (a : ArrivedCall) (s : MachineValue) (q : Option Ca
 asking_first i a s q full q_is = rw full (ap (λ e. begins s.moment e (next_of (conn_at i s.conns)) a) (sym q_is))
 
 -- a context that has begun is one of the connection's calls
-pub comes_others : (id : CallId) (a : ArrivedCall) (x y : ContextsValue) → y ≡ contexts_value x.drained x.conns (x.calls ++ life_by None id a ∷ []) → KeepsOthers id.conn x y
-comes_others id a x y y_is = subst (KeepsOthers id.conn x) (sym y_is) (record {
+pub comes_others : (l : LifeValue) (x y : ContextsValue) → y ≡ contexts_value x.drained x.conns (x.calls ++ l ∷ []) → KeepsOthers l.id.conn x y
+comes_others l x y y_is = subst (KeepsOthers l.id.conn x) (sym y_is) (record {
   drained_is = refl;
   conns_are = refl;
-  others_are = filter-append (λ (l : LifeValue). not (l.id.conn == id.conn)) x.calls (life_by None id a ∷ [])
-      ∙ rw (eq-eqb id.conn id.conn refl) (append-nil (others id.conn x.calls));
+  others_are = filter-append (λ (m : LifeValue). not (m.id.conn == l.id.conn)) x.calls (l ∷ [])
+      ∙ rw (eq-eqb l.id.conn l.id.conn refl) (append-nil (others l.id.conn x.calls));
 })
+
+-- the first branches of a call that begins start
+pub first_linked : (moment : ℕ) (id : CallId) (a : ArrivedCall) (x y z : ContextsValue) → is_life id x.calls ≡ false → y ≡ contexts_value x.drained x.conns (x.calls ++ life_by None id a ∷ [])
+    → z ≡ first_started id moment a.plan (first_ones a) y → z ≡ contexts_value x.drained x.conns (x.calls ++ life_in none_over id (first_out a) (begun_live moment id a) ∷ [])
+first_linked moment id a x y z fresh y_is z_is =
+    z_is ∙ ap (first_started id moment a.plan (first_ones a)) y_is ∙ first_is id a moment (first_ones a) x fresh (call_itself id)
+    ∙ ap (λ bs. with_last x (life_on id a bs)) (sym (first_timed id a moment))
 
 -- of a number that no connection has
 pub new_ends : (new : Ended) (n : ℕ) (ps : List PeerValue) → is_peer n ps ≡ false → ended_peer new n ps ≡ new
@@ -644,11 +750,13 @@ module _ (e : ℕ → Ended) where
   with_gone id decided r c d v w reply is with gone w_is =
       gone ∙ (subst (λ o. IsLinkedWith e id o c v) is with).1 ∙ ap (λ ns. contexts_value v.drained ns (linked_calls none_over v.calls)) (sym (conns_filled_in e reply v.conns)) ∙ ap (linked_by e none_over) (sym w_is)
 
-  pub stepped_linked : (moment branch : ℕ) (outcome : Outcome) (v w : MachineValue) (i : ℕ) (out : List Bool) (x y : KeptValue) (decided : Option CallRecord) (next : Option TaskValue) (id : CallId)
-      (c : ContextsValue) → i < length v.calls → x ≡ kept_at i v.calls → IsStep moment x y decided next (result_on moment branch outcome out x.call.live) → (kept_at i v.calls).id ≡ id
-      → LivesApart c.calls → c ≡ linked_by e none_over v → w.drained ≡ v.drained → w.conns ≡ v.conns → w.calls ≡ slice_set v.calls i y → IsLinkedWith e id decided c w
-  stepped_linked moment branch outcome v w i out x y decided next id c lt x_is step id_is apart c_is drained_is conns_is calls_is =
-      by outcome (kept_at i v.calls).call.live refl (subst (λ (k : KeptValue). IsStep moment k y decided next (result_on moment branch outcome out k.call.live)) x_is step)
+  pub stepped_linked : (moment branch : ℕ) (outcome : Outcome) (v w : MachineValue) (i : ℕ) (x y : KeptValue) (decided : Option CallRecord) (next : Option TaskValue) (id : CallId)
+      (c d : ContextsValue) → i < length v.calls → x ≡ kept_at i v.calls → IsStep moment x y decided next (result_on moment branch outcome (slice_set x.call.out branch false) x.call.live)
+      → has_out x.call branch ≡ true → ((l : Live) → x.call.live ≡ Some l → GoesOn x.id x.call.out l) → (kept_at i v.calls).id ≡ id → LivesApart c.calls → c ≡ linked_by e none_over v
+      → d ≡ passed_on moment branch outcome x c → w.drained ≡ v.drained → w.conns ≡ v.conns → w.calls ≡ slice_set v.calls i y → IsLinkedWith e id decided d w
+  stepped_linked moment branch outcome v w i x y decided next id c d lt x_is step is_out goes id_is apart c_is d_is drained_is conns_is calls_is =
+      by outcome (kept_at i v.calls).call.live refl (subst (λ (k : KeptValue). IsStep moment k y decided next (result_on moment branch outcome (slice_set k.call.out branch false) k.call.live)) x_is step)
+      (d_is ∙ ap (λ (k : KeptValue). passed_on moment branch outcome k c) x_is)
     where
       lives : LivesApart (linked_calls none_over v.calls)
       lives = subst (λ (z : ContextsValue). LivesApart z.calls) c_is apart
@@ -656,38 +764,59 @@ module _ (e : ℕ → Ended) where
       w_is : linked_by e none_over w ≡ contexts_value v.drained (linked_conns e v.conns) (linked_calls none_over (slice_set v.calls i y))
       w_is = ap (λ b. contexts_value b (linked_conns e w.conns) (linked_calls none_over w.calls)) drained_is ∙ ap (λ ks. contexts_value v.drained (linked_conns e ks) (linked_calls none_over w.calls)) conns_is ∙ ap (λ ks. contexts_value v.drained (linked_conns e v.conns) (linked_calls none_over ks)) calls_is
 
-      same : lives_in none_over y ≡ lives_in none_over (kept_at i v.calls) → c ≡ linked_by e none_over w
-      same alike = c_is ∙ ap (contexts_value v.drained (linked_conns e v.conns)) (sym (set_alike none_over v.calls i y lt alike)) ∙ sym w_is
+      same : d ≡ c → lives_in none_over y ≡ lives_in none_over (kept_at i v.calls) → d ≡ linked_by e none_over w
+      same is alike = is ∙ c_is ∙ ap (contexts_value v.drained (linked_conns e v.conns)) (sym (set_alike none_over v.calls i y lt alike)) ∙ sym w_is
 
-      over : (d : Option CallRecord) (l : Live) → (kept_at i v.calls).call.live ≡ Some l → y.call.live ≡ None → is_some d ≡ true → IsLinkedWith e id d c w
-      over None l l_is dead some = cc
-      over (Some r) l l_is dead some = (
-        subst (λ (z : ContextsValue). is_life id z.calls ≡ true) (sym c_is) (subst (λ d. is_life d (linked_calls none_over v.calls) ≡ true) id_is (live_linked none_over v.calls i l l_is)),
-        ap (without id) c_is ∙ ap (λ d. contexts_value v.drained (linked_conns e v.conns) (filter (λ (m : LifeValue). not (is_call m.id d)) (linked_calls none_over v.calls))) (sym id_is)
+      over : (r : Option CallRecord) (l : Live) → d ≡ c → (kept_at i v.calls).call.live ≡ Some l → y.call.live ≡ None → is_some r ≡ true → IsLinkedWith e id r d w
+      over None l is l_is dead some = cc
+      over (Some r) l is l_is dead some = (
+        subst (λ (z : ContextsValue). is_life id z.calls ≡ true) (sym (is ∙ c_is)) (subst (λ d. is_life d (linked_calls none_over v.calls) ≡ true) id_is (live_linked none_over v.calls i l l_is)),
+        ap (without id) (is ∙ c_is) ∙ ap (λ d. contexts_value v.drained (linked_conns e v.conns) (filter (λ (m : LifeValue). not (is_call m.id d)) (linked_calls none_over v.calls))) (sym id_is)
             ∙ ap (contexts_value v.drained (linked_conns e v.conns)) (sym (set_dead none_over v.calls i y l lives lt l_is dead)) ∙ sym w_is,
       )
 
-      on : (d : Option CallRecord) → is_some d ≡ false → c ≡ linked_by e none_over w → IsLinkedWith e id d c w
+      on : (r : Option CallRecord) → is_some r ≡ false → d ≡ linked_by e none_over w → IsLinkedWith e id r d w
       on None none is = is
       on (Some r) none is = cc
 
-      decided_is : (d : Option CallRecord) → is_some d ≡ is_some (option_map Calling d)
+      decided_is : (r : Option CallRecord) → is_some r ≡ is_some (option_map Calling r)
       decided_is None = refl
       decided_is (Some r) = refl
 
-      by : (o : Outcome) (q : Option Live) → (kept_at i v.calls).call.live ≡ q → IsStep moment (kept_at i v.calls) y decided next (result_on moment branch o out (kept_at i v.calls).call.live)
-          → IsLinkedWith e id decided c w
-      by o None q_is s =
-          let dead : y.call.live ≡ None = ap (λ (k : KeptValue). k.call.live) s.new_is ∙ rw q_is refl in
-          on decided (decided_is decided ∙ ap (λ e. is_some e) s.reply_is ∙ rw q_is refl) (same (dead_life none_over y dead ∙ sym (dead_life none_over (kept_at i v.calls) q_is)))
-      by (Fail error) (Some l) q_is s =
-          over decided l q_is (ap (λ (k : KeptValue). k.call.live) s.new_is ∙ rw q_is refl) (decided_is decided ∙ ap (λ e. is_some e) s.reply_is ∙ rw q_is refl)
-      by (Answer body) (Some l) q_is s = ⊎_elim
+      dead_on : (kept_at i v.calls).call.live ≡ None → y.call.live ≡ None → d ≡ c → is_some decided ≡ false → IsLinkedWith e id decided d w
+      dead_on q_is dead is none = on decided none (same is (dead_life none_over y dead ∙ sym (dead_life none_over (kept_at i v.calls) q_is)))
+
+      -- the call goes on
+      going_on : (body : List ℕ) (l : Live) → (kept_at i v.calls).call.live ≡ Some l → is_last_answer l ≡ false
+          → IsStep moment (kept_at i v.calls) y decided next (result_on moment branch (Answer body) (slice_set (kept_at i v.calls).call.out branch false) (Some l))
+          → d ≡ passed_by moment branch (kept_at i v.calls).id (Some l) c → d ≡ linked_by e none_over w
+      going_on body l l_is going s is =
+          let k : KeptValue = kept_at i v.calls in
+          let n : ℕ = length l.deadlines in
+          let p : LifeValue → List TimedBranch = passed_branches branch n (deadline_from moment l.asked.plan n) in
+          let had : GoesOn k.id k.call.out l = subst (λ (x : KeptValue). (l : Live) → x.call.live ≡ Some l → GoesOn x.id x.call.out l) x_is goes l l_is in
+          let was_out : has_out k.call branch ≡ true = ap (λ (x : KeptValue). has_out x.call branch) (sym x_is) ∙ is_out in
+          let passed : d ≡ on_branches k.id p c = is ∙ rw going (passed_is k.id branch n (deadline_from moment l.asked.plan n) c) in
+          let after : lives_in none_over y ≡ with_branches (p (life_in none_over k.id k.call.out l)) (life_in none_over k.id k.call.out l) ∷ [] =
+          ap (lives_in none_over) s.new_is ∙ rw going (ap (λ bs. with_branches bs (life_in none_over k.id k.call.out l) ∷ []) (passed_timed k.id moment branch k.call.out l had was_out)) in
+          passed ∙ ap (on_branches k.id p) c_is ∙ ap (contexts_value v.drained (linked_conns e v.conns)) (sym (set_live none_over (λ m. with_branches (p m) m) v.calls i y l lives lt l_is after)) ∙ sym w_is
+
+      by : (o : Outcome) (q : Option Live) → (kept_at i v.calls).call.live ≡ q
+          → IsStep moment (kept_at i v.calls) y decided next (result_on moment branch o (slice_set (kept_at i v.calls).call.out branch false) (kept_at i v.calls).call.live)
+          → d ≡ passed_on moment branch o (kept_at i v.calls) c → IsLinkedWith e id decided d w
+      by (Fail error) None q_is s is =
+          dead_on q_is (ap (λ (k : KeptValue). k.call.live) s.new_is ∙ rw q_is refl) is (decided_is decided ∙ ap (λ e. is_some e) s.reply_is ∙ rw q_is refl)
+      by (Answer body) None q_is s is =
+          dead_on q_is (ap (λ (k : KeptValue). k.call.live) s.new_is ∙ rw q_is refl) (is ∙ rw q_is refl) (decided_is decided ∙ ap (λ e. is_some e) s.reply_is ∙ rw q_is refl)
+      by (Fail error) (Some l) q_is s is =
+          over decided l is q_is (ap (λ (k : KeptValue). k.call.live) s.new_is ∙ rw q_is refl) (decided_is decided ∙ ap (λ e. is_some e) s.reply_is ∙ rw q_is refl)
+      by (Answer body) (Some l) q_is s is = ⊎_elim
           (λ (last : is_last_answer l ≡ true).
-          over decided l q_is (ap (λ (k : KeptValue). k.call.live) s.new_is ∙ rw (q_is, last) refl) (decided_is decided ∙ ap (λ e. is_some e) s.reply_is ∙ rw (q_is, last) refl))
+          over decided l (is ∙ rw (q_is, last) refl) q_is (ap (λ (k : KeptValue). k.call.live) s.new_is ∙ rw (q_is, last) refl)
+          (decided_is decided ∙ ap (λ e. is_some e) s.reply_is ∙ rw (q_is, last) refl))
           (λ (going : is_last_answer l ≡ false).
-          let alike : lives_in none_over y ≡ life_by None (kept_at i v.calls).id l.asked ∷ [] = ap (lives_in none_over) s.new_is ∙ rw (q_is, going) refl in
-          on decided (decided_is decided ∙ ap (λ e. is_some e) s.reply_is ∙ rw (q_is, going) refl) (same (alike ∙ sym (live_life none_over (kept_at i v.calls) l q_is))))
+          on decided (decided_is decided ∙ ap (λ e. is_some e) s.reply_is ∙ rw (q_is, going) refl)
+          (going_on body l q_is going (subst (λ q. IsStep moment (kept_at i v.calls) y decided next (result_on moment branch (Answer body) (slice_set (kept_at i v.calls).call.out branch false) q)) q_is s) (is ∙ rw q_is refl)))
           (cases_Bool (is_last_answer l))
 
   -- something that is answered at once leaves the contexts
@@ -696,9 +825,26 @@ module _ (e : ℕ → Ended) where
       ap (λ ns. contexts_value v.drained ns (linked_calls none_over (v.calls ++ []))) (conns_set e v.conns i (added (Some entry) (conn_at i v.conns)) lt refl refl)
       ∙ ap (λ ks. contexts_value v.drained (linked_conns e v.conns) (linked_calls none_over ks)) (append-nil v.calls)
 
-  -- a call that begins has its context
+  -- a call that begins has its context, and so have its first branches
   pub begun_linked : (i : ℕ) (a : ArrivedCall) (v : MachineValue) → i < length v.conns
-      → contexts_value v.drained (linked_conns e v.conns) (linked_calls none_over v.calls ++ life_by None (next_of (conn_at i v.conns)) a ∷ []) ≡ linked_by e none_over (entered_at i (begins v.moment None (next_of (conn_at i v.conns)) a) v)
+      → contexts_value v.drained (linked_conns e v.conns)
+      (linked_calls none_over v.calls ++ life_in none_over (next_of (conn_at i v.conns)) (first_out a) (begun_live v.moment (next_of (conn_at i v.conns)) a) ∷ [])
+      ≡ linked_by e none_over (entered_at i (begins v.moment None (next_of (conn_at i v.conns)) a) v)
   begun_linked i a v lt = sym (
       ap (λ ns. contexts_value v.drained ns (linked_calls none_over (entered_at i (begins v.moment None (next_of (conn_at i v.conns)) a) v).calls)) (conns_set e v.conns i (added None (conn_at i v.conns)) lt refl refl)
       ∙ ap (contexts_value v.drained (linked_conns e v.conns)) (calls_append none_over v.calls _))
+
+-- what ended the connections is as before a branch passed on
+pub passed_ends : (moment branch : ℕ) (outcome : Outcome) (k : KeptValue) (c : ContextsValue) → ends_of (passed_on moment branch outcome k c) ≡ ends_of c
+passed_ends moment branch (Fail error) k c = refl
+passed_ends moment branch (Answer body) k c = by k.call.live
+  where
+    on : (l : Live) (b : Bool) (d : Option ℕ)
+        → ends_of (if b then c else finished k.id branch (branch_started k.id (length l.deadlines) d c)) ≡ ends_of c
+    on l true d = refl
+    on l false None = refl
+    on l false (Some at) = refl
+
+    by : (o : Option Live) → ends_of (passed_by moment branch k.id o c) ≡ ends_of c
+    by None = refl
+    by (Some l) = on l (is_last_answer l) (deadline_from moment l.asked.plan (length l.deadlines))

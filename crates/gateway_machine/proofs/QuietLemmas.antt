@@ -1,32 +1,34 @@
 -- A moment that has reached no deadline ends no call.
 use Rattle.std.proofs.Common.{◌≡◌, ℕ, ◌+◌, ◌<◌, zero, suc, arith, refl, sym, ap, ◌∙◌, List, [], ◌∷◌, ◌++◌, Option, Some, None, Bool, true, false, ⊎_elim, subst, map, length}
-use Rattle.std.specs.Prelude.{All, if◌then◌else◌}
+use Rattle.std.specs.Prelude.{All, if◌then◌else◌, nat_le}
 use Rattle.std.specs.Option.{option_or}
 use Rattle.std.proofs.lemmas.Bool.{cases_Bool}
 use Rattle.std.proofs.lemmas.List.Elements.{All-cons, All-head, All-nil, All-tail}
 use Rattle.gateway_model.specs.declared.id.CallId.{CallId}
 use Rattle.gateway_model.specs.declared.entry.ReplyEntry.{ReplyEntry}
-use Rattle.gateway_model.specs.Past.{ArrivedCall, call_id, is_call, is_due}
+use Rattle.gateway_model.specs.Past.{ArrivedCall, call_id, is_call}
 use Rattle.gateway_theory.specs.declared.cause.Cause.{Cause}
 use Rattle.gateway_theory.specs.declared.cause.Cause.TheVariants.{Reached}
 use Rattle.gateway_theory.specs.Conn.{ConnValue}
 use Rattle.gateway_theory.specs.Ends.{CallsEnd, ConnEnds, EndsOn, IsSettled, MayEnd, caused, ended_below, ended_call, ended_if, ended_kept, is_stopped_in, without_reply}
 use Rattle.gateway_theory.specs.Kept.{KeptValue}
 use Rattle.gateway_theory.specs.Machine.{slot_at}
-use Rattle.gateway_theory.specs.Step.{CallState, Live, Step, call_state, kept}
+use Rattle.gateway_theory.specs.Step.{CallState, Live, Step, call_state, deadlines_in, kept}
 use Rattle.gateway_theory.specs.Store.{MachineValue, call_at, conn_of, given_up, kept_at}
-use Rattle.gateway_replies.specs.Contexts.{ContextsValue, IsNotDue, LifeValue}
-use Rattle.gateway_machine.specs.Linked.{EndsNone, IsLinked, linked_calls, lives_in, none_over}
+use Rattle.gateway_replies.specs.Contexts.{ContextsValue, IsNotDue, LifeValue, TimedBranch}
+use Rattle.gateway_model.specs.Past.{due_by, is_due, least_of, smaller}
+use Rattle.gateway_theory.specs.lemmas.Deadlines.{due_smaller}
+use Rattle.gateway_machine.specs.Linked.{EndsNone, IsLinked, life_in, linked_calls, lives_in, none_over, timed}
 use Rattle.gateway_theory.specs.lemmas.LimitLemmas.{same_call}
 
 -- the cause ends no call of these
 abbrev pub IsLeft : Cause → KeptValue → Type 0
-IsLeft cause k = (l : Live) → k.call.live ≡ Some l → caused cause k.id l.asked ≡ None
+IsLeft cause k = (l : Live) → k.call.live ≡ Some l → caused cause k.id l.asked (deadlines_in k.call.out l.deadlines) ≡ None
 
 left_call : (cause : Cause) (k : KeptValue) → IsLeft cause k → ended_call cause k.id k.call ≡ kept k.call
 left_call cause k left = by k.call.live left refl
   where
-    by : (o : Option Live) → ((l : Live) → o ≡ Some l → caused cause k.id l.asked ≡ None) → k.call.live ≡ o → ended_if cause k.id k.call.out o ≡ kept k.call
+    by : (o : Option Live) → ((l : Live) → o ≡ Some l → caused cause k.id l.asked (deadlines_in k.call.out l.deadlines) ≡ None) → k.call.live ≡ o → ended_if cause k.id k.call.out o ≡ kept k.call
     by None left o_is = ap (λ o. kept (call_state k.call.out o)) (sym o_is)
     by (Some l) left o_is = rw (left l refl) (ap (λ o. kept (call_state k.call.out o)) (sym o_is))
 
@@ -83,6 +85,26 @@ none_end cause v left settled = record {
       each = λ j lt. or_none (slot_at j k.slots) k.broken _ (none_replied cause (call_id k.number (k.taken + j)) v.calls left);
     }
 
+-- of branches of which none is due the least is not
+least_left : (moment : ℕ) (id : CallId) (call : Option ℕ) (k : ℕ) (ds : List (Option ℕ))
+    → All (λ (b : TimedBranch). b.ended ≡ None → nat_le b.deadline moment ≡ false) (timed none_over id call k ds) → is_due moment (least_of ds) ≡ false
+least_left moment id call k [] all = refl
+least_left moment id call k (None ∷ ds) all = least_left moment id call (suc k) ds all
+least_left moment id call k (Some at ∷ ds) all =
+    due_smaller moment (Some at) (least_of ds)
+    ∙ rw (
+      All-head (λ (b : TimedBranch). b.ended ≡ None → nat_le b.deadline moment ≡ false) _ _ all refl,
+      least_left moment id call (suc k) ds (All-tail (λ (b : TimedBranch). b.ended ≡ None → nat_le b.deadline moment ≡ false) _ _ all),
+    ) refl
+
+-- a call of which no context is due is not ended
+none_due : (moment : ℕ) (id : CallId) (out : List Bool) (l : Live) → IsNotDue moment (life_in none_over id out l) → due_by moment l.asked.deadline (deadlines_in out l.deadlines) ≡ None
+none_due moment id out l not_due =
+    let none : is_due moment (smaller l.asked.deadline (least_of (deadlines_in out l.deadlines))) ≡ false =
+    due_smaller moment l.asked.deadline (least_of (deadlines_in out l.deadlines))
+    ∙ rw (not_due.call refl, least_left moment id l.asked.deadline 0 (deadlines_in out l.deadlines) not_due.each) refl in
+    rw none refl
+
 -- contexts of which none is due
 left_by : (moment : ℕ) (ks : List KeptValue) → All (IsNotDue moment) (linked_calls none_over ks) → All (IsLeft (Reached moment)) ks
 left_by moment [] all = All-nil (IsLeft (Reached moment))
@@ -91,10 +113,10 @@ left_by moment (k ∷ ks) all = by k.call.live refl (λ rest. left_by moment ks 
     by : (o : Option Live) → k.call.live ≡ o → (All (IsNotDue moment) (linked_calls none_over ks) → All (IsLeft (Reached moment)) ks) → All (IsLeft (Reached moment)) (k ∷ ks)
     by None o_is rest = All-cons (IsLeft (Reached moment)) k ks (λ l is. let bad : None ≡ Some l = sym o_is ∙ is in cc) (rest (rw o_is at all))
     by (Some m) o_is rest =
-        let both : All (IsNotDue moment) (record { id = k.id; deadline = m.asked.deadline; request_id = m.asked.request_id; ended = None } ∷ linked_calls none_over ks) = rw o_is at all in
+        let both : All (IsNotDue moment) (life_in none_over k.id k.call.out m ∷ linked_calls none_over ks) = rw o_is at all in
         All-cons (IsLeft (Reached moment)) k ks
         (λ l is. let same : m ≡ l = Rattle.std.proofs.lemmas.Option.same_Some m l (sym o_is ∙ is) in
-        rw (← same, All-head (IsNotDue moment) _ _ both refl) refl)
+        subst (λ (n : Live). due_by moment n.asked.deadline (deadlines_in k.call.out n.deadlines) ≡ None) same (none_due moment k.id k.call.out m (All-head (IsNotDue moment) _ _ both)))
         (rest (All-tail (IsNotDue moment) _ _ both))
 
 pub not_due : (moment : ℕ) (c : ContextsValue) (v : MachineValue) → IsLinked c v → All (IsNotDue moment) c.calls → EndsNone (Reached moment) v

@@ -13,15 +13,24 @@ use Rattle.gateway_theory.specs.Task.{TaskValue, job_at}
 use Rattle.gateway_theory.specs.Kept.{KeptValue}
 use Rattle.gateway_machine.specs.KeptCall.{IsStep}
 use Rattle.gateway_theory.specs.Replies.{reply_with}
-use Rattle.gateway_theory.specs.Step.{Live, Step, has_out, result_on, is_last_answer}
+use Rattle.gateway_theory.specs.Step.{CallState, Live, Step, has_out, result_on, is_last_answer}
 use Rattle.gateway_theory.specs.Store.{MachineValue, machine_value, call_at, kept_at, no_call, broken_at, filled_in, IsFound, waiting_in, waiting}
-use Rattle.gateway_theory.specs.Results.{result_at, stepped_kept, StepsAt, DecidedBy}
+use Rattle.gateway_theory.specs.Results.{result_at, stepped_kept, StepsAt, Starved, DecidedBy}
+use Rattle.gateway_theory.specs.declared.fault.Took.{Took}
 use Rattle.gateway_theory.specs.lemmas.StoreLemmas.{call_found}
 
 pub found_out : (id : CallId) (calls : List KeptValue) (i branch : ℕ) (x : KeptValue) (b : Bool) → IsFound id calls (Some i) → x ≡ kept_at i calls → b ≡ has_out x.call branch
     → has_out (call_at id calls) branch ≡ b
 found_out id calls i branch x b f x_is b_is =
     ap (λ c. has_out c branch) (call_found id calls i f) ∙ ap (λ (k : KeptValue). has_out k.call branch) (sym x_is) ∙ sym b_is
+
+-- a branch that is out comes back with nothing, of a call that can be decided: its connection breaks
+pub starved_live : (id : CallId) (branch : ℕ) (v w : MachineValue) (took : Took) (i : ℕ) → IsFound id v.calls (Some i) → has_out (kept_at i v.calls).call branch ≡ true
+    → is_some (kept_at i v.calls).call.live ≡ true → Starved id branch v w took → took.broke ≡ true
+starved_live id branch v w took i found out live (inl none) =
+    absurd (let clash : true ≡ false = sym out ∙ ap (λ c. has_out c branch) (sym (call_found id v.calls i found)) ∙ none.0 in cc)
+starved_live id branch v w took i found out live (inr (j, f, was_out, seen, broke, w_is)) =
+    broke ∙ ap (λ (c : CallState). is_some c.live) (sym (call_found id v.calls j f) ∙ call_found id v.calls i found) ∙ live
 
 -- ---- the branches that wait
 
@@ -64,6 +73,11 @@ pub waits_then : (calls : List KeptValue) (i n : ℕ) (old new : KeptValue) → 
 waits_then calls i n old new lt old_is le = omega (arith, le, ap waiting_in old_is, sum_by-set waiting_in calls i new no_call lt)
 
 -- ---- the whole step
+
+-- a step at a moment is one at the same
+pub at_moment : (m n i : ℕ) (outcome : Outcome) (old new : KeptValue) (decided : Option CallRecord) (next : Option TaskValue) → m ≡ n
+    → IsStep m old new decided next (result_on m i outcome (slice_set old.call.out i false) old.call.live) → IsStep n old new decided next (result_on n i outcome (slice_set old.call.out i false) old.call.live)
+at_moment m n i outcome old new decided next same step = subst (λ k. IsStep k old new decided next (result_on k i outcome (slice_set old.call.out i false) old.call.live)) same step
 
 entry_of : (id : CallId) (decided : Option CallRecord) → option_map (λ r. reply_with id (Calling r)) decided ≡ option_map (reply_with id) (option_map Calling decided)
 entry_of id None = refl

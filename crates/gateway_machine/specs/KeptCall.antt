@@ -15,16 +15,17 @@ use Rattle.gateway_model.specs.Past.{ArrivedCall}
 use Rattle.gateway_theory.specs.Step.{Live, Step, call_state}
 use Rattle.gateway_theory.specs.Kept.{KeptValue}
 
--- a call that can still be decided: what it asks for, and its own events so far
+-- a call that can still be decided: what it asks for, its own events so far, and the deadlines of its branches that have started
 pub record LiveValue : Type 0 where
   pub asked : ArrivedCall
   pub events : List CallEvent
+  pub deadlines : List (Option ℕ)
 
-abbrev pub live_value : ArrivedCall → List CallEvent → LiveValue
-live_value asked events = record { asked = asked; events = events }
+abbrev pub live_value : ArrivedCall → List CallEvent → List (Option ℕ) → LiveValue
+live_value asked events deadlines = record { asked = asked; events = events; deadlines = deadlines }
 
 abbrev pub live_of : List TaskValue → LiveValue → Live
-live_of waiting l = record { asked = l.asked; events = l.events; waiting = waiting }
+live_of waiting l = record { asked = l.asked; events = l.events; deadlines = l.deadlines; waiting = waiting }
 
 abbrev pub kept_value : CallId → List Bool → List TaskValue → Option LiveValue → Option ReplyEntry → KeptValue
 kept_value id out waiting live reply = record { id = id; call = call_state out (option_map (live_of waiting) live); reply = reply }
@@ -36,8 +37,15 @@ started_of l = min (length l.asked.plan.branches) (l.asked.plan.limit + length l
 -- the branches that have not started wait, in declared order, and are not out
 pub record IsGoing (id : CallId) (out : List Bool) (queue : List TaskValue) (l : LiveValue) : Type 0 where
   pub size_is : length out ≡ length l.asked.plan.branches
+  pub timed : length l.deadlines ≡ started_of l
   pub waiting_are : queue ≡ tasks_from (started_of l) id l.asked
   pub unstarted : (j : ℕ) → started_of l ≤ j → slice_index_or out j false ≡ false
+
+-- the same of its value: the deadlines of those that have started, and the next one waits in front
+pub record GoesOn (id : CallId) (out : List Bool) (l : Live) : Type 0 where
+  pub size_is : length out ≡ length l.asked.plan.branches
+  pub waiting_are : l.waiting ≡ tasks_from (length l.deadlines) id l.asked
+  pub unstarted : (j : ℕ) → length l.deadlines ≤ j → slice_index_or out j false ≡ false
 
 -- nothing waits in a call that can't be decided any more
 abbrev pub MayGo : CallId → List Bool → List TaskValue → Option LiveValue → Type 0
@@ -57,9 +65,9 @@ pub record IsStep (moment : ℕ) (old new : KeptValue) (decided : Option CallRec
   pub alone : (decided ≡ None) ⊎ (next ≡ None)
   pub its : All (λ (j : JobValue). j.call ≡ old.id) step.jobs
 
--- the call as it begins, and the branches that start at once
-pub record IsBegun (id : CallId) (a : ArrivedCall) (call : KeptValue) (first : List TaskValue) : Type 0 where
-  pub call_is : call ≡ record { id = id; call = call_state (first_out a) (Some (begun_live id a)); reply = None }
+-- the call as it begins at a moment, and the branches that start at once
+pub record IsBegun (moment : ℕ) (id : CallId) (a : ArrivedCall) (call : KeptValue) (first : List TaskValue) : Type 0 where
+  pub call_is : call ≡ record { id = id; call = call_state (first_out a) (Some (begun_live moment id a)); reply = None }
   pub first_are : first ≡ map (task_of id a) (range_with_len 0 (first_ones a))
 
 -- so many of the call's branches were given to its group: as many as its limit allows have started, and the others wait

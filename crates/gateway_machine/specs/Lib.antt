@@ -1,3 +1,4 @@
 pub mod KeptCall
 pub mod Comes
 pub mod Linked
+pub mod Ended

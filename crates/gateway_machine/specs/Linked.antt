@@ -1,5 +1,5 @@
 -- The contexts beside the machine: each connection that is open and not broken has one, and each call that can be decided.
-use Rattle.std.specs.Prelude.{◌≡◌, ⊤, ◌==◌, ℕ, Bool, true, false, not, All, List, [], ◌∷◌, ◌++◌, map, filter, Option, None, Some, option_map, option_to_list}
+use Rattle.std.specs.Prelude.{◌≡◌, ⊤, ◌==◌, ℕ, zero, suc, Bool, true, false, if◌then◌else◌, length, not, All, List, [], ◌∷◌, ◌++◌, map, filter, Option, None, Some, option_map, option_to_list}
 use Rattle.std.specs.Option.{option_or}
 use Rattle.gateway_model.specs.declared.call_event.CallEvent.{CallEvent}
 use Rattle.gateway_theory.specs.declared.cause.Cause.TheVariants.{Reached, HungUp, Drained}
@@ -11,28 +11,32 @@ use Rattle.gateway_machine.specs.declared.machine.arriving.Arriving.TheVariants.
 use Rattle.gateway_model.specs.CallRecord.{CallRecord}
 use Rattle.gateway_theory.specs.declared.cause.Cause.{Cause}
 use Rattle.gateway_theory.specs.Conn.{ConnValue}
-use Rattle.gateway_replies.specs.Contexts.{ContextsValue, Ended, LifeValue, KeepsOthers, PeerValue, by_deadline, by_drain, by_hang_up, contexts_value, ended_life, ends_of, event_of, is_life, life_by, peer, without}
+use Rattle.gateway_replies.specs.Contexts.{ContextsValue, Ended, LifeValue, KeepsOthers, PeerValue, TimedBranch, by_deadline, by_drain, by_hang_up, contexts_value, ending_life, ends_of, finished, is_life, on_branches, peer, without}
 use Rattle.gateway_theory.specs.Kept.{KeptValue}
-use Rattle.gateway_model.specs.Past.{ArrivedCall}
-use Rattle.gateway_theory.specs.Step.{Live, Step, call_state, ended_by, kept}
+use Rattle.call_plan.specs.Plan.{PlanRecord}
+use Rattle.connect_codec.specs.declared.answer.Outcome.{Outcome}
+use Rattle.connect_codec.specs.declared.answer.Outcome.TheVariants.{Answer, Fail}
+use Rattle.gateway_model.specs.Past.{ArrivedCall, deadline_from}
+use Rattle.gateway_theory.specs.Begins.{begun_live, first_out}
+use Rattle.gateway_theory.specs.Step.{Live, Step, call_state, deadlines_in, ended_by, is_last_answer, kept}
 use Rattle.gateway_theory.specs.Store.{MachineValue}
 
 -- the contexts of the connections that are not broken; what ended each is told by its number
 abbrev pub linked_conns : (ℕ → Ended) → List ConnValue → List PeerValue
 linked_conns ends conns = map (λ k. peer k.number (ends k.number)) (filter (λ k. not k.broken) conns)
 
--- what ended the calls' contexts
+-- what ended the contexts of a call and of its branches: the one that has this deadline of its own
 abbrev pub Over : Type 0
-Over = CallId → ArrivedCall → Ended
+Over = CallId → Option ℕ → Ended
 
 abbrev pub none_over : Over
-none_over id a = None
+none_over id deadline = None
 
--- those of the calls that this ends
+-- those of the calls and branches that this ends
 abbrev pub over_by : Cause → Over
-over_by (Reached now) id a = by_deadline now a.deadline
-over_by (HungUp conn) id a = by_hang_up (conn == id.conn)
-over_by Drained id a = by_drain true
+over_by (Reached now) id deadline = by_deadline now deadline
+over_by (HungUp conn) id deadline = by_hang_up (conn == id.conn)
+over_by Drained id deadline = by_drain true
 
 -- the cause is of this moment
 abbrev pub IsNow : Cause → ℕ → Type 0
@@ -42,7 +46,7 @@ IsNow Drained moment = ⊤
 
 -- the event by which a call ends, as its context tells it at a moment
 abbrev pub event_for : ℕ → CallId → ContextsValue → Option CallEvent
-event_for moment id c = option_map (event_of moment) (ended_life id c.calls)
+event_for moment id c = ending_life moment id c.calls
 
 -- a call that this event ends, if there is one
 abbrev pub ends_with : Option CallEvent → List Bool → Option Live → Step
@@ -52,9 +56,26 @@ ends_with e out (Some l) = ended_by e l out
 abbrev pub ended_with : Option CallEvent → KeptValue → KeptValue
 ended_with e k = record { id = k.id; call = (ends_with e k.call.out k.call.live).call; reply = option_or (ends_with e k.call.out k.call.live).reply k.reply }
 
--- the context of a call, while that can be decided
+-- the branches of a call of that deadline which have one of their own: these, numbered from k on
+abbrev pub timed : Over → CallId → Option ℕ → ℕ → List (Option ℕ) → List TimedBranch
+timed over id call k [] = []
+timed over id call k (None ∷ ds) = timed over id call (suc k) ds
+timed over id call k (Some at ∷ ds) = record { branch = k; deadline = at; ended = option_or (over id call) (over id (Some at)) } ∷ timed over id call (suc k) ds
+
+-- the context of a call, and those of its branches that are out
+abbrev pub life_in : Over → CallId → List Bool → Live → LifeValue
+life_in over id out l =
+    record {
+      id = id;
+      deadline = l.asked.deadline;
+      request_id = l.asked.request_id;
+      ended = over id l.asked.deadline;
+      branches = timed over id l.asked.deadline 0 (deadlines_in out l.deadlines);
+    }
+
+-- while that can be decided
 abbrev pub lives_in : Over → KeptValue → List LifeValue
-lives_in over k = option_to_list (option_map (λ (l : Live). life_by (over k.id l.asked) k.id l.asked) k.call.live)
+lives_in over k = option_to_list (option_map (life_in over k.id k.call.out) k.call.live)
 
 abbrev pub linked_calls : Over → List KeptValue → List LifeValue
 linked_calls over [] = []
@@ -77,10 +98,32 @@ abbrev pub IsLinkedWith : (ℕ → Ended) → CallId → Option CallRecord → C
 IsLinkedWith ends id None c v = c ≡ linked_by ends none_over v
 IsLinkedWith ends id (Some call) c v = (is_life id c.calls ≡ true) × (without id c ≡ linked_by ends none_over v)
 
--- what comes of a request: its answer, which leaves no context, or its call, which has one
-abbrev pub ComesWith : Arriving → CallId → ContextsValue → ContextsValue → Type 0
-ComesWith (Answered reply) id v w = w ≡ v
-ComesWith (Begins a) id v w = w ≡ contexts_value v.drained v.conns (v.calls ++ life_by None id a ∷ [])
+-- what comes of a request: its answer, which leaves no context, or its call, which has one, as have its first branches that have a time of their own
+abbrev pub ComesWith : Arriving → CallId → ℕ → ContextsValue → ContextsValue → Type 0
+ComesWith (Answered reply) id moment v w = w ≡ v
+ComesWith (Begins a) id moment v w = w ≡ contexts_value v.drained v.conns (v.calls ++ life_in none_over id (first_out a) (begun_live moment id a) ∷ [])
+
+-- a branch of a call starts: with a deadline of its own it has a context, which has ended if its call's has
+abbrev pub branch_started : CallId → ℕ → Option ℕ → ContextsValue → ContextsValue
+branch_started id branch None c = c
+branch_started id branch (Some at) c = on_branches id (λ l. l.branches ++ record { branch = branch; deadline = at; ended = l.ended } ∷ []) c
+
+-- the branches of a call below this number start as it begins
+abbrev pub first_started : CallId → ℕ → PlanRecord → ℕ → ContextsValue → ContextsValue
+first_started id moment plan zero c = c
+first_started id moment plan (suc k) c = branch_started id k (deadline_from moment plan k) (first_started id moment plan k c)
+
+-- a branch of a call answered: the next one starts, if one waits, and then the context of the one that answered is gone
+abbrev pub passed_by : ℕ → ℕ → CallId → Option Live → ContextsValue → ContextsValue
+passed_by moment branch id None c = c
+passed_by moment branch id (Some l) c =
+    if is_last_answer l then c
+    else finished id branch (branch_started id (length l.deadlines) (deadline_from moment l.asked.plan (length l.deadlines)) c)
+
+-- a result of a branch came: a call that it decides keeps its contexts until it ends
+abbrev pub passed_on : ℕ → ℕ → Outcome → KeptValue → ContextsValue → ContextsValue
+passed_on moment branch (Fail error) k c = c
+passed_on moment branch (Answer body) k c = passed_by moment branch k.id k.call.live c
 
 -- a connection whose peer has not hung up has ended where all were drained, and by nothing else
 abbrev pub Hears : ContextsValue → Head → Type 0

@@ -1,4 +1,5 @@
-ghost use Rattle.std.specs.Prelude.{◌≡◌, option_map, true};
+ghost use Rattle.std.specs.Prelude.{◌≡◌, ◌≤◌, ◌^◌, option_map, true};
+ghost use Rattle.gateway_model.specs.Past.{smaller};
 ghost use Rattle.gateway_theory.specs.Task.{job_at};
 
 use crate::machine::task::Task;
@@ -10,7 +11,7 @@ use std::sync::Arc;
 #[derive(Drop)]
 pub struct Job {
     pub(crate) task: Task,
-    /// How long its call had yet as the branch started, in milliseconds.
+    /// How long it had yet as the branch started, in milliseconds: by its call's deadline, or by its own, if that is sooner.
     remaining: Option<u64>,
     pub(crate) wanted: bool,
 }
@@ -28,9 +29,10 @@ impl Model for Job {
 impl Job {
     /// The job of a branch that starts at this moment.
     pub(crate) fn new(task: Task, moment: u64) -> Job
+        requires { moment ≤ 2 ^ 62 }
         ensures { result ≡ record { job = job_at moment task; wanted = true } }
     {
-        let remaining = match task.asked.deadline {
+        let remaining = match sooner(task.asked.deadline, task.deadline(moment)) {
             Some(deadline) => Some(deadline.saturating_sub(moment)),
             None => None,
         };
@@ -90,7 +92,7 @@ impl Job {
         }
     }
 
-    /// How long the call has yet from the branch's start on, in milliseconds, if it expires.
+    /// How long the branch has yet from its start on, in milliseconds, if its call expires, or it does before its call.
     pub fn remaining(&self) -> Option<u64>
         ensures { result ≡ self.now.job.remaining }
     {
@@ -102,5 +104,16 @@ impl Job {
         ensures { result ≡ self.now.wanted }
     {
         self.wanted
+    }
+}
+
+/// The sooner of two deadlines, of which either may be absent.
+fn sooner(call: Option<u64>, branch: Option<u64>) -> Option<u64>
+    ensures { result ≡ smaller call branch }
+{
+    match (call, branch) {
+        (Some(call), Some(branch)) => Some(call.min(branch)),
+        (Some(deadline), None) | (None, Some(deadline)) => Some(deadline),
+        (None, None) => None,
     }
 }

@@ -5,13 +5,14 @@ ghost use Rattle.gateway_model.specs.Arrival.{arrival_of};
 ghost use Rattle.gateway_theory.specs.Ends.{AreApart, CallsEnd, IsSettled, is_stopped_in, noted};
 ghost use Rattle.gateway_theory.specs.Enters.{arriving_at, entered_at};
 ghost use Rattle.gateway_theory.specs.Gateway.{are_all_there};
+ghost use Rattle.gateway_machine.specs.Ended.{BranchEnds};
 ghost use Rattle.gateway_machine.specs.Linked.{EndsNone, IsNow};
 ghost use Rattle.gateway_theory.specs.Heads.{conn_heads, noted_heads};
 ghost use Rattle.gateway_model.specs.Occurrence.{Coming};
 ghost use Rattle.gateway_theory.specs.Opens.{JobTaken, ReplyTaken, closed_at, opened_as};
 ghost use Rattle.gateway_theory.specs.Orderly.{IsOrderly};
 ghost use Rattle.gateway_model.specs.Queue.{front};
-ghost use Rattle.gateway_theory.specs.Results.{Forgets, NoneSpent, ResultTaken, Starved};
+ghost use Rattle.gateway_theory.specs.Results.{Forgets, NoneSpent, Starved};
 ghost use Rattle.gateway_theory.specs.Serving.{IsMade};
 ghost use Rattle.gateway_theory.specs.Step.{moment_after};
 ghost use Rattle.gateway_theory.specs.Store.{MachineValue, broken_at, broken_count, call_at, conn_at, conn_of, machine_value};
@@ -127,10 +128,11 @@ impl<H: ReplyHook + Drop> LinkedMachine<H> {
         }
     }
 
-    /// A branch of a call ends with that outcome. A call that is over, and of which no branch is out, is forgotten.
+    /// A branch of a call ends with that outcome. A call that is over, and of which no branch is out, is forgotten. Where memory
+    /// is refused to the context of the branch that starts next, its connection breaks.
     pub fn take_result(&mut self, alloc: Global, id: &CallId, branch: u32, outcome: Outcome) -> Took
         requires { IsOrderly self.old }
-        ensures taken { (between : MachineValue) × ResultTaken id.now branch outcome self.old between result × Forgets id.now between self.new }
+        ensures taken { (between : MachineValue) × BranchEnds id.now branch outcome self.old between result × Forgets id.now between self.new }
         ensures unknown { result.seen ≡ Seen.Unknown → self.new ≡ self.old }
         ensures none_spent { (result.seen ≡ Seen.Unknown → ⊥) → NoneSpent id.now self.new.calls }
     {

@@ -10,3 +10,4 @@ mod open;
 mod result;
 pub(crate) mod store;
 pub(crate) mod task;
+mod times;

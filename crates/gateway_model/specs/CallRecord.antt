@@ -14,10 +14,13 @@ pub record CallRecord : Type 0 where
   pub deadline : Option ℕ
   -- its reply is the connection's last
   pub last : Bool
+  -- of the branches that started before it was decided, in declared order, the moment at which each expires
+  pub branch_deadlines : List (Option ℕ)
   pub events : List CallEvent
 
-abbrev pub record_with : PlanRecord → ℕ → Option ℕ → Bool → List CallEvent → CallRecord
-record_with plan start deadline last events = record { plan = plan; start = start; deadline = deadline; last = last; events = events }
+abbrev pub record_with : PlanRecord → ℕ → Option ℕ → Bool → List (Option ℕ) → List CallEvent → CallRecord
+record_with plan start deadline last branch_deadlines events =
+    record { plan = plan; start = start; deadline = deadline; last = last; branch_deadlines = branch_deadlines; events = events }
 
 -- the answer that this event brings of the branch
 abbrev pub answer_in : ℕ → CallEvent → Option (List ℕ)

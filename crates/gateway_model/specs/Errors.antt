@@ -8,7 +8,7 @@ use Rattle.gateway_model.specs.declared.ending.EndCause.{EndCause}
 use Rattle.gateway_model.specs.declared.ending.EndCause.TheVariants as cause
 use Rattle.gateway_model.specs.declared.ending.Ending.{Ending}
 use Rattle.gateway_model.specs.declared.call_event.CallEvent.{CallEvent}
-use Rattle.gateway_model.specs.declared.call_event.CallEvent.TheVariants.{Answer, Failed, Expired, HungUp, Drained}
+use Rattle.gateway_model.specs.declared.call_event.CallEvent.TheVariants.{Answer, Failed, Expired, BranchExpired, HungUp, Drained}
 use Rattle.gateway_model.specs.Branch.{branch_at}
 
 -- the error of a failed branch, as the caller is told it: its code and its details, and its message behind the branch's name
@@ -39,6 +39,7 @@ abbrev pub cause_of : PlanRecord → CallEvent → Option EndCause
 cause_of plan (Answer i body) = None
 cause_of plan (Failed i error) = Some (cause.Branch (branch_at plan i).name error)
 cause_of plan (Expired moment) = Some cause.Deadline
+cause_of plan (BranchExpired i moment) = Some (cause.Branch (branch_at plan i).name expired_error)
 cause_of plan HungUp = Some cause.HangUp
 cause_of plan Drained = Some cause.Drain
 

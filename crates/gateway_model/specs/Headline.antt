@@ -15,7 +15,7 @@ use Rattle.gateway_model.specs.Events.{refusal_gained, requests_gained}
 use Rattle.gateway_model.specs.Decided.{IsDecidedAt}
 use Rattle.gateway_model.specs.Occurrence.{Coming, Occurrence, Result}
 use Rattle.gateway_model.specs.Past.{ArrivedCall, Past, call, counts, coming_on, marked}
-use Rattle.gateway_model.specs.Queue.{answer_of, own_events, record_of}
+use Rattle.gateway_model.specs.Queue.{answer_of, own_events, record_deadlines, record_of}
 use Rattle.gateway_model.specs.Starts.{Placed, occurrences}
 
 -- the past by what occurred
@@ -55,7 +55,7 @@ pub data AnswersCall (r : CallRecord) (e : CallEvent) (bytes : List ℕ) : Type 
 pub record IsAnswered (id : CallId) (r : CallRecord) (occurred : List Occurrence) : Type 0 where
   pub asked : ArrivedCall
   pub call_is : call id (marked occurred) ≡ Some asked
-  pub record_is : r ≡ record_of asked (own_events id (marked occurred))
+  pub record_is : r ≡ record_of asked (record_deadlines id (marked occurred)) (own_events id (marked occurred))
   pub place : ℕ
   pub event : CallEvent
   pub first : IsDecidedAt id (reverse occurred) place event

@@ -4,7 +4,7 @@ use Rattle.call_plan.specs.Plan.{PlanRecord}
 use Rattle.http_pieces.specs.Request.{HttpRequest}
 use Rattle.gateway_model.specs.declared.id.CallId.{CallId}
 use Rattle.gateway_model.specs.Branch.{branch_at}
-use Rattle.gateway_model.specs.Past.{ArrivedCall}
+use Rattle.gateway_model.specs.Past.{ArrivedCall, smaller, deadline_from}
 
 pub record JobValue : Type 0 where
   pub call : CallId
@@ -13,7 +13,7 @@ pub record JobValue : Type 0 where
   pub path : List ℕ
   pub body : List ℕ
   pub request_id : Option (List ℕ)
-  -- how long its call has yet, in milliseconds, if it expires
+  -- how long it has yet, in milliseconds, if its call expires, or the branch before its call
   pub remaining : Option ℕ
 
 -- the job of a branch has the branch's address and path, and the body and the id of its call's request
@@ -32,6 +32,7 @@ job_with call i plan request request_id remaining = record {
 abbrev pub left_at : ℕ → Option ℕ → Option ℕ
 left_at moment deadline = option_map (λ d. d - moment) deadline
 
--- the job of a branch of the call that starts at this moment
+-- the job of a branch of the call that starts at this moment: what is left of the time until the sooner deadline, the call's or its own
 abbrev pub job_of : CallId → ℕ → ArrivedCall → ℕ → JobValue
-job_of call i asked moment = job_with call i asked.plan asked.request asked.request_id (left_at moment asked.deadline)
+job_of call i asked moment =
+    job_with call i asked.plan asked.request asked.request_id (left_at moment (smaller asked.deadline (deadline_from moment asked.plan i)))

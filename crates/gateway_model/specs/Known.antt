@@ -7,7 +7,7 @@ use Rattle.gateway_model.specs.Events.{Before, is_open}
 use Rattle.gateway_model.specs.Job.{JobValue}
 use Rattle.gateway_model.specs.Occurrence.{Occurrence}
 use Rattle.gateway_model.specs.Past.{ArrivedCall, call, can_be_decided, marked, outs}
-use Rattle.gateway_model.specs.Queue.{IsPrefixOf, own_events, queued_entries, record_of}
+use Rattle.gateway_model.specs.Queue.{IsPrefixOf, own_events, queued_entries, record_deadlines, record_of}
 use Rattle.gateway_model.specs.Record.{is_decided, is_lawful}
 use Rattle.gateway_model.specs.Starts.{jobs}
 
@@ -55,6 +55,7 @@ pub record IsKnown (s : Shown) (opened : List ℕ) (events : Before) (os : List 
   -- the branches that are out are those of the definitions, and a call that can be decided has a lawful record, which is not decided
   pub outs_are : (id : CallId) → is_whole id.conn s ≡ true → s.outs id ≡ outs id (marked os)
   pub records : (id : CallId) (a : ArrivedCall) → call id (marked os) ≡ Some a → can_be_decided id (marked os) ≡ true
-      → (is_lawful (record_of a (own_events id (marked os))) ≡ true) × (is_decided (record_of a (own_events id (marked os))) ≡ false)
+      → (is_lawful (record_of a (record_deadlines id (marked os)) (own_events id (marked os))) ≡ true)
+      × (is_decided (record_of a (record_deadlines id (marked os)) (own_events id (marked os))) ≡ false)
   -- no call, of whatever connection, has more branches out than its limit
   pub limit : (id : CallId) (a : ArrivedCall) → call id (marked os) ≡ Some a → s.outs id ≤ a.plan.limit

@@ -1,12 +1,13 @@
 -- What has occurred, newest first, and what it means. No state is kept here: each word looks at the whole past.
-use Rattle.std.specs.Prelude.{ℕ, zero, suc, ◌+◌, ◌^◌, min, max, Bool, true, false, ◌&&◌, ◌||◌, not, if◌then◌else◌, ◌==◌, nat_lt, nat_le, is_none, is_some, List, [], ◌∷◌, length, reverse, Option, None, Some, option_map, option_and_then}
+use Rattle.std.specs.Prelude.{ℕ, zero, suc, ◌+◌, ◌^◌, min, max, Bool, true, false, ◌&&◌, ◌||◌, not, if◌then◌else◌, ◌==◌, nat_lt, nat_le, is_none, is_some, List, [], ◌∷◌, map, length, reverse, Option, None, Some, option_map, option_and_then}
 use Rattle.std.specs.Option.{option_or, option_map_or}
+use Rattle.std.specs.List.{range_with_len}
 use Rattle.http_pieces.specs.Request.{HttpRequest}
 use Rattle.connect_codec.specs.declared.answer.Outcome.{Outcome}
 use Rattle.connect_codec.specs.declared.answer.Outcome.TheVariants.{Answer, Fail}
-use Rattle.call_plan.specs.Plan.{PlanRecord}
+use Rattle.call_plan.specs.Plan.{PlanRecord, time_of}
 use Rattle.gateway_model.specs.declared.call_event.CallEvent.{CallEvent}
-use Rattle.gateway_model.specs.declared.call_event.CallEvent.TheVariants.{Failed, Expired, HungUp, Drained}
+use Rattle.gateway_model.specs.declared.call_event.CallEvent.TheVariants.{Failed, Expired, BranchExpired, HungUp, Drained}
 use Rattle.gateway_model.specs.declared.call_event.CallEvent.TheVariants as event
 use Rattle.gateway_model.specs.declared.id.CallId.{CallId}
 use Rattle.gateway_model.specs.declared.seen.Seen.{Seen}
@@ -118,8 +119,6 @@ abbrev pub is_due : ℕ → Option ℕ → Bool
 is_due moment None = false
 is_due moment (Some deadline) = nat_le deadline moment
 
--- ---- what happens to a call
-
 -- what decides a call as it arrives: the drain, and else its deadline
 abbrev pub ends_at_arrival : Past → ArrivedCall → Option CallEvent
 ends_at_arrival past c = if is_drained past then Some Drained else (if is_due (now past) c.deadline then Some (Expired (now past)) else None)
@@ -127,27 +126,7 @@ ends_at_arrival past c = if is_drained past then Some Drained else (if is_due (n
 abbrev pub is_call : CallId → CallId → Bool
 is_call a b = (a.conn == b.conn) && (a.request == b.request)
 
-abbrev pub of_branch : ℕ → Outcome → CallEvent
-of_branch i (Answer body) = event.Answer i body
-of_branch i (Fail error) = Failed i error
-
--- the event that this is of a call which arrived before and is undecided: a result that counted, the deadline reached, the
--- hang-up of its connection, or the drain
-abbrev pub event_by : CallId → ArrivedCall → Occurrence → Bool → Past → Option CallEvent
-event_by id c (Result of i outcome) counted past = if counted && is_call of id then Some (of_branch i outcome) else None
-event_by id c (Moment m) counted past =
-    let moment = max (now past) (min m (2 ^ 62)) in
-    if is_due moment c.deadline then Some (Expired moment) else None
-event_by id c (HangUp conn) counted past = if conn == id.conn then Some HungUp else None
-event_by id c Drain counted past = Some Drained
-event_by id c _ counted past = None
-
--- the call's own event at this occurrence: it may arrive ended, and else events come after its arrival; none comes once its
--- connection is closed
-abbrev pub own_event : CallId → Mark → Past → Option CallEvent
-own_event id m past =
-    if is_closed id.conn past then None
-    else option_map_or (λ c. event_by id c m.what m.counted past) (call id past) (option_and_then (ends_at_arrival past) (asked_now id m past))
+-- ---- branches
 
 abbrev pub is_answer_to : CallId → Occurrence → Bool
 is_answer_to id (Result of i (Answer body)) = is_call of id
@@ -157,26 +136,6 @@ is_answer_to id _ = false
 abbrev pub answers : CallId → Past → ℕ
 answers id [] = 0
 answers id (m ∷ past) = if m.counted && is_answer_to id m.what then suc (answers id past) else answers id past
-
--- how many branches the call has
-abbrev pub branches : CallId → Past → ℕ
-branches id past = option_map_or (λ c. length c.plan.branches) (call id past) 0
-
--- each event decides its call, but for an answer that leaves others open (Go `errgroup.Wait`)
-abbrev pub decides : ℕ → ℕ → CallEvent → Bool
-decides answered n (event.Answer i body) = answered + 1 == n
-decides answered n _ = true
-
--- the event that decides the call at this occurrence, if nothing did before
-abbrev pub deciding : CallId → Mark → Past → Option CallEvent
-deciding id m past = option_and_then (λ e. if decides (answers id past) (branches id past) e then Some e else None) (own_event id m past)
-
--- the event that decided the call: the first one that did
-abbrev pub decided : CallId → Past → Option CallEvent
-decided id [] = None
-decided id (m ∷ past) = option_or (decided id past) (deciding id m past)
-
--- ---- branches
 
 -- the call has arrived, and was not decided as it arrived
 abbrev pub began : CallId → Past → Bool
@@ -200,6 +159,98 @@ is_out id i (m ∷ past) =
     if nat_lt i (started id past)
     then is_out id i past && not (is_result_of id i m.what)
     else nat_lt i (started id (m ∷ past))
+
+-- ---- deadlines of branches
+
+-- the deadline of the branch, if it starts at this moment and has a time of its own (Go `context.WithTimeout`)
+abbrev pub deadline_from : ℕ → PlanRecord → ℕ → Option ℕ
+deadline_from moment plan i = option_map (λ t. moment + t) (time_of plan i)
+
+-- the moment at which the branch started
+abbrev pub started_when : CallId → ℕ → Past → ℕ
+started_when id i [] = 0
+started_when id i (m ∷ past) = if nat_lt i (started id past) then started_when id i past else now past
+
+-- the deadline of a branch that has started
+abbrev pub branch_deadline : CallId → PlanRecord → Past → ℕ → Option ℕ
+branch_deadline id plan past i = deadline_from (started_when id i past) plan i
+
+-- the deadlines of the branches that have started, in declared order
+abbrev pub branch_deadlines : CallId → Past → List (Option ℕ)
+branch_deadlines id past = option_map_or (λ c. map (branch_deadline id c.plan past) (range_with_len 0 (started id past))) (call id past) []
+
+-- the deadline of the branch while it is out: one that answered has none any more, one that has not started none yet
+abbrev pub deadline_out : CallId → PlanRecord → Past → ℕ → Option ℕ
+deadline_out id plan past i = option_and_then (λ t. if is_out id i past then Some (started_when id i past + t) else None) (time_of plan i)
+
+-- those of all branches of the call
+abbrev pub deadlines_out : CallId → PlanRecord → Past → List (Option ℕ)
+deadlines_out id plan past = map (deadline_out id plan past) (range_with_len 0 (length plan.branches))
+
+-- the least of these moments
+abbrev pub least_of : List (Option ℕ) → Option ℕ
+least_of [] = None
+least_of (d ∷ ds) = smaller d (least_of ds)
+
+-- it is that moment
+abbrev pub is_at : ℕ → Option ℕ → Bool
+is_at at None = false
+is_at at (Some d) = d == at
+
+-- the place of the first of these that is that moment, counted from k
+abbrev pub first_at : ℕ → ℕ → List (Option ℕ) → ℕ
+first_at at k [] = k
+first_at at k (d ∷ ds) = if is_at at d then k else first_at at (suc k) ds
+
+-- what a moment brings that has reached one of these deadlines, the call's and its branches': the least decides, of equal ones the call's, and then
+-- that of the branch declared first
+abbrev pub expiry : ℕ → Option ℕ → List (Option ℕ) → CallEvent
+expiry moment deadline outs =
+    option_map_or (λ at. if is_at at deadline then Expired moment else BranchExpired (first_at at 0 outs) moment) (smaller deadline (least_of outs)) (Expired moment)
+
+-- what a moment brings, if it has reached one of them
+abbrev pub due_by : ℕ → Option ℕ → List (Option ℕ) → Option CallEvent
+due_by moment deadline outs = if is_due moment (smaller deadline (least_of outs)) then Some (expiry moment deadline outs) else None
+
+-- ---- what happens to a call
+
+abbrev pub of_branch : ℕ → Outcome → CallEvent
+of_branch i (Answer body) = event.Answer i body
+of_branch i (Fail error) = Failed i error
+
+-- the event that this is of a call which arrived before and is undecided: a result that counted, the call's deadline reached or that of a branch that
+-- is out, the hang-up of its connection, or the drain
+abbrev pub event_by : CallId → ArrivedCall → Occurrence → Bool → Past → Option CallEvent
+event_by id c (Result of i outcome) counted past = if counted && is_call of id then Some (of_branch i outcome) else None
+event_by id c (Moment m) counted past = due_by (max (now past) (min m (2 ^ 62))) c.deadline (deadlines_out id c.plan past)
+event_by id c (HangUp conn) counted past = if conn == id.conn then Some HungUp else None
+event_by id c Drain counted past = Some Drained
+event_by id c _ counted past = None
+
+-- the call's own event at this occurrence: it may arrive ended, and else events come after its arrival; none comes once its
+-- connection is closed
+abbrev pub own_event : CallId → Mark → Past → Option CallEvent
+own_event id m past =
+    if is_closed id.conn past then None
+    else option_map_or (λ c. event_by id c m.what m.counted past) (call id past) (option_and_then (ends_at_arrival past) (asked_now id m past))
+
+-- how many branches the call has
+abbrev pub branches : CallId → Past → ℕ
+branches id past = option_map_or (λ c. length c.plan.branches) (call id past) 0
+
+-- each event decides its call, but for an answer that leaves others open (Go `errgroup.Wait`)
+abbrev pub decides : ℕ → ℕ → CallEvent → Bool
+decides answered n (event.Answer i body) = answered + 1 == n
+decides answered n _ = true
+
+-- the event that decides the call at this occurrence, if nothing did before
+abbrev pub deciding : CallId → Mark → Past → Option CallEvent
+deciding id m past = option_and_then (λ e. if decides (answers id past) (branches id past) e then Some e else None) (own_event id m past)
+
+-- the event that decided the call: the first one that did
+abbrev pub decided : CallId → Past → Option CallEvent
+decided id [] = None
+decided id (m ∷ past) = option_or (decided id past) (deciding id m past)
 
 -- how many of the numbers below n have the property
 abbrev pub count_below : ℕ → (ℕ → Bool) → ℕ

@@ -15,7 +15,7 @@ use Rattle.gateway_model.specs.CallRecord.{CallRecord, record_with, answers_in, 
 use Rattle.gateway_model.specs.Errors.{crowded_error, error_of}
 use Rattle.gateway_model.specs.Reply.{reply_of}
 use Rattle.gateway_model.specs.Occurrence.{Coming, Request, Refused}
-use Rattle.gateway_model.specs.Past.{Past, ArrivedCall, call, call_id, own_event, decided, coming_now, arrivals}
+use Rattle.gateway_model.specs.Past.{Past, ArrivedCall, call, call_id, own_event, decided, branch_deadlines, coming_now, arrivals}
 
 -- ---- the record of a call
 
@@ -26,8 +26,13 @@ own_events id (m ∷ past) =
     if is_some (decided id past) then own_events id past
     else own_events id past ++ option_to_list (own_event id m past)
 
-abbrev pub record_of : ArrivedCall → List CallEvent → CallRecord
-record_of c events = record_with c.plan c.start c.deadline (closes c.request) events
+-- the deadlines of the branches that have started, up to the event that decides the call: what starts at it, and an answer behind it, change nothing
+abbrev pub record_deadlines : CallId → Past → List (Option ℕ)
+record_deadlines id [] = []
+record_deadlines id (m ∷ past) = if is_some (decided id past) then record_deadlines id past else branch_deadlines id (m ∷ past)
+
+abbrev pub record_of : ArrivedCall → List (Option ℕ) → List CallEvent → CallRecord
+record_of c deadlines events = record_with c.plan c.start c.deadline (closes c.request) deadlines events
 
 -- ---- the reply to a call
 
@@ -59,7 +64,7 @@ came id (m ∷ past) = option_or (came id past) (option_map (λ e. (e, m.crowded
 -- the entry of a call, once it is decided
 abbrev pub call_entry : CallId → Past → Option ReplyEntry
 call_entry id past =
-    if is_some (decided id past) then option_map (λ c. reply_entry.Call (record_of c (own_events id past))) (call id past) else None
+    if is_some (decided id past) then option_map (λ c. reply_entry.Call (record_of c (record_deadlines id past) (own_events id past))) (call id past) else None
 
 -- the entry of what came: a refusal, a verdict and a call too many have theirs at once
 abbrev pub entry_by : CallId → Past → Coming × Bool → Option ReplyEntry

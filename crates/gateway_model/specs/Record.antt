@@ -1,8 +1,8 @@
 -- When the record of a call is lawful: its events can have come so.
-use Rattle.std.specs.Prelude.{ℕ, suc, ◌+◌, min, Bool, true, false, not, ◌&&◌, ◌||◌, ◌==◌, nat_lt, is_none, List, [], ◌∷◌, ◌++◌, length}
+use Rattle.std.specs.Prelude.{ℕ, suc, ◌+◌, min, Bool, true, false, not, ◌&&◌, ◌||◌, ◌==◌, nat_lt, is_none, None, List, [], ◌∷◌, ◌++◌, length, slice_index_or}
 use Rattle.std.specs.Option.{option_map_or}
 use Rattle.gateway_model.specs.declared.call_event.CallEvent.{CallEvent}
-use Rattle.gateway_model.specs.declared.call_event.CallEvent.TheVariants.{Answer, Failed, Expired, HungUp, Drained}
+use Rattle.gateway_model.specs.declared.call_event.CallEvent.TheVariants.{Answer, Failed, Expired, BranchExpired, HungUp, Drained}
 use Rattle.gateway_model.specs.CallRecord.{CallRecord, answer_of_branch, last_event}
 use Rattle.gateway_model.specs.Past.{decides, is_due}
 
@@ -25,6 +25,7 @@ abbrev pub may_come : CallRecord → List CallEvent → CallEvent → Bool
 may_come r before (Answer i body) = is_out_after r before i
 may_come r before (Failed i error) = is_out_after r before i
 may_come r before (Expired moment) = is_due moment r.deadline
+may_come r before (BranchExpired i moment) = is_out_after r before i && is_due moment (slice_index_or r.branch_deadlines i None)
 may_come r before HungUp = true
 may_come r before Drained = true
 

@@ -10,6 +10,8 @@ pub enum CallEvent {
     Failed(u32, RpcError),
     /// The deadline was reached at this moment, in milliseconds.
     Expired(u64),
+    /// The deadline of a branch that was out was reached at this moment, in milliseconds.
+    BranchExpired(u32, u64),
     /// The peer of the connection hung up.
     HungUp,
     /// The gateway was drained.

@@ -14,7 +14,7 @@ pub enum Event {
     Piece(u64, Bytes),
     /// A connection's client is gone: nothing more comes of its stream.
     HangUp(u64),
-    /// This many milliseconds have passed, by the caller's clock.
+    /// The moment is this, in milliseconds by the caller's clock, which counts from wherever it likes.
     Moment(u64),
     /// A branch of a call ends: connection, request, branch, and how.
     BranchResult(u64, u64, u32, Outcome),

@@ -13,6 +13,8 @@ pub struct CallRecord {
     pub deadline: Option<u64>,
     /// Whether the reply is the connection's last.
     pub last: bool,
+    /// Of the branches that started, in declared order, the moment at which each expires, if it ever does.
+    pub branch_deadlines: Vec<Option<u64>>,
     /// The call's own events in their order, by the one that decides it.
     pub events: Vec<CallEvent>,
 }
@@ -23,5 +25,5 @@ impl Model for CallRecord {
 
     ghost Value = { Record };
 
-    ghost view = { λ r. record_with (arc_value r.plan) r.start r.deadline r.last r.events.items };
+    ghost view = { λ r. record_with (arc_value r.plan) r.start r.deadline r.last r.branch_deadlines.items r.events.items };
 }

@@ -1,26 +1,27 @@
 -- The contexts of connections and calls, beside those of the tree.
 use Rattle.std.proofs.Common.{◌≡◌, ℕ, ◌+◌, ◌≤◌, ◌<◌, zero, suc, refl, sym, ap, ◌∙◌, List, [], ◌∷◌, ◌++◌, Option, Some, None, Bool, true, false, inl, inr, ⊎_elim, subst, map, length, arith, rules}
-use Rattle.std.specs.Prelude.{◌⊎◌, ◌||◌, ◌==◌, All, is_some, nat_le, not, if◌then◌else◌, filter, option_map, slice_set, slice_index_or}
+use Rattle.std.specs.Prelude.{IfOk, IfSome, OnErr, OnOk, Result, Ok, Err, ◌⊎◌, ◌||◌, ◌&&◌, ◌==◌, All, is_some, is_none, nat_le, not, if◌then◌else◌, filter, option_map, slice_set, slice_index_or}
 use Rattle.std.specs.List.{list_any}
 use Rattle.std.specs.Option.{option_map_or, option_or}
 use Rattle.context_tree.specs.Tree.{IsNotAfter}
-use Rattle.std.proofs.lemmas.List.Elements.{All-cons, All-head, All-nil, All-tail}
+use Rattle.std.proofs.lemmas.List.Elements.{All-cons, All-head, All-nil, All-tail, All-weaker}
 use Rattle.context_tree.specs.declared.error.Cause.TheVariants.{Given}
-use Rattle.std.proofs.lemmas.Bool.{cases_Bool, eq-eqb, or_parts, eqb-true}
+use Rattle.std.proofs.lemmas.Bool.{and_from, and_parts, cases_Bool, cond_both, eq-eqb, or_cases, or_from, or_left, or_parts, or_right, eqb-true}
 use Rattle.std.proofs.lemmas.List.{map_push}
 use Rattle.std.proofs.lemmas.List.Folds.{list_any-append}
 use Rattle.std.proofs.lemmas.Option.{same_Some}
 use Rattle.context_tree.specs.Context.{Id, same}
-use Rattle.call_contexts.specs.Standing.{AreApart, IsNoSooner, ended_call, ends_call, ends_conn, if_cancelled, if_due, is_conn, is_fresh, opened as standing_opened, begun as standing_begun, without as standing_without, closed as standing_closed, expired as standing_expired, cancelled as standing_cancelled, all_ended as standing_ended, is_call as is_standing, ended_conn}
+use Rattle.call_contexts.specs.Standing.{WithHooks, with_standing, on_branches as standing_on, with_branches as standing_with, AreApart, AreNoSooner, IsNoSooner, has_deadline, ended_call, ends_branch, ends_call, ends_conn, ended_branch, expires_branch, expires_call, if_cancelled, if_due, is_conn, is_fresh, opened as standing_opened, begun as standing_begun, without as standing_without, closed as standing_closed, expired as standing_expired, cancelled as standing_cancelled, all_ended as standing_ended, is_call as is_standing, ended_conn}
 use Rattle.gateway_theory.specs.declared.cause.Cause.TheVariants.{Reached, HungUp, Drained}
 use Rattle.gateway_model.specs.declared.id.CallId.{CallId}
 use Rattle.gateway_model.specs.Past.{ArrivedCall, is_call, is_due}
+use Rattle.gateway_replies.specs.declared.contexts.cancelled.CancelledBy.{CancelledBy}
 use Rattle.gateway_replies.specs.declared.contexts.cancelled.CancelledBy.TheVariants.{HangUp, Drain}
 use Rattle.gateway_replies.specs.declared.contexts.life.Life.{Life}
 use Rattle.gateway_replies.specs.declared.contexts.peer.Peer.{Peer}
 use Rattle.gateway_replies.specs.Ties.{life_tie, life_ties, peer_tie, peer_ties}
-use Rattle.gateway_replies.specs.Contexts.{AllContexts, AreTied, IsNotDue, CallContext, ConnContext, Ended, LivesApart, PeerValue, by_deadline, by_drain, by_hang_up, begun, contexts_of, ContextsValue, IsTied, KeepsOthers, LifeValue, Lives, NoTwo, Peers, closed, contexts_value, ctx_for, ctx_of, ended_life, ended_peer, ends_life, ends_of, ends_peer, first_life, first_of, is_life, is_peer, peer, peers_of, told, life_with, lives_of, opened, others, same_id, same_context, same_number, without, without_calls, without_first}
-use Rattle.gateway_theory.specs.lemmas.Cases.{all_stay, or_false, or_true, sym_eqb}
+use Rattle.gateway_replies.specs.Contexts.{AllContexts, AreTied, IsNotDue, CallContext, ConnContext, Ended, LivesApart, PeerValue, by_deadline, by_drain, by_hang_up, begun, contexts_of, ContextsValue, IsTied, KeepsOthers, LifeValue, Lives, NoTwo, Peers, TimedBranch, closed, contexts_value, ctx_for, ctx_of, ended_peer, ending_life, ends_life, event_of, expires_life, ends_of, ends_peer, first_life, first_of, has_due, is_life, is_peer, peer, peers_of, told, life_with, lives_of, on_branches, opened, others, with_branches, same_id, same_context, same_number, without, without_calls, without_first}
+use Rattle.gateway_theory.specs.lemmas.Cases.{all_stay, or_true, sym_eqb}
 use Rattle.gateway_theory.specs.lemmas.LimitLemmas.{same_call}
 use Rattle.gateway_theory.specs.lemmas.StoreLemmas.{call_itself}
 
@@ -78,7 +79,7 @@ same_turned : (x y : Id) → same x y ≡ same y x
 same_turned x y = grind (arith, rules)
 
 -- a deadline ends what it does in both words
-due_same : (now : ℕ) (deadline : Option ℕ) → if_due now deadline ≡ by_deadline now deadline
+pub due_same : (now : ℕ) (deadline : Option ℕ) → if_due now deadline ≡ by_deadline now deadline
 due_same now None = refl
 due_same now (Some at) = refl
 
@@ -86,6 +87,11 @@ due_same now (Some at) = refl
 or_nothing : {A : Type 0} (o : Option A) → option_or o None ≡ o
 or_nothing None = refl
 or_nothing (Some a) = refl
+
+-- a cancel that does not reach branches leaves them
+branches_stay : (bs : List TimedBranch) → map (ends_branch None) bs ≡ bs
+branches_stay [] = refl
+branches_stay (b ∷ bs) = ap (λ e. record { branch = b.branch; deadline = b.deadline; ended = e } ∷ map (ends_branch None) bs) (or_nothing b.ended) ∙ ap (λ xs. b ∷ xs) (branches_stay bs)
 
 -- ---- connections
 
@@ -278,7 +284,7 @@ lives_stay : (number : ℕ) (ls : List LifeValue) → first_life number ls ≡ N
 lives_stay number [] none = refl
 lives_stay number (l ∷ ls) none = ⊎_elim
     (λ (y : (l.id.conn == number) ≡ true). let bad : Some l.id ≡ None = rw y at none in cc)
-    (λ (n : (l.id.conn == number) ≡ false). rw (n, or_nothing l.ended) (ap (λ xs. l ∷ xs) (lives_stay number ls (rw n at none))))
+    (λ (n : (l.id.conn == number) ≡ false). rw (n, or_nothing l.ended, branches_stay l.branches) (ap (λ xs. l ∷ xs) (lives_stay number ls (rw n at none))))
     (cases_Bool (l.id.conn == number))
 
 -- ---- calls
@@ -626,13 +632,13 @@ module _ {V : Type 0} where
       ∙ ap (λ ls. contexts_of text ps ls (standing_begun l.ctx conn deadline now request_id v)) (ap life_ties more_is ∙ map_push life_tie lives l)
       ∙ ap (contexts_value (is_some v.drained) (peers_of ps v.conns)) (lives_pushed text ps (life_ties lives) v.calls (life_tie l) _ tied.calls_are)
       ∙ ap (λ b. contexts_value (is_some v.drained) (peers_of ps v.conns) (lives_of text (life_ties lives) v.calls
-      ++ record { id = l.id; deadline = deadline; request_id = option_map text request_id; ended = option_or b (if_due now deadline) } ∷ []))
+      ++ record { id = l.id; deadline = deadline; request_id = option_map text request_id; ended = option_or b (if_due now deadline); branches = [] } ∷ []))
       (peer_ended l.id.conn conn (by_drain (is_some v.drained)) ps v.conns tied.conns_are known tied.contexts_apart)
       ∙ ap (λ (y : ContextsValue). contexts_value y.drained y.conns (y.calls
-      ++ record { id = l.id; deadline = deadline; request_id = option_map text request_id; ended = option_or (ends_of y l.id.conn) (if_due now deadline) } ∷ [])) u_is
-      ∙ ap (λ b. contexts_value u.drained u.conns (u.calls ++ record { id = l.id; deadline = deadline; request_id = option_map text request_id; ended = option_or (ends_of u l.id.conn) b } ∷ [])) (due_same now deadline)
-      ∙ ap (λ d. contexts_value u.drained u.conns (u.calls ++ record { id = l.id; deadline = d; request_id = option_map text request_id; ended = option_or (ends_of u l.id.conn) (by_deadline now d) } ∷ [])) deadline_is
-      ∙ ap (λ r. contexts_value u.drained u.conns (u.calls ++ record { id = l.id; deadline = a.deadline; request_id = r; ended = option_or (ends_of u l.id.conn) (by_deadline now a.deadline) } ∷ [])) id_is
+      ++ record { id = l.id; deadline = deadline; request_id = option_map text request_id; ended = option_or (ends_of y l.id.conn) (if_due now deadline); branches = [] } ∷ [])) u_is
+      ∙ ap (λ b. contexts_value u.drained u.conns (u.calls ++ record { id = l.id; deadline = deadline; request_id = option_map text request_id; ended = option_or (ends_of u l.id.conn) b; branches = [] } ∷ [])) (due_same now deadline)
+      ∙ ap (λ d. contexts_value u.drained u.conns (u.calls ++ record { id = l.id; deadline = d; request_id = option_map text request_id; ended = option_or (ends_of u l.id.conn) (by_deadline now d); branches = [] } ∷ [])) deadline_is
+      ∙ ap (λ r. contexts_value u.drained u.conns (u.calls ++ record { id = l.id; deadline = a.deadline; request_id = r; ended = option_or (ends_of u l.id.conn) (by_deadline now a.deadline); branches = [] } ∷ [])) id_is
 
   pub opened_tied : {H : Type 0} (peers more : List (Peer H)) (lives : Lives) (v w : AllContexts V) (u : ContextsValue) (text : V → List ℕ) (p : Peer H) → more ≡ peers ++ p ∷ []
       → w ≡ standing_opened p.ctx v → IsTied (peer_ties peers) lives v → is_fresh p.ctx v ≡ true → contexts_of text (peer_ties peers) lives v ≡ u → is_peer p.number u.conns ≡ false
@@ -657,29 +663,61 @@ conns_told : (g : ConnContext → Ended) (cs : List ConnContext) → map (λ (c 
 conns_told g [] = refl
 conns_told g (c ∷ cs) = ap (λ ids. c.id ∷ ids) (conns_told g cs)
 
+-- a branch that has not ended has this deadline, or one that the moment has reached
+abbrev pub any_at : ℕ → List TimedBranch → Bool
+any_at at bs = list_any (λ (b : TimedBranch). is_none b.ended && (b.deadline == at)) bs
+
+abbrev pub any_due : ℕ → List TimedBranch → Bool
+any_due moment bs = list_any (λ (b : TimedBranch). is_none b.ended && nat_le b.deadline moment) bs
+
+-- where none has one, no call or branch has a deadline that the moment has reached
+pub not_one_due : (moment : ℕ) (ls : List LifeValue) → All (IsNotDue moment) ls → list_any (has_due moment) ls ≡ false
+not_one_due moment [] all = refl
+not_one_due moment (l ∷ ls) all =
+    let here : IsNotDue moment l = All-head (IsNotDue moment) l ls all in
+    or_from (has_due moment l) (list_any (has_due moment) ls)
+    (or_from (is_none l.ended && is_due moment l.deadline) (list_any (λ (b : TimedBranch). is_none b.ended && nat_le b.deadline moment) l.branches)
+    (gone_or l.ended (is_due moment l.deadline) here.call) (each l.branches here.each))
+    (not_one_due moment ls (All-tail (IsNotDue moment) l ls all))
+  where
+    gone_or : (o : Ended) (b : Bool) → (o ≡ None → b ≡ false) → (is_none o && b) ≡ false
+    gone_or None b on = on refl
+    gone_or (Some e) b on = refl
+
+    each : (bs : List TimedBranch) → All (λ (b : TimedBranch). b.ended ≡ None → nat_le b.deadline moment ≡ false) bs
+        → list_any (λ (b : TimedBranch). is_none b.ended && nat_le b.deadline moment) bs ≡ false
+    each [] all = refl
+    each (b ∷ bs) all = or_from (is_none b.ended && nat_le b.deadline moment) (list_any (λ (b : TimedBranch). is_none b.ended && nat_le b.deadline moment) bs)
+        (gone_or b.ended (nat_le b.deadline moment) (All-head (λ (b : TimedBranch). b.ended ≡ None → nat_le b.deadline moment ≡ false) b bs all))
+        (each bs (All-tail (λ (b : TimedBranch). b.ended ≡ None → nat_le b.deadline moment ≡ false) b bs all))
+
 module _ {V : Type 0} where
-  calls_told : (ps : Peers) (ls : Lives) (cs : List (CallContext V)) (g : CallContext V → Ended) → AreTied ps ls cs → AreTied ps ls (map (λ c. ends_call (g c) c) cs)
-  calls_told ps [] [] g tied = tt
-  calls_told ps [] (c ∷ cs) g tied = absurd tied
-  calls_told ps (l ∷ ls) [] g tied = absurd tied
-  calls_told ps (l ∷ ls) (c ∷ cs) g tied = (tied.0, tied.1, calls_told ps ls cs g tied.2)
+  -- told what may end it, a context stays that of its call, and of its connection
+  abbrev pub Stays : (CallContext V → CallContext V) → Type 0
+  Stays f = (c : CallContext V) → ((f c).id ≡ c.id) × ((f c).conn ≡ c.conn)
 
-  -- each call ends by what its context ends by
-  lives_told : (text : V → List ℕ) (ps : Peers) (ls : Lives) (cs : List (CallContext V)) (g : CallContext V → Ended) (h : LifeValue → Ended)
-      → ((l : CallId × Id) (c : CallContext V) → ctx_of l.0.conn ps ≡ Some c.conn → g c ≡ h (life_with text l.0 c)) → AreTied ps ls cs
-      → lives_of text ls (map (λ c. ends_call (g c) c) cs) ≡ map (λ l. ends_life (h l) l) (lives_of text ls cs)
-  lives_told text ps [] cs g h each tied = refl
-  lives_told text ps (l ∷ ls) [] g h each tied = refl
-  lives_told text ps (l ∷ ls) (c ∷ cs) g h each tied =
-      ap (λ e. ends_life e (life_with text l.0 c) ∷ lives_of text ls (map (λ d. ends_call (g d) d) cs)) (each l c tied.1)
-      ∙ ap (λ xs. ends_life (h (life_with text l.0 c)) (life_with text l.0 c) ∷ xs) (lives_told text ps ls cs g h each tied.2)
+  calls_told : (ps : Peers) (ls : Lives) (cs : List (CallContext V)) (f : CallContext V → CallContext V) → Stays f → AreTied ps ls cs → AreTied ps ls (map f cs)
+  calls_told ps [] [] f same tied = tt
+  calls_told ps [] (c ∷ cs) f same tied = absurd tied
+  calls_told ps (l ∷ ls) [] f same tied = absurd tied
+  calls_told ps (l ∷ ls) (c ∷ cs) f same tied = ((same c).0 ∙ tied.0, tied.1 ∙ ap (λ x. Some x) (sym (same c).1), calls_told ps ls cs f same tied.2)
 
-  pub told_tied : (ps : Peers) (ls : Lives) (v w : AllContexts V) (g : CallContext V → Ended) → w.drained ≡ by_drain (is_some w.drained) → w.calls ≡ map (λ c. ends_call (g c) c) v.calls
+  -- what becomes of each context becomes of its call
+  lives_told : (text : V → List ℕ) (ps : Peers) (ls : Lives) (cs : List (CallContext V)) (f : CallContext V → CallContext V) (h : LifeValue → LifeValue)
+      → ((l : CallId × Id) (c : CallContext V) → ctx_of l.0.conn ps ≡ Some c.conn → life_with text l.0 (f c) ≡ h (life_with text l.0 c)) → AreTied ps ls cs
+      → lives_of text ls (map f cs) ≡ map h (lives_of text ls cs)
+  lives_told text ps [] cs f h each tied = refl
+  lives_told text ps (l ∷ ls) [] f h each tied = refl
+  lives_told text ps (l ∷ ls) (c ∷ cs) f h each tied =
+      ap (λ x. x ∷ lives_of text ls (map f cs)) (each l c tied.1)
+      ∙ ap (λ xs. h (life_with text l.0 c) ∷ xs) (lives_told text ps ls cs f h each tied.2)
+
+  pub told_tied : (ps : Peers) (ls : Lives) (v w : AllContexts V) (f : CallContext V → CallContext V) → Stays f → w.drained ≡ by_drain (is_some w.drained) → w.calls ≡ map f v.calls
       → map (λ (c : ConnContext). c.id) w.conns ≡ map (λ (c : ConnContext). c.id) v.conns → IsTied ps ls v → IsTied ps ls w
-  told_tied ps ls v w g drained_is calls_is conns_is tied = record {
+  told_tied ps ls v w f same drained_is calls_is conns_is tied = record {
     drained_is = drained_is;
     conns_are = conns_is ∙ tied.conns_are;
-    calls_are = subst (AreTied ps ls) (sym calls_is) (calls_told ps ls v.calls g tied.calls_are);
+    calls_are = subst (AreTied ps ls) (sym calls_is) (calls_told ps ls v.calls f same tied.calls_are);
     numbers_apart = tied.numbers_apart;
     contexts_apart = tied.contexts_apart;
     calls_apart = tied.calls_apart;
@@ -702,7 +740,9 @@ module _ {V : Type 0} where
       → contexts_of text ps ls v ≡ u → contexts_of text ps ls w ≡ told (Reached now) u
   reached_value text ps ls v w u now w_is tied u_is = ap (contexts_of text ps ls) w_is
       ∙ ap (contexts_value (is_some v.drained) (peers_of ps v.conns))
-      (lives_told text ps ls v.calls (λ c. if_due now c.deadline) (λ l. by_deadline now l.deadline) (λ l c is. due_same now c.deadline) tied.calls_are)
+      (lives_told text ps ls v.calls (expires_call now) (expires_life now)
+      (λ l c is. ap (λ e. record { id = l.0; deadline = c.deadline; request_id = option_map text c.request_id; ended = option_or c.ended e; branches = map (λ (b : TimedBranch). expires_branch now (ends_branch e b)) c.branches })
+      (due_same now c.deadline)) tied.calls_are)
       ∙ ap (told (Reached now)) u_is
 
   pub hung_value : (text : V → List ℕ) (ps : Peers) (ls : Lives) (v w : AllContexts V) (u : ContextsValue) (number : ℕ) (x : Id) → w ≡ standing_cancelled x HangUp v → IsTied ps ls v
@@ -711,7 +751,8 @@ module _ {V : Type 0} where
       ∙ ap (λ cs. contexts_value (is_some v.drained) cs (lives_of text ls (map (λ c. ends_call (if_cancelled (same c.conn x) HangUp) c) v.calls)))
       (peers_hung number x ps v.conns tied.conns_are is tied.numbers_apart tied.contexts_apart)
       ∙ ap (contexts_value (is_some v.drained) (map (λ p. ends_peer (by_hang_up (p.number == number)) p) (peers_of ps v.conns)))
-      (lives_told text ps ls v.calls (λ c. if_cancelled (same c.conn x) HangUp) (λ l. by_hang_up (l.id.conn == number)) (λ l c at. ap by_hang_up (its l.0.conn c.conn at)) tied.calls_are)
+      (lives_told text ps ls v.calls (λ c. ends_call (if_cancelled (same c.conn x) HangUp) c) (λ l. ends_life (by_hang_up (l.id.conn == number)) l)
+      (λ l c at. ap (λ e. ends_life e (life_with text l.0 c)) (ap by_hang_up (its l.0.conn c.conn at))) tied.calls_are)
       ∙ ap (told (HungUp number)) u_is
     where
       its : (m : ℕ) (y : Id) → ctx_of m ps ≡ Some y → same y x ≡ (m == number)
@@ -726,7 +767,7 @@ module _ {V : Type 0} where
       ∙ ap (λ b. contexts_value b (peers_of ps (map (ends_conn (Some (Given Drain))) v.conns)) (lives_of text ls (map (λ c. ends_call (Some (Given Drain)) c) v.calls))) (is_there v.drained)
       ∙ ap (λ cs. contexts_value true cs (lives_of text ls (map (λ c. ends_call (Some (Given Drain)) c) v.calls))) (peers_drained ps v.conns)
       ∙ ap (contexts_value true (map (λ p. ends_peer (by_drain true) p) (peers_of ps v.conns)))
-      (lives_told text ps ls v.calls (λ c. Some (Given Drain)) (λ l. by_drain true) (λ l c at. refl) tied.calls_are)
+      (lives_told text ps ls v.calls (λ c. ends_call (Some (Given Drain)) c) (λ l. ends_life (by_drain true) l) (λ l c at. refl) tied.calls_are)
       ∙ ap (told Drained) u_is
     where
       is_there : (d : Ended) → is_some (option_or d (Some (Given Drain))) ≡ true
@@ -754,12 +795,12 @@ module _ {V : Type 0} where
       → map (λ (c : ConnContext). c.id) w.conns ≡ map (λ (c : ConnContext). c.id) cs
   conns_ended w g cs is = ap (map (λ (c : ConnContext). c.id)) is ∙ conns_told g cs
 
-  -- what ended the context of a call
-  pub life_ended : (text : V → List ℕ) (ps : Peers) (ls : Lives) (cs : List (CallContext V)) (id : CallId) (x : Id) → AreTied ps ls cs → AreApart cs → ctx_for id ls ≡ Some x
-      → ended_call x cs ≡ ended_life id (lives_of text ls cs)
-  life_ended text ps [] cs id x tied apart is = cc
-  life_ended text ps (l ∷ ls) [] id x tied apart is = absurd tied
-  life_ended text ps (l ∷ ls) (c ∷ cs) id x tied apart is = ⊎_elim
+  -- the event by which a call ends, as its contexts tell it
+  pub life_ended : (text : V → List ℕ) (moment : ℕ) (ps : Peers) (ls : Lives) (cs : List (CallContext V)) (id : CallId) (x : Id) → AreTied ps ls cs → AreApart cs → ctx_for id ls ≡ Some x
+      → event_of moment (ended_call x cs) (ended_branch x cs) ≡ ending_life moment id (lives_of text ls cs)
+  life_ended text moment ps [] cs id x tied apart is = cc
+  life_ended text moment ps (l ∷ ls) [] id x tied apart is = absurd tied
+  life_ended text moment ps (l ∷ ls) (c ∷ cs) id x tied apart is = ⊎_elim
       (λ (y : is_call l.0 id ≡ true). let its : c.id ≡ x = tied.0 ∙ same_Some l.1 x (rw y at is) in rw (y, its, same_itself x) refl)
       (λ (n : is_call l.0 id ≡ false).
       let there : ctx_for id ls ≡ Some x = rw n at is in
@@ -769,24 +810,29 @@ module _ {V : Type 0} where
       let clash : true ≡ false = sym (stands_in ps ls cs id x tied.2 there) ∙ bad in cc)
       (λ (f : same c.id x ≡ false). f)
       (cases_Bool (same c.id x)) in
-      rw (n, far) (life_ended text ps ls cs id x tied.2 apart.1 there))
+      rw (n, far) (life_ended text moment ps ls cs id x tied.2 apart.1 there))
       (cases_Bool (is_call l.0 id))
 
-  pub no_life_ended : (text : V → List ℕ) (ps : Peers) (ls : Lives) (cs : List (CallContext V)) (id : CallId) → AreTied ps ls cs → ctx_for id ls ≡ None → ended_life id (lives_of text ls cs) ≡ None
-  no_life_ended text ps [] cs id tied is = refl
-  no_life_ended text ps (l ∷ ls) [] id tied is = absurd tied
-  no_life_ended text ps (l ∷ ls) (c ∷ cs) id tied is = ⊎_elim
+  pub no_life_ended : (text : V → List ℕ) (moment : ℕ) (ps : Peers) (ls : Lives) (cs : List (CallContext V)) (id : CallId) → AreTied ps ls cs → ctx_for id ls ≡ None → ending_life moment id (lives_of text ls cs) ≡ None
+  no_life_ended text moment ps [] cs id tied is = refl
+  no_life_ended text moment ps (l ∷ ls) [] id tied is = absurd tied
+  no_life_ended text moment ps (l ∷ ls) (c ∷ cs) id tied is = ⊎_elim
       (λ (y : is_call l.0 id ≡ true). let bad : Some l.1 ≡ None = rw y at is in cc)
-      (λ (n : is_call l.0 id ≡ false). rw n (no_life_ended text ps ls cs id tied.2 (rw n at is)))
+      (λ (n : is_call l.0 id ≡ false). rw n (no_life_ended text moment ps ls cs id tied.2 (rw n at is)))
       (cases_Bool (is_call l.0 id))
 
   -- where the least deadline is not reached, none is
   pub none_due : (text : V → List ℕ) (ps : Peers) (ls : Lives) (cs : List (CallContext V)) (moment : ℕ) (first : Option ℕ) → option_map_or (λ at. nat_le at moment) first false ≡ false
-      → AreTied ps ls cs → All (IsNoSooner first) cs → All (IsNotDue moment) (lives_of text ls cs)
-  none_due text ps [] cs moment first low tied all = All-nil (IsNotDue moment)
-  none_due text ps (l ∷ ls) [] moment first low tied all = absurd tied
-  none_due text ps (l ∷ ls) (c ∷ cs) moment first low tied all = All-cons (IsNotDue moment) (life_with text l.0 c) (lives_of text ls cs)
-      (λ on. by c.deadline refl on) (none_due text ps ls cs moment first low tied.2 (All-tail (IsNoSooner first) c cs all))
+      → AreTied ps ls cs → All (IsNoSooner first) cs → All (AreNoSooner first) cs → All (IsNotDue moment) (lives_of text ls cs)
+  none_due text ps [] cs moment first low tied all branches = All-nil (IsNotDue moment)
+  none_due text ps (l ∷ ls) [] moment first low tied all branches = absurd tied
+  none_due text ps (l ∷ ls) (c ∷ cs) moment first low tied all branches = All-cons (IsNotDue moment) (life_with text l.0 c) (lives_of text ls cs)
+      (record {
+        call = λ on. by c.deadline refl on;
+        each = All-weaker (λ (b : TimedBranch). b.ended ≡ None → IsNotAfter first b.deadline) (λ (b : TimedBranch). b.ended ≡ None → nat_le b.deadline moment ≡ false)
+            (λ b after on. later first b.deadline low (after on)) c.branches (All-head (AreNoSooner first) c cs branches);
+      })
+      (none_due text ps ls cs moment first low tied.2 (All-tail (IsNoSooner first) c cs all) (All-tail (AreNoSooner first) c cs branches))
     where
       later : (o : Option ℕ) (at : ℕ) → option_map_or (λ a. nat_le a moment) o false ≡ false → IsNotAfter o at → nat_le at moment ≡ false
       later None at none after = absurd after
@@ -795,3 +841,122 @@ module _ {V : Type 0} where
       by : (d : Option ℕ) → c.deadline ≡ d → c.ended ≡ None → is_due moment d ≡ false
       by None d_is on = refl
       by (Some at) d_is on = later first at low (All-head (IsNoSooner first) c cs all at on d_is)
+
+  -- where it is reached, the call or the branch is due that has it
+  is_reached : (moment at : ℕ) (c : CallContext V) (text : V → List ℕ) (id : CallId) → nat_le at moment ≡ true → has_deadline at c ≡ true → has_due moment (life_with text id c) ≡ true
+  is_reached moment at c text id low has = ⊎_elim
+      (λ (own : (is_none c.ended && option_map_or (λ d. d == at) c.deadline false) ≡ true).
+      let two = and_parts (is_none c.ended) (option_map_or (λ d. d == at) c.deadline false) own in
+      or_left (is_none c.ended && is_due moment c.deadline) (any_due moment c.branches) (and_from (is_none c.ended) (is_due moment c.deadline) two.0 (by c.deadline two.1)))
+      (λ (one : any_at at c.branches ≡ true). or_right (is_none c.ended && is_due moment c.deadline) (any_due moment c.branches) (each c.branches one))
+      (or_cases (is_none c.ended && option_map_or (λ d. d == at) c.deadline false) (any_at at c.branches) has)
+    where
+      same_low : (d : ℕ) → (d == at) ≡ true → nat_le d moment ≡ true
+      same_low d is = grind (arith, rules, low, is)
+
+      by : (o : Option ℕ) → option_map_or (λ d. d == at) o false ≡ true → is_due moment o ≡ true
+      by None is = cc
+      by (Some d) is = same_low d is
+
+      each : (bs : List TimedBranch) → any_at at bs ≡ true → any_due moment bs ≡ true
+      each [] one = cc
+      each (b ∷ bs) one = ⊎_elim
+          (λ (here : (is_none b.ended && (b.deadline == at)) ≡ true).
+          let two = and_parts (is_none b.ended) (b.deadline == at) here in
+          or_left (is_none b.ended && nat_le b.deadline moment) (any_due moment bs) (and_from (is_none b.ended) (nat_le b.deadline moment) two.0 (same_low b.deadline two.1)))
+          (λ (there : any_at at bs ≡ true). or_right (is_none b.ended && nat_le b.deadline moment) (any_due moment bs) (each bs there))
+          (or_cases (is_none b.ended && (b.deadline == at)) (any_at at bs) one)
+
+  some_due : (text : V → List ℕ) (ps : Peers) (ls : Lives) (cs : List (CallContext V)) (moment at : ℕ) → nat_le at moment ≡ true → AreTied ps ls cs
+      → list_any (has_deadline at) cs ≡ true → list_any (has_due moment) (lives_of text ls cs) ≡ true
+  some_due text ps [] [] moment at low tied has = cc
+  some_due text ps [] (c ∷ cs) moment at low tied has = absurd tied
+  some_due text ps (l ∷ ls) [] moment at low tied has = absurd tied
+  some_due text ps (l ∷ ls) (c ∷ cs) moment at low tied has = ⊎_elim
+      (λ (here : has_deadline at c ≡ true). or_left (has_due moment (life_with text l.0 c)) (list_any (has_due moment) (lives_of text ls cs)) (is_reached moment at c text l.0 low here))
+      (λ (there : list_any (has_deadline at) cs ≡ true).
+      or_right (has_due moment (life_with text l.0 c)) (list_any (has_due moment) (lives_of text ls cs)) (some_due text ps ls cs moment at low tied.2 there))
+      (or_cases (has_deadline at c) (list_any (has_deadline at) cs) has)
+
+  -- the moment has reached the least deadline where it has reached one
+  pub due_is : (text : V → List ℕ) (ps : Peers) (ls : Lives) (cs : List (CallContext V)) (moment : ℕ) (first : Option ℕ) → AreTied ps ls cs
+      → All (IsNoSooner first) cs → All (AreNoSooner first) cs → IfSome first (λ at. list_any (has_deadline at) cs ≡ true)
+      → option_map_or (λ at. nat_le at moment) first false ≡ list_any (has_due moment) (lives_of text ls cs)
+  due_is text ps ls cs moment None tied all branches its = sym (not_one_due moment (lives_of text ls cs) (none_due text ps ls cs moment None refl tied all branches))
+  due_is text ps ls cs moment (Some at) tied all branches its = ⊎_elim
+      (λ (low : nat_le at moment ≡ true). low ∙ sym (some_due text ps ls cs moment at low tied its))
+      (λ (high : nat_le at moment ≡ false). high ∙ sym (not_one_due moment (lives_of text ls cs) (none_due text ps ls cs moment (Some at) high tied all branches)))
+      (cases_Bool (nat_le at moment))
+
+-- ---- branches that start and finish
+
+map_stays : {A : Type 0} (p : A → Bool) (g : A → A) (xs : List A) → list_any p xs ≡ false → map (λ y. if p y then g y else y) xs ≡ xs
+map_stays p g [] none = refl
+map_stays p g (x ∷ xs) none =
+    let two = or_parts (p x) (list_any p xs) none in
+    rw two.0 (ap (λ l. x ∷ l) (map_stays p g xs two.1))
+
+pub on_none : (id : CallId) (f : LifeValue → List TimedBranch) (v : ContextsValue) → is_life id v.calls ≡ false → v ≡ on_branches id f v
+on_none id f v none = ap (contexts_value v.drained v.conns) (sym (map_stays (λ (l : LifeValue). is_call l.id id) (λ l. with_branches (f l) l) v.calls none))
+
+module _ {V : Type 0} where
+  -- the branches of the call of that context
+  abbrev pub rebranched : Id → (CallContext V → List TimedBranch) → CallContext V → CallContext V
+  rebranched x f c = if same c.id x then standing_with (f c) c else c
+
+  pub rebranched_stays : (x : Id) (f : CallContext V → List TimedBranch) → Stays (rebranched x f)
+  rebranched_stays x f c =
+      cond_both (same c.id x) (standing_with (f c) c) c (λ d. (d.id ≡ c.id) × (d.conn ≡ c.conn)) (λ _. (refl, refl)) (λ _. (refl, refl))
+
+  lives_branched : (text : V → List ℕ) (ps : Peers) (ls : Lives) (cs : List (CallContext V)) (id : CallId) (x : Id) (f : CallContext V → List TimedBranch) (g : LifeValue → List TimedBranch)
+      → ((k : CallId) (c : CallContext V) → f c ≡ g (life_with text k c)) → AreTied ps ls cs → AreApart cs → NoTwo same_id ls → ctx_for id ls ≡ Some x
+      → lives_of text ls (map (rebranched x f) cs) ≡ map (λ l. if is_call l.id id then with_branches (g l) l else l) (lives_of text ls cs)
+  lives_branched text ps [] cs id x f g agree tied apart calls is = cc
+  lives_branched text ps (l ∷ ls) [] id x f g agree tied apart calls is = absurd tied
+  lives_branched text ps (l ∷ ls) (c ∷ cs) id x f g agree tied apart calls is = ⊎_elim
+      (λ (y : is_call l.0 id ≡ true).
+      let id_is : l.0 ≡ id = same_call l.0 id y in
+      let x_is : c.id ≡ x = tied.0 ∙ same_Some l.1 x (rw y at is) in
+      let its : same c.id x ≡ true = ap (λ z. same z x) x_is ∙ same_itself x in
+      let no_call : list_any (λ (m : CallId × Id). is_call m.0 id) ls ≡ false = subst (λ k. list_any (λ (m : CallId × Id). is_call m.0 k) ls ≡ false) id_is calls.0 in
+      let no_ctx : list_any (λ (d : CallContext V). same d.id x) cs ≡ false = subst (λ z. list_any (λ (d : CallContext V). same d.id z) cs ≡ false) x_is apart.0 in
+      let cs_are : map (rebranched x f) cs ≡ cs = map_stays (λ (d : CallContext V). same d.id x) (λ d. standing_with (f d) d) cs no_ctx in
+      let stays : map (λ (k : LifeValue). if is_call k.id id then with_branches (g k) k else k) (lives_of text ls cs) ≡ lives_of text ls cs =
+      map_stays (λ (k : LifeValue). is_call k.id id) (λ k. with_branches (g k) k) (lives_of text ls cs) (life_in text ps ls cs id tied.2 ∙ no_call) in
+      rw (y, its, cs_are, stays) (ap (λ bs. with_branches bs (life_with text l.0 c) ∷ lives_of text ls cs) (agree l.0 c)))
+      (λ (n : is_call l.0 id ≡ false).
+      let there : ctx_for id ls ≡ Some x = rw n at is in
+      let far : same c.id x ≡ false = ⊎_elim
+      (λ (e : same c.id x ≡ true).
+      let bad : is_standing x cs ≡ false = subst (λ z. is_standing z cs ≡ false) (same_true c.id x e) apart.0 in
+      let clash : true ≡ false = sym (stands_in ps ls cs id x tied.2 there) ∙ bad in cc)
+      (λ (f : same c.id x ≡ false). f)
+      (cases_Bool (same c.id x)) in
+      rw (n, far) (ap (λ k. life_with text l.0 c ∷ k) (lives_branched text ps ls cs id x f g agree tied.2 apart.1 calls.1 there)))
+      (cases_Bool (is_call l.0 id))
+
+  pub branched_value : (text : V → List ℕ) (ps : Peers) (ls : Lives) (v w : AllContexts V) (u : ContextsValue) (id : CallId) (x : Id) (f : CallContext V → List TimedBranch) (g : LifeValue → List TimedBranch)
+      → ((k : CallId) (c : CallContext V) → f c ≡ g (life_with text k c)) → w ≡ standing_on x f v → IsTied ps ls v → AreApart v.calls → ctx_for id ls ≡ Some x → contexts_of text ps ls v ≡ u
+      → contexts_of text ps ls w ≡ on_branches id g u
+  branched_value text ps ls v w u id x f g agree w_is tied apart is u_is =
+      ap (contexts_of text ps ls) w_is
+      ∙ ap (contexts_value (is_some v.drained) (peers_of ps v.conns)) (lives_branched text ps ls v.calls id x f g agree tied.calls_are apart tied.calls_apart is)
+      ∙ ap (on_branches id g) u_is
+
+  pub branched_tied : (ps : Peers) (ls : Lives) (v w : AllContexts V) (x : Id) (f : CallContext V → List TimedBranch) → w ≡ standing_on x f v → IsTied ps ls v → IsTied ps ls w
+  branched_tied ps ls v w x f w_is tied =
+      told_tied ps ls v w (rebranched x f) (rebranched_stays x f) (drained_stays ps ls v w (ap (λ (y : AllContexts V). y.drained) w_is) tied) (ap (λ (y : AllContexts V). y.calls) w_is)
+      (ap (λ (y : AllContexts V). map (λ (c : ConnContext). c.id) y.conns) w_is) tied
+
+  -- where the branch has its context, and where memory was refused
+  pub started_tied : {H A E : Type 0} (ps : Peers) (ls : Lives) (v w : WithHooks CancelledBy V H) (r : Result A E) (x : Id) (f : CallContext V → List TimedBranch)
+      → IfOk r (λ _. w ≡ with_standing (standing_on x f v.standing) v) → OnErr r (w ≡ v) → IsTied ps ls v.standing → IsTied ps ls w.standing
+  started_tied {H = H} ps ls v w (Ok a) x f made refused tied = branched_tied ps ls v.standing w.standing x f (ap (λ (y : WithHooks CancelledBy V H). y.standing) made) tied
+  started_tied {H = H} ps ls v w (Err e) x f made refused tied = subst (λ (y : WithHooks CancelledBy V H). IsTied ps ls y.standing) (sym refused) tied
+
+  pub started_value : {H A E : Type 0} (text : V → List ℕ) (ps : Peers) (ls : Lives) (v w : WithHooks CancelledBy V H) (u : ContextsValue) (id : CallId) (r : Result A E) (x : Id) (f : CallContext V → List TimedBranch)
+      (g : LifeValue → List TimedBranch) → ((k : CallId) (c : CallContext V) → f c ≡ g (life_with text k c)) → IfOk r (λ _. w ≡ with_standing (standing_on x f v.standing) v)
+      → IsTied ps ls v.standing → AreApart v.standing.calls → ctx_for id ls ≡ Some x → contexts_of text ps ls v.standing ≡ u → OnOk r (contexts_of text ps ls w.standing ≡ on_branches id g u)
+  started_value {H = H} text ps ls v w u id (Ok a) x f g agree made tied apart is u_is =
+      branched_value text ps ls v.standing w.standing u id x f g agree (ap (λ (y : WithHooks CancelledBy V H). y.standing) made) tied apart is u_is
+  started_value text ps ls v w u id (Err e) x f g agree made tied apart is u_is = tt

@@ -1,16 +1,16 @@
 -- The contexts of the open connections and of the calls that can be decided, by the connections' numbers and the calls' ids.
-use Rattle.std.specs.Prelude.{◌≡◌, ℕ, Bool, true, false, is_some, not, if◌then◌else◌, ◌==◌, List, [], ◌∷◌, ◌++◌, map, filter, Option, None, Some, option_map}
+use Rattle.std.specs.Prelude.{◌≡◌, ◌&&◌, ◌||◌, ℕ, Bool, true, false, is_some, is_none, not, if◌then◌else◌, ◌==◌, List, [], ◌∷◌, ◌++◌, map, filter, nat_le, All, Option, None, Some, option_map}
 use Rattle.std.specs.List.{list_any}
-use Rattle.std.specs.Option.{option_or}
+use Rattle.std.specs.Option.{option_map_or, option_or}
 use Rattle.context_tree.specs.declared.error.Cause.{Cause as EndCause}
 use Rattle.context_tree.specs.declared.error.Cause.TheVariants.{Given, Plain}
 use Rattle.context_tree.specs.declared.error.CtxErr.TheVariants.{DeadlineExceeded}
 use Rattle.context_tree.specs.Context.{Id, same}
-use Rattle.call_contexts.specs.Standing.{Call, Conn, Standing, if_cancelled}
+use Rattle.call_contexts.specs.Standing.{Branch, Call, Conn, Standing, branch_before, drop_branch, ends_branch, expires_branch, if_cancelled}
 use Rattle.gateway_replies.specs.declared.contexts.cancelled.CancelledBy.{CancelledBy}
 use Rattle.gateway_replies.specs.declared.contexts.cancelled.CancelledBy.TheVariants.{HangUp, Drain}
 use Rattle.gateway_model.specs.declared.call_event.CallEvent.{CallEvent}
-use Rattle.gateway_model.specs.declared.call_event.CallEvent.TheVariants.{Expired, HungUp as HungUpNow, Drained as DrainedNow}
+use Rattle.gateway_model.specs.declared.call_event.CallEvent.TheVariants.{BranchExpired, Expired, HungUp as HungUpNow, Drained as DrainedNow}
 use Rattle.gateway_theory.specs.declared.cause.Cause.{Cause}
 use Rattle.gateway_theory.specs.declared.cause.Cause.TheVariants.{Reached, HungUp, Drained}
 use Rattle.gateway_model.specs.declared.id.CallId.{CallId}
@@ -31,11 +31,12 @@ by_hang_up came = if_cancelled came HangUp
 abbrev pub by_drain : Bool → Ended
 by_drain came = if_cancelled came Drain
 
--- the event by which a call ends whose context ended so, at a moment
-abbrev pub event_of : ℕ → EndCause CancelledBy → CallEvent
-event_of moment (Given HangUp) = HungUpNow
-event_of moment (Given Drain) = DrainedNow
-event_of moment (Plain error) = Expired moment
+-- the event by which a call ends at a moment, whose context ended so, and of which that branch ended before it
+abbrev pub event_of : ℕ → Ended → Option ℕ → Option CallEvent
+event_of moment (Some (Given HangUp)) branch = Some HungUpNow
+event_of moment (Some (Given Drain)) branch = Some DrainedNow
+event_of moment (Some (Plain error)) branch = Some (option_map_or (λ i. BranchExpired i moment) branch (Expired moment))
+event_of moment None branch = option_map (λ i. BranchExpired i moment) branch
 
 -- a connection that has a context, and what ended that
 pub record PeerValue : Type 0 where
@@ -45,12 +46,18 @@ pub record PeerValue : Type 0 where
 abbrev pub peer : ℕ → Ended → PeerValue
 peer number ended = record { number = number; ended = ended }
 
--- a call that has a context and a hook: the deadline and the request id that its context has, and what ended that
+-- a branch of a call that is out and has a time of its own
+abbrev pub TimedBranch : Type 0
+TimedBranch = Branch CancelledBy
+
+-- a call that has a context and a hook: the deadline and the request id that its context has, what ended that, and its branches that have contexts, by
+-- start
 pub record LifeValue : Type 0 where
   pub id : CallId
   pub deadline : Option ℕ
   pub request_id : Option (List ℕ)
   pub ended : Ended
+  pub branches : List TimedBranch
 
 -- whether all were ended, the connections and the calls, by beginning
 pub record ContextsValue : Type 0 where
@@ -66,7 +73,7 @@ no_contexts = contexts_value false [] []
 
 -- the context that is made for a call
 abbrev pub life_by : Ended → CallId → ArrivedCall → LifeValue
-life_by ended id a = record { id = id; deadline = a.deadline; request_id = a.request_id; ended = ended }
+life_by ended id a = record { id = id; deadline = a.deadline; request_id = a.request_id; ended = ended; branches = [] }
 
 -- the connection of that number has a context
 abbrev pub is_peer : ℕ → List PeerValue → Bool
@@ -76,14 +83,22 @@ is_peer number conns = list_any (λ p. p.number == number) conns
 abbrev pub is_life : CallId → List LifeValue → Bool
 is_life id calls = list_any (λ l. is_call l.id id) calls
 
--- what ended it
-abbrev pub ended_life : CallId → List LifeValue → Ended
-ended_life id [] = None
-ended_life id (l ∷ ls) = if is_call l.id id then l.ended else ended_life id ls
+-- the event by which it ends at a moment, if it does
+abbrev pub ending_at : ℕ → LifeValue → Option CallEvent
+ending_at moment l = event_of moment l.ended (branch_before l.deadline l.branches)
 
--- where the call's context has not ended, the moment has not reached its deadline
-abbrev pub IsNotDue : ℕ → LifeValue → Type 0
-IsNotDue moment l = l.ended ≡ None → is_due moment l.deadline ≡ false
+abbrev pub ending_life : ℕ → CallId → List LifeValue → Option CallEvent
+ending_life moment id [] = None
+ending_life moment id (l ∷ ls) = if is_call l.id id then ending_at moment l else ending_life moment id ls
+
+-- the moment has reached the deadline of the call's context, which has not ended, or of a branch of it which has not
+abbrev pub has_due : ℕ → LifeValue → Bool
+has_due moment l = (is_none l.ended && is_due moment l.deadline) || list_any (λ (b : TimedBranch). is_none b.ended && nat_le b.deadline moment) l.branches
+
+-- where the call's context has not ended, the moment has not reached its deadline, nor that of a branch of it that has not
+pub record IsNotDue (moment : ℕ) (l : LifeValue) : Type 0 where
+  pub call : l.ended ≡ None → is_due moment l.deadline ≡ false
+  pub each : All (λ (b : TimedBranch). b.ended ≡ None → nat_le b.deadline moment ≡ false) l.branches
 
 -- the calls of other connections
 abbrev pub others : ℕ → List LifeValue → List LifeValue
@@ -111,16 +126,42 @@ abbrev pub ends_peer : Ended → PeerValue → PeerValue
 ends_peer e p = record { number = p.number; ended = option_or p.ended e }
 
 abbrev pub ends_life : Ended → LifeValue → LifeValue
-ends_life e l = record { id = l.id; deadline = l.deadline; request_id = l.request_id; ended = option_or l.ended e }
+ends_life e l = record { id = l.id; deadline = l.deadline; request_id = l.request_id; ended = option_or l.ended e; branches = map (ends_branch e) l.branches }
+
+-- a moment comes to a call: it ends by its own deadline and with it its branches, and each of these by its own
+abbrev pub expires_life : ℕ → LifeValue → LifeValue
+expires_life now l =
+    record {
+      id = l.id;
+      deadline = l.deadline;
+      request_id = l.request_id;
+      ended = option_or l.ended (by_deadline now l.deadline);
+      branches = map (λ (b : TimedBranch). expires_branch now (ends_branch (by_deadline now l.deadline) b)) l.branches;
+    }
 
 -- they are told what may end calls
 abbrev pub told : Cause → ContextsValue → ContextsValue
-told (Reached now) v = contexts_value v.drained v.conns (map (λ l. ends_life (by_deadline now l.deadline) l) v.calls)
+told (Reached now) v = contexts_value v.drained v.conns (map (expires_life now) v.calls)
 told (HungUp number) v =
     contexts_value v.drained
     (map (λ p. ends_peer (by_hang_up (p.number == number)) p) v.conns)
     (map (λ l. ends_life (by_hang_up (l.id.conn == number)) l) v.calls)
 told Drained v = contexts_value true (map (λ p. ends_peer (by_drain true) p) v.conns) (map (λ l. ends_life (by_drain true) l) v.calls)
+
+-- the call with these branches
+abbrev pub with_branches : List TimedBranch → LifeValue → LifeValue
+with_branches bs l = record { id = l.id; deadline = l.deadline; request_id = l.request_id; ended = l.ended; branches = bs }
+
+abbrev pub on_branches : CallId → (LifeValue → List TimedBranch) → ContextsValue → ContextsValue
+on_branches id f v = contexts_value v.drained v.conns (map (λ l. if is_call l.id id then with_branches (f l) l else l) v.calls)
+
+-- a branch of the call starts, with a context that ends at this moment
+abbrev pub started : CallId → ℕ → ℕ → ℕ → ContextsValue → ContextsValue
+started id branch at now = on_branches id (λ l. l.branches ++ record { branch = branch; deadline = at; ended = option_or l.ended (by_deadline now (Some at)) } ∷ [])
+
+-- the context of that branch is gone, if it has one
+abbrev pub finished : CallId → ℕ → ContextsValue → ContextsValue
+finished id branch = on_branches id (λ l. drop_branch branch l.branches)
 
 -- the context of the call is gone
 abbrev pub without : CallId → ContextsValue → ContextsValue
@@ -213,7 +254,7 @@ peers_of (p ∷ ps) (c ∷ cs) = peer p.0 c.ended ∷ peers_of ps cs
 module _ {V : Type 0} where
   -- what a call's context has
   abbrev pub life_with : (V → List ℕ) → CallId → CallContext V → LifeValue
-  life_with text id c = record { id = id; deadline = c.deadline; request_id = option_map text c.request_id; ended = c.ended }
+  life_with text id c = record { id = id; deadline = c.deadline; request_id = option_map text c.request_id; ended = c.ended; branches = c.branches }
 
   abbrev pub lives_of : (V → List ℕ) → Lives → List (CallContext V) → List LifeValue
   lives_of text [] cs = []

@@ -62,7 +62,7 @@ impl ArrivedCall {
 
     /// The record of a call that this event ends as it comes.
     pub fn end(self, alloc: Global, event: CallEvent) -> Result<CallRecord, AllocError>
-        ensures { IfOk result (λ call. call ≡ record_of self (event ∷ [])) }
+        ensures { IfOk result (λ call. call ≡ record_of self [] (event ∷ [])) }
     {
         let last = self.request.closes();
         let mut events = Vec::new(alloc);
@@ -72,6 +72,7 @@ impl ArrivedCall {
             start: self.start,
             deadline: self.deadline,
             last,
+            branch_deadlines: Vec::new(alloc),
             events,
         })
     }

@@ -5,7 +5,8 @@ mod peer;
 
 ghost use Rattle.std.specs.Prelude.{All, ◌≡◌, ◌==◌, IfErr, IfOk, None as Nothing, OnErr, OnOk, filter, false, not, option_map, true};
 ghost use Rattle.std.specs.Arc.{arc_value};
-ghost use Rattle.gateway_replies.specs.Contexts.{IsNotDue, KeepsOthers, LivesApart, begun, closed, ctx_for, ctx_of, ended_life, event_of, first_life, first_of, is_life, is_peer, no_contexts, opened, told, without, without_calls, without_first};
+ghost use Rattle.std.specs.List.{list_any};
+ghost use Rattle.gateway_replies.specs.Contexts.{IsNotDue, KeepsOthers, LivesApart, begun, closed, ctx_for, ctx_of, ending_life, event_of, finished, first_life, first_of, has_due, is_life, is_peer, no_contexts, opened, started, told, without, without_calls, without_first};
 ghost use Rattle.gateway_model.specs.Duty.{MeetsDuty};
 ghost use Rattle.gateway_model.specs.Past.{is_call};
 ghost use Rattle.gateway_model.specs.declared.id.CallId.{CallId as AnyCall};
@@ -117,9 +118,10 @@ impl<H: ReplyHook + Drop> Contexts<H> {
         }
     }
 
-    /// Whether a call's context may end at this moment: it has reached the least of their deadlines.
+    /// Whether a call's context or a branch's ends at this moment: it has reached the least of their deadlines.
     pub fn is_due(&self, moment: u64) -> bool
-        ensures { result ≡ false → All (IsNotDue moment) self.now.calls }
+        ensures exact { result ≡ list_any (has_due moment) self.now.calls }
+        ensures not_due { result ≡ false → All (IsNotDue moment) self.now.calls }
     {
         match self.contexts.next_deadline() {
             Some(deadline) => deadline <= moment,
@@ -127,15 +129,41 @@ impl<H: ReplyHook + Drop> Contexts<H> {
         }
     }
 
-    /// The event that ended the call's context, as it is at this moment: its deadline, the hang-up of its connection's peer or
-    /// the drain, whichever came first. None where nothing has, or the call has no context.
+    /// The event by which the call ends at this moment, as the contexts tell it: the hang-up of its connection's peer or the
+    /// drain, or of the deadlines of the call and of its branches the least that has been reached. None where nothing has, or
+    /// the call has no context.
     pub fn ending(&self, id: &CallId, moment: u64) -> Option<CallEvent>
-        ensures { result ≡ option_map (event_of moment) (ended_life id.now self.now.calls) }
+        ensures { result ≡ ending_life moment id.now self.now.calls }
     {
         self.contexts.apart_law();
         let ctx = ctx_for(&self.lives, id)?;
-        let cause = self.contexts.ended(ctx)?;
-        Some(event_of(cause, moment))
+        let ended = self.contexts.ended(ctx);
+        let branch = self.contexts.ended_branch(ctx);
+        event_of(ended, branch, moment)
+    }
+
+    /// A branch of the call starts at this moment that has a time of its own: its context ends at `at`, or with its call's.
+    pub fn start(&mut self, id: &CallId, branch: u32, at: u64, now: u64) -> Result<(), AllocError>
+        requires { is_life id.now self.old.calls ≡ true }
+        ensures ok { OnOk result (self.new ≡ started id.now branch at now self.old) }
+        ensures err { OnErr result (self.new ≡ self.old) }
+    {
+        let Some(ctx) = ctx_for(&self.lives, id) else {
+            unreachable!();
+        };
+        self.contexts.apart_law();
+        self.contexts.branch(ctx, branch, at, now)
+    }
+
+    /// Lets go of the context of that branch of the call, if it has one.
+    pub fn finish(&mut self, id: &CallId, branch: u32)
+        ensures { self.new ≡ finished id.now branch self.old }
+    {
+        let Some(ctx) = ctx_for(&self.lives, id) else {
+            return;
+        };
+        self.contexts.apart_law();
+        self.contexts.let_branch_go(ctx, branch);
     }
 
     /// Calls the hook of the call with what ended it, and lets go of its context.
@@ -222,14 +250,25 @@ impl<H: ReplyHook + Drop> Contexts<H> {
     }
 }
 
-/// The event by which a call ends whose context ended for this, at a moment.
-fn event_of(cause: EndCause<CancelledBy>, moment: u64) -> CallEvent
-    ensures { result ≡ event_of moment cause }
+/// The event by which a call ends at a moment, whose context ended so, and of which that branch ended before it.
+fn event_of(
+    ended: Option<EndCause<CancelledBy>>,
+    branch: Option<u32>,
+    moment: u64,
+) -> Option<CallEvent>
+    ensures { result ≡ event_of moment ended branch }
 {
-    match cause {
-        EndCause::Given(CancelledBy::HangUp) => CallEvent::HungUp,
-        EndCause::Given(CancelledBy::Drain) => CallEvent::Drained,
-        EndCause::Plain(_) => CallEvent::Expired(moment),
+    match ended {
+        Some(EndCause::Given(CancelledBy::HangUp)) => Some(CallEvent::HungUp),
+        Some(EndCause::Given(CancelledBy::Drain)) => Some(CallEvent::Drained),
+        Some(EndCause::Plain(_)) => match branch {
+            Some(branch) => Some(CallEvent::BranchExpired(branch, moment)),
+            None => Some(CallEvent::Expired(moment)),
+        },
+        None => match branch {
+            Some(branch) => Some(CallEvent::BranchExpired(branch, moment)),
+            None => None,
+        },
     }
 }
 

@@ -51,6 +51,10 @@ pub(crate) fn ending_of(
             error: error.clone()?,
         },
         CallEvent::Expired(_) => EndCause::Deadline,
+        CallEvent::BranchExpired(branch, _) => EndCause::Branch {
+            name: Text::from_str(alloc, branch_name(plan, *branch))?,
+            error: RpcError::plain(alloc, Code::DeadlineExceeded, "context deadline exceeded")?,
+        },
         CallEvent::HungUp => EndCause::HangUp,
         CallEvent::Drained => EndCause::Drain,
     };

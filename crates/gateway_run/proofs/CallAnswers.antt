@@ -8,7 +8,7 @@ use Rattle.connect_codec.specs.Reply.{error_reply}
 use Rattle.connect_codec.specs.declared.answer.Outcome.TheVariants.{Answer, Fail}
 use Rattle.gateway_model.specs.declared.entry.ReplyEntry.TheVariants.{Call as Calling}
 use Rattle.gateway_model.specs.declared.call_event.CallEvent.{CallEvent}
-use Rattle.gateway_model.specs.declared.call_event.CallEvent.TheVariants.{Answer as Answered, Failed, Expired, HungUp, Drained}
+use Rattle.gateway_model.specs.declared.call_event.CallEvent.TheVariants.{Answer as Answered, Failed, Expired, BranchExpired, HungUp, Drained}
 use Rattle.gateway_model.specs.declared.id.CallId.{CallId}
 use Rattle.gateway_model.specs.Arrival.{Judged, Asks}
 use Rattle.gateway_model.specs.Branch.{branch_at}
@@ -16,12 +16,13 @@ use Rattle.gateway_model.specs.CallRecord.{CallRecord, answer_in, answer_of_bran
 use Rattle.gateway_model.specs.Errors.{branch_error, error_of}
 use Rattle.gateway_model.specs.Decided.{IsDecidedAt}
 use Rattle.gateway_model.specs.Occurrence.{Occurrence, Opening, Comes, HangUp, Moment, Result, Drain, Closing, Coming, Request, Refused}
-use Rattle.gateway_model.specs.Past.{ArrivedCall, Mark, Past, answers, asked_now, branches, call, count_below, counts, decided, decides, ends_at_arrival, event_by, is_call, is_closed, is_drained, is_due, mark_of, marked, now, own_event, past_of}
-use Rattle.gateway_model.specs.Queue.{answer_of, call_entry, came, entry, entry_by, joined_reply, own_events, record_of}
+use Rattle.gateway_model.specs.Past.{ArrivedCall, Mark, Past, answers, asked_now, branches, call, count_below, counts, deadlines_out, decided, decides, due_by, ends_at_arrival, event_by, is_call, is_closed, is_drained, is_due, mark_of, marked, now, own_event, past_of}
+use Rattle.gateway_model.specs.Queue.{answer_of, call_entry, came, entry, entry_by, joined_reply, own_events, record_deadlines, record_of}
 use Rattle.gateway_model.specs.Record.{answers_among, is_decided, is_ending, is_last, is_lawful, may_come, may_follow, started_after}
 use Rattle.gateway_model.specs.Reply.{reply_of}
 use Rattle.gateway_model.specs.Headline.{AllAnswered, AnswersCall, failed, joined, HasAnswered, IsAnswered}
 use Rattle.gateway_theory.specs.lemmas.Cases.{or_none}
+use Rattle.gateway_theory.specs.lemmas.Deadlines.{expires}
 use Rattle.gateway_theory.specs.lemmas.LimitLemmas.{same_call}
 
 -- ---- counts
@@ -86,6 +87,7 @@ among_behind [] e = omega arith
 among_behind (Answered i body ∷ es) e = omega (arith, among_behind es e)
 among_behind (Failed i error ∷ es) e = among_behind es e
 among_behind (Expired t ∷ es) e = among_behind es e
+among_behind (BranchExpired i t ∷ es) e = among_behind es e
 among_behind (HungUp ∷ es) e = among_behind es e
 among_behind (Drained ∷ es) e = among_behind es e
 
@@ -122,6 +124,8 @@ counted_more r es (Failed i error) come h =
     omega (arith, h, among_behind es (Failed i error), count_grows (length r.plan.branches) (has_answer es) (has_answer (es ++ Failed i error ∷ [])) (still_has es (Failed i error)))
 counted_more r es (Expired t) come h =
     omega (arith, h, among_behind es (Expired t), count_grows (length r.plan.branches) (has_answer es) (has_answer (es ++ Expired t ∷ [])) (still_has es (Expired t)))
+counted_more r es (BranchExpired i t) come h =
+    omega (arith, h, among_behind es (BranchExpired i t), count_grows (length r.plan.branches) (has_answer es) (has_answer (es ++ BranchExpired i t ∷ [])) (still_has es (BranchExpired i t)))
 counted_more r es HungUp come h =
     omega (arith, h, among_behind es HungUp, count_grows (length r.plan.branches) (has_answer es) (has_answer (es ++ HungUp ∷ [])) (still_has es HungUp))
 counted_more r es Drained come h =
@@ -159,6 +163,7 @@ answers_call : (r : CallRecord) (e : CallEvent) → is_lawful r ≡ true → is_
 answers_call r (Answered i body) lawful decided_is last = joined refl (all_answered r i body lawful decided_is last) (ap (bytes_by r) last)
 answers_call r (Failed i error) lawful decided_is last = failed (branch_error (branch_at r.plan i).name error) refl (ap (bytes_by r) last)
 answers_call r (Expired t) lawful decided_is last = failed _ refl (ap (bytes_by r) last)
+answers_call r (BranchExpired i t) lawful decided_is last = failed _ refl (ap (bytes_by r) last)
 answers_call r HungUp lawful decided_is last = failed _ refl (ap (bytes_by r) last)
 answers_call r Drained lawful decided_is last = failed _ refl (ap (bytes_by r) last)
 
@@ -193,18 +198,18 @@ called id past r (Some (Request q (Judged v), crowded)) e = absurd (cc)
 called id past r (Some (Request q (Asks plan timeout rid), true)) e = absurd (cc)
 called id past r (Some (Request q (Asks plan timeout rid), false)) e = e
 
-record IsOf (r : CallRecord) (d : Option CallEvent) (c : Option ArrivedCall) (es : List CallEvent) : Type 0 where
+record IsOf (r : CallRecord) (d : Option CallEvent) (c : Option ArrivedCall) (ds : List (Option ℕ)) (es : List CallEvent) : Type 0 where
   asked : ArrivedCall
   call_is : c ≡ Some asked
-  record_is : r ≡ record_of asked es
+  record_is : r ≡ record_of asked ds es
   event : CallEvent
   decided_is : d ≡ Some event
 
-is_of : (r : CallRecord) (d : Option CallEvent) (c : Option ArrivedCall) (es : List CallEvent)
-    → (if is_some d then option_map (λ a. Calling (record_of a es)) c else None) ≡ Some (Calling r) → IsOf r d c es
-is_of r None c es e = absurd (cc)
-is_of r (Some d) None es e = absurd (cc)
-is_of r (Some d) (Some c) es e = record { asked = c; call_is = refl; record_is = (let same : record_of c es ≡ r = cc in sym same); event = d; decided_is = refl }
+is_of : (r : CallRecord) (d : Option CallEvent) (c : Option ArrivedCall) (ds : List (Option ℕ)) (es : List CallEvent)
+    → (if is_some d then option_map (λ a. Calling (record_of a ds es)) c else None) ≡ Some (Calling r) → IsOf r d c ds es
+is_of r None c ds es e = absurd (cc)
+is_of r (Some d) None ds es e = absurd (cc)
+is_of r (Some d) (Some c) ds es e = record { asked = c; call_is = refl; record_is = (let same : record_of c ds es ≡ r = cc in sym same); event = d; decided_is = refl }
 
 -- what is known of the definitions
 pub record CallLaws : Type 0 where
@@ -216,8 +221,8 @@ pub record CallLaws : Type 0 where
 pub is_answered : (laws : CallLaws) (id : CallId) (os : List Occurrence) (r : CallRecord) → entry id (marked os) ≡ Some (Calling r) → IsAnswered id r os
 is_answered laws id os r e =
     let past : Past = marked os in
-    let it : IsOf r (decided id past) (call id past) (own_events id past) =
-    is_of r (decided id past) (call id past) (own_events id past) (called id past r (came id past) e) in
+    let it : IsOf r (decided id past) (call id past) (record_deadlines id past) (own_events id past) =
+    is_of r (decided id past) (call id past) (record_deadlines id past) (own_events id past) (called id past r (came id past) e) in
     let place = laws.found (reverse os) id it.event (subst (λ xs. decided id (marked xs) ≡ Some it.event) (sym (reverse-reverse os)) it.decided_is) in
     let last : last_event r.events ≡ Some it.event = ap (λ (x : CallRecord). last_event x.events) it.record_is ∙ last_own id past it.event it.decided_is in
     let both = laws.lawful id os r e in
@@ -244,6 +249,13 @@ no_answer past (Some c) i body e = by_tests (is_drained past) (is_due (now past)
     by_tests false true e = cc
     by_tests false false e = cc
 
+-- nor is what a moment brings
+no_expiry : (moment : ℕ) (deadline : Option ℕ) (outs : List (Option ℕ)) (i : ℕ) (body : List ℕ) → due_by moment deadline outs ≡ Some (Answered i body) → ⊥
+no_expiry moment deadline outs i body e = ⊎_elim
+    (λ its. let bad : Answered i body ≡ Expired moment = its.0 in cc)
+    (λ its. let bad : Answered i body ≡ BranchExpired its.0 moment = its.1 in cc)
+    (expires moment deadline outs (Answered i body) e)
+
 -- an event that is an answer is a result that counted
 answer_by : (id : CallId) (c : ArrivedCall) (o : Occurrence) (counted : Bool) (past : Past) (i : ℕ) (body : List ℕ) → event_by id c o counted past ≡ Some (Answered i body)
     → (o ≡ Result id i (Answer body)) × (counted ≡ true)
@@ -262,12 +274,7 @@ answer_by id c (Result of j (Fail error)) counted past i body e = by_test (count
     by_test : (t : Bool) → (if t then Some (Failed j error) else None) ≡ Some (Answered i body) → (Result of j (Fail error) ≡ Result id i (Answer body)) × (counted ≡ true)
     by_test true e = absurd (cc)
     by_test false e = absurd (cc)
-answer_by id c (Moment m) counted past i body e = by_test (is_due (now (record { what = Moment m; counted = counted; crowded = false } ∷ past)) c.deadline) e
-  where
-    by_test : (t : Bool) → (if t then Some (Expired (now (record { what = Moment m; counted = counted; crowded = false } ∷ past))) else None) ≡ Some (Answered i body)
-        → (Moment m ≡ Result id i (Answer body)) × (counted ≡ true)
-    by_test true e = absurd (cc)
-    by_test false e = absurd (cc)
+answer_by id c (Moment m) counted past i body e = absurd (no_expiry _ c.deadline (deadlines_out id c.plan past) i body e)
 answer_by id c (HangUp conn) counted past i body e = by_test (conn == id.conn) e
   where
     by_test : (t : Bool) → (if t then Some HungUp else None) ≡ Some (Answered i body) → (HangUp conn ≡ Result id i (Answer body)) × (counted ≡ true)
@@ -297,6 +304,7 @@ answer_is i (Answered j b) body e = by_test (j == i) refl e
     by_test false t_is e = absurd (cc)
 answer_is i (Failed j error) body e = absurd (cc)
 answer_is i (Expired t) body e = absurd (cc)
+answer_is i (BranchExpired j t) body e = absurd (cc)
 answer_is i HungUp body e = absurd (cc)
 answer_is i Drained body e = absurd (cc)
 

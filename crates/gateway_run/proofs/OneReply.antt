@@ -11,7 +11,7 @@ use Rattle.gateway_model.specs.declared.call_event.CallEvent.{CallEvent}
 use Rattle.gateway_model.specs.Arrival.{Asks, Judged}
 use Rattle.gateway_model.specs.Occurrence.{Coming, Refused, Request}
 use Rattle.gateway_model.specs.Past.{ArrivedCall, Mark, Past, asked_by, call, call_id, decided, coming_now, coming_on, arrivals, is_undecided, now}
-use Rattle.gateway_model.specs.Queue.{came, entry, entry_by, front, own_events, queued_entries, record_of}
+use Rattle.gateway_model.specs.Queue.{came, entry, entry_by, front, own_events, queued_entries, record_deadlines, record_of}
 use Rattle.gateway_theory.specs.lemmas.Cases.{or_none}
 
 -- number k of the first ones that are there
@@ -130,7 +130,7 @@ call_is id (m ∷ past) = by_came (came id past) refl (call_is id past)
 pub waits : (id : CallId) (past : Past) (x : Coming × Bool) → came id past ≡ Some x → entry id past ≡ None → is_undecided id past ≡ true
 waits id past x came_is none = by_what x came_is (sym (ap (λ o. option_and_then (entry_by id past) o) came_is) ∙ none)
   where
-    by_call : (d : Option CallEvent) (c : Option ArrivedCall) → is_some c ≡ true → (if is_some d then option_map (λ a. Calling (record_of a (own_events id past))) c else None) ≡ None
+    by_call : (d : Option CallEvent) (c : Option ArrivedCall) → is_some c ≡ true → (if is_some d then option_map (λ a. Calling (record_of a (record_deadlines id past) (own_events id past))) c else None) ≡ None
         → (is_some c && is_none d) ≡ true
     by_call None (Some c) on e = refl
     by_call None None on e = absurd (cc)
@@ -159,4 +159,4 @@ undecided_waits id past e =
     by_came (Some (Request q (Judged v), crowded)) on off = absurd (cc)
     by_came (Some (Request q (Asks plan timeout request_id), true)) on off = absurd (cc)
     by_came (Some (Request q (Asks plan timeout request_id), false)) on off =
-        ap (λ b. if b then option_map (λ a. Calling (record_of a (own_events id past))) (call id past) else None) off
+        ap (λ b. if b then option_map (λ a. Calling (record_of a (record_deadlines id past) (own_events id past))) (call id past) else None) off

@@ -20,7 +20,7 @@ use Rattle.call_plan.specs.Plan.{PlanRecord}
 use Rattle.gateway_model.specs.Arrival.{Arrival, Judged, Asks, arrival_of}
 use Rattle.gateway_model.specs.declared.reply_bytes.ReplyBytes.{ReplyBytes}
 use Rattle.gateway_model.specs.Reply.{reply_of}
-use Rattle.gateway_model.specs.Occurrence.{Occurrence, Opening, Comes, Result, Request, Refused}
+use Rattle.gateway_model.specs.Occurrence.{Occurrence, Opening, Comes, Moment, Result, Request, Refused}
 use Rattle.gateway_model.specs.declared.entry.ReplyEntry.{ReplyEntry}
 use Rattle.gateway_model.specs.declared.entry.ReplyEntry.TheVariants.{Call}
 use Rattle.gateway_model.specs.declared.call_event.CallEvent.{CallEvent}
@@ -43,7 +43,7 @@ ping = record {
   path = codes "/acme.v1.Ping/Ping";
   limit = 1;
   timeout = None;
-  branches = record { name = codes "pong"; address = codes "127.0.0.1:9001"; path = codes "/acme.v1.Pong/Pong" } ∷ [];
+  branches = record { name = codes "pong"; address = codes "127.0.0.1:9001"; path = codes "/acme.v1.Pong/Pong"; timeout_ms = None } ∷ [];
 }
 
 abbrev pub quote : PlanRecord
@@ -52,10 +52,22 @@ quote = record {
   limit = 2;
   timeout = Some 5000;
   branches =
-      record { name = codes "flight"; address = codes "127.0.0.1:9002"; path = codes "/acme.v1.Flight/Find" }
-      ∷ record { name = codes "hotel"; address = codes "127.0.0.1:9003"; path = codes "/acme.v1.Hotel/Find" }
-      ∷ record { name = codes "car"; address = codes "127.0.0.1:9004"; path = codes "/acme.v1.Car/Find" } ∷ [];
+      record { name = codes "flight"; address = codes "127.0.0.1:9002"; path = codes "/acme.v1.Flight/Find"; timeout_ms = None }
+      ∷ record { name = codes "hotel"; address = codes "127.0.0.1:9003"; path = codes "/acme.v1.Hotel/Find"; timeout_ms = None }
+      ∷ record { name = codes "car"; address = codes "127.0.0.1:9004"; path = codes "/acme.v1.Car/Find"; timeout_ms = None } ∷ [];
 }
+
+-- the same with a time of its own for each branch, if it has one
+abbrev pub timed : PlanRecord → Option ℕ → Option ℕ → Option ℕ → PlanRecord
+timed plan flight hotel car = record plan {
+  branches =
+      record { name = codes "flight"; address = codes "127.0.0.1:9002"; path = codes "/acme.v1.Flight/Find"; timeout_ms = flight }
+      ∷ record { name = codes "hotel"; address = codes "127.0.0.1:9003"; path = codes "/acme.v1.Hotel/Find"; timeout_ms = hotel }
+      ∷ record { name = codes "car"; address = codes "127.0.0.1:9004"; path = codes "/acme.v1.Car/Find"; timeout_ms = car } ∷ [];
+}
+
+abbrev pub quote_timed : Option ℕ → Option ℕ → Option ℕ → PlanRecord
+quote_timed = timed quote
 
 -- ---- requests
 
@@ -145,6 +157,10 @@ asks_on conn plan timeout id k = Comes conn (Request (request_for plan.path k) (
 -- the branch of that request's call on connection 0 starts at that place, with all of its plan's time left
 abbrev pub starts_then : PlanRecord → ℕ → ℕ → ℕ → StartedJob
 starts_then plan place request branch = start place (job_with (call_id 0 request) branch plan (request_for plan.path request) None plan.timeout)
+
+-- the branch of the first call on connection 0 starts at that place, with so much left
+abbrev pub starts_with : PlanRecord → ℕ → ℕ → Option ℕ → StartedJob
+starts_with plan place branch left = start place (job_with (call_id 0 0) branch plan (request_for plan.path 0) None left)
 
 -- request number k asks for a call of the plan, with that timeout
 abbrev pub asks : PlanRecord → Option ℕ → ℕ → Occurrence
@@ -247,4 +263,13 @@ is_lawful_row os = option_map_or (λ r. is_lawful r && is_decided r) (record_in 
 
 -- a record of Quote that begins at moment 0, with these events
 abbrev pub quote_record : List CallEvent → CallRecord
-quote_record events = record { plan = quote; start = 0; deadline = Some 5000; last = false; events = events }
+quote_record events = record { plan = quote; start = 0; deadline = Some 5000; last = false; branch_deadlines = None ∷ None ∷ []; events = events }
+
+-- the same of a plan whose branches flight and hotel start at once, hotel with 50 milliseconds of its own, at moment 1000
+abbrev pub hotel_record : List CallEvent → CallRecord
+hotel_record events =
+    record { plan = quote_timed None (Some 50) None; start = 1000; deadline = Some 6000; last = false; branch_deadlines = None ∷ Some 1050 ∷ []; events = events }
+
+-- the first call asks for Quote with these times of its branches at moment 1000
+abbrev pub asked_at_1000 : Option ℕ → Option ℕ → Option ℕ → List Occurrence
+asked_at_1000 flight hotel car = Opening ∷ Moment 1000 ∷ asks (quote_timed flight hotel car) None 0 ∷ []

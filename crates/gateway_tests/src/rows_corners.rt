@@ -21,15 +21,15 @@ fn great_moments()
     ensures below { now (past_of (Moment (2 ^ 61 + 5) ∷ [])) ≡ 2 ^ 61 + 5 }
     ensures never { replies 0 (past_of (Opening ∷ Moment (2 ^ 62) ∷ asks ping (Some 1) 0 ∷ Moment (2 ^ 62 + 5) ∷ [])) ≡ [] }
     ensures expired { record_in (Opening ∷ Moment (2 ^ 61) ∷ asks ping (Some (2 ^ 61)) 0 ∷ Moment (2 ^ 62 + 5) ∷ [])
-        ≡ Some (record_with ping (2 ^ 61) (Some (2 ^ 62)) false (CallEvent.Expired (2 ^ 62) ∷ [])) }
+        ≡ Some (record_with ping (2 ^ 61) (Some (2 ^ 62)) false (None ∷ []) (CallEvent.Expired (2 ^ 62) ∷ [])) }
 {}
 
 /// A call that arrives at a later moment begins there, and expires there where its timeout is 0.
 fn later_arrival()
     ensures starts { record_in (Opening ∷ Moment 1000 ∷ asks ping None 0 ∷ answers 0 0 (codes "1") ∷ [])
-        ≡ Some (record_with ping 1000 None false (CallEvent.Answer 0 (codes "1") ∷ [])) }
+        ≡ Some (record_with ping 1000 None false (None ∷ []) (CallEvent.Answer 0 (codes "1") ∷ [])) }
     ensures expires { record_in (Opening ∷ Moment 1000 ∷ asks ping (Some 0) 0 ∷ [])
-        ≡ Some (record_with ping 1000 (Some 1000) false (CallEvent.Expired 1000 ∷ [])) }
+        ≡ Some (record_with ping 1000 (Some 1000) false [] (CallEvent.Expired 1000 ∷ [])) }
 {}
 
 /// The drain comes before the deadline.
@@ -44,7 +44,7 @@ fn other_connection()
     ensures hung_up { how_seen (call_id 0 0) 0 (past_of (Opening ∷ Opening ∷ asks ping None 0 ∷ HangUp 1 ∷ [])) ≡ Seen.Counted }
     ensures closing { how_seen (call_id 0 0) 0 (past_of (Opening ∷ Opening ∷ asks ping None 0 ∷ Closing 1 ∷ [])) ≡ Seen.Counted }
     ensures calls { entry (call_id 1 0) (past_of (Opening ∷ Opening ∷ map (asks ping None) (range_with_len 0 8) ++ asks_on 1 ping (Some 0) None 0 ∷ []))
-        ≡ Some (ReplyEntry.Call (record_with ping 0 (Some 0) false (CallEvent.Expired 0 ∷ []))) }
+        ≡ Some (ReplyEntry.Call (record_with ping 0 (Some 0) false [] (CallEvent.Expired 0 ∷ []))) }
 {}
 
 /// The ninth undecided call of any connection is one too many; a call that was decided does not count.

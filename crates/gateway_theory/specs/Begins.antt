@@ -8,21 +8,25 @@ use Rattle.gateway_model.specs.Job.{JobValue, job_of}
 use Rattle.gateway_model.specs.Occurrence.{Coming, Request, Refused}
 use Rattle.gateway_model.specs.declared.call_event.CallEvent.{CallEvent}
 use Rattle.gateway_model.specs.declared.call_event.CallEvent.TheVariants.{Expired, Drained}
-use Rattle.gateway_model.specs.Past.{ArrivedCall, asked_by, is_due}
+use Rattle.gateway_model.specs.Past.{ArrivedCall, asked_by, deadline_from, is_due}
 use Rattle.gateway_model.specs.declared.entry.ReplyEntry.TheVariants.{Refused as Refusing, Judged as Judging, Crowded as Crowding}
 use Rattle.gateway_theory.specs.Step.{Live, Step, call_state, gone, step_to, ended}
 use Rattle.gateway_theory.specs.LiveStands.{tasks_from}
 
 -- a call as it begins, none of whose branches has started
 abbrev pub new_live : CallId → ArrivedCall → Live
-new_live id a = record { asked = a; events = []; waiting = tasks_from 0 id a }
+new_live id a = record { asked = a; events = []; deadlines = []; waiting = tasks_from 0 id a }
 
 -- how many branches start at once
 abbrev pub first_ones : ArrivedCall → ℕ
 first_ones a = min (length a.plan.branches) (a.plan.limit + 0)
 
-abbrev pub begun_live : CallId → ArrivedCall → Live
-begun_live id a = record { asked = a; events = []; waiting = tasks_from (first_ones a) id a }
+-- the deadlines of those, where they start at this moment
+abbrev pub first_deadlines : ℕ → ArrivedCall → List (Option ℕ)
+first_deadlines moment a = map (deadline_from moment a.plan) (range_with_len 0 (first_ones a))
+
+abbrev pub begun_live : ℕ → CallId → ArrivedCall → Live
+begun_live moment id a = record { asked = a; events = []; deadlines = first_deadlines moment a; waiting = tasks_from (first_ones a) id a }
 
 abbrev pub first_jobs : ℕ → CallId → ArrivedCall → List JobValue
 first_jobs moment id a = map (λ i. job_of id i a moment) (range_with_len 0 (first_ones a))
@@ -36,7 +40,7 @@ ends_first moment drained a = if drained then Some Drained else (if is_due momen
 
 abbrev pub begins : ℕ → Option CallEvent → CallId → ArrivedCall → Step
 begins moment (Some e) id a = ended e (new_live id a) []
-begins moment None id a = step_to (call_state (first_out a) (Some (begun_live id a))) None (first_jobs moment id a)
+begins moment None id a = step_to (call_state (first_out a) (Some (begun_live moment id a))) None (first_jobs moment id a)
 
 -- a call, if it is one
 abbrev pub begins_if : ℕ → Bool → CallId → Option ArrivedCall → Step

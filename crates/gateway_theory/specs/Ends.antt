@@ -4,27 +4,27 @@ use Rattle.std.specs.Option.{option_or, option_map_or}
 use Rattle.gateway_model.specs.declared.entry.ReplyEntry.{ReplyEntry}
 use Rattle.gateway_model.specs.declared.id.CallId.{CallId}
 use Rattle.gateway_model.specs.declared.call_event.CallEvent.{CallEvent}
-use Rattle.gateway_model.specs.declared.call_event.CallEvent.TheVariants.{Expired, HungUp as HungUpNow, Drained as DrainedNow}
+use Rattle.gateway_model.specs.declared.call_event.CallEvent.TheVariants.{HungUp as HungUpNow, Drained as DrainedNow}
 use Rattle.gateway_theory.specs.declared.cause.Cause.{Cause}
 use Rattle.gateway_theory.specs.declared.cause.Cause.TheVariants.{Reached, HungUp, Drained}
 use Rattle.gateway_model.specs.Occurrence.{Occurrence}
-use Rattle.gateway_model.specs.Past.{ArrivedCall, is_due, is_call, call_id, closing_occurs, is_drain, is_result_of, moment_of}
-use Rattle.gateway_theory.specs.Step.{CallState, Live, Step, call_state, kept, ended_by, step}
+use Rattle.gateway_model.specs.Past.{ArrivedCall, due_by, is_call, call_id, closing_occurs, is_drain, is_result_of, moment_of}
+use Rattle.gateway_theory.specs.Step.{CallState, Live, Step, call_state, deadlines_in, kept, ended_by, step}
 use Rattle.gateway_theory.specs.Kept.{KeptValue}
 use Rattle.gateway_theory.specs.Conn.{ConnValue}
 use Rattle.gateway_theory.specs.Machine.{ConnState, is_entry, slot_at, starting}
 use Rattle.gateway_theory.specs.Replies.{reply_with}
 use Rattle.gateway_theory.specs.Store.{MachineValue, machine, machine_value, call_at, conn_of, kept_at, given_up, broken_at, filled_in, hung_at, numbers}
 
--- the event by which this ends a call
-abbrev pub caused : Cause → CallId → ArrivedCall → Option CallEvent
-caused (Reached moment) id a = if is_due moment a.deadline then Some (Expired moment) else None
-caused (HungUp conn) id a = if conn == id.conn then Some HungUpNow else None
-caused Drained id a = Some DrainedNow
+-- the event by which this ends a call of which the branches that are out have these deadlines
+abbrev pub caused : Cause → CallId → ArrivedCall → List (Option ℕ) → Option CallEvent
+caused (Reached moment) id a outs = due_by moment a.deadline outs
+caused (HungUp conn) id a outs = if conn == id.conn then Some HungUpNow else None
+caused Drained id a outs = Some DrainedNow
 
 abbrev pub ended_if : Cause → CallId → List Bool → Option Live → Step
 ended_if cause id out None = kept (call_state out None)
-ended_if cause id out (Some l) = ended_by (caused cause id l.asked) l out
+ended_if cause id out (Some l) = ended_by (caused cause id l.asked (deadlines_in out l.deadlines)) l out
 
 -- what it makes of a call
 abbrev pub ended_call : Cause → CallId → CallState → Step

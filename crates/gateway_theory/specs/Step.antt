@@ -7,16 +7,17 @@ use Rattle.gateway_model.specs.Job.{JobValue}
 use Rattle.gateway_theory.specs.Task.{TaskValue, job_at}
 use Rattle.gateway_model.specs.Occurrence.{Occurrence, HangUp, Moment, Result, Drain, Closing}
 use Rattle.gateway_model.specs.declared.call_event.CallEvent.{CallEvent}
-use Rattle.gateway_model.specs.declared.call_event.CallEvent.TheVariants.{Answer as Answered, Failed, Expired, HungUp, Drained}
-use Rattle.gateway_model.specs.Past.{ArrivedCall, is_call, is_due}
+use Rattle.gateway_model.specs.declared.call_event.CallEvent.TheVariants.{Answer as Answered, Failed, HungUp, Drained}
+use Rattle.gateway_model.specs.Past.{ArrivedCall, deadline_from, due_by, is_call}
 use Rattle.gateway_model.specs.declared.entry.ReplyEntry.{ReplyEntry}
 use Rattle.gateway_model.specs.declared.entry.ReplyEntry.TheVariants.{Call as Calling}
 use Rattle.gateway_model.specs.Queue.{record_of}
 
--- a call that can still be decided: its own events so far, and the branches that wait for their start
+-- a call that can still be decided: its own events so far, the deadlines of its branches that have started, and the branches that wait for their start
 pub record Live : Type 0 where
   pub asked : ArrivedCall
   pub events : List CallEvent
+  pub deadlines : List (Option ℕ)
   pub waiting : List TaskValue
 
 -- which branches are out, and the call as long as it can be decided
@@ -46,9 +47,13 @@ step_to call reply jobs = record { call = call; reply = reply; jobs = jobs }
 abbrev pub kept : CallState → Step
 kept c = step_to c None []
 
--- the entry of the call, where this event decides it
+-- the entry of the call, where this event decides it and its branches that have started have these deadlines
+abbrev pub entry_as : List (Option ℕ) → CallEvent → Live → ReplyEntry
+entry_as deadlines e l = Calling (record_of l.asked deadlines (l.events ++ e ∷ []))
+
+-- the entry of the call, where this event decides it and starts no branch
 abbrev pub entry_with : CallEvent → Live → ReplyEntry
-entry_with e l = Calling (record_of l.asked (l.events ++ e ∷ []))
+entry_with e l = entry_as l.deadlines e l
 
 -- the event ends the call
 abbrev pub ended : CallEvent → Live → List Bool → Step
@@ -71,16 +76,25 @@ next_out (t ∷ ts) out = slice_set out t.branch true
 abbrev pub is_last_answer : Live → Bool
 is_last_answer l = length l.events + 1 == length l.asked.plan.branches
 
-abbrev pub with_event : CallEvent → Live → Live
-with_event e l = record { asked = l.asked; events = l.events ++ e ∷ []; waiting = rest_of l.waiting }
+-- the deadline of the first of the branches that wait, if it starts at this moment
+abbrev pub deadlines_next : ℕ → List TaskValue → List (Option ℕ)
+deadlines_next moment [] = []
+deadlines_next moment (t ∷ ts) = deadline_from moment t.asked.plan t.branch ∷ []
+
+-- the deadlines of the branches that have started, once the first of those that wait has
+abbrev pub deadlines_then : ℕ → Live → List (Option ℕ)
+deadlines_then moment l = l.deadlines ++ deadlines_next moment l.waiting
+
+abbrev pub with_event : ℕ → CallEvent → Live → Live
+with_event moment e l = record { asked = l.asked; events = l.events ++ e ∷ []; deadlines = deadlines_then moment l; waiting = rest_of l.waiting }
 
 -- a counted result of a branch, which is no longer out: an answer starts the next branch
 abbrev pub counted : ℕ → ℕ → Outcome → Live → List Bool → Step
 counted moment i (Fail error) l out = ended (Failed i error) l out
 counted moment i (Answer body) l out =
     step_to
-    (call_state (next_out l.waiting out) (if is_last_answer l then None else Some (with_event (Answered i body) l)))
-    (if is_last_answer l then Some (entry_with (Answered i body) l) else None)
+    (call_state (next_out l.waiting out) (if is_last_answer l then None else Some (with_event moment (Answered i body) l)))
+    (if is_last_answer l then Some (entry_as (deadlines_then moment l) (Answered i body) l) else None)
     (first_of moment l.waiting)
 
 -- a result of a branch that was out
@@ -92,12 +106,18 @@ result_on moment i outcome out (Some l) = counted moment i outcome l out
 abbrev pub moment_after : ℕ → ℕ → ℕ
 moment_after moment m = max moment (min m (2 ^ 62))
 
--- what ends a call at a moment, a hang-up or the drain
-abbrev pub ending : ℕ → CallId → Occurrence → ArrivedCall → Option CallEvent
-ending moment id (Moment m) a = if is_due (moment_after moment m) a.deadline then Some (Expired (moment_after moment m)) else None
-ending moment id (HangUp conn) a = if conn == id.conn then Some HungUp else None
-ending moment id Drain a = Some Drained
-ending moment id o a = None
+-- of these deadlines of branches those of which the branch is out
+abbrev pub deadlines_in : List Bool → List (Option ℕ) → List (Option ℕ)
+deadlines_in [] ds = []
+deadlines_in (b ∷ out) [] = None ∷ deadlines_in out []
+deadlines_in (b ∷ out) (d ∷ ds) = (if b then d else None) ∷ deadlines_in out ds
+
+-- what ends a call at a moment, a hang-up or the drain, where the branches that are out have these deadlines
+abbrev pub ending : ℕ → CallId → Occurrence → ArrivedCall → List (Option ℕ) → Option CallEvent
+ending moment id (Moment m) a outs = due_by (moment_after moment m) a.deadline outs
+ending moment id (HangUp conn) a outs = if conn == id.conn then Some HungUp else None
+ending moment id Drain a outs = Some Drained
+ending moment id o a outs = None
 
 abbrev pub ended_by : Option CallEvent → Live → List Bool → Step
 ended_by None l out = kept (call_state out (Some l))
@@ -105,7 +125,7 @@ ended_by (Some e) l out = ended e l out
 
 abbrev pub ended_live : ℕ → CallId → Occurrence → List Bool → Option Live → Step
 ended_live moment id o out None = kept (call_state out None)
-ended_live moment id o out (Some l) = ended_by (ending moment id o l.asked) l out
+ended_live moment id o out (Some l) = ended_by (ending moment id o l.asked (deadlines_in out l.deadlines)) l out
 
 -- what an occurrence makes of the call of that id
 abbrev pub step : ℕ → CallId → Occurrence → CallState → Step

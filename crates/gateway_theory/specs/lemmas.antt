@@ -7,6 +7,7 @@ pub mod StandsLemmas
 pub mod JobLemmas
 pub mod UnknownLemmas
 pub mod Unborn
+pub mod Deadlines
 pub mod Frame
 pub mod StepLemmas
 pub mod BeginsLemmas

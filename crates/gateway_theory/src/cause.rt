@@ -1,7 +1,7 @@
 /// What may end many calls at once.
 #[derive(Clone, Copy, Debug)]
 pub enum Cause {
-    /// The moment is this, in milliseconds, and may have reached their deadlines.
+    /// The moment is this, in milliseconds, and may have reached their deadlines, or those of their branches.
     Reached(u64),
     /// The peer of the connection of that number hung up.
     HungUp(u64),

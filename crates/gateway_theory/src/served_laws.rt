@@ -69,7 +69,7 @@ pub fn calls_law()
         (taken : ℕ → List ReplyEntry) (handed : List JobValue) (occurred : List Placed)
         → Served v opened es taken handed → Occurs v.plans opened es occurred
         → conn_of id.conn v.machine.conns ≡ Some k → k.broken ≡ false → (call_at id v.machine.calls).live ≡ Some l
-        → (is_lawful (record_of l.asked l.events) ≡ true) × (is_decided (record_of l.asked l.events) ≡ false) }
+        → (is_lawful (record_of l.asked l.deadlines l.events) ≡ true) × (is_decided (record_of l.asked l.deadlines l.events) ≡ false) }
     ensures limit { (id : CallId) (a : ArrivedCall) (v : GatewayValue) (opened : List ℕ) (es : List Event)
         (taken : ℕ → List ReplyEntry) (handed : List JobValue) (occurred : List Placed)
         → Served v opened es taken handed → Occurs v.plans opened es occurred → call id (marked (occurrences occurred)) ≡ Some a

@@ -19,6 +19,7 @@ pub(crate) enum Complaint {
     NotAText,
     NotALimit,
     NotATimeout,
+    NotABranchTimeout,
     // of a plan
     BadPath,
     BadAddress,
@@ -43,6 +44,7 @@ pub(crate) enum Complaint {
     AddressWithSlashes,
     NoSuchPort,
     LimitAboveBranches,
+    LateTimeout,
     BareLf,
     // of what the places above do not tell
     Refused,
@@ -72,6 +74,9 @@ impl Complaint {
             Complaint::NotALimit => "a whole number from 1 to 4,294,967,295, in digits alone",
             Complaint::NotATimeout => {
                 "a whole number of milliseconds from 0 to 9,999,999,999, in digits alone; leave the key out for no timeout"
+            }
+            Complaint::NotABranchTimeout => {
+                "a whole number of milliseconds from 1 to 9,999,999,999, in digits alone; leave the key out for none"
             }
             Complaint::BadPath => {
                 "a path begins with /, has bytes from ! to ~ but no ? and no #, and is at most 1,024 bytes long"
@@ -103,6 +108,8 @@ impl Complaint {
             Complaint::AddressWithSlashes => "a host and a port alone, with no scheme and no //",
             Complaint::NoSuchPort => "there are ports from 1 to 65535",
             Complaint::LimitAboveBranches => "more than the plan has branches",
+            Complaint::LateTimeout =>
+                "not below that of the plan, so the call always expires first",
             Complaint::BareLf =>
                 "a line of a head ends in CR LF (\\r\\n), and one here in LF alone",
             Complaint::Refused => "the file is refused",

@@ -88,6 +88,20 @@ fn branch_shape_fault<'v>(place: Place<'v>, branch: &'v Value) -> Option<Finding
     text_fault(place, branch, "name")
         .or(text_fault(place, branch, "address"))
         .or(text_fault(place, branch, "path"))
+        .or(branch_timeout_fault(place, branch))
+}
+
+fn branch_timeout_fault<'v>(place: Place<'v>, branch: &'v Value) -> Option<Finding<'v>> {
+    match branch.get("timeout_ms") {
+        None => None,
+        Some(value) if is_branch_timeout(value) => None,
+        value => Some(Finding::of(place, "timeout_ms", value, Complaint::NotABranchTimeout)),
+    }
+}
+
+/// Whether a value is a timeout that a branch may have.
+pub(crate) fn is_branch_timeout(value: &Value) -> bool {
+    value.as_u64().is_some_and(|n| 1 <= n && n <= MOST_TIMEOUT)
 }
 
 fn first_of_rules(plans: &[Value]) -> Option<Finding<'_>> {

@@ -2,14 +2,14 @@
 use crate::complaint::Complaint;
 use crate::finding::{Finding, Place};
 use crate::lines::push_finding;
-use crate::plan_fault::{branches_of, text_of};
+use crate::plan_fault::{branches_of, is_branch_timeout, text_of};
 use crate::spelling::meant_key;
 use serde_json::Value;
 use std::alloc::{AllocError, Global};
 
 const PLAN_KEYS: [&str; 4] = ["path", "limit", "timeout_ms", "branches"];
 
-const BRANCH_KEYS: [&str; 3] = ["name", "address", "path"];
+const BRANCH_KEYS: [&str; 4] = ["name", "address", "path", "timeout_ms"];
 
 const MOST_PORT: u64 = 65_535;
 
@@ -34,10 +34,10 @@ fn push_warnings_of_plan<'v>(
     plan: &'v Value,
 ) -> Result<(), AllocError> {
     push_key_warnings(alloc, lines, place, plan, &PLAN_KEYS)?;
-    if plan.get("timeout_ms").is_none() {
+    let branches = branches_of(plan);
+    if plan.get("timeout_ms").is_none() && !have_timeouts(branches) {
         push_warning(alloc, lines, &Finding::at(place, Complaint::NoTimeout))?;
     }
-    let branches = branches_of(plan);
     if is_above(plan.get("limit"), branches.len()) {
         let found = Finding::of(
             place,
@@ -51,8 +51,17 @@ fn push_warnings_of_plan<'v>(
         let place = place.branch(k + 1);
         push_key_warnings(alloc, lines, place, branch, &BRANCH_KEYS)?;
         push_address_warnings(alloc, lines, place, branch)?;
+        push_timeout_warning(alloc, lines, place, plan.get("timeout_ms"), branch)?;
     }
     Ok(())
+}
+
+/// Whether each branch, of which there is one at least, has a timeout.
+fn have_timeouts(branches: &[Value]) -> bool {
+    !branches.is_empty()
+        && branches
+            .iter()
+            .all(|branch| branch.get("timeout_ms").is_some())
 }
 
 /// Whether a limit lets more branches out than there are, of which there is one at least.
@@ -89,6 +98,32 @@ fn push_address_warnings<'v>(
         push_warning(alloc, lines, &found)?;
     }
     Ok(())
+}
+
+/// Adds a warning for a branch that expires no sooner than its call by the timeout of its plan.
+fn push_timeout_warning<'v>(
+    alloc: Global,
+    lines: &mut String,
+    place: Place<'v>,
+    of_plan: Option<&Value>,
+    branch: &'v Value,
+) -> Result<(), AllocError> {
+    let timeout = branch.get("timeout_ms");
+    if !is_late(timeout, of_plan) {
+        return Ok(());
+    }
+    let found = Finding::of(place, "timeout_ms", timeout, Complaint::LateTimeout);
+    push_warning(alloc, lines, &found)
+}
+
+/// Whether a branch's timeout is one, and not below its plan's.
+fn is_late(timeout: Option<&Value>, of_plan: Option<&Value>) -> bool {
+    match (timeout, of_plan.and_then(Value::as_u64)) {
+        (Some(timeout), Some(most)) => {
+            is_branch_timeout(timeout) && timeout.as_u64().is_some_and(|ms| ms >= most)
+        }
+        _ => false,
+    }
 }
 
 /// Whether the number at the end of an address is no port.

@@ -48,6 +48,9 @@ fn push_served_plan(lines: &mut String, number: usize, plan: &Plan) -> Result<()
         push_shown(lines, branch.address.as_str())?;
         lines.push_str(" ")?;
         push_shown(lines, branch.path.as_str())?;
+        if let Some(ms) = branch.timeout_ms {
+            push_ms(lines, ms)?;
+        }
         lines.push_str("\n")?;
     }
     Ok(())

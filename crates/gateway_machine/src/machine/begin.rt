@@ -1,6 +1,8 @@
-ghost use Rattle.std.specs.Prelude.{◌≡◌, ◌++◌, IfOk, [], map, length, nat_lt, option_to_list};
+ghost use Rattle.std.specs.Prelude.{◌≡◌, ◌≤◌, ◌^◌, ◌++◌, IfOk, [], map, length, nat_lt, option_to_list};
 ghost use Rattle.std.specs.List.{range_with_len};
 ghost use Rattle.std.specs.Arc.{arc_value};
+ghost use Rattle.std.specs.Vec.{vec_capacity};
+ghost use Rattle.gateway_model.specs.Past.{deadline_from};
 ghost use Rattle.gateway_machine.specs.KeptCall.{HasGone, IsBegun};
 
 use crate::machine::kept::Kept;
@@ -13,13 +15,15 @@ use std::alloc::{AllocError, Global};
 use std::collections::VecDeque;
 use std::sync::Arc;
 
-/// A call as it begins, and the branches that start at once: those below the plan's limit. The others wait.
+/// A call as it begins at this moment, and the branches that start at once: those below the plan's limit. The others wait.
 pub fn begin(
     alloc: Global,
     id: CallId,
     asked: ArrivedCall,
+    moment: u64,
 ) -> Result<(Kept, VecDeque<Task>), AllocError>
-    ensures { IfOk result (λ made. IsBegun id asked made.0 made.1.items) }
+    requires { moment ≤ 2 ^ 62 }
+    ensures { IfOk result (λ made. IsBegun moment id asked made.0 made.1.items) }
 {
     let plan = Arc::try_clone(&asked.plan)?;
     let asked = Arc::new(alloc, asked)?;
@@ -29,10 +33,12 @@ pub fn begin(
     let mut group = Group::new(alloc);
     let _ = group.set_limit(Some(plan.limit()));
     let first = give(alloc, &id, &asked, &mut group)?;
+    let deadlines = first_deadlines(alloc, &first, moment, count)?;
     let live = Some(Live {
         asked,
         plan,
         events,
+        deadlines,
     });
     Ok((
         Kept {
@@ -90,4 +96,23 @@ fn first_out(alloc: Global, count: usize, first: usize) -> Result<Vec<bool>, All
         out.push(index < first)?;
     }
     Ok(out)
+}
+
+/// The deadlines of the branches that start at this moment, with room for those of so many.
+fn first_deadlines(
+    alloc: Global,
+    first: &VecDeque<Task>,
+    moment: u64,
+    count: usize,
+) -> Result<Vec<Option<u64>>, AllocError>
+    requires { moment ≤ 2 ^ 62 }
+    ensures items { IfOk result (λ made. made.items ≡ map (λ t. deadline_from moment t.asked.plan t.branch) first.now.items) }
+    ensures room { IfOk result (λ made. count ≤ vec_capacity made) }
+{
+    let mut deadlines = Vec::new(alloc);
+    for index in 0..first.len() {
+        deadlines.push(first[index].deadline(moment))?;
+    }
+    deadlines.reserve(count)?;
+    Ok(deadlines)
 }

@@ -1,4 +1,4 @@
-ghost use Rattle.std.specs.Prelude.{[], ◌≡◌, ◌+◌, ◌<◌, ◌≤◌, ◌++◌, Some, None as Nothing, IfErr, IfOk, OnOk, OnErr, false, length, map};
+ghost use Rattle.std.specs.Prelude.{[], ◌≡◌, ◌+◌, ◌<◌, ◌≤◌, ◌++◌, ◌^◌, Some, None as Nothing, IfErr, IfOk, OnOk, OnErr, false, length, map};
 ghost use Rattle.std.specs.VecDeque.{deque_capacity};
 ghost use Rattle.gateway_model.specs.Arrival.{arrival_of};
 ghost use Rattle.gateway_theory.specs.Begins.{begins};
@@ -21,6 +21,7 @@ use crate::machine::begin::begin;
 use crate::machine::kept::Kept;
 use crate::machine::store::Machine;
 use crate::machine::task::Task;
+use crate::machine::times::start_first;
 use call_plan::Plans;
 use connect_codec::laws::timeout_law;
 use connect_codec::{Verdict, judge, target_path};
@@ -157,7 +158,7 @@ impl Machine {
         requires linked { contexts.old ≡ linked contexts.old self.now }
         ensures ok { IfOk result (λ arriving. ComesTo arriving (next_of (conn_at index self.now.conns)) self.now.moment
             (arriving_at index (Coming.Request request (arrival_of plans.now request)) self.now)) }
-        ensures contexts { IfOk result (λ arriving. ComesWith arriving (next_of (conn_at index self.now.conns)) contexts.old contexts.new) }
+        ensures contexts { IfOk result (λ arriving. ComesWith arriving (next_of (conn_at index self.now.conns)) self.now.moment contexts.old contexts.new) }
         ensures others { OnErr result (KeepsOthers (conn_at index self.now.conns).number contexts.old contexts.new) }
     {
         timeout_law();
@@ -206,7 +207,7 @@ impl Machine {
         requires fresh { is_life (next_of (conn_at index self.now.conns)) contexts.old.calls ≡ false }
         requires linked { contexts.old ≡ linked contexts.old self.now }
         ensures ok { IfOk result (λ arriving. ComesTo arriving (next_of (conn_at index self.now.conns)) self.now.moment (asking_at index asked self.now)) }
-        ensures contexts { IfOk result (λ arriving. ComesWith arriving (next_of (conn_at index self.now.conns)) contexts.old contexts.new) }
+        ensures contexts { IfOk result (λ arriving. ComesWith arriving (next_of (conn_at index self.now.conns)) self.now.moment contexts.old contexts.new) }
         ensures others { OnErr result (KeepsOthers (conn_at index self.now.conns).number contexts.old contexts.new) }
     {
         let conn = &self.conns[index];
@@ -221,7 +222,10 @@ impl Machine {
                 let reply = reply_to(alloc, contexts, id, asked.end(alloc, event)?)?;
                 Ok(Arriving::Answered(reply))
             }
-            None => Ok(Arriving::Begins(asked)),
+            None => {
+                start_first(contexts, &id, &asked, self.moment)?;
+                Ok(Arriving::Begins(asked))
+            }
         }
     }
 
@@ -260,7 +264,7 @@ impl Machine {
         ensures err { OnErr result (self.new ≡ self.old) }
     {
         let id = self.conns[index].next_id();
-        let (call, first) = begin(alloc, id, asked)?;
+        let (call, first) = begin(alloc, id, asked, self.moment)?;
         let room = waiting(&self.calls) + call.waiting() + first.len();
         self.calls.reserve(1)?;
         self.jobs.reserve(room)?;
@@ -285,7 +289,8 @@ fn waiting(calls: &Vec<Kept>) -> usize
 
 /// Queues the jobs of the branches that start as their call begins.
 fn start_all(jobs: &mut VecDeque<Job>, mut first: VecDeque<Task>, moment: u64)
-    requires { length jobs.old.items + length first.items ≤ deque_capacity jobs.old }
+    requires moment { moment ≤ 2 ^ 62 }
+    requires room { length jobs.old.items + length first.items ≤ deque_capacity jobs.old }
     ensures jobs_are { map (λ j. j.job) jobs.new.items ≡ map (λ j. j.job) jobs.old.items ++ map (job_at moment) first.items }
     ensures size { length jobs.new.items ≡ length jobs.old.items + length first.items }
     ensures room { deque_capacity jobs.new ≡ deque_capacity jobs.old }

@@ -1,18 +1,19 @@
-ghost use Rattle.std.specs.Prelude.{◌≡◌, ℕ, OnOk, OnErr, true, false, if◌then◌else◌, is_some, None as Nothing, Some, option_map, option_to_list, slice_set};
+ghost use Rattle.std.specs.Prelude.{◌≡◌, ◌≤◌, ◌^◌, ℕ, OnOk, OnErr, true, false, if◌then◌else◌, is_some, None as Nothing, Some, option_map, option_to_list, slice_set};
 ghost use Rattle.std.specs.List.{count_by, list_any};
 ghost use Rattle.gateway_replies.specs.Contexts.{KeepsOthers, is_life, without};
-ghost use Rattle.gateway_machine.specs.KeptCall.{IsStep};
+ghost use Rattle.gateway_machine.specs.KeptCall.{GoesOn, IsStep};
 ghost use Rattle.gateway_theory.specs.Ends.{unanswered, without_reply};
-ghost use Rattle.gateway_machine.specs.Linked.{ended_with, ends_with, event_for};
+ghost use Rattle.gateway_machine.specs.Linked.{ended_with, ends_with, event_for, passed_on};
 ghost use Rattle.gateway_theory.specs.Replies.{reply_with};
 ghost use Rattle.gateway_theory.specs.Results.{back_kept, is_spent};
 ghost use Rattle.gateway_model.specs.Past.{is_call};
 ghost use Rattle.gateway_theory.specs.Store.{given_up_if, waiting_in};
 ghost use Rattle.gateway_model.specs.declared.seen.Seen.{Seen};
-ghost use Rattle.gateway_theory.specs.Step.{has_out, next_out, result_on};
+ghost use Rattle.gateway_theory.specs.Step.{Live as Going, has_out, next_out, result_on};
 
 use crate::machine::live::Live;
 use crate::machine::task::Task;
+use crate::machine::times::start_branch;
 use connect_codec::Outcome;
 use err_group::Group;
 use gateway_model::{CallEvent, CallId, CallRecord, Seen};
@@ -110,10 +111,47 @@ impl Kept {
         }
     }
 
-    /// A result of a branch that is out. It needs no memory.
-    pub(crate) fn take_result(&mut self, branch: u32, outcome: Outcome) -> Taken
-        requires { has_out self.old.call branch ≡ true }
-        ensures { (moment : ℕ) → IsStep moment self.old self.new result.decided result.next (result_on moment branch outcome (slice_set self.old.call.out branch false) self.old.call.live) }
+    /// The contexts of its branches, as a result of this one comes at this moment: where an answer leaves others open, the next
+    /// branch gets its own, if it has a time, and then that of the one which answered goes. At a refusal nothing changes.
+    pub(crate) fn pass_on<H: ReplyHook + Drop>(
+        &self,
+        contexts: &mut Contexts<H>,
+        branch: u32,
+        outcome: &Outcome,
+        moment: u64,
+    ) -> Result<(), AllocError>
+        requires known { is_some self.now.call.live ≡ true → is_life self.now.id contexts.old.calls ≡ true }
+        requires moment { moment ≤ 2 ^ 62 }
+        ensures ok { OnOk result (contexts.new ≡ passed_on moment branch outcome.now self.now contexts.old) }
+        ensures err { OnErr result (contexts.new ≡ contexts.old) }
+        ensures live { OnErr result (is_some self.now.call.live ≡ true) }
+    {
+        match (&self.live, outcome) {
+            (Some(live), Outcome::Answer(_)) => {
+                if live.is_last_answer() {
+                    return Ok(());
+                }
+                let (next, deadline) = live.next(moment);
+                start_branch(contexts, &self.id, next, deadline, moment)?;
+                contexts.finish(&self.id, branch);
+                Ok(())
+            }
+            (Some(_), Outcome::Fail(_)) | (None, _) => Ok(()),
+        }
+    }
+
+    /// While it can be decided, its branches that have not started wait in declared order, and are not out. It does nothing.
+    pub(crate) fn going_law(&self)
+        ensures { (l : Going) → self.now.call.live ≡ Some l → GoesOn self.now.id self.now.call.out l }
+    {
+        let _ = &self.live;
+    }
+
+    /// A result of a branch that is out, at this moment. It needs no memory.
+    pub(crate) fn take_result(&mut self, branch: u32, outcome: Outcome, moment: u64) -> Taken
+        requires out { has_out self.old.call branch ≡ true }
+        requires moment { moment ≤ 2 ^ 62 }
+        ensures { IsStep moment self.old self.new result.decided result.next (result_on moment branch outcome (slice_set self.old.call.out branch false) self.old.call.live) }
     {
         let live = self.live.take();
         self.out[branch as usize] = false;
@@ -132,6 +170,7 @@ impl Kept {
             }
             (Some(mut live), Outcome::Answer(body)) => {
                 let next = self.group.done(Ok(())).next;
+                live.start(&next, moment);
                 let answer = CallEvent::Answer(branch, body);
                 if live.is_last_answer() {
                     return Taken {

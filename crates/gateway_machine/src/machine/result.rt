@@ -1,12 +1,13 @@
-ghost use Rattle.std.specs.Prelude.{◌≡◌, ◌+◌, ◌<◌, ◌≤◌, ◌++◌, ℕ, None as Nothing, false, true, if◌then◌else◌, filter, length, map, not, option_to_list};
+ghost use Rattle.std.specs.Prelude.{◌≡◌, ◌+◌, ◌<◌, ◌≤◌, ◌++◌, ◌^◌, ℕ, None as Nothing, false, true, if◌then◌else◌, filter, length, map, not, option_to_list};
 ghost use Rattle.gateway_model.specs.Past.{is_call};
 ghost use Rattle.std.specs.VecDeque.{deque_capacity};
 ghost use Rattle.gateway_theory.specs.Ends.{AreApart};
 ghost use Rattle.gateway_theory.specs.Task.{job_at};
+ghost use Rattle.gateway_machine.specs.Ended.{BranchEnds};
 ghost use Rattle.gateway_machine.specs.Linked.{IsLinkedWith, linked, linked_by, none_over};
 ghost use Rattle.gateway_replies.specs.Contexts.{Ended, ends_of};
 ghost use Rattle.gateway_theory.specs.Orderly.{IsOrderly};
-ghost use Rattle.gateway_theory.specs.Results.{back_at, DecidedBy, Forgets, NoneSpent, ResultTaken, Starved};
+ghost use Rattle.gateway_theory.specs.Results.{back_at, DecidedBy, Forgets, NoneSpent, Starved};
 ghost use Rattle.gateway_theory.specs.Step.{has_out};
 ghost use Rattle.gateway_theory.specs.Store.{MachineValue, broken_at, kept_at};
 ghost use Rattle.gateway_model.specs.declared.seen.Seen.{Seen};
@@ -23,7 +24,8 @@ use std::alloc::{AllocError, Global};
 use std::collections::VecDeque;
 
 impl Machine {
-    /// A branch of a call ends with that outcome.
+    /// A branch of a call ends with that outcome. Where memory is refused to the context of the branch that starts next, its
+    /// connection breaks.
     fn result<H: ReplyHook + Drop>(
         &mut self,
         alloc: Global,
@@ -33,7 +35,7 @@ impl Machine {
         outcome: Outcome,
     ) -> Took
         requires { contexts.old ≡ linked contexts.old self.old }
-        ensures taken { ResultTaken id.now branch outcome self.old self.new result }
+        ensures taken { BranchEnds id.now branch outcome self.old self.new result }
         ensures linked { contexts.new ≡ linked contexts.old self.new }
     {
         let Some(index) = self.find(id) else {
@@ -43,8 +45,15 @@ impl Machine {
             return Took::unknown();
         }
         contexts.apart_law();
+        self.calls[index].going_law();
+        if self.calls[index]
+            .pass_on(contexts, branch, &outcome, self.moment)
+            .is_err()
+        {
+            return self.come_back(contexts, id, branch);
+        }
         let seen = self.calls[index].seen();
-        let taken = self.calls[index].take_result(branch, outcome);
+        let taken = self.calls[index].take_result(branch, outcome, self.moment);
         start(&mut self.jobs, taken.next, self.moment);
         let broke = self.decide(alloc, contexts, id, taken.decided);
         Took { seen, broke }
@@ -61,7 +70,7 @@ impl Machine {
     ) -> Took
         requires linked { contexts.old ≡ linked contexts.old self.old }
         requires orderly { IsOrderly self.old }
-        ensures taken { (between : MachineValue) × ResultTaken id.now branch outcome self.old between result × Forgets id.now between self.new }
+        ensures taken { (between : MachineValue) × BranchEnds id.now branch outcome self.old between result × Forgets id.now between self.new }
         ensures unknown { result.seen ≡ Seen.Unknown → self.new ≡ self.old }
         ensures none_spent { (result.seen ≡ Seen.Unknown → ⊥) → NoneSpent id.now self.new.calls }
         ensures linked { contexts.new ≡ linked contexts.old self.new }
@@ -208,7 +217,8 @@ fn forget_in(calls: &mut Vec<Kept>, id: &CallId)
 
 /// Queues the job of the branch that starts, whose room was made as its call began.
 fn start(jobs: &mut VecDeque<Job>, next: Option<Task>, moment: u64)
-    requires { length jobs.old.items + length (option_to_list next) ≤ deque_capacity jobs.old }
+    requires moment { moment ≤ 2 ^ 62 }
+    requires room { length jobs.old.items + length (option_to_list next) ≤ deque_capacity jobs.old }
     ensures jobs_are { map (λ j. j.job) jobs.new.items ≡ map (λ j. j.job) jobs.old.items ++ map (job_at moment) (option_to_list next) }
     ensures size { length jobs.new.items ≡ length jobs.old.items + length (option_to_list next) }
     ensures room { deque_capacity jobs.new ≡ deque_capacity jobs.old }

@@ -1,8 +1,9 @@
-ghost use Rattle.std.specs.Prelude.{◌≡◌};
+ghost use Rattle.std.specs.Prelude.{◌≡◌, ◌≤◌, ◌^◌};
 ghost use Rattle.std.specs.Arc.{arc_value};
-ghost use Rattle.gateway_model.specs.Job.{left_at};
+ghost use Rattle.gateway_model.specs.Past.{deadline_from};
 ghost use Rattle.gateway_theory.specs.Task.{task_of};
 
+use crate::machine::times::deadline_of;
 use gateway_model::CallId;
 use gateway_replies::ArrivedCall;
 use std::marker::Model;
@@ -26,4 +27,14 @@ impl Model for Task {
     ghost view = { λ t. task_of t.call (arc_value t.asked) t.branch };
 
     ghost invariant = { λ t. t.branch < length (arc_value t.asked).plan.branches };
+}
+
+impl Task {
+    /// The deadline of its own that the branch has, if it starts at this moment.
+    pub(crate) fn deadline(&self, moment: u64) -> Option<u64>
+        requires { moment ≤ 2 ^ 62 }
+        ensures { result ≡ deadline_from moment self.now.asked.plan self.now.branch }
+    {
+        deadline_of(&self.asked.plan, self.branch as usize, moment)
+    }
 }

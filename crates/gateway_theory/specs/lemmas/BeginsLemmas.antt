@@ -13,8 +13,8 @@ use Rattle.gateway_model.specs.Arrival.{Judged, Asks}
 use Rattle.gateway_model.specs.Job.{job_of}
 use Rattle.gateway_model.specs.Occurrence.{Occurrence, Comes, Coming, Request, Refused}
 use Rattle.gateway_model.specs.declared.call_event.CallEvent.{CallEvent}
-use Rattle.gateway_model.specs.declared.call_event.CallEvent.TheVariants.{Answer as Answered, Failed, Expired, HungUp, Drained}
-use Rattle.gateway_model.specs.Past.{Mark, Past, ArrivedCall, call, arrivals, coming_now, asked_now, asked_by, began, answers, started, is_out, is_closed, is_drained, own_event, ends_at_arrival, decides, decided, is_due, now, crowds, mark_of, marked, branches}
+use Rattle.gateway_model.specs.declared.call_event.CallEvent.TheVariants.{Answer as Answered, Failed, Expired, BranchExpired, HungUp, Drained}
+use Rattle.gateway_model.specs.Past.{Mark, Past, ArrivedCall, call, arrivals, coming_now, asked_now, asked_by, began, answers, started, is_out, is_closed, is_drained, own_event, ends_at_arrival, decides, decided, branch_deadline, branch_deadlines, is_due, now, crowds, mark_of, marked, branches}
 use Rattle.gateway_model.specs.declared.entry.ReplyEntry.{ReplyEntry}
 use Rattle.gateway_model.specs.declared.entry.ReplyEntry.TheVariants.{Refused as Refusing, Judged as Judging, Crowded as Crowding}
 use Rattle.gateway_model.specs.Queue.{came, own_events, entry_by, entry, call_entry}
@@ -23,7 +23,8 @@ use Rattle.gateway_theory.specs.lemmas.LimitLemmas.{out_started, unanswered, unb
 use Rattle.gateway_theory.specs.lemmas.Unborn.{Unborn, unborn}
 use Rattle.gateway_theory.specs.Step.{call_state, gone, step_to, ended, entry_with}
 use Rattle.gateway_theory.specs.LiveStands.{is_live, tasks_from, Stepped}
-use Rattle.gateway_theory.specs.lemmas.StepLemmas.{call_entry_is, decided_shut, started_live}
+use Rattle.gateway_theory.specs.lemmas.Deadlines.{deadlines_first, deadlines_of}
+use Rattle.gateway_theory.specs.lemmas.StepLemmas.{deadlines_now, call_entry_is, decided_shut, started_live}
 use Rattle.gateway_theory.specs.Begins.{new_live, begun_live, first_ones, first_jobs, first_out, begins, arrive}
 
 abbrev pub comes : CallId → Coming → Past → Mark
@@ -132,13 +133,20 @@ over id x os a e n asks ends dec by_call =
     let events : own_events id (m ∷ past) ≡ e ∷ [] = rw ((nothing id os n).undecided, own, (nothing id os n).no_events) refl in
     begins_none id x os (entry_with e (new_live id a)) n (began_then id x os (Some a) n asks ∙ rw ends refl) (decided_shut id (m ∷ past) e decided_is)
     (ap (λ o. option_and_then (entry_by id (m ∷ past)) o) (came_then id x os n) ∙ by_call
-    ∙ call_entry_is id (m ∷ past) a (e ∷ []) e decided_is (call_then id x os (Some a) n asks) events)
+    ∙ call_entry_is id (m ∷ past) a [] (e ∷ []) e decided_is (call_then id x os (Some a) n asks) (deadlines_now id m past (nothing id os n).undecided ∙ no_deadlines) events)
+  where
+    no_deadlines : branch_deadlines id (comes id x (marked os) ∷ marked os) ≡ []
+    no_deadlines =
+        let none : started id (comes id x (marked os) ∷ marked os) ≡ 0 =
+        unbegun id (comes id x (marked os) ∷ marked os) (began_then id x os (Some a) n asks ∙ rw ends refl) in
+        deadlines_of id a (comes id x (marked os) ∷ marked os) (call_then id x os (Some a) n asks)
+        ∙ ap (λ k. map (branch_deadline id a.plan (comes id x (marked os) ∷ marked os)) (range_with_len 0 k)) none
 
 -- a call that begins
 begun : (id : CallId) (x : Coming) (os : List Occurrence) (a : ArrivedCall) → IsNext id os → Asks_now id x (marked os) (Some a)
     → ends_at_arrival (marked os) a ≡ None
     → entry_by id (comes id x (marked os) ∷ marked os) (x, crowds (Comes id.conn x) (marked os)) ≡ call_entry id (comes id x (marked os) ∷ marked os)
-    → Stepped id (step_to (call_state (first_out a) (Some (begun_live id a))) None (first_jobs (now (marked os)) id a)) (comes id x (marked os)) (marked os)
+    → Stepped id (step_to (call_state (first_out a) (Some (begun_live (now (marked os)) id a))) None (first_jobs (now (marked os)) id a)) (comes id x (marked os)) (marked os)
 begun id x os a n asks goes by_call =
     let m : Mark = comes id x (marked os) in
     let past : Past = marked os in
@@ -161,6 +169,7 @@ begun id x os a n asks goes by_call =
           size_is = length-map-range_with_len (λ i. nat_lt i (first_ones a)) 0 (length a.plan.branches);
           events_are = sym events;
           answers_are = sym (no_answers id x os n);
+          deadlines_are = sym (deadlines_first id a m past (first_ones a) call_is none_yet now_started);
           waiting_are = ap (λ k. tasks_from k id a) (sym now_started);
         };
       };
@@ -195,6 +204,7 @@ ends_decide past a e k n h = by_each (is_drained past) (is_due (now past) a.dead
   where
     by_each : (d b : Bool) (e : CallEvent) → (if d then Some Drained else (if b then Some (Expired (now past)) else None)) ≡ Some e → decides k n e ≡ true
     by_each d b (Expired t) h = refl
+    by_each d b (BranchExpired i t) h = refl
     by_each d b HungUp h = refl
     by_each d b Drained h = refl
     by_each d b (Failed i error) h = refl

@@ -10,7 +10,7 @@ use Rattle.gateway_model.specs.declared.call_event.CallEvent.{CallEvent}
 use Rattle.gateway_model.specs.declared.id.CallId.{CallId}
 use Rattle.gateway_theory.specs.declared.cause.Cause.{Cause}
 use Rattle.gateway_model.specs.Past.{call_id, is_call}
-use Rattle.gateway_theory.specs.Step.{CallState, Live, call_state, ended_by}
+use Rattle.gateway_theory.specs.Step.{deadlines_in, CallState, Live, call_state, ended_by}
 use Rattle.gateway_theory.specs.Machine.{slot_at}
 use Rattle.gateway_theory.specs.Kept.{KeptValue}
 use Rattle.gateway_theory.specs.Conn.{ConnValue, fill_at, filled}
@@ -29,7 +29,7 @@ out_ended (Some e) l out = refl
 
 pub out_same : (cause : Cause) (id : CallId) (out : List Bool) (live : Option Live) → (ended_if cause id out live).call.out ≡ out
 out_same cause id out None = refl
-out_same cause id out (Some l) = out_ended (caused cause id l.asked) l out
+out_same cause id out (Some l) = out_ended (caused cause id l.asked (deadlines_in out l.deadlines)) l out
 
 given_ended : (cause : Cause) (k : KeptValue) → given_up (ended_kept cause k) ≡ given_up k
 given_ended cause k = ap (λ o. record { id = k.id; call = call_state o None; reply = None }) (out_same cause k.id k.call.out k.call.live)

@@ -7,7 +7,7 @@ use Rattle.std.proofs.lemmas.Bool.{cases_Bool, cases_eq, cond_both, and_parts}
 use Rattle.std.proofs.lemmas.List.{take_all}
 use Rattle.gateway_model.specs.declared.entry.ReplyEntry.{ReplyEntry}
 use Rattle.gateway_model.specs.declared.call_event.CallEvent.{CallEvent}
-use Rattle.gateway_model.specs.declared.call_event.CallEvent.TheVariants.{Answer as Answered, Failed, Expired, HungUp, Drained}
+use Rattle.gateway_model.specs.declared.call_event.CallEvent.TheVariants.{Answer as Answered, Failed, Expired, BranchExpired, HungUp, Drained}
 use Rattle.gateway_model.specs.declared.id.CallId.{CallId}
 use Rattle.gateway_model.specs.CallRecord.{CallRecord, last_event}
 use Rattle.gateway_theory.specs.Conn.{ConnValue}
@@ -19,7 +19,7 @@ use Rattle.gateway_model.specs.Job.{JobValue}
 use Rattle.gateway_theory.specs.LiveStands.{LiveStands, MayLive}
 use Rattle.gateway_model.specs.Occurrence.{Occurrence}
 use Rattle.gateway_model.specs.Past.{ArrivedCall, Past, began, branches, call, can_be_decided, count_below, decided, decides, is_closed, is_out, mark_of, marked, outs, started}
-use Rattle.gateway_model.specs.Queue.{own_events, record_of}
+use Rattle.gateway_model.specs.Queue.{own_events, record_deadlines, record_of}
 use Rattle.gateway_model.specs.Record.{answers_among, is_decided, is_ending, is_lawful}
 use Rattle.gateway_theory.specs.Served.{Served}
 use Rattle.gateway_model.specs.Starts.{Placed, occurrences}
@@ -147,6 +147,7 @@ goes_behind r before e on = rw (last_is before e) (by_event e on)
     by_event (Answered i body) on = rw (among_more before (Answered i body)) (by_not _ on)
     by_event (Failed i error) on = absurd (cc)
     by_event (Expired t) on = absurd (cc)
+    by_event (BranchExpired i t) on = absurd (cc)
     by_event HungUp on = absurd (cc)
     by_event Drained on = absurd (cc)
 
@@ -158,12 +159,13 @@ ends_never r before (e ∷ es) on so_far =
 
 -- so it is of any call that can be decided
 pub record_lawful : (id : CallId) (a : ArrivedCall) (os : List Occurrence) → call id (marked os) ≡ Some a → can_be_decided id (marked os) ≡ true
-    → (is_lawful (record_of a (own_events id (marked os))) ≡ true) × (is_decided (record_of a (own_events id (marked os))) ≡ false)
+    → (is_lawful (record_of a (record_deadlines id (marked os)) (own_events id (marked os))) ≡ true)
+    × (is_decided (record_of a (record_deadlines id (marked os)) (own_events id (marked os))) ≡ false)
 record_lawful id a os a_is on =
     let parts = and_parts (is_none (decided id (marked os))) (not (is_closed id.conn (marked os))) on in
     let going : Going id a (marked os) = (lawful id os a a_is).going (undecided (decided id (marked os)) parts.0) (unclosed (is_closed id.conn (marked os)) parts.1) in (
-      rw (same_follow a (own_events id (marked os)) [] (own_events id (marked os)) ∙ going.follow, going.early) refl,
-      ends_never (record_of a []) [] (own_events id (marked os)) going.on refl,
+      rw (same_follow a (record_deadlines id (marked os)) (own_events id (marked os)) [] (own_events id (marked os)) ∙ going.follow (record_deadlines id (marked os)), going.early) refl,
+      ends_never (record_of a [] []) [] (own_events id (marked os)) (going.on []) refl,
     )
   where
     undecided : (d : Option CallEvent) → is_none d ≡ true → d ≡ None
@@ -176,7 +178,7 @@ record_lawful id a os a_is on =
 
 pub record_kept : (id : CallId) (k : ConnValue) (l : Live) (v : GatewayValue) (opened : List ℕ) (es : Before) (taken : ℕ → List ReplyEntry) (handed : List JobValue)
     (occurred : List Placed) → Served v opened es taken handed → Occurs v.plans opened es occurred → conn_of id.conn v.machine.conns ≡ Some k → k.broken ≡ false
-    → (call_at id v.machine.calls).live ≡ Some l → (is_lawful (record_of l.asked l.events) ≡ true) × (is_decided (record_of l.asked l.events) ≡ false)
+    → (call_at id v.machine.calls).live ≡ Some l → (is_lawful (record_of l.asked l.deadlines l.events) ≡ true) × (is_decided (record_of l.asked l.deadlines l.events) ≡ false)
 record_kept id k l v opened es taken handed occurred h o k_is on l_is = by_fate (stands.fates id.conn) (sym (stands.fates_are id.conn k k_is) ∙ on) (stands.fated.calls_stand id)
   where
     os : List Occurrence
@@ -188,14 +190,14 @@ record_kept id k l v opened es taken handed occurred h o k_is on l_is = by_fate 
     stands : GatewayStands v (λ d. stream opened d es) taken handed os
     stands = h.stands occurred o
 
-    by_live : LiveStands id l c.out (marked os) → (is_lawful (record_of l.asked l.events) ≡ true) × (is_decided (record_of l.asked l.events) ≡ false)
+    by_live : LiveStands id l c.out (marked os) → (is_lawful (record_of l.asked l.deadlines l.events) ≡ true) × (is_decided (record_of l.asked l.deadlines l.events) ≡ false)
     by_live s =
         let going : Going id l.asked (marked os) = (lawful id os l.asked s.call_is).going s.undecided s.unclosed in
         rw s.events_are (
-          rw (same_follow l.asked (own_events id (marked os)) [] (own_events id (marked os)) ∙ going.follow, going.early) refl,
-          ends_never (record_of l.asked []) [] (own_events id (marked os)) going.on refl,
+          rw (same_follow l.asked l.deadlines (own_events id (marked os)) [] (own_events id (marked os)) ∙ going.follow l.deadlines, going.early) refl,
+          ends_never (record_of l.asked [] []) [] (own_events id (marked os)) (going.on []) refl,
         )
 
-    by_fate : (f : Fate) → is_broken f ≡ false → CallFated id c f os → (is_lawful (record_of l.asked l.events) ≡ true) × (is_decided (record_of l.asked l.events) ≡ false)
+    by_fate : (f : Fate) → is_broken f ≡ false → CallFated id c f os → (is_lawful (record_of l.asked l.deadlines l.events) ≡ true) × (is_decided (record_of l.asked l.deadlines l.events) ≡ false)
     by_fate Unbroken unbroken is = by_live (subst (λ x. MayLive id x c.out (marked os)) l_is is.live_is)
     by_fate (BrokenAt since at older) unbroken is = absurd (cc)

@@ -14,7 +14,7 @@ use Rattle.gateway_model.specs.declared.call_event.CallEvent.{CallEvent}
 use Rattle.gateway_model.specs.Past.{Mark, Past, ArrivedCall, call, call_id, decided, arrivals, coming_on}
 use Rattle.gateway_model.specs.declared.entry.ReplyEntry.{ReplyEntry}
 use Rattle.gateway_model.specs.declared.entry.ReplyEntry.TheVariants.{Call as Calling}
-use Rattle.gateway_model.specs.Queue.{came, own_events, record_of, call_entry, entry_by, entry, front, queued_entries, replies, queued, answer_of, IsPrefixOf}
+use Rattle.gateway_model.specs.Queue.{came, own_events, record_deadlines, record_of, call_entry, entry_by, entry, front, queued_entries, replies, queued, answer_of, IsPrefixOf}
 
 pub call_stays : (id : CallId) (m : Mark) (past : Past) (c : ArrivedCall) → call id past ≡ Some c → call id (m ∷ past) ≡ Some c
 call_stays id m past c e = rw e refl
@@ -25,7 +25,7 @@ decided_stays id m past e d = rw d refl
 
 call_entry_of : (id : CallId) (m : Mark) (past : Past) (x : ReplyEntry) (d : Option CallEvent) (c : Option ArrivedCall)
     → decided id past ≡ d → call id past ≡ c
-    → (if is_some d then option_map (λ a. Calling (record_of a (own_events id past))) c else None) ≡ Some x
+    → (if is_some d then option_map (λ a. Calling (record_of a (record_deadlines id past) (own_events id past))) c else None) ≡ Some x
     → call_entry id (m ∷ past) ≡ Some x
 call_entry_of id m past x None c d_is c_is e = absurd (cc)
 call_entry_of id m past x (Some d) None d_is c_is e = absurd (cc)

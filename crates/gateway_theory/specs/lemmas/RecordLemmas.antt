@@ -1,23 +1,26 @@
 -- The record of a decided call is lawful, and decided.
 use Rattle.std.proofs.Common.{◌≡◌, ℕ, suc, ◌+◌, ◌≤◌, ◌<◌, min, Bool, true, false, List, [], ◌∷◌, ◌++◌, length, Option, None, Some, refl, sym, ap, ◌∙◌, subst, arith, append_assoc, append-nil, ⊎_elim}
-use Rattle.std.specs.Prelude.{is_some, is_none, ◌&&◌, ◌||◌, not, ◌==◌, nat_lt, if◌then◌else◌, option_and_then, option_map}
+use Rattle.std.specs.Prelude.{is_some, is_none, ◌&&◌, ◌||◌, not, ◌==◌, nat_lt, if◌then◌else◌, option_and_then, option_map, slice_index_or}
 use Rattle.std.specs.Option.{option_or, option_map_or}
 use Rattle.std.proofs.lemmas.Bool.{cases_Bool, and_parts, lt-ltb, le-ltb, eq-eqb, ne_eqb, ltb-false}
 use Rattle.connect_codec.specs.declared.answer.Outcome.{Outcome}
 use Rattle.connect_codec.specs.declared.answer.Outcome.TheVariants.{Answer, Fail}
 use Rattle.gateway_model.specs.declared.entry.ReplyEntry.TheVariants.{Call as Calling}
 use Rattle.gateway_model.specs.declared.call_event.CallEvent.{CallEvent}
-use Rattle.gateway_model.specs.declared.call_event.CallEvent.TheVariants.{Answer as Answered, Failed, Expired, HungUp, Drained}
+use Rattle.gateway_model.specs.declared.call_event.CallEvent.TheVariants.{Answer as Answered, Failed, Expired, BranchExpired, HungUp, Drained}
 use Rattle.gateway_model.specs.declared.id.CallId.{CallId}
 use Rattle.gateway_model.specs.Arrival.{Judged, Asks}
 use Rattle.gateway_model.specs.CallRecord.{CallRecord, answer_in, answer_of_branch}
 use Rattle.gateway_model.specs.Occurrence.{Occurrence, Opening, Comes, HangUp, Moment, Result, Drain, Closing, Coming, Request, Refused}
-use Rattle.gateway_model.specs.Past.{Mark, Past, ArrivedCall, call, answers, asked_by, asked_now, began, branches, counts, decided, decides, ends_at_arrival, coming_now, event_by, is_answer_to, is_call, is_closed, is_due, is_drained, can_be_decided, is_out, is_result_of, mark_of, marked, now, own_event, started}
-use Rattle.gateway_model.specs.Queue.{came, call_entry, entry, entry_by, own_events, record_of}
+use Rattle.gateway_model.specs.Past.{Mark, Past, ArrivedCall, call, answers, asked_by, asked_now, began, branches, counts, decided, decides, ends_at_arrival, coming_now, event_by, is_answer_to, is_call, is_closed, is_due, is_drained, branch_deadlines, can_be_decided, deadlines_out, is_out, is_result_of, mark_of, marked, now, own_event, started}
+use Rattle.gateway_model.specs.Queue.{came, call_entry, entry, entry_by, own_events, record_deadlines, record_of}
 use Rattle.gateway_model.specs.Record.{answers_among, started_after, is_out_after, may_come, may_follow, is_last, ends_at_start, is_lawful, is_ending, is_decided}
 use Rattle.gateway_theory.specs.lemmas.LimitLemmas.{out_started, same_call, started_grows, unanswered, unanswered_next}
 use Rattle.gateway_theory.specs.lemmas.PastLemmas.{call_stays}
-use Rattle.gateway_theory.specs.lemmas.StepLemmas.{entering_at, started_live}
+use Rattle.gateway_theory.specs.lemmas.Deadlines.{deadlines_same, expires, reached_out}
+use Rattle.gateway_theory.specs.lemmas.Frame.{Past_it, call_same, started_same}
+use Rattle.gateway_theory.specs.lemmas.MachineLemmas.{no_entering}
+use Rattle.gateway_theory.specs.lemmas.StepLemmas.{deadlines_now, entering_at, started_live}
 use Rattle.gateway_theory.specs.lemmas.StandsLemmas.{last_is}
 use Rattle.gateway_theory.specs.lemmas.Unborn.{Unborn, unborn}
 use Rattle.gateway_theory.specs.lemmas.Cases.{and_false, or_true}
@@ -61,22 +64,25 @@ on_more r before (x ∷ es) e g d =
     (subst (λ xs. decides (answers_among xs) (length r.plan.branches) e ≡ false) (sym (append_assoc before (x ∷ []) es)) d))
 
 -- the events of a record are not looked at for what may follow
-pub same_follow : (a : ArrivedCall) (events before es : List CallEvent) → may_follow (record_of a events) before es ≡ may_follow (record_of a []) before es
-same_follow a events before [] = refl
-same_follow a events before (Answered i body ∷ es) =
-    ap (λ b. (is_out_after (record_of a []) before i) && (is_last es || not (answers_among before + 1 == length a.plan.branches)) && b) (same_follow a events (before ++ Answered i body ∷ []) es)
-same_follow a events before (Failed i error ∷ es) =
-    ap (λ b. (is_out_after (record_of a []) before i) && (is_last es || not true) && b) (same_follow a events (before ++ Failed i error ∷ []) es)
-same_follow a events before (Expired t ∷ es) =
-    ap (λ b. (is_due t a.deadline) && (is_last es || not true) && b) (same_follow a events (before ++ Expired t ∷ []) es)
-same_follow a events before (HungUp ∷ es) = ap (λ b. true && (is_last es || not true) && b) (same_follow a events (before ++ HungUp ∷ []) es)
-same_follow a events before (Drained ∷ es) = ap (λ b. true && (is_last es || not true) && b) (same_follow a events (before ++ Drained ∷ []) es)
+pub same_follow : (a : ArrivedCall) (ds : List (Option ℕ)) (events before es : List CallEvent) → may_follow (record_of a ds events) before es ≡ may_follow (record_of a ds []) before es
+same_follow a ds events before [] = refl
+same_follow a ds events before (Answered i body ∷ es) =
+    ap (λ b. (is_out_after (record_of a ds []) before i) && (is_last es || not (answers_among before + 1 == length a.plan.branches)) && b) (same_follow a ds events (before ++ Answered i body ∷ []) es)
+same_follow a ds events before (Failed i error ∷ es) =
+    ap (λ b. (is_out_after (record_of a ds []) before i) && (is_last es || not true) && b) (same_follow a ds events (before ++ Failed i error ∷ []) es)
+same_follow a ds events before (Expired t ∷ es) =
+    ap (λ b. (is_due t a.deadline) && (is_last es || not true) && b) (same_follow a ds events (before ++ Expired t ∷ []) es)
+same_follow a ds events before (BranchExpired i t ∷ es) =
+    ap (λ b. (is_out_after (record_of a ds []) before i && is_due t (slice_index_or ds i None)) && (is_last es || not true) && b) (same_follow a ds events (before ++ BranchExpired i t ∷ []) es)
+same_follow a ds events before (HungUp ∷ es) = ap (λ b. true && (is_last es || not true) && b) (same_follow a ds events (before ++ HungUp ∷ []) es)
+same_follow a ds events before (Drained ∷ es) = ap (λ b. true && (is_last es || not true) && b) (same_follow a ds events (before ++ Drained ∷ []) es)
 
 pub among_more : (es : List CallEvent) (e : CallEvent) → answers_among (es ++ e ∷ []) ≡ answers_among es + answers_among (e ∷ [])
 among_more [] e = omega arith
 among_more (Answered i body ∷ es) e = omega (arith, among_more es e)
 among_more (Failed i error ∷ es) e = among_more es e
 among_more (Expired t ∷ es) e = among_more es e
+among_more (BranchExpired i t ∷ es) e = among_more es e
 among_more (HungUp ∷ es) e = among_more es e
 among_more (Drained ∷ es) e = among_more es e
 
@@ -101,23 +107,23 @@ other_answer k i body ne = rw (ne_eqb i k ne) refl
 
 -- ---- a call that goes on
 
-abbrev blank : ArrivedCall → CallRecord
-blank a = record_of a []
+abbrev blank : ArrivedCall → List (Option ℕ) → CallRecord
+blank a ds = record_of a ds []
 
--- the events so far of a call that can be decided
+-- the events so far of a call that can be decided: all of them answers, so whatever deadlines its branches have
 pub record Going (id : CallId) (a : ArrivedCall) (past : Past) : Type 0 where
   pub early : is_due a.start a.deadline ≡ false
-  pub follow : may_follow (blank a) [] (own_events id past) ≡ true
-  pub on : goes_on (blank a) [] (own_events id past) ≡ true
+  pub follow : (ds : List (Option ℕ)) → may_follow (blank a ds) [] (own_events id past) ≡ true
+  pub on : (ds : List (Option ℕ)) → goes_on (blank a ds) [] (own_events id past) ≡ true
   pub counted : answers_among (own_events id past) ≡ answers id past
   pub outs : (i : ℕ) → is_out id i past ≡ true → is_none (answer_of_branch i (own_events id past)) ≡ true
   pub below : (i : ℕ) → nat_lt i (started id past) ≡ false → is_none (answer_of_branch i (own_events id past)) ≡ true
 
 -- the events of a call that is decided
 pub record Done (id : CallId) (a : ArrivedCall) (past : Past) : Type 0 where
-  pub follow : may_follow (blank a) [] (own_events id past) ≡ true
+  pub follow : may_follow (blank a (record_deadlines id past)) [] (own_events id past) ≡ true
   pub start : (not (is_due a.start a.deadline) || ends_at_start (own_events id past)) ≡ true
-  pub ending : is_decided (record_of a (own_events id past)) ≡ true
+  pub ending : is_decided (record_of a (record_deadlines id past) (own_events id past)) ≡ true
 
 pub record Lawful (id : CallId) (a : ArrivedCall) (past : Past) : Type 0 where
   pub going : decided id past ≡ None → is_closed id.conn past ≡ false → Going id a past
@@ -152,12 +158,12 @@ began_out id i past out =
 
 -- a branch that is out is so by the record
 out_of_record : (id : CallId) (a : ArrivedCall) (m : Mark) (past : Past) (i : ℕ) → Open id a m past → is_out id i past ≡ true
-    → is_out_after (blank a) (own_events id past) i ≡ true
+    → is_out_after (blank a []) (own_events id past) i ≡ true
 out_of_record id a m past i h out =
     let lt : i < started id past = out_started id i past out in
     let is : started id past ≡ min (length a.plan.branches) (a.plan.limit + answers id past) = started_live id a past h.call_is (began_out id i past out) in
-    and_both (nat_lt i (started_after (blank a) (own_events id past))) (is_none (answer_of_branch i (own_events id past)))
-    (lt-ltb i (started_after (blank a) (own_events id past)) (omega (arith, lt, is, h.going.counted)))
+    and_both (nat_lt i (started_after (blank a []) (own_events id past))) (is_none (answer_of_branch i (own_events id past)))
+    (lt-ltb i (started_after (blank a []) (own_events id past)) (omega (arith, lt, is, h.going.counted)))
     (h.going.outs i out)
 
 -- nothing happens to it
@@ -169,8 +175,8 @@ goes_quiet id a m past h own none = record {
       let same : answers id (m ∷ past) ≡ answers id past = rw none refl in
       record {
         early = h.going.early;
-        follow = rw events h.going.follow;
-        on = rw events h.going.on;
+        follow = λ ds. rw events (h.going.follow ds);
+        on = λ ds. rw events (h.going.on ds);
         counted = ap answers_among events ∙ h.going.counted ∙ sym same;
         outs = λ i out. rw events (by_out i out (nat_lt i (started id past)) refl);
         below = λ i above. rw events (h.going.below i (was_below i above));
@@ -187,7 +193,7 @@ goes_quiet id a m past h own none = record {
 
 -- an event ends it
 goes_ends : (id : CallId) (a : ArrivedCall) (m : Mark) (past : Past) (e : CallEvent) → Open id a m past → own_event id m past ≡ Some e
-    → decides (answers id past) (length a.plan.branches) e ≡ true → may_come (blank a) (own_events id past) e ≡ true
+    → decides (answers id past) (length a.plan.branches) e ≡ true → may_come (blank a (record_deadlines id (m ∷ past))) (own_events id past) e ≡ true
     → is_ending (answers_among (own_events id past ++ e ∷ [])) (length a.plan.branches) e ≡ true → Lawful id a (m ∷ past)
 goes_ends id a m past e h own dec come ends =
     let events = events_then id a m past e h own in
@@ -195,7 +201,8 @@ goes_ends id a m past e h own dec come ends =
     record {
       going = λ none _. absurd (let bad : Some e ≡ None = sym is ∙ none in cc);
       done = λ _ _. record {
-        follow = rw events (follow_more (blank a) [] (own_events id past) e h.going.follow h.going.on come);
+        follow = rw events (follow_more (blank a (record_deadlines id (m ∷ past))) [] (own_events id past) e
+            (h.going.follow (record_deadlines id (m ∷ past))) (h.going.on (record_deadlines id (m ∷ past))) come);
         start = rw h.going.early refl;
         ending = rw events (rw (last_is (own_events id past) e) ends);
       };
@@ -215,8 +222,8 @@ goes_on_answered id a past o i body h own out_i one of_it dec =
     record {
       going = λ _ _. record {
         early = h.going.early;
-        follow = rw events (follow_more (blank a) [] (own_events id past) e h.going.follow h.going.on (out_of_record id a m past i h out_i));
-        on = rw events (on_more (blank a) [] (own_events id past) e h.going.on (rw h.going.counted dec));
+        follow = λ ds. rw events (follow_more (blank a ds) [] (own_events id past) e (h.going.follow ds) (h.going.on ds) (out_of_record id a m past i h out_i));
+        on = λ ds. rw events (on_more (blank a ds) [] (own_events id past) e (h.going.on ds) (rw h.going.counted dec));
         counted = ap answers_among events ∙ among_more (own_events id past) e ∙ (let next : answers id (m ∷ past) ≡ suc (answers id past) = rw one refl in omega (arith, next, h.going.counted));
         outs = λ k out. rw events (by_out m lt_i k out (nat_lt k (started id past)) refl);
         below = λ k above. rw events (fresh lt_i k (was_below m k above));
@@ -277,6 +284,30 @@ resulted id of a i outcome past h = by_count (counts (Result of i outcome) past 
         goes_on_answered id a past (Result of i (Answer body)) i body h own out b_is (λ k. rw p.1 refl) more)
         (cases_Bool (decides (answers id past) (length a.plan.branches) (Answered i body)))
 
+-- a branch expires
+branch_ends : (id : CallId) (a : ArrivedCall) (t k : ℕ) (past : Past) → Open id a (mark_of past (Moment t)) past
+    → event_by id a (Moment t) false past ≡ Some (BranchExpired k (now (mark_of past (Moment t) ∷ past))) → k < length (deadlines_out id a.plan past)
+    → is_due (now (mark_of past (Moment t) ∷ past)) (slice_index_or (deadlines_out id a.plan past) k None) ≡ true → Lawful id a (mark_of past (Moment t) ∷ past)
+branch_ends id a t k past h event lt due =
+    goes_ends id a m past (BranchExpired k moment) h (own_is id a m past h ∙ event) refl
+    (and_both (is_out_after (blank a []) (own_events id past) k) (is_due moment (slice_index_or (record_deadlines id (m ∷ past)) k None))
+    (out_of_record id a m past k h reached.0) (rw deadlines reached.1)) refl
+  where
+    m : Mark
+    m = mark_of past (Moment t)
+
+    moment : ℕ
+    moment = now (m ∷ past)
+
+    reached : (is_out id k past ≡ true) × (is_due moment (slice_index_or (branch_deadlines id past) k None) ≡ true)
+    reached = reached_out id a past moment k h.call_is lt due
+
+    none : Past_it id m past
+    none = no_entering id (Moment t) past refl
+
+    deadlines : record_deadlines id (m ∷ past) ≡ branch_deadlines id past
+    deadlines = deadlines_now id m past h.undecided ∙ deadlines_same id m past (call_same id m past none) (started_same id m past none refl)
+
 moved : (id : CallId) (a : ArrivedCall) (t : ℕ) (past : Past) → Open id a (mark_of past (Moment t)) past → Lawful id a (mark_of past (Moment t) ∷ past)
 moved id a t past h = by_event (event_by id a (Moment t) false past) refl
   where
@@ -285,12 +316,10 @@ moved id a t past h = by_event (event_by id a (Moment t) false past) refl
 
     by_event : (o : Option CallEvent) → event_by id a (Moment t) false past ≡ o → Lawful id a (m ∷ past)
     by_event None o_is = goes_quiet id a m past h (own_is id a m past h ∙ o_is) refl
-    by_event (Some e) o_is = by_due (is_due (now (m ∷ past)) a.deadline) refl
-      where
-        by_due : (b : Bool) → is_due (now (m ∷ past)) a.deadline ≡ b → Lawful id a (m ∷ past)
-        by_due true b_is =
-            goes_ends id a m past (Expired (now (m ∷ past))) h (own_is id a m past h ∙ rw b_is refl) refl b_is refl
-        by_due false b_is = goes_quiet id a m past h (own_is id a m past h ∙ rw b_is refl) refl
+    by_event (Some e) o_is = ⊎_elim
+        (λ own. goes_ends id a m past (Expired (now (m ∷ past))) h (own_is id a m past h ∙ o_is ∙ ap Some own.0) refl own.1 refl)
+        (λ branch. branch_ends id a t branch.0 past h (o_is ∙ ap Some branch.1) branch.2 branch.3)
+        (expires (now (m ∷ past)) a.deadline (deadlines_out id a.plan past) e o_is)
 
 hung : (id : CallId) (a : ArrivedCall) (conn : ℕ) (past : Past) → Open id a (mark_of past (HangUp conn)) past → Lawful id a (mark_of past (HangUp conn) ∷ past)
 hung id a conn past h =
@@ -350,7 +379,7 @@ arrives_open id a os o h unclosed none = by_end (is_drained (marked os)) (is_due
     own : own_event id m past ≡ ends_at_arrival past a
     own = rw (unclosed, h.nothing.no_call, h.asked) refl
 
-    ended : (e : CallEvent) → ends_at_arrival past a ≡ Some e → decides (answers id past) (branches id past) e ≡ true → may_come (blank a) [] e ≡ true
+    ended : (e : CallEvent) → ends_at_arrival past a ≡ Some e → decides (answers id past) (branches id past) e ≡ true → may_come (blank a (record_deadlines id (m ∷ past))) [] e ≡ true
         → is_ending (answers_among (e ∷ [])) (length a.plan.branches) e ≡ true → ends_at_start (e ∷ []) ≡ true → Lawful id a (m ∷ past)
     ended e is dec come ends at_start =
         let events : own_events id (m ∷ past) ≡ e ∷ [] = rw (h.nothing.undecided, own, is, h.nothing.no_events) refl in
@@ -372,8 +401,8 @@ arrives_open id a os o h unclosed none = by_end (is_drained (marked os)) (is_due
         record {
           going = λ _ _. record {
             early = rw (asked_start id m past a h.asked) b_is;
-            follow = rw events refl;
-            on = rw events refl;
+            follow = λ ds. rw events refl;
+            on = λ ds. rw events refl;
             counted = rw events (sym none);
             outs = λ i out. rw events refl;
             below = λ i above. rw events refl;
@@ -408,9 +437,10 @@ lawful_next id os o a before call_is = by_call (call id (marked os)) refl
     decided_before b same b_is e dec l =
         let d : Done id b past = l.done e dec in
         let events : own_events id (m ∷ past) ≡ own_events id past = rw dec refl in
+        let deadlines : record_deadlines id (m ∷ past) ≡ record_deadlines id past = rw dec refl in
         subst (λ x. Lawful id x (m ∷ past)) same (record {
           going = λ none _. absurd (let some : decided id (m ∷ past) ≡ Some e = rw dec refl in let bad : Some e ≡ None = sym some ∙ none in cc);
-          done = λ _ _. record { follow = rw events d.follow; start = rw events d.start; ending = rw events d.ending };
+          done = λ _ _. record { follow = rw (events, deadlines) d.follow; start = rw events d.start; ending = rw (events, deadlines) d.ending };
         })
 
     shut_before : (b : ArrivedCall) → b ≡ a → call id past ≡ Some b → decided id past ≡ None → is_closed id.conn past ≡ true → Lawful id a (m ∷ past)
@@ -454,14 +484,14 @@ entry_lawful id os r e = by_came (came id (marked os)) refl
     past = marked os
 
     by_call : (d : Option CallEvent) (c : Option ArrivedCall) → decided id past ≡ d → call id past ≡ c
-        → (if is_some d then option_map (λ a. Calling (record_of a (own_events id past))) c else None) ≡ Some (Calling r) → (is_lawful r ≡ true) × (is_decided r ≡ true)
+        → (if is_some d then option_map (λ a. Calling (record_of a (record_deadlines id past) (own_events id past))) c else None) ≡ Some (Calling r) → (is_lawful r ≡ true) × (is_decided r ≡ true)
     by_call None c d_is c_is x = absurd (cc)
     by_call (Some v) None d_is c_is x = absurd (cc)
     by_call (Some v) (Some a) d_is c_is x =
         let l : Done id a past = (lawful id os a c_is).done v d_is in
-        let same : record_of a (own_events id past) ≡ r = cc in
+        let same : record_of a (record_deadlines id past) (own_events id past) ≡ r = cc in
         subst (λ z. (is_lawful z ≡ true) × (is_decided z ≡ true)) same
-        (and_both _ _ (same_follow a (own_events id past) [] (own_events id past) ∙ l.follow) l.start, l.ending)
+        (and_both _ _ (same_follow a (record_deadlines id past) (own_events id past) [] (own_events id past) ∙ l.follow) l.start, l.ending)
 
     by_came : (y : Option (Coming × Bool)) → came id past ≡ y → (is_lawful r ≡ true) × (is_decided r ≡ true)
     by_came None y_is = absurd (let bad : None ≡ Some (Calling r) = rw y_is at e in cc)

@@ -12,7 +12,7 @@ use Rattle.gateway_model.specs.Occurrence.{Result, Coming, Request, Refused}
 use Rattle.gateway_model.specs.declared.call_event.CallEvent.{CallEvent}
 use Rattle.gateway_model.specs.Past.{Mark, Past, ArrivedCall, call, arrivals, coming_on, coming_now, asked_now, asked_by, began, answers, started, is_answer_to, is_call, is_closed, event_by, own_event, ends_at_arrival, decided, now}
 use Rattle.gateway_model.specs.CallRecord.{answer_in, answer_of_branch, last_event}
-use Rattle.gateway_model.specs.Queue.{came, own_events, entry_by, entry}
+use Rattle.gateway_model.specs.Queue.{call_entry, came, own_events, entry_by, entry}
 use Rattle.gateway_theory.specs.lemmas.Cases.{or_false, and_false, or_none}
 
 -- ---- an occurrence that does not concern a call
@@ -48,16 +48,18 @@ started_same id m past q = rw (began_same id m past q, call_same id m past q, an
 pub decided_same : (id : CallId) (m : Mark) (past : Past) → Quiet id m past → decided id (m ∷ past) ≡ decided id past
 decided_same id m past q = rw q.no_event (or_none (decided id past))
 
-own_same : (id : CallId) (m : Mark) (past : Past) → Quiet id m past → own_events id (m ∷ past) ≡ own_events id past
-own_same id m past q =
-    cond_both (is_some (decided id past)) (own_events id past) (own_events id past ++ option_to_list (own_event id m past)) (λ es. es ≡ own_events id past)
-    (λ _. refl) (λ _. rw q.no_event (append-nil (own_events id past)))
+call_entry_same : (id : CallId) (m : Mark) (past : Past) → Quiet id m past → call_entry id (m ∷ past) ≡ call_entry id past
+call_entry_same id m past q = by_decided (decided id past) refl
+  where
+    by_decided : (d : Option CallEvent) → decided id past ≡ d → call_entry id (m ∷ past) ≡ call_entry id past
+    by_decided None d_is = rw (decided_same id m past q, d_is) refl
+    by_decided (Some e) d_is = rw (decided_same id m past q, d_is, call_same id m past q) refl
 
 entry_by_same : (id : CallId) (m : Mark) (past : Past) → Quiet id m past → (x : Coming × Bool) → entry_by id (m ∷ past) x ≡ entry_by id past x
 entry_by_same id m past q (Refused r, crowded) = refl
 entry_by_same id m past q (Request r (Judged v), crowded) = refl
 entry_by_same id m past q (Request r (Asks plan timeout rid), true) = refl
-entry_by_same id m past q (Request r (Asks plan timeout rid), false) = rw (decided_same id m past q, call_same id m past q, own_same id m past q) refl
+entry_by_same id m past q (Request r (Asks plan timeout rid), false) = call_entry_same id m past q
 
 pub then_same : {A B : Type 0} (f g : A → Option B) → ((a : A) → f a ≡ g a) → (o : Option A) → option_and_then f o ≡ option_and_then g o
 then_same f g h None = refl

@@ -4,7 +4,7 @@ use Rattle.std.specs.Prelude.{◌⊎◌, is_some, is_none, if◌then◌else◌, 
 use Rattle.std.specs.Option.{option_or, option_map_or}
 use Rattle.std.specs.List.{range_with_len}
 use Rattle.std.proofs.lemmas.Bool.{cond_both, cases_Bool, cases_eq, cases_lt, ltb-false, lt-ltb, le-ltb, eq-eqb, ne_eqb, and_parts}
-use Rattle.std.proofs.lemmas.List.{get_or-set_same, get_or-set_other, length-set, length-append}
+use Rattle.std.proofs.lemmas.List.{get_or-set_same, get_or-set_other, length-set, length-append, append-nil}
 use Rattle.std.proofs.Math.ListN.{get_or-eq_default}
 use Rattle.connect_codec.specs.declared.answer.Outcome.{Outcome}
 use Rattle.connect_codec.specs.declared.answer.Outcome.TheVariants.{Answer, Fail}
@@ -15,16 +15,17 @@ use Rattle.gateway_model.specs.Job.{job_of}
 use Rattle.gateway_theory.specs.Task.{task_of}
 use Rattle.gateway_model.specs.Occurrence.{Occurrence, Opening, Comes, HangUp, Moment, Result, Drain, Closing, Coming, Request, Refused}
 use Rattle.gateway_model.specs.declared.call_event.CallEvent.{CallEvent}
-use Rattle.gateway_model.specs.declared.call_event.CallEvent.TheVariants.{Answer as Answered, Failed, Expired, HungUp, Drained}
-use Rattle.gateway_model.specs.Past.{Mark, Past, ArrivedCall, call, arrivals, coming_now, asked_now, asked_by, began, answers, started, is_out, is_result_of, is_answer_to, is_call, is_closed, closing_occurs, event_by, own_event, ends_at_arrival, decides, decided, can_be_decided, is_due, now, counts, mark_of, of_branch}
+use Rattle.gateway_model.specs.declared.call_event.CallEvent.TheVariants.{Answer as Answered, Failed, Expired, BranchExpired, HungUp, Drained}
+use Rattle.gateway_model.specs.Past.{Mark, Past, ArrivedCall, call, arrivals, coming_now, asked_now, asked_by, began, answers, started, is_out, is_result_of, is_answer_to, is_call, is_closed, closing_occurs, event_by, own_event, ends_at_arrival, decides, decided, can_be_decided, branch_deadlines, deadline_from, due_by, now, counts, mark_of, of_branch}
 use Rattle.gateway_model.specs.declared.entry.ReplyEntry.TheVariants.{Call as Calling}
-use Rattle.gateway_model.specs.Queue.{came, own_events, record_of, entry_by, entry, call_entry}
+use Rattle.gateway_model.specs.Queue.{came, own_events, record_deadlines, record_of, entry_by, entry, call_entry}
 use Rattle.gateway_model.specs.Starts.{jobs_started, branches_started}
 use Rattle.gateway_theory.specs.lemmas.LimitLemmas.{out_started, same_call}
 use Rattle.gateway_theory.specs.lemmas.Unborn.{unborn}
 use Rattle.gateway_theory.specs.lemmas.Cases.{and_true, and_false, or_none}
-use Rattle.gateway_theory.specs.Step.{Live, call_state, kept, ended, ended_by, ended_live, ending, entry_with, first_of, rest_of, next_out, is_last_answer, counted, result_on, step, moment_after}
+use Rattle.gateway_theory.specs.Step.{Live, call_state, kept, ended, ended_by, ended_live, ending, entry_as, entry_with, deadlines_in, deadlines_then, first_of, rest_of, next_out, is_last_answer, counted, result_on, step, moment_after}
 use Rattle.gateway_theory.specs.LiveStands.{is_live, tasks_from, LiveStands, MayLive, CallStands, Stepped}
+use Rattle.gateway_theory.specs.lemmas.Deadlines.{deadlines_same, deadlines_more, expires, outs_are}
 use Rattle.gateway_theory.specs.lemmas.Frame.{Past_it, unasked, call_same, began_same, came_same, answers_same, started_same, decided_same, own_same, own_before, shut_decided, shut_stays, not_started, out_after, out_same, none_start, entry_same}
 
 -- ---- what came for a call
@@ -78,25 +79,35 @@ own_then id l out m past e h own = rw (h.undecided, own, ← h.events_are) refl
 entry_before : (id : CallId) (l : Live) (out : List Bool) (past : Past) → LiveStands id l out past → entry id past ≡ None
 entry_before id l out past h = let c = called_came id past l.asked h.call_is in rw (c.1, h.undecided) refl
 
-pub call_entry_is : (id : CallId) (past : Past) (a : ArrivedCall) (es : List CallEvent) (e : CallEvent) → decided id past ≡ Some e → call id past ≡ Some a
-    → own_events id past ≡ es → call_entry id past ≡ Some (Calling (record_of a es))
-call_entry_is id past a es e dec call_is own = rw (dec, call_is, own) refl
+pub call_entry_is : (id : CallId) (past : Past) (a : ArrivedCall) (ds : List (Option ℕ)) (es : List CallEvent) (e : CallEvent) → decided id past ≡ Some e
+    → call id past ≡ Some a → record_deadlines id past ≡ ds → own_events id past ≡ es → call_entry id past ≡ Some (Calling (record_of a ds es))
+call_entry_is id past a ds es e dec call_is deadlines own = rw (dec, call_is, deadlines, own) refl
 
-entry_then : (id : CallId) (l : Live) (out : List Bool) (m : Mark) (past : Past) (e : CallEvent) → LiveStands id l out past → Past_it id m past
-    → own_event id m past ≡ Some e → decided id (m ∷ past) ≡ Some e → entry id (m ∷ past) ≡ Some (entry_with e l)
-entry_then id l out m past e h none own dec =
+-- the deadlines of a record grow until its call is decided
+pub deadlines_now : (id : CallId) (m : Mark) (past : Past) → decided id past ≡ None → record_deadlines id (m ∷ past) ≡ branch_deadlines id (m ∷ past)
+deadlines_now id m past undecided = rw undecided refl
+
+entry_then : (id : CallId) (l : Live) (out : List Bool) (m : Mark) (past : Past) (ds : List (Option ℕ)) (e : CallEvent) → LiveStands id l out past → Past_it id m past
+    → own_event id m past ≡ Some e → decided id (m ∷ past) ≡ Some e → branch_deadlines id (m ∷ past) ≡ ds → entry id (m ∷ past) ≡ Some (entry_as ds e l)
+entry_then id l out m past ds e h none own dec deadlines =
     let c = called_came id past l.asked h.call_is in
     ap (λ o. option_and_then (entry_by id (m ∷ past)) o) (came_same id m past none ∙ c.1)
-    ∙ call_entry_is id (m ∷ past) l.asked (l.events ++ e ∷ []) e dec (call_same id m past none ∙ h.call_is) (own_then id l out m past e h own)
+    ∙ call_entry_is id (m ∷ past) l.asked ds (l.events ++ e ∷ []) e dec (call_same id m past none ∙ h.call_is) (deadlines_now id m past h.undecided ∙ deadlines)
+    (own_then id l out m past e h own)
 
 -- a decided call can't be decided any more
 pub decided_shut : (id : CallId) (past : Past) (e : CallEvent) → decided id past ≡ Some e → is_live id past ≡ false
 decided_shut id past e dec = rw dec (and_false (is_some (call id past)))
 
-ended_replies : (id : CallId) (l : Live) (out : List Bool) (m : Mark) (past : Past) (e : CallEvent) → LiveStands id l out past → Past_it id m past
-    → own_event id m past ≡ Some e → decided id (m ∷ past) ≡ Some e → option_or (entry id past) (Some (entry_with e l)) ≡ entry id (m ∷ past)
-ended_replies id l out m past e h none own dec =
-    rw (entry_before id l out past h) (sym (entry_then id l out m past e h none own dec))
+ended_replies : (id : CallId) (l : Live) (out : List Bool) (m : Mark) (past : Past) (ds : List (Option ℕ)) (e : CallEvent) → LiveStands id l out past → Past_it id m past
+    → own_event id m past ≡ Some e → decided id (m ∷ past) ≡ Some e → branch_deadlines id (m ∷ past) ≡ ds → option_or (entry id past) (Some (entry_as ds e l)) ≡ entry id (m ∷ past)
+ended_replies id l out m past ds e h none own dec deadlines =
+    rw (entry_before id l out past h) (sym (entry_then id l out m past ds e h none own dec deadlines))
+
+-- no branch has started: the deadlines are those of before
+deadlines_kept : (id : CallId) (l : Live) (out : List Bool) (m : Mark) (past : Past) → LiveStands id l out past → Past_it id m past → started id (m ∷ past) ≡ started id past
+    → branch_deadlines id (m ∷ past) ≡ l.deadlines
+deadlines_kept id l out m past h none same = deadlines_same id m past (call_same id m past none) same ∙ sym h.deadlines_are
 
 ended_stepped : (id : CallId) (l : Live) (out after : List Bool) (m : Mark) (past : Past) (e : CallEvent) → LiveStands id l out past → Past_it id m past
     → own_event id m past ≡ Some e → decides (answers id past) (length l.asked.plan.branches) e ≡ true → started id (m ∷ past) ≡ started id past
@@ -105,7 +116,7 @@ ended_stepped id l out after m past e h none own ends same outs =
     let dec : decided id (m ∷ past) ≡ Some e = decided_then id l out m past e h own ends in
     record {
       stands = record { out_is = outs; live_is = decided_shut id (m ∷ past) e dec };
-      replies = ended_replies id l out m past e h none own dec;
+      replies = ended_replies id l out m past l.deadlines e h none own dec (deadlines_kept id l out m past h none same);
       starts = sym (none_start id m past same);
     }
 
@@ -135,6 +146,7 @@ live_kept id l out after m past h none no_answer own unshut size = record {
   size_is = size ∙ h.size_is;
   events_are = h.events_are ∙ sym (own_same id m past own);
   answers_are = h.answers_are ∙ sym (answers_same id m past no_answer);
+  deadlines_are = sym (deadlines_kept id l out m past h none (started_same id m past none no_answer));
   waiting_are = h.waiting_are ∙ ap (λ k. tasks_from k id l.asked) (sym (started_same id m past none no_answer));
 }
 
@@ -153,22 +165,22 @@ live_stepped id l out m past h none no_answer own unshut outs = record {
 -- a moment, a hang-up, the drain, an opening, or what comes on a stream
 unresulted : (id : CallId) (o : Occurrence) (out : List Bool) (live : Option Live) (past : Past) → ((i : ℕ) → is_result_of id i o ≡ false)
     → (counts o past && is_answer_to id o) ≡ false → closing_occurs id.conn o ≡ false
-    → ((l : Live) → event_by id l.asked o (counts o past) past ≡ ending (now past) id o l.asked)
-    → ((l : Live) (e : CallEvent) → ending (now past) id o l.asked ≡ Some e → decides (answers id past) (length l.asked.plan.branches) e ≡ true)
+    → ((l : Live) → LiveStands id l out past → event_by id l.asked o (counts o past) past ≡ ending (now past) id o l.asked (deadlines_in out l.deadlines))
+    → ((l : Live) (e : CallEvent) → ending (now past) id o l.asked (deadlines_in out l.deadlines) ≡ Some e → decides (answers id past) (length l.asked.plan.branches) e ≡ true)
     → Past_it id (mark_of past o) past → CallStands id (call_state out live) past
     → Stepped id (ended_live (now past) id o out live) (mark_of past o) past
 unresulted id o out None past no_result no_answer no_closing events ends none h =
     let m : Mark = mark_of past o in
     shut_stepped id out m past h.live_is none no_answer
     (λ i. h.out_is i ∙ sym (out_same id i m past (started_same id m past none no_answer) (no_result i)))
-unresulted id o out (Some l) past no_result no_answer no_closing events ends none h = by_ending (ending (now past) id o l.asked) refl
+unresulted id o out (Some l) past no_result no_answer no_closing events ends none h = by_ending (ending (now past) id o l.asked (deadlines_in out l.deadlines)) refl
   where
-    by_ending : (x : Option CallEvent) → ending (now past) id o l.asked ≡ x → Stepped id (ended_by x l out) (mark_of past o) past
+    by_ending : (x : Option CallEvent) → ending (now past) id o l.asked (deadlines_in out l.deadlines) ≡ x → Stepped id (ended_by x l out) (mark_of past o) past
     by_ending None x_is =
         let m : Mark = mark_of past o in
         let s : LiveStands id l out past = h.live_is in
         live_stepped id l out m past s none no_answer
-        (own_before id m past none s.unclosed ∙ rw s.call_is (events l ∙ x_is))
+        (own_before id m past none s.unclosed ∙ rw s.call_is (events l s ∙ x_is))
         (rw (no_closing, s.unclosed) refl)
         (λ i. h.out_is i ∙ sym (out_same id i m past (started_same id m past none no_answer) (no_result i)))
     by_ending (Some e) x_is =
@@ -176,7 +188,7 @@ unresulted id o out (Some l) past no_result no_answer no_closing events ends non
         let s : LiveStands id l out past = h.live_is in
         let same = started_same id m past none no_answer in
         ended_stepped id l out out m past e s none
-        (own_before id m past none s.unclosed ∙ rw s.call_is (events l ∙ x_is))
+        (own_before id m past none s.unclosed ∙ rw s.call_is (events l s ∙ x_is))
         (ends l e x_is) same
         (λ i. h.out_is i ∙ sym (out_same id i m past same (no_result i)))
 
@@ -351,6 +363,7 @@ pub record GoesOn (id : CallId) (i : ℕ) (l : Live) (out : List Bool) (m : Mark
   pub outs : (k : ℕ) → slice_index_or (next_out l.waiting (slice_set out i false)) k false ≡ is_out id k (m ∷ past)
   pub size : length (next_out l.waiting (slice_set out i false)) ≡ length out
   pub starts : first_of (now past) l.waiting ≡ jobs_started id m past
+  pub deadlines : branch_deadlines id (m ∷ past) ≡ deadlines_then (now past) l
   pub waiting : rest_of l.waiting ≡ tasks_from (started id (m ∷ past)) id l.asked
 
 -- which branches are out where one more starts
@@ -376,6 +389,7 @@ goes_on id i body l out past h out_i none out_is =
       outs = λ k. rw a.none_waits (outs_back id i (Answer body) out past out_is a.same k);
       size = rw a.none_waits (length-set out i false);
       starts = rw a.none_waits (sym (none_start id m past a.same));
+      deadlines = rw a.none_waits (deadlines_kept id l out m past h none a.same ∙ sym (append-nil l.deadlines));
       waiting = rw (a.none_waits, a.same) (sym (tasks_none (started id past) id l.asked a.all));
     })
     (λ (s : NextStarts id l m past). record {
@@ -390,6 +404,8 @@ goes_on id i body l out past h out_i none out_is =
           (cases_eq k (started id past)));
       size = rw s.first_waits (length-set (slice_set out i false) (started id past) true ∙ length-set out i false);
       starts = rw s.first_waits (one_starts s);
+      deadlines = rw s.first_waits (deadlines_more id l.asked m past h.call_is (call_same id m past none ∙ h.call_is) s.one_more
+          ∙ ap (λ ds. ds ++ deadline_from (now past) l.asked.plan (started id past) ∷ []) (sym h.deadlines_are));
       waiting = rw (s.first_waits, s.one_more) refl;
     })
     (next_case id i body l out past h out_i none)
@@ -430,7 +446,7 @@ answered id i body l out past h none out_is out_i = by_last (is_last_answer l) r
         let dec : decided id (m ∷ past) ≡ Some (Answered i body) = decided_then id l out m past (Answered i body) h own (ends true b_is) in
         rw b_is (record {
           stands = record { out_is = g.outs; live_is = decided_shut id (m ∷ past) (Answered i body) dec };
-          replies = ended_replies id l out m past (Answered i body) h none own dec;
+          replies = ended_replies id l out m past (deadlines_then (now past) l) (Answered i body) h none own dec g.deadlines;
           starts = g.starts;
         })
     by_last false b_is =
@@ -446,6 +462,7 @@ answered id i body l out past h none out_is out_i = by_last (is_last_answer l) r
               size_is = g.size ∙ h.size_is;
               events_are = sym (own_then id l out m past (Answered i body) h own);
               answers_are = length-append l.events (Answered i body ∷ []) ∙ omega (arith, h.answers_are) ∙ sym (answer_counts id i body l out past h out_i);
+              deadlines_are = sym g.deadlines;
               waiting_are = g.waiting;
             };
           };
@@ -526,22 +543,14 @@ resulted id of i outcome out live past none h = by_own (is_call of id && slice_i
 
 -- ---- each occurrence
 
-moment_ends : (id : CallId) (past : Past) (moment : ℕ) (d : Option ℕ) (e : CallEvent) (a n : ℕ)
-    → (if is_due moment d then Some (Expired moment) else None) ≡ Some e → decides a n e ≡ true
-moment_ends id past moment d (Expired t) a n h = refl
-moment_ends id past moment d HungUp a n h = refl
-moment_ends id past moment d Drained a n h = refl
-moment_ends id past moment d (Failed i error) a n h = refl
-moment_ends id past moment d (Answered i body) a n h = by_due (is_due moment d) h
-  where
-    by_due : (b : Bool) → (if b then Some (Expired moment) else None) ≡ Some (Answered i body) → decides a n (Answered i body) ≡ true
-    by_due true h = absurd (cc)
-    by_due false h = absurd (cc)
+pub moment_ends : (moment : ℕ) (d : Option ℕ) (outs : List (Option ℕ)) (e : CallEvent) (a n : ℕ) → due_by moment d outs ≡ Some e → decides a n e ≡ true
+moment_ends moment d outs e a n h = ⊎_elim (λ own. rw own.0 refl) (λ branch. rw branch.1 refl) (expires moment d outs e h)
 
 hang_ends : (b : Bool) (e : CallEvent) (a n : ℕ) → (if b then Some HungUp else None) ≡ Some e → decides a n e ≡ true
 hang_ends true (Answered i body) a n h = absurd (cc)
 hang_ends false (Answered i body) a n h = absurd (cc)
 hang_ends b (Expired t) a n h = refl
+hang_ends b (BranchExpired i t) a n h = refl
 hang_ends b HungUp a n h = refl
 hang_ends b Drained a n h = refl
 hang_ends b (Failed i error) a n h = refl
@@ -549,19 +558,22 @@ hang_ends b (Failed i error) a n h = refl
 drain_ends : (e : CallEvent) (a n : ℕ) → Some Drained ≡ Some e → decides a n e ≡ true
 drain_ends (Answered i body) a n h = absurd (cc)
 drain_ends (Expired t) a n h = refl
+drain_ends (BranchExpired i t) a n h = refl
 drain_ends HungUp a n h = refl
 drain_ends Drained a n h = refl
 drain_ends (Failed i error) a n h = refl
 
 pub stepped : (id : CallId) (o : Occurrence) (out : List Bool) (live : Option Live) (past : Past) → Past_it id (mark_of past o) past
     → CallStands id (call_state out live) past → Stepped id (step (now past) id o (call_state out live)) (mark_of past o) past
-stepped id Opening out live past none h = unresulted id Opening out live past (λ i. refl) refl refl (λ l. refl) (λ l e x. absurd (cc)) none h
+stepped id Opening out live past none h = unresulted id Opening out live past (λ i. refl) refl refl (λ l s. refl) (λ l e x. absurd (cc)) none h
 stepped id (Comes conn x) out live past none h =
-    unresulted id (Comes conn x) out live past (λ i. refl) (and_false (counts (Comes conn x) past)) refl (λ l. refl) (λ l e x. absurd (cc)) none h
+    unresulted id (Comes conn x) out live past (λ i. refl) (and_false (counts (Comes conn x) past)) refl (λ l s. refl) (λ l e x. absurd (cc)) none h
 stepped id (HangUp conn) out live past none h =
-    unresulted id (HangUp conn) out live past (λ i. refl) refl refl (λ l. refl) (λ l e x. hang_ends (conn == id.conn) e _ _ x) none h
+    unresulted id (HangUp conn) out live past (λ i. refl) refl refl (λ l s. refl) (λ l e x. hang_ends (conn == id.conn) e _ _ x) none h
 stepped id (Moment t) out live past none h =
-    unresulted id (Moment t) out live past (λ i. refl) refl refl (λ l. refl) (λ l e x. moment_ends id past (moment_after (now past) t) l.asked.deadline e _ _ x) none h
+    unresulted id (Moment t) out live past (λ i. refl) refl refl
+    (λ l s. ap (due_by (moment_after (now past) t) l.asked.deadline) (outs_are id l.asked out past s.call_is s.size_is h.out_is ∙ ap (deadlines_in out) (sym s.deadlines_are)))
+    (λ l e x. moment_ends (moment_after (now past) t) l.asked.deadline (deadlines_in out l.deadlines) e _ _ x) none h
 stepped id (Result of i outcome) out live past none h = resulted id of i outcome out live past none h
-stepped id Drain out live past none h = unresulted id Drain out live past (λ i. refl) refl refl (λ l. refl) (λ l e x. drain_ends e _ _ x) none h
+stepped id Drain out live past none h = unresulted id Drain out live past (λ i. refl) refl refl (λ l s. refl) (λ l e x. drain_ends e _ _ x) none h
 stepped id (Closing conn) out live past none h = closing id conn out live past none h

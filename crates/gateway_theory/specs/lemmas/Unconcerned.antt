@@ -1,18 +1,21 @@
 -- Of an occurrence that does not concern a connection nothing follows for its calls.
 use Rattle.std.proofs.Common.{◌≡◌, ℕ, zero, suc, ◌≤◌, ◌<◌, Bool, true, false, List, Option, None, Some, refl, sym, ap, ◌∙◌, arith, ⊎_elim}
 use Rattle.std.specs.Prelude.{if◌then◌else◌, ◌&&◌, not, ◌==◌, nat_lt, is_some, slice_set, slice_index_or}
+use Rattle.std.specs.Option.{option_map_or}
 use Rattle.std.proofs.lemmas.Bool.{cond_both, cases_Bool, cases_lt, ltb-false, eq-eqb, eqb-true}
 use Rattle.connect_codec.specs.declared.answer.Outcome.{Outcome}
 use Rattle.gateway_model.specs.declared.id.CallId.{CallId}
 use Rattle.gateway_model.specs.Occurrence.{Occurrence, Opening, Comes, HangUp, Moment, Result, Drain, Closing}
-use Rattle.gateway_model.specs.declared.call_event.CallEvent.TheVariants.{Expired}
-use Rattle.gateway_model.specs.Past.{Past, ArrivedCall, call, call_id, is_call, is_out, is_result_of, is_closed, is_due, is_undecided, arrivals, now, own_event, deciding, count_below, mark_of}
+use Rattle.gateway_model.specs.declared.call_event.CallEvent.{CallEvent}
+use Rattle.gateway_model.specs.Past.{Past, ArrivedCall, call, call_id, is_call, is_out, is_result_of, is_closed, answers, branches, decides, deadlines_out, due_by, event_by, is_undecided, arrivals, now, own_event, deciding, count_below, mark_of}
 use Rattle.gateway_theory.specs.lemmas.LimitLemmas.{same_call}
 use Rattle.gateway_theory.specs.lemmas.Unborn.{unborn}
 use Rattle.gateway_theory.specs.lemmas.Cases.{and_true}
-use Rattle.gateway_theory.specs.Step.{CallState, Live, call_state, has_out, kept, moment_after, result_on, step}
+use Rattle.gateway_theory.specs.Step.{CallState, Live, call_state, deadlines_in, ended_by, has_out, kept, moment_after, result_on, step}
 use Rattle.gateway_theory.specs.LiveStands.{LiveStands, CallStands}
+use Rattle.gateway_theory.specs.lemmas.Deadlines.{outs_are}
 use Rattle.gateway_theory.specs.lemmas.Frame.{own_before}
+use Rattle.gateway_theory.specs.lemmas.StepLemmas.{moment_ends}
 use Rattle.gateway_theory.specs.lemmas.MachineLemmas.{no_entering}
 use Rattle.gateway_model.specs.Concerns.{concerns}
 use Rattle.gateway_theory.specs.Breaks.{NothingOf}
@@ -65,12 +68,18 @@ arrived c k a past h =
 own_unshut : (d c : ℕ) (past : Past) → is_closed c past ≡ false → ((d == c) && not (is_closed c past)) ≡ false → (d == c) ≡ false
 own_unshut d c past unclosed e = sym (and_true (d == c)) ∙ (rw unclosed at e)
 
-deciding_moment : (id : CallId) (t : ℕ) (l : Live) (out : List Bool) (past : Past) → LiveStands id l out past → is_due (moment_after (now past) t) l.asked.deadline ≡ true
-    → is_some (deciding id (mark_of past (Moment t)) past) ≡ true
-deciding_moment id t l out past h due =
-    let own : own_event id (mark_of past (Moment t)) past ≡ Some (Expired (moment_after (now past) t)) =
-    own_before id (mark_of past (Moment t)) past (no_entering id (Moment t) past refl) h.unclosed ∙ rw (h.call_is, due) refl in
-    rw own refl
+deciding_moment : (id : CallId) (t : ℕ) (l : Live) (out : List Bool) (past : Past) (e : CallEvent) → LiveStands id l out past → ((i : ℕ) → slice_index_or out i false ≡ is_out id i past)
+    → due_by (moment_after (now past) t) l.asked.deadline (deadlines_in out l.deadlines) ≡ Some e → is_some (deciding id (mark_of past (Moment t)) past) ≡ true
+deciding_moment id t l out past e h out_is due =
+    let same : deadlines_out id l.asked.plan past ≡ deadlines_in out l.deadlines =
+    outs_are id l.asked out past h.call_is h.size_is out_is ∙ ap (deadlines_in out) (sym h.deadlines_are) in
+    let event : due_by (moment_after (now past) t) l.asked.deadline (deadlines_out id l.asked.plan past) ≡ Some e = ap (due_by (moment_after (now past) t) l.asked.deadline) same ∙ due in
+    let own : own_event id (mark_of past (Moment t)) past ≡ Some e =
+    own_before id (mark_of past (Moment t)) past (no_entering id (Moment t) past refl) h.unclosed
+    ∙ ap (λ o. option_map_or (λ c. event_by id c (Moment t) false past) o None) h.call_is ∙ event in
+    let ends : decides (answers id past) (branches id past) e ≡ true =
+    moment_ends (moment_after (now past) t) l.asked.deadline (deadlines_in out l.deadlines) e (answers id past) (branches id past) due in
+    rw (own, ends) refl
 
 nothing_result : (c k : ℕ) (of : CallId) (i : ℕ) (r : Outcome) (l : Live) (out : List Bool) (past : Past) → LiveStands (call_id c k) l out past
     → concerns c (Result of i r) past ≡ false → is_call of (call_id c k) ≡ true → is_out (call_id c k) i past ≡ true → ⊥
@@ -99,17 +108,17 @@ live_nothing c k (HangUp d) out l past not_so h =
 live_nothing c k (Closing d) out l past not_so h =
     let s : LiveStands (call_id c k) l out past = h.live_is in
     rw (own_unshut d c past s.unclosed not_so) (kept_nothing (call_id c k) (Closing d) (call_state out (Some l)) (λ j. refl))
-live_nothing c k (Moment t) out l past not_so h = by_due (is_due (moment_after (now past) t) l.asked.deadline) refl
+live_nothing c k (Moment t) out l past not_so h = by_event (due_by (moment_after (now past) t) l.asked.deadline (deadlines_in out l.deadlines)) refl
   where
-    by_due : (b : Bool) → is_due (moment_after (now past) t) l.asked.deadline ≡ b
-        → NothingOf (call_id c k) (Moment t) (call_state out (Some l)) (step (now past) (call_id c k) (Moment t) (call_state out (Some l)))
-    by_due false b_is = rw b_is (kept_nothing (call_id c k) (Moment t) (call_state out (Some l)) (λ j. refl))
-    by_due true b_is = absurd (
+    by_event : (x : Option CallEvent) → due_by (moment_after (now past) t) l.asked.deadline (deadlines_in out l.deadlines) ≡ x
+        → NothingOf (call_id c k) (Moment t) (call_state out (Some l)) (ended_by x l out)
+    by_event None x_is = kept_nothing (call_id c k) (Moment t) (call_state out (Some l)) (λ j. refl)
+    by_event (Some e) x_is = absurd (
         let s : LiveStands (call_id c k) l out past = h.live_is in
         let none : (is_undecided (call_id c k) past && is_some (deciding (call_id c k) (mark_of past (Moment t)) past)) ≡ false =
         below_none (arrivals c past) (λ j. is_undecided (call_id c j) past && is_some (deciding (call_id c j) (mark_of past (Moment t)) past)) k not_so (arrived c k l.asked past s.call_is) in
         let some : (is_undecided (call_id c k) past && is_some (deciding (call_id c k) (mark_of past (Moment t)) past)) ≡ true =
-        rw (deciding_moment (call_id c k) t l out past s b_is, s.call_is, s.undecided) refl in
+        rw (deciding_moment (call_id c k) t l out past e s h.out_is x_is, s.call_is, s.undecided) refl in
         let bad : true ≡ false = sym some ∙ none in cc)
 live_nothing c k Drain out l past not_so h = absurd (
     let s : LiveStands (call_id c k) l out past = h.live_is in

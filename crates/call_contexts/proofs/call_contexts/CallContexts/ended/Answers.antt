@@ -18,4 +18,4 @@ returns-then-has g c =
 pub returns-else-has : goal.returns-else-has
 returns-else-has g c =
     let none : list_any (λ l. same l.ctx c.args.ctx) c.self.inside.calls.items ≡ false = ap (list_any (λ l. same l.ctx c.args.ctx)) (sym c.deref.ensures.value) ∙ sym c.has.ensures ∙ c.if-has.false in
-    sym (none_ended c.self.inside.tree.slots c.args.ctx c.self.inside.calls.items none) ∙ ap (λ (v : WithHooks _ _ _). ended_call c.args.ctx v.standing.calls) c.self.view_is
+    sym (none_ended c.self.inside.tree.slots c.self.inside.twigs.items c.args.ctx c.self.inside.calls.items none) ∙ ap (λ (v : WithHooks _ _ _). ended_call c.args.ctx v.standing.calls) c.self.view_is

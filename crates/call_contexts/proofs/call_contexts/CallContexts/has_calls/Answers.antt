@@ -8,5 +8,5 @@ use Rattle.call_contexts.proofs.call_contexts.CallContexts.has_calls.Goals as go
 pub returns : goal.returns
 returns g c =
     c.has_of.ensures ∙ ap (list_any (λ l. same l.conn c.args.conn)) c.deref.ensures.value
-    ∙ sym (any_map (λ d. same d.conn c.args.conn) (seen_call c.self.inside.tree.slots) c.self.inside.calls.items)
+    ∙ sym (any_map (λ d. same d.conn c.args.conn) (seen_call c.self.inside.tree.slots c.self.inside.twigs.items) c.self.inside.calls.items)
     ∙ ap (λ (v : WithHooks _ _ _). list_any (λ d. same d.conn c.args.conn) v.standing.calls) c.self.view_is

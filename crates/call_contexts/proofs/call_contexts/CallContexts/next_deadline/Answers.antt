@@ -1,11 +1,26 @@
-use Rattle.std.proofs.Common.{subst}
-use Rattle.std.specs.Prelude.{All}
-use Rattle.call_contexts.specs.Standing.{IsNoSooner, WithHooks}
-use Rattle.call_contexts.proofs.Seeing.{no_sooner}
+use Rattle.std.proofs.Common.{◌≡◌, subst, true}
+use Rattle.std.specs.Prelude.{All, IfSome}
+use Rattle.std.specs.List.{list_any}
+use Rattle.std.proofs.lemmas.Option.{IfSome_then}
+use Rattle.call_contexts.specs.Standing.{IsNoSooner, AreNoSooner, WithHooks, has_deadline}
+use Rattle.call_contexts.proofs.Seeing.{no_sooner, branches_no_sooner}
+use Rattle.call_contexts.proofs.Deadlines.{has_first}
 use Rattle.call_contexts.proofs.call_contexts.CallContexts.next_deadline.Goals as goal
 
-pub returns : goal.returns
-returns g c =
+pub returns-clause-calls : goal.returns-clause-calls
+returns-clause-calls g c =
     let s = c.self.invariant in
     subst (λ (v : WithHooks _ _ _). All (IsNoSooner c.next_deadline.result) v.standing.calls) c.self.view_is
     (no_sooner c.tree_laws.ensures s c.next_deadline.result (c.next_deadline.ensures.first s.past s.tree_is))
+
+pub returns-clause-branches : goal.returns-clause-branches
+returns-clause-branches g c =
+    let s = c.self.invariant in
+    subst (λ (v : WithHooks _ _ _). All (AreNoSooner c.next_deadline.result) v.standing.calls) c.self.view_is
+    (branches_no_sooner c.tree_laws.ensures s c.next_deadline.result (c.next_deadline.ensures.first s.past s.tree_is))
+
+pub returns-clause-its : goal.returns-clause-its
+returns-clause-its g c =
+    let s = c.self.invariant in
+    subst (λ (v : WithHooks _ _ _). IfSome c.next_deadline.result (λ first. list_any (has_deadline first) v.standing.calls ≡ true)) c.self.view_is
+    (IfSome_then c.next_deadline.result c.next_deadline.ensures.its (λ first its. has_first c.tree_laws.ensures s first (its s.past s.tree_is)))

@@ -11,7 +11,7 @@ use Rattle.call_contexts.proofs.call_contexts.CallContexts.request_id.Goals as g
 pub returns-in_default : goal.returns-in_default
 returns-in_default g c =
     let none : life_at c.args.ctx c.self.inside.calls.items ≡ None = ap (life_at c.args.ctx) (sym c.deref.ensures.value) ∙ sym c.find.ensures ∙ c.in_default.is in
-    sym (no_request c.self.inside.tree.slots c.args.ctx c.self.inside.calls.items (none_found c.args.ctx c.self.inside.calls.items none)) ∙ ap (λ (v : WithHooks _ _ _). request_for c.args.ctx v.standing.calls) c.self.view_is
+    sym (no_request c.self.inside.tree.slots c.self.inside.twigs.items c.args.ctx c.self.inside.calls.items (none_found c.args.ctx c.self.inside.calls.items none)) ∙ ap (λ (v : WithHooks _ _ _). request_for c.args.ctx v.standing.calls) c.self.view_is
 
 pub unreachable-requires : goal.unreachable-requires
 unreachable-requires g c =

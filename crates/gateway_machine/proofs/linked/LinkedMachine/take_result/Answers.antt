@@ -1,10 +1,25 @@
-use Rattle.gateway_theory.specs.lemmas.HeadLemmas.{heads_result}
-use Rattle.gateway_machine.proofs.HeardLemmas.{drained_result, kept_linked}
+use Rattle.std.proofs.Common.{⊎_elim, subst}
+use Rattle.gateway_machine.specs.Ended.{BranchEnds}
+use Rattle.gateway_theory.specs.Results.{Forgets}
+use Rattle.gateway_theory.specs.Store.{MachineValue}
+use Rattle.gateway_theory.specs.lemmas.HeadLemmas.{heads_result, heads_starved}
+use Rattle.gateway_machine.proofs.HeardLemmas.{drained_result, drained_starved, kept_linked}
 use Rattle.gateway_machine.proofs.linked.LinkedMachine.take_result.Goals as goal
 
 pub invariant_of-self : goal.invariant_of-self
 invariant_of-self g c =
     let e = c.take_result.ensures.taken in
     kept_linked c.self.inside.contexts c.take_result.new.contexts c.self.inside.machine c.take_result.new.self c.self.invariant c.take_result.ensures.linked
-    (drained_result c.args.id.now c.args.branch c.args.outcome c.self.inside.machine e.0 c.take_result.new.self c.take_result.result e.1 e.2)
-    (heads_result c.args.id.now c.args.branch c.args.outcome c.self.inside.machine e.0 c.take_result.new.self c.take_result.result e.1 e.2)
+    (⊎_elim
+    (λ taken. drained_result c.args.id.now c.args.branch c.args.outcome c.self.inside.machine e.0 c.take_result.new.self c.take_result.result taken e.2)
+    (λ starved. drained_starved c.args.id.now c.args.branch c.self.inside.machine e.0 c.take_result.new.self c.take_result.result starved.1 e.2)
+    e.1)
+    (⊎_elim
+    (λ taken. heads_result c.args.id.now c.args.branch c.args.outcome c.self.inside.machine e.0 c.take_result.new.self c.take_result.result taken e.2)
+    (λ starved. heads_starved c.args.id.now c.args.branch c.self.inside.machine e.0 c.take_result.new.self c.take_result.result starved.1 e.2)
+    e.1)
+
+pub returns-clause-taken : goal.returns-clause-taken
+returns-clause-taken g c = subst
+    (λ (v : MachineValue). (between : MachineValue) × BranchEnds c.args.id.now c.args.branch c.args.outcome v between c.take_result.result × Forgets c.args.id.now between c.take_result.new.self)
+    c.self.view_is c.take_result.ensures.taken

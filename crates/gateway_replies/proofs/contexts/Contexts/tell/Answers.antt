@@ -1,8 +1,8 @@
-use Rattle.std.proofs.Common.{◌∙◌, Some, ap, map, sym}
+use Rattle.std.proofs.Common.{◌∙◌, Some, ap, map, refl, sym}
 use Rattle.std.specs.Arc.{arc_value}
 use Rattle.context_tree.specs.Context.{same}
 use Rattle.context_tree.specs.declared.error.Cause.TheVariants.{Given}
-use Rattle.call_contexts.specs.Standing.{WithHooks, if_cancelled, if_due}
+use Rattle.call_contexts.specs.Standing.{WithHooks, ends_call, expires_call, if_cancelled}
 use Rattle.gateway_replies.specs.declared.contexts.cancelled.CancelledBy.TheVariants.{HangUp, Drain}
 use Rattle.gateway_theory.specs.declared.cause.Cause.{Cause}
 use Rattle.gateway_replies.specs.Contexts.{ConnContext, ctx_of, told}
@@ -17,7 +17,7 @@ cancel-requires g c =
 
 pub invariant_of-self : goal.invariant_of-self
 invariant_of-self g c =
-    told_tied (peer_ties c.self.inside.peers.items) (life_ties c.self.inside.lives.items) c.self.inside.contexts.standing c.expire.new.self.standing (λ d. if_due c.in-Reached.moment d.deadline)
+    told_tied (peer_ties c.self.inside.peers.items) (life_ties c.self.inside.lives.items) c.self.inside.contexts.standing c.expire.new.self.standing (expires_call c.in-Reached.moment) (λ d. (refl, refl))
     (drained_stays (peer_ties c.self.inside.peers.items) (life_ties c.self.inside.lives.items) c.self.inside.contexts.standing c.expire.new.self.standing (ap (λ (v : WithHooks _ _ _). v.standing.drained) c.expire.ensures) c.self.invariant)
     (ap (λ (v : WithHooks _ _ _). v.standing.calls) c.expire.ensures) (ap (λ (v : WithHooks _ _ _). map (λ (d : ConnContext). d.id) v.standing.conns) c.expire.ensures) c.self.invariant
 
@@ -29,7 +29,7 @@ returns-in-Reached g c =
 
 pub invariant_of-self-in-Some : goal.invariant_of-self-in-Some
 invariant_of-self-in-Some g c =
-    told_tied (peer_ties c.self.inside.peers.items) (life_ties c.self.inside.lives.items) c.self.inside.contexts.standing c.cancel.new.self.standing (λ d. if_cancelled (same d.conn c.in-Some.conn) HangUp)
+    told_tied (peer_ties c.self.inside.peers.items) (life_ties c.self.inside.lives.items) c.self.inside.contexts.standing c.cancel.new.self.standing (λ d. ends_call (if_cancelled (same d.conn c.in-Some.conn) HangUp) d) (λ d. (refl, refl))
     (drained_stays (peer_ties c.self.inside.peers.items) (life_ties c.self.inside.lives.items) c.self.inside.contexts.standing c.cancel.new.self.standing (ap (λ (v : WithHooks _ _ _). v.standing.drained) c.cancel.ensures) c.self.invariant)
     (ap (λ (v : WithHooks _ _ _). v.standing.calls) c.cancel.ensures) (conns_ended c.cancel.new.self.standing (λ d. if_cancelled (same d.id c.in-Some.conn) HangUp) c.self.inside.contexts.standing.conns (ap (λ (v : WithHooks _ _ _). v.standing.conns) c.cancel.ensures)) c.self.invariant
 
@@ -42,7 +42,7 @@ returns-in-Some g c =
 
 pub invariant_of-self-in-Drained : goal.invariant_of-self-in-Drained
 invariant_of-self-in-Drained g c =
-    told_tied (peer_ties c.self.inside.peers.items) (life_ties c.self.inside.lives.items) c.self.inside.contexts.standing c.drain.new.self.standing (λ d. Some (Given Drain))
+    told_tied (peer_ties c.self.inside.peers.items) (life_ties c.self.inside.lives.items) c.self.inside.contexts.standing c.drain.new.self.standing (λ d. ends_call (Some (Given Drain)) d) (λ d. (refl, refl))
     (drained_by (peer_ties c.self.inside.peers.items) (life_ties c.self.inside.lives.items) c.self.inside.contexts.standing c.drain.new.self.standing (ap (λ (v : WithHooks _ _ _). v.standing) c.drain.ensures) c.self.invariant)
     (ap (λ (v : WithHooks _ _ _). v.standing.calls) c.drain.ensures) (conns_ended c.drain.new.self.standing (λ d. Some (Given Drain)) c.self.inside.contexts.standing.conns (ap (λ (v : WithHooks _ _ _). v.standing.conns) c.drain.ensures)) c.self.invariant
 

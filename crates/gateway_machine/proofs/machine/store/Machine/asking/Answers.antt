@@ -1,16 +1,16 @@
 use Rattle.std.proofs.Common.{◌≡◌, ◌++◌, ◌∷◌, [], None, Some, ap, false, sym, ◌∙◌, subst}
-use Rattle.gateway_theory.specs.Begins.{ends_first}
+use Rattle.gateway_theory.specs.Begins.{begun_live, ends_first, first_out}
 use Rattle.gateway_theory.specs.Conn.{ConnValue, next_of}
 use Rattle.gateway_theory.specs.Machine.{is_full}
 use Rattle.gateway_theory.specs.Replies.{ReplyValue}
 use Rattle.gateway_theory.specs.Step.{gone, step_to}
 use Rattle.gateway_model.specs.declared.entry.ReplyEntry.TheVariants.{Call as Calling}
 use Rattle.gateway_model.specs.Queue.{record_of}
-use Rattle.gateway_replies.specs.Contexts.{ContextsValue, KeepsOthers, by_drain, contexts_value, ends_of, is_life, is_peer, life_by, without}
+use Rattle.gateway_replies.specs.Contexts.{ContextsValue, KeepsOthers, by_drain, contexts_value, ends_of, is_life, is_peer, without}
 use Rattle.gateway_model.specs.declared.id.CallId.{CallId}
 use Rattle.gateway_theory.specs.Store.{MachineValue, conn_at, no_conn}
-use Rattle.gateway_machine.specs.Linked.{event_for}
-use Rattle.gateway_machine.proofs.LinkedLemmas.{asking_first, begun_gone, begun_is, begun_on, begun_others, first_event, known_peer, others_then}
+use Rattle.gateway_machine.specs.Linked.{event_for, life_in, none_over}
+use Rattle.gateway_machine.proofs.LinkedLemmas.{asking_first, begun_gone, begun_is, begun_on, begun_others, first_event, first_linked, known_peer, others_then}
 use Rattle.gateway_theory.specs.lemmas.Cases.{err_if}
 use Rattle.gateway_theory.specs.lemmas.StoreLemmas.{conn_is}
 use Rattle.gateway_machine.proofs.machine.store.Machine.asking.Goals as goal
@@ -57,14 +57,14 @@ returns-in_ok-reply-in-Some-clause-ok g c =
     let first : c.ending.result ≡ ends_first s.moment s.drained c.args.asked = c.ending.ensures ∙ ap (event_for c.self.inside.moment c.next_id-id.result) c.in_ok-begin.ensures.ok
     ∙ first_event c.self.inside.moment c.next_id-id.result c.args.asked c.args.contexts.now s.drained (ap (λ d. is_life d c.args.contexts.now.calls) id_is ∙ c.requires.fresh)
     (ap (λ (d : CallId). ends_of c.args.contexts.now d.conn) id_is ∙ c.requires.heard) ∙ ap (λ (m : MachineValue). ends_first m.moment s.drained c.args.asked) c.self.view_is in
-    let entry : Calling (record_of c.args.asked (c.in-Some.event ∷ [])) ≡ c.in_ok-reply-in-Some.reply.entry =
+    let entry : Calling (record_of c.args.asked [] (c.in-Some.event ∷ [])) ≡ c.in_ok-reply-in-Some.reply.entry =
     ap (λ r. Calling r) (sym c.in_ok-end-in-Some.ensures) ∙ sym (ap (λ (r : ReplyValue). r.entry) c.in_ok-reply-in-Some.ensures.reply) in (
       ap (λ (r : ReplyValue). r.id) c.in_ok-reply-in-Some.ensures.reply ∙ id_is,
       asking_first c.args.index c.args.asked s (Some c.in-Some.event) full (sym c.in-Some.is ∙ first) ∙ ap (λ e. step_to gone (Some e) []) entry,
     )
 
-pub returns-in-None-clause-ok : goal.returns-in-None-clause-ok
-returns-in-None-clause-ok g c =
+pub returns-in_ok-start_first-in-None-clause-ok : goal.returns-in_ok-start_first-in-None-clause-ok
+returns-in_ok-start_first-in-None-clause-ok g c =
     let s : MachineValue = c.args.self.now in
     let conn : c.index-conn.result.now ≡ conn_at c.args.index s.conns =
     conn_is c.self.inside.conns.items s.conns c.args.index c.index-conn.result.now no_conn (ap (λ (m : MachineValue). m.conns) c.self.view_is) c.requires.there c.index-conn.ensures in
@@ -75,14 +75,34 @@ returns-in-None-clause-ok g c =
     (ap (λ (d : CallId). ends_of c.args.contexts.now d.conn) id_is ∙ c.requires.heard) ∙ ap (λ (m : MachineValue). ends_first m.moment s.drained c.args.asked) c.self.view_is in
     asking_first c.args.index c.args.asked s None full (sym c.in-None.is ∙ first)
 
-pub returns-in-None-clause-contexts : goal.returns-in-None-clause-contexts
-returns-in-None-clause-contexts g c =
+-- what stands of the contexts as the first branches start
+pub start_first-requires-clause-known : goal.start_first-requires-clause-known
+start_first-requires-clause-known g c =
+    ap (λ (x : ContextsValue). is_life c.next_id-id.result x.calls) c.in_ok-begin.ensures.ok ∙ begun_is _ c.next_id-id.result c.args.asked c.args.contexts.now
+
+pub returns-in_ok-start_first-in-None-clause-contexts : goal.returns-in_ok-start_first-in-None-clause-contexts
+returns-in_ok-start_first-in-None-clause-contexts g c =
     let s : MachineValue = c.args.self.now in
     let conn : c.index-conn.result.now ≡ conn_at c.args.index s.conns =
     conn_is c.self.inside.conns.items s.conns c.args.index c.index-conn.result.now no_conn (ap (λ (m : MachineValue). m.conns) c.self.view_is) c.requires.there c.index-conn.ensures in
     let id_is : c.next_id-id.result ≡ next_of (conn_at c.args.index s.conns) = c.next_id-id.ensures ∙ ap next_of conn in
+    let fresh : is_life c.next_id-id.result c.args.contexts.now.calls ≡ false = ap (λ d. is_life d c.args.contexts.now.calls) id_is ∙ c.requires.fresh in
     let heard : ends_of c.args.contexts.now c.next_id-id.result.conn ≡ by_drain s.drained = ap (λ (d : CallId). ends_of c.args.contexts.now d.conn) id_is ∙ c.requires.heard in
     let first : c.ending.result ≡ ends_first c.self.inside.moment s.drained c.args.asked = c.ending.ensures ∙ ap (event_for c.self.inside.moment c.next_id-id.result) c.in_ok-begin.ensures.ok
-    ∙ first_event c.self.inside.moment c.next_id-id.result c.args.asked c.args.contexts.now s.drained (ap (λ d. is_life d c.args.contexts.now.calls) id_is ∙ c.requires.fresh) heard in
-    c.in_ok-begin.ensures.ok ∙ begun_on c.self.inside.moment c.next_id-id.result c.args.asked c.args.contexts.now s.drained heard (sym first ∙ c.in-None.is)
-    ∙ ap (λ d. contexts_value c.args.contexts.now.drained c.args.contexts.now.conns (c.args.contexts.now.calls ++ life_by None d c.args.asked ∷ [])) id_is
+    ∙ first_event c.self.inside.moment c.next_id-id.result c.args.asked c.args.contexts.now s.drained fresh heard in
+    first_linked c.self.inside.moment c.next_id-id.result c.args.asked c.args.contexts.now c.begin.new.self c.start_first.new.contexts fresh
+    (c.in_ok-begin.ensures.ok ∙ begun_on c.self.inside.moment c.next_id-id.result c.args.asked c.args.contexts.now s.drained heard (sym first ∙ c.in-None.is))
+    c.in_ok-start_first-in-None.ensures.ok
+    ∙ ap (λ d. contexts_value c.args.contexts.now.drained c.args.contexts.now.conns (c.args.contexts.now.calls ++ life_in none_over d (first_out c.args.asked) (begun_live c.self.inside.moment d c.args.asked) ∷ [])) id_is
+    ∙ ap (λ (m : MachineValue). contexts_value c.args.contexts.now.drained c.args.contexts.now.conns
+    (c.args.contexts.now.calls ++ life_in none_over (next_of (conn_at c.args.index s.conns)) (first_out c.args.asked) (begun_live m.moment (next_of (conn_at c.args.index s.conns)) c.args.asked) ∷ [])) c.self.view_is
+
+pub returns-in_err-start_first-in-None-clause-others : goal.returns-in_err-start_first-in-None-clause-others
+returns-in_err-start_first-in-None-clause-others g c =
+    let s : MachineValue = c.args.self.now in
+    let conn : c.index-conn.result.now ≡ conn_at c.args.index s.conns =
+    conn_is c.self.inside.conns.items s.conns c.args.index c.index-conn.result.now no_conn (ap (λ (m : MachineValue). m.conns) c.self.view_is) c.requires.there c.index-conn.ensures in
+    let id_is : c.next_id-id.result ≡ next_of (conn_at c.args.index s.conns) = c.next_id-id.ensures ∙ ap next_of conn in
+    err_if c.from_residual-in_err-start_first-in-None.result (subst (λ n. KeepsOthers n c.args.contexts.now c.start_first.new.contexts) (ap (λ (d : CallId). d.conn) id_is)
+    (others_then c.next_id-id.result.conn c.args.contexts.now c.begin.new.self c.start_first.new.contexts
+    (subst (KeepsOthers c.next_id-id.result.conn c.args.contexts.now) (sym c.in_ok-begin.ensures.ok) (begun_others _ c.next_id-id.result c.args.asked c.args.contexts.now)) c.start_first.ensures.others))

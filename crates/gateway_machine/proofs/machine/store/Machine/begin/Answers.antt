@@ -1,4 +1,5 @@
-use Rattle.std.proofs.Common.{◌≡◌, ◌++◌, [], ◌∷◌, None, ap, ◌∙◌, map}
+use Rattle.gateway_machine.specs.KeptCall.{IsBegun}
+use Rattle.std.proofs.Common.{subst, ◌≡◌, ◌++◌, [], ◌∷◌, None, ap, ◌∙◌, map}
 use Rattle.std.specs.Prelude.{slice_set, slice_index_or}
 use Rattle.gateway_theory.specs.Begins.{begins}
 use Rattle.gateway_theory.specs.Conn.{ConnValue, added, next_of}
@@ -24,6 +25,7 @@ returns-clause-ok c =
     (c.start_all.ensures.jobs_are ∙ ap (λ xs. map (λ (j : HandedJob). j.job) xs ++ map (job_at c.self.inside.moment) c.in_ok-call.first.items) c.in_ok-reserve-2.ensures.items)
     ∙ ap (λ (m : MachineValue). machine_value m.moment m.drained (slice_set m.conns c.args.index (added None was)) (m.calls ++ c.in_ok-call.call ∷ [])
     (m.jobs ++ map (job_at m.moment) c.in_ok-call.first.items)) c.self.view_is
-    ∙ begun_at s c.args.index c.next_id-id.result c.args.asked c.in_ok-call.call c.in_ok-call.first.items was c.requires its c.in_ok-call.ensures
+    ∙ begun_at s c.args.index c.next_id-id.result c.args.asked c.in_ok-call.call c.in_ok-call.first.items was c.requires its
+    (subst (λ m. IsBegun m c.next_id-id.result c.args.asked c.in_ok-call.call c.in_ok-call.first.items) (ap (λ (m : MachineValue). m.moment) c.self.view_is) c.in_ok-call.ensures)
     (c.index_mut.ensures.value ∙ ap (λ (m : MachineValue). slice_index_or m.conns c.args.index was) c.self.view_is)
     ∙ ap (λ n. entered_at c.args.index (begins s.moment None n c.args.asked) s) its

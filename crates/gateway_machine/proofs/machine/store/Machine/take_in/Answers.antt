@@ -1,10 +1,11 @@
-use Rattle.std.proofs.Common.{None, ◌≡◌, ◌++◌, ◌∷◌, [], ap, false, sym, ◌∙◌, subst, arith}
+use Rattle.std.proofs.Common.{◌≡◌, ℕ, ◌++◌, ◌∷◌, [], ap, false, sym, ◌∙◌, subst, arith}
 use Rattle.gateway_model.specs.declared.id.CallId.{CallId}
 use Rattle.gateway_model.specs.Past.{ArrivedCall}
 use Rattle.gateway_model.specs.Arrival.{arrival_of}
 use Rattle.gateway_theory.specs.Conn.{next_of}
-use Rattle.gateway_replies.specs.Contexts.{ContextsValue, contexts_value, ends_of, life_by}
-use Rattle.gateway_machine.specs.Linked.{ComesWith, IsLinkedBut, linked}
+use Rattle.gateway_replies.specs.Contexts.{ContextsValue, contexts_value, ends_of}
+use Rattle.gateway_machine.specs.Linked.{ComesWith, IsLinkedBut, life_in, linked, none_over}
+use Rattle.gateway_theory.specs.Begins.{begun_live, first_out}
 use Rattle.gateway_machine.proofs.LinkedLemmas.{answered_linked, begun_linked, comes_others, others_but}
 use Rattle.gateway_theory.specs.lemmas.Cases.{err_if}
 use Rattle.gateway_theory.specs.Enters.{arriving_at}
@@ -16,8 +17,8 @@ use Rattle.gateway_theory.specs.Store.{MachineValue, conn_at}
 use Rattle.gateway_theory.specs.lemmas.Bringing.{asks_one}
 use Rattle.gateway_machine.proofs.machine.store.Machine.take_in.Goals as goal
 
-abbrev begun_at : CallId → ArrivedCall → ContextsValue → ContextsValue
-begun_at id a x = contexts_value x.drained x.conns (x.calls ++ life_by None id a ∷ [])
+abbrev begun_at : ℕ → CallId → ArrivedCall → ContextsValue → ContextsValue
+begun_at moment id a x = contexts_value x.drained x.conns (x.calls ++ life_in none_over id (first_out a) (begun_live moment id a) ∷ [])
 
 pub returns-in_ok-begin_counted-in-Begins-clause-bound : goal.returns-in_ok-begin_counted-in-Begins-clause-bound
 returns-in_ok-begin_counted-in-Begins-clause-bound g c =
@@ -34,23 +35,23 @@ pub returns-in_ok-answer-in-Answered-clause-linked : goal.returns-in_ok-answer-i
 returns-in_ok-answer-in-Answered-clause-linked g c =
     let s : MachineValue = c.args.self.now in
     let same : c.arriving.new.contexts ≡ c.args.contexts.now =
-    subst (λ a. ComesWith a (next_of (conn_at c.args.index s.conns)) c.args.contexts.now c.arriving.new.contexts) c.in-Answered.is c.in_ok-reply.ensures.contexts in
+    subst (λ a. ComesWith a (next_of (conn_at c.args.index s.conns)) s.moment c.args.contexts.now c.arriving.new.contexts) c.in-Answered.is c.in_ok-reply.ensures.contexts in
     same ∙ c.requires.linked ∙ sym (ap (linked c.args.contexts.now) c.in_ok-answer-in-Answered.ensures.ok ∙ answered_linked (ends_of c.args.contexts.now) c.args.index c.in-Answered.reply.entry s c.requires.there)
 
 pub returns-in_ok-begin_counted-in-Begins-clause-linked : goal.returns-in_ok-begin_counted-in-Begins-clause-linked
 returns-in_ok-begin_counted-in-Begins-clause-linked g c =
     let s : MachineValue = c.args.self.now in
-    let more : c.arriving.new.contexts ≡ begun_at (next_of (conn_at c.args.index s.conns)) c.in-Begins.asked c.args.contexts.now =
-    subst (λ a. ComesWith a (next_of (conn_at c.args.index s.conns)) c.args.contexts.now c.arriving.new.contexts) c.in-Begins.is c.in_ok-reply.ensures.contexts in
-    more ∙ ap (begun_at (next_of (conn_at c.args.index s.conns)) c.in-Begins.asked) c.requires.linked ∙ begun_linked (ends_of c.args.contexts.now) c.args.index c.in-Begins.asked s c.requires.there
+    let more : c.arriving.new.contexts ≡ begun_at s.moment (next_of (conn_at c.args.index s.conns)) c.in-Begins.asked c.args.contexts.now =
+    subst (λ a. ComesWith a (next_of (conn_at c.args.index s.conns)) s.moment c.args.contexts.now c.arriving.new.contexts) c.in-Begins.is c.in_ok-reply.ensures.contexts in
+    more ∙ ap (begun_at s.moment (next_of (conn_at c.args.index s.conns)) c.in-Begins.asked) c.requires.linked ∙ begun_linked (ends_of c.args.contexts.now) c.args.index c.in-Begins.asked s c.requires.there
     ∙ sym (ap (linked c.args.contexts.now) c.in_ok-begin_counted-in-Begins.ensures.ok)
 
 pub returns-in_err-begin_counted-in-Begins-clause-others : goal.returns-in_err-begin_counted-in-Begins-clause-others
 returns-in_err-begin_counted-in-Begins-clause-others g c =
     let s : MachineValue = c.args.self.now in
-    let more : c.arriving.new.contexts ≡ begun_at (next_of (conn_at c.args.index s.conns)) c.in-Begins.asked c.args.contexts.now =
-    subst (λ a. ComesWith a (next_of (conn_at c.args.index s.conns)) c.args.contexts.now c.arriving.new.contexts) c.in-Begins.is c.in_ok-reply.ensures.contexts in
+    let more : c.arriving.new.contexts ≡ begun_at s.moment (next_of (conn_at c.args.index s.conns)) c.in-Begins.asked c.args.contexts.now =
+    subst (λ a. ComesWith a (next_of (conn_at c.args.index s.conns)) s.moment c.args.contexts.now c.arriving.new.contexts) c.in-Begins.is c.in_ok-reply.ensures.contexts in
     err_if c.from_residual-in_err-begin_counted-in-Begins.result
     (subst (IsLinkedBut (ends_of c.args.contexts.now) (conn_at c.args.index s.conns).number c.arriving.new.contexts) (sym c.in_err-begin_counted-in-Begins.ensures.err)
     (others_but (ends_of c.args.contexts.now) (conn_at c.args.index s.conns).number s c.args.contexts.now c.arriving.new.contexts c.requires.linked
-    (comes_others (next_of (conn_at c.args.index s.conns)) c.in-Begins.asked c.args.contexts.now c.arriving.new.contexts more)))
+    (comes_others (life_in none_over (next_of (conn_at c.args.index s.conns)) (first_out c.in-Begins.asked) (begun_live s.moment (next_of (conn_at c.args.index s.conns)) c.in-Begins.asked)) c.args.contexts.now c.arriving.new.contexts more)))

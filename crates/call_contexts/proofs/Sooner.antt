@@ -1,0 +1,124 @@
+-- The branch of the least deadline, and of equal ones the first.
+use Rattle.std.proofs.Common.{◌≡◌, refl, sym, ap, ◌∙◌, arith, ℕ, List, [], ◌∷◌, Option, Some, None, true, false, ⊎_elim, subst}
+use Rattle.std.specs.Prelude.{All, if◌then◌else◌, is_some, nat_le, map, option_map, option_and_then}
+use Rattle.std.specs.Option.{option_map_or}
+use Rattle.std.proofs.lemmas.Bool.{cases_Bool}
+use Rattle.std.proofs.lemmas.List.Elements.{All-head, All-tail}
+use Rattle.std.proofs.lemmas.Option.{same_Some}
+use Rattle.context_tree.specs.declared.node.Kind.TheVariants.{Deadline}
+use Rattle.context_tree.specs.Context.{Id, same, held}
+use Rattle.context_tree.specs.Tree.{TreeValue}
+use Rattle.after_funcs.specs.declared.callbacks.AfterFuncs.{AfterFuncs}
+use Rattle.call_contexts.specs.declared.life.Life.{Life}
+use Rattle.call_contexts.specs.declared.twig.Twig.{Twig}
+use Rattle.call_contexts.specs.Standing.{Branch, Slots, branch_before, cause_in, ended_branch, seen_branch, seen_branches, seen_call, sooner_branch, first_branch, if_before}
+use Rattle.call_contexts.specs.Sound.{IsSound, IsTwig, sooner_twig, soonest_of, life_at, why}
+use Rattle.call_contexts.proofs.Trees.{same_true, shown}
+
+-- the first of what was passed and of the rest
+abbrev pub merged : Option Twig → Option Twig → Option Twig
+merged None rest = rest
+merged (Some t) rest = Some (sooner_twig t rest)
+
+le_through : (a b c : ℕ) → nat_le a b ≡ true → nat_le b c ≡ true → nat_le a c ≡ true
+le_through a b c ab bc = grind (arith, ab, bc)
+
+not_through : (a b c : ℕ) → nat_le a b ≡ false → nat_le b c ≡ false → nat_le a c ≡ false
+not_through a b c ab bc = grind (arith, ab, bc)
+
+not_le : (a b c : ℕ) → nat_le a b ≡ false → nat_le a c ≡ true → nat_le b c ≡ true
+not_le a b c ab ac = grind (arith, ab, ac)
+
+-- the first of three
+three : (x y z : Twig) → sooner_twig x (Some (sooner_twig y (Some z))) ≡ sooner_twig (sooner_twig x (Some y)) (Some z)
+three x y z = ⊎_elim
+    (λ (xy : nat_le x.at y.at ≡ true). ⊎_elim
+    (λ (yz : nat_le y.at z.at ≡ true). rw (xy, yz, xy, le_through x.at y.at z.at xy yz) refl)
+    (λ (zy : nat_le y.at z.at ≡ false). rw (zy, xy) refl)
+    (cases_Bool (nat_le y.at z.at)))
+    (λ (yx : nat_le x.at y.at ≡ false). ⊎_elim
+    (λ (yz : nat_le y.at z.at ≡ true). rw (yz, yx, yz) refl)
+    (λ (zy : nat_le y.at z.at ≡ false). rw (zy, yx, zy, not_through x.at y.at z.at yx zy) refl)
+    (cases_Bool (nat_le y.at z.at)))
+    (cases_Bool (nat_le x.at y.at))
+
+step : (acc : Option Twig) (t : Twig) (rest : Option Twig) → merged acc (Some (sooner_twig t rest)) ≡ merged (Some (option_map_or (λ u. sooner_twig u (Some t)) acc t)) rest
+step None t rest = refl
+step (Some x) t None = refl
+step (Some x) t (Some z) = ap (λ u. Some u) (three x t z)
+
+-- the loop passes a branch of the call
+pub taken : (call : Id) (acc : Option Twig) (t : Twig) (ts : List Twig) → same t.call call ≡ true
+    → merged acc (soonest_of call (t ∷ ts)) ≡ merged (Some (option_map_or (λ u. sooner_twig u (Some t)) acc t)) (soonest_of call ts)
+taken call acc t ts is = rw is (step acc t (soonest_of call ts))
+
+-- ---- what is seen
+
+module _ {C V : Type 0} (slots : Slots C V) (id : Id) where
+  sooner_seen : (t : Twig) (o : Option Twig) → seen_branch slots (sooner_twig t o) ≡ sooner_branch (seen_branch slots t) (option_map (seen_branch slots) o)
+  sooner_seen t None = refl
+  sooner_seen t (Some u) = ⊎_elim (λ (y : nat_le t.at u.at ≡ true). rw y refl) (λ (n : nat_le t.at u.at ≡ false). rw n refl) (cases_Bool (nat_le t.at u.at))
+
+  soonest_seen : (ts : List Twig) → first_branch (seen_branches slots ts id) ≡ option_map (seen_branch slots) (soonest_of id ts)
+  soonest_seen [] = refl
+  soonest_seen (t ∷ ts) = ⊎_elim
+      (λ (y : same t.call id ≡ true). rw y (ap (λ o. Some (sooner_branch (seen_branch slots t) o)) (soonest_seen ts) ∙ ap (λ b. Some b) (sym (sooner_seen t (soonest_of id ts)))))
+      (λ (n : same t.call id ≡ false). rw n (soonest_seen ts))
+      (cases_Bool (same t.call id))
+
+  -- the same of what is kept, in whose place the tree tells what ended it
+  abbrev pub kept_before : Option ℕ → Option Twig → Option ℕ
+  kept_before call o = option_and_then (λ (t : Twig). if is_some (cause_in slots t.ctx) then if_before call t.at t.branch else None) o
+
+  -- of the first call of that context
+  pub ended_found : (ts : List Twig) (l : Life) (ls : List Life) → life_at id ls ≡ Some l
+      → ended_branch id (map (seen_call slots ts) ls) ≡ kept_before l.deadline (soonest_of id ts)
+  ended_found ts l [] found = cc
+  ended_found ts l (m ∷ ms) found = ⊎_elim
+      (λ (y : same m.ctx id ≡ true).
+      rw y (ap (λ x. branch_before m.deadline (seen_branches slots ts x)) (same_true m.ctx id y)
+      ∙ ap (option_and_then (λ (b : Branch C). if is_some b.ended then if_before m.deadline b.deadline b.branch else None)) (soonest_seen ts)
+      ∙ through m.deadline (soonest_of id ts)
+      ∙ ap (λ (k : Life). kept_before k.deadline (soonest_of id ts)) (same_Some m l (rw y at found))))
+      (λ (n : same m.ctx id ≡ false). rw n (ended_found ts l ms (rw n at found)))
+      (cases_Bool (same m.ctx id))
+    where
+      through : (d : Option ℕ) (o : Option Twig)
+          → option_and_then (λ (b : Branch C). if is_some b.ended then if_before d b.deadline b.branch else None) (option_map (seen_branch slots) o) ≡ kept_before d o
+      through d None = refl
+      through d (Some t) = refl
+
+  pub ended_none : (ts : List Twig) (ls : List Life) → life_at id ls ≡ None → ended_branch id (map (seen_call slots ts) ls) ≡ None
+  ended_none ts [] none = refl
+  ended_none ts (m ∷ ms) none = ⊎_elim
+      (λ (y : same m.ctx id ≡ true). let bad : Some m ≡ None = rw y at none in cc)
+      (λ (n : same m.ctx id ≡ false). rw n (ended_none ts ms (rw n at none)))
+      (cases_Bool (same m.ctx id))
+
+-- the soonest is one of them
+pub soonest_all : (P : Twig → Type 0) (id : Id) (ts : List Twig) (t : Twig) → All P ts → soonest_of id ts ≡ Some t → P t
+soonest_all P id [] t all is = cc
+soonest_all P id (u ∷ ts) t all is = ⊎_elim
+    (λ (y : same u.call id ≡ true). by (soonest_of id ts) refl (soonest_all P id ts) (rw y at is))
+    (λ (n : same u.call id ≡ false). soonest_all P id ts t (All-tail P u ts all) (rw n at is))
+    (cases_Bool (same u.call id))
+  where
+    by : (o : Option Twig) → soonest_of id ts ≡ o → ((w : Twig) → All P ts → soonest_of id ts ≡ Some w → P w) → Some (sooner_twig u o) ≡ Some t → P t
+    by None o_is rest e = subst P (same_Some u t e) (All-head P u ts all)
+    by (Some w) o_is rest e = ⊎_elim
+        (λ (le : nat_le u.at w.at ≡ true). subst P (same_Some u t (rw le at e)) (All-head P u ts all))
+        (λ (gt : nat_le u.at w.at ≡ false). subst P (same_Some w t (rw gt at e)) (rest w (All-tail P u ts all) o_is))
+        (cases_Bool (nat_le u.at w.at))
+
+-- ---- the tree tells what ended it
+
+module _ {C V H : Type 0} {f : AfterFuncs H} {base : Id} {conns : List Id} {calls : List Life} {twigs : List Twig} {old : TreeValue C V} (s : IsSound old f twigs base conns calls)
+    (id : Id) (t : Twig) (found : soonest_of id twigs ≡ Some t) where
+  it_is : IsTwig s.past calls t
+  it_is = soonest_all (IsTwig s.past calls) id twigs t s.twigs_are found
+
+  pub soonest_held : is_some (held t.ctx s.past) ≡ true
+  soonest_held = ap is_some it_is.0
+
+  pub soonest_told : why t.ctx s.past ≡ cause_in old.slots t.ctx
+  soonest_told = sym (shown old s.past t.ctx (Deadline t.call t.at None) s.tree_is it_is.0)

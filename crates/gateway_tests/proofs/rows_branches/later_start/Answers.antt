@@ -1,0 +1,26 @@
+use Rattle.std.proofs.Common.{refl}
+use Rattle.http_pieces.specs.Fields.{same_without_case}
+use Rattle.call_plan.specs.Plan.{join_text}
+use Rattle.gateway_model.specs.Arrival.{refusal_reply}
+use Rattle.gateway_tests.proofs.OnLiterals.{replies_on_literals}
+use Rattle.gateway_tests.proofs.rows_branches.later_start.Goals as goal
+
+pub returns-clause-before : goal.returns-clause-before
+unfolding same_without_case join_text refusal_reply
+returns-clause-before c = refl
+
+pub returns-clause-replies : goal.returns-clause-replies
+unfolding same_without_case join_text refusal_reply
+returns-clause-replies c = refl
+
+pub returns-clause-bytes : goal.returns-clause-bytes
+unfolding replies_on_literals
+returns-clause-bytes c = refl
+
+pub returns-clause-starts : goal.returns-clause-starts
+unfolding same_without_case join_text refusal_reply
+returns-clause-starts c = refl
+
+pub returns-clause-deadlines : goal.returns-clause-deadlines
+unfolding same_without_case join_text refusal_reply
+returns-clause-deadlines c = refl
