@@ -82,11 +82,11 @@ class Room:
             given.seek(0)
             self.ends(what, self.start(["replay"], stdin=given, **how), wanted, printed)
 
-    def serve(self, plans, workers=1, streams=None, **how):
+    def serve(self, plans, workers=1, streams=None, log=False, **how):
         """Starts the gateway, and returns its run and the port that it will listen at."""
         port = free_port()
         words = serve_words(port, self.file("plans", plans), workers, streams)
-        return self.start(words, **how), port
+        return self.start(words + (["--log"] if log else []), **how), port
 
     def end_all(self):
         for run in self.started:

@@ -324,11 +324,11 @@ impl<H: ReplyHook + Drop, L: Ledger, J: Ledger, K: Ledger> Book<H, L, J, K> {
         known_law();
     }
 
-    /// Whether a job waits to be taken.
-    pub fn has_job(&self) -> bool
-        ensures { IsTrue result ↔ (0 < length self.now.core.machine.jobs) }
+    /// How many jobs wait to be taken.
+    pub fn waiting_jobs(&self) -> usize
+        ensures { result ≡ length self.now.core.machine.jobs }
     {
-        self.core.has_job()
+        self.core.waiting_jobs()
     }
 
     /// Whether who writes the connection's replies has something to do: a reply can be taken, or none will come any more.
@@ -342,7 +342,7 @@ impl<H: ReplyHook + Drop, L: Ledger, J: Ledger, K: Ledger> Book<H, L, J, K> {
     pub fn is_asking(&self) -> bool
         ensures { IsTrue result ↔ ((self.now.results < self.now.jobs) ⊎ (0 < length self.now.core.machine.jobs)) }
     {
-        self.results.total() < self.jobs.total() || self.core.has_job()
+        self.results.total() < self.jobs.total() || 0 < self.core.waiting_jobs()
     }
 
     /// How the results were seen. Their number is the total of results.

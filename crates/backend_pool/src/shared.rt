@@ -98,7 +98,7 @@ impl<H: ReplyHook + Drop, L: Ledger, J: Ledger, K: Ledger> Shared<H, L, J, K> {
 
     /// Lets the lock go, and where a job waits wakes one worker, if one sleeps, and the clock's side, if that does.
     pub(crate) fn pass_on(&self, state: MutexGuard<'_, State<H, L, J, K>>) {
-        let job_waits = state.book.has_job();
+        let job_waits = 0 < state.book.waiting_jobs();
         let wakes_worker = job_waits && 0 < state.idle_workers;
         let wakes_clock = job_waits && state.clock_sleeps;
         drop(state);

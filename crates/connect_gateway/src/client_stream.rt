@@ -1,6 +1,6 @@
+use crate::watch::Watch;
 use std::io::Read;
 use std::net::{Shutdown, TcpStream};
-use std::sync::atomic::{AtomicU64, Ordering};
 use std::sync::{Arc, Condvar, CondvarTimeouts, Mutex, Wait};
 use std::time::{Clock, Duration};
 
@@ -28,23 +28,26 @@ pub(crate) struct ClientStream {
     is_read: Mutex<bool>,
     // the writing thread waits here for that
     reading: Condvar,
-    // how many streams linger
-    lingering: Arc<AtomicU64>,
+    watch: Arc<Watch>,
 }
 
 impl ClientStream {
-    /// A stream to be read and written. `lingering` counts for all streams how many linger.
-    pub(crate) fn new(stream: TcpStream, lingering: Arc<AtomicU64>) -> ClientStream {
+    /// A stream to be read and written. `watch` counts for all streams how many linger.
+    pub(crate) fn new(stream: TcpStream, watch: Arc<Watch>) -> ClientStream {
         ClientStream {
             stream,
             is_read: Mutex::new(false),
             reading: Condvar::new(),
-            lingering,
+            watch,
         }
     }
 
     pub(crate) fn stream(&self) -> &TcpStream {
         &self.stream
+    }
+
+    pub(crate) fn watch(&self) -> &Watch {
+        &self.watch
     }
 
     /// Reads and drops what still comes, to the end, and tells the writing thread that nothing more does.
@@ -56,14 +59,13 @@ impl ClientStream {
 
     /// Ends the stream behind the last reply, once its client has ended or has had its time.
     pub(crate) fn end<R: Clock + Wait>(&self, rt: &R) {
-        let before = self.lingering.fetch_add(1, Ordering::SeqCst);
-        if before < MOST_LINGERING {
+        if self.watch.lingers() < MOST_LINGERING {
             // the client may have ended the stream before
             let _ = self.stream.shutdown(Shutdown::Write);
             self.wait_until_read(rt);
         }
         self.cut();
-        self.lingering.fetch_sub(1, Ordering::SeqCst);
+        self.watch.lingered();
     }
 
     /// Shuts the stream down both ways, which ends its reading too.

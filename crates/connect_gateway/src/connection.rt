@@ -2,12 +2,14 @@ ghost use Rattle.std.specs.Prelude.{◌≡◌};
 
 use crate::client_stream::ClientStream;
 use crate::plain_hook::{PlainHook, stock};
+use crate::watch::{Telling, Watch};
 use backend_pool::Shared;
 use connections::{answer_side, read_side};
 use gateway_core::{ConnId, Stock};
 use std::alloc::Global;
+use std::io::Eprint;
 use std::net::{Net, TcpListener, TcpStream};
-use std::sync::atomic::{AtomicBool, AtomicU64, Ordering};
+use std::sync::atomic::{AtomicBool, Ordering};
 use std::sync::ledger::{Ledger, Share};
 use std::sync::{Arc, Wait};
 use std::thread::{self, JoinHandle, Threads};
@@ -38,6 +40,7 @@ impl Connection {
     pub(crate) fn start<
         R: Net<Listener = TcpListener, Stream = TcpStream>
             + Clock
+            + Eprint
             + Threads
             + Wait
             + Copy
@@ -53,7 +56,7 @@ impl Connection {
         shared: &Arc<Shared<PlainHook, L, J, K>>,
         stream: TcpStream,
         bytes: Share<L>,
-        lingering: &Arc<AtomicU64>,
+        watch: &Arc<Watch>,
     ) -> Option<Connection>
         requires { bytes.parts ≡ 1 }
     {
@@ -62,9 +65,10 @@ impl Connection {
         let over = Arc::new(alloc, AtomicBool::new(false)).ok()?;
         let at_end = Arc::try_clone(&over).ok()?;
         let gateway = Arc::try_clone(shared).ok()?;
-        let client = ClientStream::new(stream, Arc::try_clone(lingering).ok()?);
+        let client = ClientStream::new(stream, Arc::try_clone(watch).ok()?);
         let client = Arc::new(alloc, client).ok()?;
         let conn = open(&rt, shared, hooks)?;
+        watch.opened();
         let job = move ||
             requires { bytes.parts ≡ 1 }
         {
@@ -75,6 +79,7 @@ impl Connection {
             Ok(thread) => Some(Connection { thread, over }),
             Err(_) => {
                 close(&rt, shared, conn);
+                watch.closed();
                 None
             }
         }
@@ -105,7 +110,7 @@ fn close<R: Wait, L: Ledger, J: Ledger, K: Ledger>(
 /// Serves a connection by its two sides: reads here, and writes in a thread of its own. Where there is no such thread to be
 /// had, it closes the connection and its stream at once.
 fn serve_stream<
-    R: Clock + Threads + Wait + Copy + Send + Sync + 'static,
+    R: Clock + Eprint + Threads + Wait + Copy + Send + Sync + 'static,
     L: Ledger + Send + Sync + 'static,
     J: Ledger + Send + Sync + 'static,
     K: Ledger + Send + Sync + 'static,
@@ -120,6 +125,7 @@ fn serve_stream<
 {
     let Some(writer) = start_writer(rt, shared, conn, client) else {
         close(&rt, shared, conn);
+        client.watch().closed();
         client.cut();
         return;
     };
@@ -131,7 +137,7 @@ fn serve_stream<
 
 /// Starts the thread that writes the replies of a connection, and ends its stream behind the last.
 fn start_writer<
-    R: Clock + Threads + Wait + Copy + Send + 'static,
+    R: Clock + Eprint + Threads + Wait + Copy + Send + 'static,
     L: Ledger + Send + Sync + 'static,
     J: Ledger + Send + Sync + 'static,
     K: Ledger + Send + Sync + 'static,
@@ -145,7 +151,12 @@ fn start_writer<
     let client = Arc::try_clone(client).ok()?;
     let job = move || {
         let mut writer = client.stream();
-        answer_side(&rt, &mut writer, &*gateway, conn);
+        let mut telling = Telling {
+            rt: &rt,
+            watch: client.watch(),
+        };
+        answer_side(&rt, &mut writer, &*gateway, conn, &mut telling);
+        client.watch().closed();
         client.end(&rt);
     };
     thread::spawn(&rt, job).ok()

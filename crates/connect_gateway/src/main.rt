@@ -14,12 +14,13 @@ mod plain_hook;
 mod replay;
 mod serve;
 mod task;
+mod watch;
 mod words;
 
 pub use fault::Fault;
 pub use input::{read_input, read_plan_input};
 use std::fs::Files;
-use std::io;
+use std::io::{self, Eprint};
 use std::net::{Net, TcpListener, TcpStream};
 use std::process::ExitCode;
 use std::rt::Env;
@@ -44,6 +45,7 @@ fn main(rt: HostRuntime) -> ExitCode {
 fn run_words<
     R: Net<Listener = TcpListener, Stream = TcpStream>
         + Print
+        + Eprint
         + Input
         + Env
         + AllocGlobal

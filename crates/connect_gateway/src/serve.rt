@@ -1,20 +1,19 @@
 ghost use Rattle.std.specs.Prelude.{◌≡◌, ◌<◌};
 
-use crate::clock::SinceStart;
 use crate::connection::Connection;
 use crate::crew::{join_all, start_crew};
 use crate::fault::Fault;
 use crate::input::read_plan_input;
 use crate::plain_hook::PlainHook;
 use crate::task::Service;
+use crate::watch::Watch;
 use backend_pool::{Blanks, Book, Shared, Shares, WorkerShares};
 use call_plan::Plans;
 use std::alloc::Global;
 use std::fs::{File, Files};
-use std::io;
+use std::io::{self, Eprint};
 use std::marker::Brand;
 use std::net::{Net, TcpListener, TcpStream};
-use std::sync::atomic::AtomicU64;
 use std::sync::ledger::{Blank, Ledger, Share};
 use std::sync::{Arc, Wait};
 use std::thread::{self, Threads};
@@ -31,6 +30,7 @@ pub(crate) fn serve<
         + AllocGlobal
         + Files
         + Clock
+        + Eprint
         + Threads
         + Wait
         + Copy
@@ -51,7 +51,8 @@ pub(crate) fn serve<
         .connections
         .unwrap_or(MOST_STREAMS)
         .min(MOST_STREAMS);
-    serve_with::<R, Brand, Brand, Brand>(rt, alloc, plans, blanks, listener, workers, most)
+    let told = service.log;
+    serve_with::<R, Brand, Brand, Brand>(rt, alloc, plans, blanks, listener, workers, most, told)
 }
 
 fn read_plan_file<R: Files>(rt: &R, alloc: Global, path: &str) -> Result<Plans, Fault> {
@@ -59,10 +60,12 @@ fn read_plan_file<R: Files>(rt: &R, alloc: Global, path: &str) -> Result<Plans, 
     read_plan_input(alloc, &mut file)
 }
 
-/// Serves so many streams by so many workers, and ends all threads that it started.
+/// Serves so many streams by so many workers, tells of it on standard error if that is asked for, and ends all threads that it
+/// started.
 pub(crate) fn serve_with<
     R: Net<Listener = TcpListener, Stream = TcpStream>
         + Clock
+        + Eprint
         + Threads
         + Wait
         + Copy
@@ -80,6 +83,7 @@ pub(crate) fn serve_with<
     listener: TcpListener,
     workers: u32,
     most: u64,
+    told: bool,
 ) -> Result<(), Fault>
     requires names { (blanks.bytes.name ≡ L.name) × (blanks.jobs.name ≡ J.name) × (blanks.results.name ≡ K.name) }
     requires parts { (blanks.bytes.parts ≡ L.parts) × (blanks.jobs.parts ≡ J.parts)
@@ -94,14 +98,15 @@ pub(crate) fn serve_with<
         results,
     } = shares;
     let shared = Arc::new(alloc, Shared::counting_from(book, start))?;
+    let watch = Arc::new(alloc, Watch::new(alloc, start, told))?;
     let mut crew = Vec::new(alloc);
     let mine = WorkerShares { jobs, results };
-    let clock = SinceStart::new(start);
-    let served = match start_crew(rt, alloc, &shared, clock, workers, mine, &mut crew) {
-        Ok(()) => accept_streams(rt, alloc, &shared, bytes, listener, most),
+    let served = match start_crew(rt, alloc, &shared, &watch, workers, mine, &mut crew) {
+        Ok(()) => accept_streams(rt, alloc, &shared, bytes, listener, most, &watch),
         Err(_) => Err(Fault::Memory),
     };
     shared.shut(&rt);
+    watch.end(&rt);
     join_all(&rt, crew);
     served
 }
@@ -111,6 +116,7 @@ pub(crate) fn serve_with<
 fn accept_streams<
     R: Net<Listener = TcpListener, Stream = TcpStream>
         + Clock
+        + Eprint
         + Threads
         + Wait
         + Copy
@@ -127,10 +133,10 @@ fn accept_streams<
     bytes: Share<L>,
     listener: TcpListener,
     most: u64,
+    watch: &Arc<Watch>,
 ) -> Result<(), Fault>
     requires { most < bytes.parts }
 {
-    let lingering = Arc::new(alloc, AtomicU64::new(0))?;
     let mut bytes = bytes;
     let mut accepted = Ok(());
     let mut connections = Vec::new(alloc);
@@ -144,7 +150,7 @@ fn accept_streams<
         if connections.reserve(1).is_err() {
             continue;
         }
-        if let Some(connection) = Connection::start(rt, alloc, shared, stream, mine, &lingering) {
+        if let Some(connection) = Connection::start(rt, alloc, shared, stream, mine, watch) {
             connections.push_reserved(connection);
         }
     }

@@ -5,7 +5,7 @@ ghost use Rattle.connect_gateway.specs.Task.{IsInRange};
 
 use crate::fault::Fault;
 use clap::error::ErrorKind;
-use clap::{Arg, ArgMatches, Command, Error, value_parser};
+use clap::{Arg, ArgAction, ArgMatches, Command, Error, value_parser};
 use http_pieces::Text;
 use std::alloc::{AllocError, Global};
 
@@ -46,6 +46,8 @@ pub struct Service {
     pub workers: u32,
     /// How many streams are accepted before the program ends, 1 to 1,000,000; None where it goes on.
     pub connections: Option<u64>,
+    /// Whether it is told on standard error what becomes of calls.
+    pub log: bool,
 }
 
 /// Reads the machine's words, the program's name first. All but a task are `Fault::Words`, a request for help too;
@@ -70,7 +72,12 @@ fn command<'a>(alloc: Global) -> Result<Command<'a>, AllocError> {
         .arg(Arg::new(alloc, "listen").long("listen").required(true))?
         .arg(Arg::new(alloc, "plans").long("plans").required(true))?
         .arg(number(alloc, "workers").required(true))?
-        .arg(number(alloc, "connections"))?;
+        .arg(number(alloc, "connections"))?
+        .arg(
+            Arg::new(alloc, "log")
+                .long("log")
+                .action(ArgAction::SetTrue),
+        )?;
     let check = Command::new(alloc, "check")
         .arg(Arg::new(alloc, "plans").long("plans"))?
         .arg(Arg::new(alloc, "script").long("script"))?;
@@ -117,6 +124,7 @@ fn service_of(alloc: Global, options: &ArgMatches<'_>) -> Result<Task, Fault>
         plans: text_of(alloc, options, "plans")?,
         workers,
         connections,
+        log: options.get_flag("log"),
     }))
 }
 

@@ -5,7 +5,7 @@ ghost use Rattle.connections.specs.Told.{Tells};
 use gateway_core::Reply;
 
 /// What becomes of replies that were written, whole or in part. It may tell them.
-pub(crate) trait Keeping {
+pub trait Keeping {
     // what it was given so far, in order, where it tells it
     ghost told: { Self → Option (List ReplyValue) } = { λ _. None };
 
@@ -34,21 +34,5 @@ impl Keeping for Vec<Reply> {
 
     fn keep(&mut self, reply: Reply) {
         self.push_reserved(reply);
-    }
-}
-
-/// Gives each reply up.
-#[derive(Drop)]
-pub(crate) struct GivenUp;
-
-impl Keeping for GivenUp {
-    ghost has_room = { λ _. Unit {0} };
-
-    fn make_room(&mut self) -> bool {
-        true
-    }
-
-    fn keep(&mut self, reply: Reply) {
-        drop(reply);
     }
 }

@@ -14,7 +14,8 @@ mod writing;
 
 pub use clock::Clock;
 pub use inlet::{Fed, Heard, Inlet};
+pub use keeping::Keeping;
 pub use pumping::pump;
 pub use queue::{Handed, ReplyQueue};
 pub use sides::{answer_side, clock_side, read_side, write_side};
-pub use writing::{write_and_give_up, write_replies};
+pub use writing::{write_and_hand_on, write_replies};

@@ -1,14 +1,16 @@
 ghost use Rattle.std.specs.Prelude.{◌≡◌, ◌≤◌, List, length, map};
 ghost use Rattle.gateway_theory.specs.Replies.{ReplyValue};
 ghost use Rattle.connections.specs.Pumps.{Counts};
+ghost use Rattle.connections.specs.Told.{Tells};
 ghost use Rattle.connections.specs.Writes.{WritesOut, calls_of};
 
 use crate::clock::Clock;
 use crate::inlet::Fed;
+use crate::keeping::Keeping;
 use crate::lock_inlet::LockInlet;
 use crate::lock_replies::LockReplies;
 use crate::pumping::pump;
-use crate::writing::{write_and_give_up, write_replies};
+use crate::writing::{write_and_hand_on, write_replies};
 use backend_pool::{Shared, Turn};
 use gateway_core::{ConnId, Reply, ReplyHook};
 use std::alloc::Global;
@@ -69,20 +71,24 @@ pub fn write_side<R: Wait, W: Write, H: ReplyHook + Drop, L: Ledger, J: Ledger, 
     write_replies(rt, alloc, writer, conn, &mut replies)
 }
 
-/// Writes the replies of a connection and then closes it, as `write_side` does, and gives up each reply once it is written: so
-/// no more is kept than what waits.
-pub fn answer_side<R: Wait, W: Write, H: ReplyHook + Drop, L: Ledger, J: Ledger, K: Ledger>(
-    rt: &R,
-    writer: &mut W,
-    shared: &Shared<H, L, J, K>,
-    conn: ConnId,
-)
+/// Writes the replies of a connection and then closes it, as `write_side` does, and hands each reply on once it is written,
+/// with the lock let go.
+pub fn answer_side<
+    R: Wait,
+    W: Write,
+    T: Keeping,
+    H: ReplyHook + Drop,
+    L: Ledger,
+    J: Ledger,
+    K: Ledger,
+>(rt: &R, writer: &mut W, shared: &Shared<H, L, J, K>, conn: ConnId, kept: &mut T)
     // they are known to the proof alone
     ensures { (written : List ReplyValue) × (map (λ r. r.id) written ≡ calls_of conn 0 (length written))
+        × Tells (T.told kept.old) (T.told kept.new) written
         × WritesOut (W.contents writer.old) (W.contents writer.new) written }
 {
     let mut replies = LockReplies { shared, conn };
-    write_and_give_up(rt, writer, conn, &mut replies);
+    write_and_hand_on(rt, writer, conn, &mut replies, kept);
 }
 
 /// Hands the moments of a clock to the gateway, one at each turn, each in one hold of the lock, until that is shut. A moment

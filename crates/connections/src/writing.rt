@@ -4,7 +4,7 @@ ghost use Rattle.gateway_theory.specs.Replies.{ReplyValue};
 ghost use Rattle.connections.specs.Told.{Tells};
 ghost use Rattle.connections.specs.Writes.{End, Writes, WritesToItsEnd, goes_on, calls_of};
 
-use crate::keeping::{GivenUp, Keeping};
+use crate::keeping::Keeping;
 use crate::queue::ReplyQueue;
 use gateway_core::{CallId, ConnId, Reply};
 use std::alloc::Global;
@@ -32,18 +32,20 @@ pub fn write_replies<R: Wait, W: Write, Q: ReplyQueue>(
     written
 }
 
-/// Writes the replies that the queue gives, as `write_replies` does, and gives up each of them once it is written.
-pub fn write_and_give_up<R: Wait, W: Write, Q: ReplyQueue>(
+/// Writes the replies that the queue gives, as `write_replies` does, and hands each of them on once it is written.
+pub fn write_and_hand_on<R: Wait, W: Write, Q: ReplyQueue, K: Keeping>(
     rt: &R,
     writer: &mut W,
     conn: ConnId,
     replies: &mut Q,
+    kept: &mut K,
 )
     // they are known to the proof alone
-    ensures { (written : List ReplyValue) × WritesToItsEnd conn (W.contents writer.old) (W.contents writer.new)
+    ensures { (written : List ReplyValue) × Tells (K.told kept.old) (K.told kept.new) written
+        × WritesToItsEnd conn (W.contents writer.old) (W.contents writer.new)
         (Q.told replies.old) (Q.told replies.new) written }
 {
-    write_all(rt, writer, conn, replies, &mut GivenUp);
+    write_all(rt, writer, conn, replies, kept);
     replies.close(rt);
 }
 

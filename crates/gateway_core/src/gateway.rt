@@ -195,11 +195,11 @@ impl<H: ReplyHook + Drop> Core<H> {
         known_law();
     }
 
-    /// Whether a job waits to be taken.
-    pub fn has_job(&self) -> bool
-        ensures { result ≡ not (length self.now.machine.jobs == 0) }
+    /// How many jobs wait to be taken.
+    pub fn waiting_jobs(&self) -> usize
+        ensures { result ≡ length self.now.machine.jobs }
     {
-        self.streams.has_job()
+        self.streams.waiting_jobs()
     }
 
     /// How the results that came were seen, those of `starved` among them.

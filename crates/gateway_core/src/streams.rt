@@ -211,11 +211,11 @@ impl<H: ReplyHook + Drop> Streams<H> {
         self.machine.take_reply(index)
     }
 
-    /// Whether a job waits to be taken.
-    pub(crate) fn has_job(&self) -> bool
-        ensures { result ≡ not (length self.now.machine.jobs == 0) }
+    /// How many jobs wait to be taken.
+    pub(crate) fn waiting_jobs(&self) -> usize
+        ensures { result ≡ length self.now.machine.jobs }
     {
-        self.machine.has_job()
+        self.machine.waiting_jobs()
     }
 
     /// How results were seen.

@@ -187,11 +187,11 @@ impl<H: ReplyHook + Drop> LinkedMachine<H> {
         self.machine.take_reply(index)
     }
 
-    /// Whether a job waits to be taken.
-    pub fn has_job(&self) -> bool
-        ensures { result ≡ not (length self.now.jobs == 0) }
+    /// How many jobs wait to be taken.
+    pub fn waiting_jobs(&self) -> usize
+        ensures { result ≡ length self.now.jobs }
     {
-        self.machine.has_job()
+        self.machine.waiting_jobs()
     }
 
     /// Whether the connection of that number is open and broken.

@@ -105,14 +105,14 @@ fn first_deadlines(
     moment: u64,
     count: usize,
 ) -> Result<Vec<Option<u64>>, AllocError>
-    requires { moment ≤ 2 ^ 62 }
+    requires moment { moment ≤ 2 ^ 62 }
+    requires few { length first.now.items ≤ count }
     ensures items { IfOk result (λ made. made.items ≡ map (λ t. deadline_from moment t.asked.plan t.branch) first.now.items) }
     ensures room { IfOk result (λ made. count ≤ vec_capacity made) }
 {
-    let mut deadlines = Vec::new(alloc);
+    let mut deadlines = Vec::with_capacity(alloc, count)?;
     for index in 0..first.len() {
-        deadlines.push(first[index].deadline(moment))?;
+        deadlines.push_reserved(first[index].deadline(moment));
     }
-    deadlines.reserve(count)?;
     Ok(deadlines)
 }

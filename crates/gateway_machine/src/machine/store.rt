@@ -59,11 +59,11 @@ impl Machine {
         }
     }
 
-    /// Whether a job waits to be taken.
-    pub fn has_job(&self) -> bool
-        ensures { result ≡ not (length self.now.jobs == 0) }
+    /// How many jobs wait to be taken.
+    pub fn waiting_jobs(&self) -> usize
+        ensures { result ≡ length self.now.jobs }
     {
-        !self.jobs.is_empty()
+        self.jobs.len()
     }
 
     /// Takes a moment, in milliseconds, and answers the greatest so far.

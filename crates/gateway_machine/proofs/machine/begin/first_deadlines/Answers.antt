@@ -16,16 +16,25 @@ more moment ts i t lt is =
     ∙ ap (map (time_at moment)) (sym (take_more ts i t lt))
 
 pub loop-index-init : goal.loop-index-init
-loop-index-init c = c.new-deadlines.ensures.items
+loop-index-init c = (c.in_ok-deadlines.ensures.items, ap length c.in_ok-deadlines.ensures.items, c.in_ok-deadlines.ensures.capacity)
+
+pub push_reserved-requires : goal.push_reserved-requires
+push_reserved-requires c = omega (arith, c.loop-index-test.true, c.len-index-end.ensures, c.requires.few, c.loop-index.invariant.1, c.loop-index.invariant.2)
 
 pub loop-index-preserved : goal.loop-index-preserved
 loop-index-preserved c =
-    let lt : c.loop-index.index < length c.args.first.now.items = grind (arith, c.loop-index-test.true, c.len-index-end.ensures) in
-    c.in_ok-push.ensures.items ∙ ap (λ xs. xs ++ c.deadline.result ∷ []) c.loop-index.invariant
-    ∙ ap (λ d. map (time_at c.args.moment) (take c.loop-index.index c.args.first.now.items) ++ d ∷ []) c.deadline.ensures
-    ∙ more c.args.moment c.args.first.now.items c.loop-index.index c.index.result.now lt c.index.ensures
+    let lt : c.loop-index.index < length c.args.first.now.items = grind (arith, c.loop-index-test.true, c.len-index-end.ensures) in (
+      c.push_reserved.ensures.items ∙ ap (λ xs. xs ++ c.deadline.result ∷ []) c.loop-index.invariant.0
+          ∙ ap (λ d. map (time_at c.args.moment) (take c.loop-index.index c.args.first.now.items) ++ d ∷ []) c.deadline.ensures
+          ∙ more c.args.moment c.args.first.now.items c.loop-index.index c.index.result.now lt c.index.ensures,
+      omega (arith, c.push_reserved.ensures.len, c.loop-index.invariant.1),
+      omega (arith, c.push_reserved.ensures.capacity, c.loop-index.invariant.2),
+    )
 
 pub returns-clause-items : goal.returns-clause-items
 returns-clause-items c =
     let all : length c.args.first.now.items ≤ c.loop-index.index = grind (arith, c.loop-index-test.false, c.len-index-end.ensures) in
-    c.in_ok-reserve.ensures.items ∙ c.loop-index.invariant ∙ ap (map (time_at c.args.moment)) (take_all c.loop-index.index c.args.first.now.items all)
+    c.loop-index.invariant.0 ∙ ap (map (time_at c.args.moment)) (take_all c.loop-index.index c.args.first.now.items all)
+
+pub returns-clause-room : goal.returns-clause-room
+returns-clause-room c = c.loop-index.invariant.2
