@@ -205,8 +205,9 @@ def case_serve_fails(room):
 
 
 def case_interrupted(room):
-    """a write of a text, an accept and a wait that a signal interrupts are made again"""
-    replay_each(room, "write", "interrupted", goes_on)
+    """a read and a write of a text, an accept and a wait that a signal interrupts are made again"""
+    for what in ("read", "write"):
+        replay_each(room, what, "interrupted", goes_on)
     for what in ("accept", "wait"):
         serve_each(room, what, "interrupted", all_answered)
 

@@ -352,6 +352,26 @@ def case_branch_deadline(room):
     room.ends("the program", run, DONE)
 
 
+def case_waited(room):
+    """a worker waits for a job that waited for it no longer than up to the job's deadline"""
+    with listener() as silent, Backend("1") as backend:
+        slow = json.loads(plan([silent.getsockname()[1]], 1, timeout=2000))[0]
+        plans = [{**slow, "path": "/slow"}, *json.loads(plan([backend.port], 1))]
+        run, port = room.serve(json.dumps(plans).encode(), streams=5)
+        with contextlib.ExitStack() as opened:
+            began = time.monotonic()
+            for _ in range(4):
+                # each takes the worker shortly before its deadline
+                call(opened.enter_context(client(port)), path="/slow")
+                time.sleep(0.1)
+            stream = opened.enter_context(client(port))
+            call(stream)
+            expect("the reply", read_reply(stream), ("200", b'{"b0":1}'))
+            took = time.monotonic() - began
+        expect(f"whether the worker was free in time, after {took:.2f} seconds", took < 3.9, True)
+    room.ends("the program", run, DONE)
+
+
 def case_whole_time(room):
     """a call that comes while nothing else happens has its whole time"""
     with listener() as backend:

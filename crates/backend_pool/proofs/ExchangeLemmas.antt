@@ -54,27 +54,6 @@ takes_in stay bytes piece n pushed reader None all waits h =
     ⊎_elim (λ e. subst (λ xs. HasReadReply reader (bytes ++ xs) None) (take_all n piece (omega (arith, e))) h) (λ w. absurd (cc (waits w.0 w.1))) all
 takes_in stay bytes piece n pushed reader (Some q) all waits h = begins_longer stay bytes piece n q (reply_cut reader.reading _ q h.reads)
 
--- ---- a reader over memory
-
--- what the first bytes of those left and the rest of the buffer give is those bytes
-pub step_given : (bytes buffer given : List ℕ) (at n : ℕ) → given ≡ take n (drop at bytes) → at + n ≤ length bytes
-    → drop at bytes ≡ take n (given ++ drop n buffer) ++ drop (at + n) bytes
-step_given bytes buffer given at n given_is fits =
-    let size : length given ≡ n = omega (arith, ap length given_is, length-take n (drop at bytes), length-drop at bytes) in
-    let whole : take n given ≡ given = take_all n given (omega (arith, size)) in
-    let first : take n (given ++ drop n buffer) ≡ given = take-append-le n given (drop n buffer) (omega (arith, size)) ∙ whole in
-    let rest : drop n (drop at bytes) ≡ drop (at + n) bytes = drop-drop n at bytes in
-    let joined : take n (drop at bytes) ++ drop n (drop at bytes) ≡ drop at bytes = take-append-drop n (drop at bytes) in
-    cc
-
--- where none is given to a buffer with room, none is left
-pub step_ended : (bytes buffer given : List ℕ) (at n step : ℕ) → given ≡ take n (drop at bytes) → n ≡ min (min (length bytes - at) (length buffer)) step
-    → 0 < step → n ≡ 0 → 0 < length (given ++ drop n buffer) → drop (at + n) bytes ≡ []
-step_ended bytes buffer given at n step given_is n_is some none room =
-    let short : length given ≤ 0 = omega (arith, ap length given_is, length-take n (drop at bytes)) in
-    let filled : 0 < length buffer = omega (arith, length-append given (drop n buffer), length-drop n buffer) in
-    drop_all (at + n) bytes (omega arith)
-
 -- ---- one reply
 
 -- what was read up to a reply

@@ -1,3 +1,4 @@
 pub mod Work
 pub mod Exchange
 pub mod Book
+pub mod Clock

@@ -55,14 +55,6 @@ RecordTells (Some old) None job outcome result = ⊥
 RecordTells (Some old) (Some new) job outcome true = (new.waiting ≡ old.waiting) × (new.records ≡ old.records ++ desk_record job outcome ∷ [])
 RecordTells (Some old) (Some new) job outcome false = new ≡ old
 
--- a desk in memory: what it tells, and how many jobs it gave
-pub record DeskValue : Type 0 where
-  pub told : Told
-  pub given : ℕ
-
-abbrev pub desk_value : List HandedJob → List DeskRecord → ℕ → DeskValue
-desk_value waiting records given = record { told = record { waiting = waiting; records = records }; given = given }
-
 -- ---- the work
 
 -- these jobs were taken, in order, and for each of them one record was made, in order, but for so many of the last ones

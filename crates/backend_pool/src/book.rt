@@ -12,9 +12,10 @@ ghost use Rattle.gateway_model.specs.declared.event.Event.{Event};
 ghost use Rattle.gateway_model.specs.declared.event.Event.TheVariants.{BranchResult, Closing, Drain, HangUp, Moment, Piece};
 ghost use Rattle.gateway_theory.specs.Gateway.{is_ended, next_reply, outs_of, untaken_of};
 ghost use Rattle.gateway_model.specs.Job.{JobValue};
-ghost use Rattle.gateway_model.specs.Past.{ArrivedCall, call, marked};
+ghost use Rattle.gateway_model.specs.Past.{ArrivedCall, call, is_due, marked};
 ghost use Rattle.gateway_model.specs.Queue.{record_of};
 ghost use Rattle.gateway_model.specs.Record.{is_decided, is_lawful};
+ghost use Rattle.gateway_theory.specs.Least.{ends_any, least_deadline};
 ghost use Rattle.gateway_theory.specs.Refused.{RefusesOpening};
 ghost use Rattle.gateway_theory.specs.Served.{Served};
 ghost use Rattle.gateway_model.specs.Occurrence as concerning;
@@ -34,11 +35,11 @@ use connect_codec::Outcome;
 use gateway_core::{
     CallId, ConnId, Core, Job, OpenError, ReplyHook, StepFault, Stock, Tally, Took,
 };
-use gateway_run::deliver;
 use gateway_theory::served_laws::{calls_law, known_law};
 use std::alloc::{AllocError, Global};
 use std::marker::Model;
 use std::sync::ledger::{Ledger, Share};
+use whole_pieces::deliver;
 
 /// The core with its totals: of the bytes that came, the jobs that were taken, and the results.
 ///
@@ -329,6 +330,15 @@ impl<H: ReplyHook + Drop, L: Ledger, J: Ledger, K: Ledger> Book<H, L, J, K> {
         ensures { result ≡ length self.now.core.machine.jobs }
     {
         self.core.waiting_jobs()
+    }
+
+    /// The least deadline of the undecided calls, and of their branches that are out: no moment before it ends a call.
+    pub fn next_deadline(&self) -> Option<u64>
+        ensures least { result ≡ least_deadline self.now.core.machine.calls }
+        // a moment ends a call exactly if it has reached this
+        ensures quiet { (moment : ℕ) → ends_any moment self.now.core.machine.calls ≡ is_due moment result }
+    {
+        self.core.next_deadline()
     }
 
     /// Whether who writes the connection's replies has something to do: a reply can be taken, or none will come any more.

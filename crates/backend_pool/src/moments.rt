@@ -1,21 +1,11 @@
+use crate::clock_waits::ClockWaits;
 use crate::doors::DOORS;
 use crate::shared::{Shared, State};
 use gateway_core::ReplyHook;
 use std::sync::atomic::Ordering;
 use std::sync::ledger::Ledger;
-use std::sync::{MutexGuard, Wait};
-use std::time::{Clock, Instant};
-
-/// What the clock's side does behind a turn.
-#[derive(Clone, Copy, PartialEq, Eq, Debug)]
-pub enum Turn {
-    /// It pauses for so many milliseconds, and makes its next turn.
-    Pause(u64),
-    /// It sleeps until a backend is asked, and makes its next turn at once.
-    Sleep,
-    /// It ends.
-    End,
-}
+use std::sync::{CondvarTimeouts, MutexGuard, Wait};
+use std::time::{Clock, Duration, Instant};
 
 /// The milliseconds from an instant to now. None where the system's clock can't be read.
 pub fn milliseconds_since(rt: &impl Clock, start: Instant) -> Option<u64> {
@@ -61,49 +51,29 @@ impl<H: ReplyHook + Drop, L: Ledger, J: Ledger, K: Ledger> Shared<H, L, J, K> {
         self.open_doors(&due);
     }
 
-    /// One turn of the clock's side: hands the moment in, and tells what comes then. Once it is shut nothing is handed in.
-    pub fn turn<R: Wait>(&self, rt: &R, moment: u64) -> Turn {
+    /// One turn of the clock's side: hands the moment in, and waits until the least deadline that is left, or until somebody
+    /// brings a sooner one. False once it is shut.
+    pub fn turn<R: Clock + Wait>(&self, rt: &R, moment: u64) -> bool {
+        self.hand_in(rt, moment);
+        self.wait_for_deadline(rt, moment)
+    }
+
+    /// Waits at this moment until the least deadline, if there is one, or until it is woken. False where it is shut.
+    fn wait_for_deadline<R: Clock + Wait>(&self, rt: &R, moment: u64) -> bool {
         let mut state = self.state.lock(rt);
         if state.shut {
-            return Turn::End;
+            return false;
         }
-        state.idle_turns = if state.book.is_asking() {
-            0
-        } else {
-            state.idle_turns.saturating_add(1)
-        };
-        let next = next_turn(state.idle_turns);
-        self.advance(state, moment);
-        next
-    }
-
-    /// Waits while no backend is asked and this is not shut: there is no call then that a moment could end.
-    pub fn sleep_until_asked<R: Wait>(&self, rt: &R) {
-        let mut state = self.state.lock(rt);
-        for _ in rt.forever() {
-            if state.shut || state.book.is_asking() {
-                state.idle_turns = 0;
-                return;
+        let deadline = state.book.next_deadline();
+        state.clock = ClockWaits::for_deadline(deadline);
+        state = match deadline {
+            Some(deadline) => {
+                let left = Duration::from_millis(deadline.saturating_sub(moment));
+                self.deadlines.wait_timeout(rt, state, left).0
             }
-            state.clock_sleeps = true;
-            state = self.asked.wait(rt, state);
-            state.clock_sleeps = false;
-        }
-        unreachable!()
-    }
-}
-
-/// How long the clock's side pauses while backends are asked, in milliseconds.
-const PAUSE: u64 = 1;
-
-/// So many turns in which no backend is asked the clock's side goes on, before it sleeps until one is.
-const IDLE_TURNS: u32 = 100;
-
-/// How long the clock's side may pause, behind so many turns in a row in which no backend was asked. Nothing else says that.
-fn next_turn(idle_turns: u32) -> Turn {
-    if idle_turns <= IDLE_TURNS {
-        Turn::Pause(PAUSE)
-    } else {
-        Turn::Sleep
+            None => self.deadlines.wait(rt, state),
+        };
+        state.clock = ClockWaits::Not;
+        !state.shut
     }
 }

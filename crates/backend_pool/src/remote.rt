@@ -10,18 +10,26 @@ use std::io::ErrorKind;
 use std::net::{Net, OpenStream, TcpStream, ToSocketAddrs};
 use std::time::{Clock, Duration, Instant};
 
-/// Asks each job's backend over a TCP connection of its own, for no longer than the job had yet as its branch started and
-/// 50 milliseconds more: a wait that lasts longer fails, and the job is lost. A job without a deadline, of its call or of
-/// its branch, waits as long as its backend lets it.
+/// Asks each job's backend over a TCP connection of its own, up to the job's deadline and 50 milliseconds more: a wait that
+/// lasts longer fails, and the job is lost. A job without a deadline, of its call or of its branch, waits as long as its
+/// backend lets it.
 #[derive(Clone, Copy, Debug)]
 pub struct RemoteBackend {
     alloc: Global,
+    // from when on moments count
+    start: Instant,
 }
 
 impl RemoteBackend {
-    /// A backend whose requests and replies are kept on this allocator.
-    pub fn new(alloc: Global) -> RemoteBackend {
-        RemoteBackend { alloc }
+    /// A backend whose requests and replies are kept on this allocator. Jobs' deadlines are milliseconds from that instant.
+    pub fn new(alloc: Global, start: Instant) -> RemoteBackend {
+        RemoteBackend { alloc, start }
+    }
+
+    /// Until when a job of this deadline is waited for.
+    fn until(&self, deadline: Option<u64>) -> Option<Instant> {
+        let longer = deadline?.saturating_add(GRACE);
+        self.start.checked_add(Duration::from_millis(longer))
     }
 }
 
@@ -39,7 +47,7 @@ impl Backend for RemoteBackend {
         let Ok(request) = branch_request(self.alloc, &ask) else {
             return Asked::NoMemory;
         };
-        let Ok(stream) = connect(rt, job.address(), job.remaining()) else {
+        let Ok(stream) = connect(rt, job.address(), self.until(job.deadline())) else {
             return Asked::Lost;
         };
         exchange(
@@ -55,19 +63,12 @@ impl Backend for RemoteBackend {
 /// call, so that a silent backend is not taken for the call's first failure.
 const GRACE: u64 = 50;
 
-/// A new connection to the address, for so many milliseconds from now on, and a little longer.
+/// A new connection to the address, whose waits end at that instant, if there is one.
 fn connect<'a, R: Net + Clock>(
     rt: &'a R,
     address: &str,
-    remaining: Option<u64>,
+    until: Option<Instant>,
 ) -> io::Result<TimedStream<'a, R, R::Stream>> {
-    let until = match remaining {
-        Some(milliseconds) => {
-            let longer = milliseconds.saturating_add(GRACE);
-            Instant::now(rt)?.checked_add(Duration::from_millis(longer))
-        }
-        None => None,
-    };
     let stream = open(rt, address, until)?;
     stream.set_nodelay(true)?;
     Ok(TimedStream::new(rt, stream, until))

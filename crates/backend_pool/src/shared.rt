@@ -1,4 +1,5 @@
 use crate::book::Book;
+use crate::clock_waits::ClockWaits;
 use crate::doors::{DOORS, Waiting, door_of};
 use gateway_core::{ConnId, ReplyHook};
 use std::array;
@@ -11,16 +12,14 @@ use std::time::Instant;
 #[derive(Drop)]
 pub struct State<H, L: Ledger, J: Ledger, K: Ledger> {
     pub book: Book<H, L, J, K>,
-    /// Whether workers end once no job waits, and the clock's side at its next turn.
+    /// Whether workers end once no job waits, and the clock's side at once.
     pub shut: bool,
     /// Whose write sides wait.
     pub(crate) waiting: Waiting,
-    /// In so many turns of the clock's side in a row no backend was asked.
-    pub(crate) idle_turns: u32,
     /// So many workers wait for a job, or have been woken and do not have the lock yet.
     pub(crate) idle_workers: u64,
-    /// Whether the clock's side sleeps.
-    pub(crate) clock_sleeps: bool,
+    /// Until when the clock's side waits.
+    pub(crate) clock: ClockWaits,
 }
 
 /// The book under its lock, and what the threads wait for. Whoever makes an event wakes those whom it concerns, and nobody
@@ -32,8 +31,8 @@ pub struct Shared<H, L: Ledger, J: Ledger, K: Ledger> {
     pub(crate) jobs: Condvar,
     /// Write sides wait here for their next reply, or for their connection's end, each at its connection's door.
     pub(crate) replies: [Condvar; DOORS],
-    /// The clock's side sleeps here while nobody is asked.
-    pub(crate) asked: Condvar,
+    /// The clock's side waits here for the least deadline, or for a sooner one.
+    pub(crate) deadlines: Condvar,
     /// The latest moment that was handed in.
     pub(crate) moment: AtomicU64,
     /// From when on the moments count that `tick` hands in.
@@ -41,7 +40,8 @@ pub struct Shared<H, L: Ledger, J: Ledger, K: Ledger> {
 }
 
 impl<H: ReplyHook + Drop, L: Ledger, J: Ledger, K: Ledger> Shared<H, L, J, K> {
-    /// The book under a lock that is free; it is not shut. Moments come from the clock's side alone.
+    /// The book under a lock that is free; it is not shut. Moments come from the clock's side alone: a call that comes while
+    /// that waits counts from the moment before.
     pub fn new(book: Book<H, L, J, K>) -> Shared<H, L, J, K> {
         Shared::made(book, None)
     }
@@ -57,13 +57,12 @@ impl<H: ReplyHook + Drop, L: Ledger, J: Ledger, K: Ledger> Shared<H, L, J, K> {
                 book,
                 shut: false,
                 waiting: Waiting::nobody(),
-                idle_turns: 0,
                 idle_workers: 0,
-                clock_sleeps: false,
+                clock: ClockWaits::Not,
             }),
             jobs: Condvar::new(),
             replies: array::from_fn(|_door| Condvar::new()),
-            asked: Condvar::new(),
+            deadlines: Condvar::new(),
             moment: AtomicU64::new(0),
             start,
         }
@@ -80,33 +79,33 @@ impl<H: ReplyHook + Drop, L: Ledger, J: Ledger, K: Ledger> Shared<H, L, J, K> {
     /// Wakes all who wait: for an event that may concern each of them, as the drain.
     pub fn wake(&self) {
         self.jobs.notify_all();
-        self.asked.notify_all();
+        self.deadlines.notify_all();
         self.open_doors(&[true; DOORS]);
     }
 
-    /// Lets the lock go behind an event of this connection, and wakes those who have something to do by it: one worker and
-    /// the clock's side where a job waits, and the connection's write side where it has a reply to take or nothing more to
-    /// wait for.
+    /// Lets the lock go behind an event of this connection, and wakes those who have something to do by it: one worker where
+    /// a job waits, the connection's write side where it has a reply to take or nothing more to wait for, and the clock's
+    /// side where a deadline is sooner than the one that it waits for.
     pub fn let_go(&self, state: MutexGuard<'_, State<H, L, J, K>>, conn: ConnId) {
         let mut state = state;
         let is_due = state.book.has_news(conn) && state.waiting.take_note(conn);
+        let deadline = state.book.next_deadline();
+        let wakes_clock = state.clock.wake_for(deadline);
         self.pass_on(state);
+        if wakes_clock {
+            self.deadlines.notify_all();
+        }
         if is_due {
             self.replies[door_of(conn)].notify_all();
         }
     }
 
-    /// Lets the lock go, and where a job waits wakes one worker, if one sleeps, and the clock's side, if that does.
+    /// Lets the lock go, and where a job waits wakes one worker, if one sleeps.
     pub(crate) fn pass_on(&self, state: MutexGuard<'_, State<H, L, J, K>>) {
-        let job_waits = 0 < state.book.waiting_jobs();
-        let wakes_worker = job_waits && 0 < state.idle_workers;
-        let wakes_clock = job_waits && state.clock_sleeps;
+        let wakes_worker = 0 < state.book.waiting_jobs() && 0 < state.idle_workers;
         drop(state);
         if wakes_worker {
             self.jobs.notify_one();
-        }
-        if wakes_clock {
-            self.asked.notify_all();
         }
     }
 

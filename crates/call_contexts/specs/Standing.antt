@@ -18,7 +18,7 @@ pub record Conn (C : Type 0) : Type 0 where
   pub id : Id
   pub ended : Option (Cause C)
 
--- a branch of a call that is out and has a time of its own: its number, its deadline, and what ended its context, if anything did
+-- a branch of a call that is out and has a timeout: its number, its deadline, and what ended its context, if anything did
 pub record Branch (C : Type 0) : Type 0 where
   pub branch : ℕ
   pub deadline : ℕ

@@ -217,7 +217,7 @@ impl<C: Copy, V: Drop, H: Drop> CallContexts<C, V, H> {
         calls::has_of(&self.calls, conn)
     }
 
-    /// A branch of a call starts that has a time of its own, with a context that ends at this moment or with its call's.
+    /// A branch of a call that has a timeout starts, with a context that ends at this moment or with its call's.
     pub fn branch(&mut self, call: CtxId, branch: u32, at: u64, now: u64) -> Result<(), AllocError>
         requires { is_call call self.old.standing.calls ≡ true }
         ensures stands { IfOk result (λ _. self.new ≡ with_standing (branched call branch at now self.old.standing) self.old) }

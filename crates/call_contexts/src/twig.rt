@@ -1,6 +1,6 @@
 use context_tree::CtxId;
 
-/// A branch of a call that is out and has a time of its own: its context, that of its call, its number, and when it ends
+/// A branch of a call that is out and has a timeout: its context, that of its call, its number, and when it ends
 /// by itself.
 #[derive(Clone, Copy, Drop)]
 pub(crate) struct Twig {

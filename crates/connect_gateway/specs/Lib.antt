@@ -1,3 +1,1 @@
-pub mod Fault
-pub mod Task
-pub mod Input
+pub mod Check

@@ -1,12 +1,12 @@
 ghost use Rattle.std.specs.Prelude.{◌≡◌, Err, IfErr, OnOk, string_bytes};
 ghost use Rattle.std.specs.Io.KnownBytes.{Appends};
-ghost use Rattle.connect_gateway.specs.Fault.{IsOfInput, IsOfPlanInput, IsOfReading};
-ghost use Rattle.connect_gateway.specs.Input.{FindsPlans, FindsScript, ReadsNoPlans, ReadsNoScript, WritesApproval, WritesRefusal};
+ghost use Rattle.script_replay.specs.Fault.{IsOfInput, IsOfPlanInput, IsOfReading};
+ghost use Rattle.script_replay.specs.Input.{ReadsNoPlans, ReadsNoScript};
+ghost use Rattle.connect_gateway.specs.Check.{FindsPlans, FindsScript, WritesApproval, WritesRefusal};
 
-use crate::fault::Fault;
-use crate::input::read_text;
-use crate::task::Checked;
+use command_line::Checked;
 use input_check::{plan_report, script_report, too_long};
+use script_replay::{Fault, read_text};
 use std::alloc::Global;
 use std::fs::{File, Files};
 use std::io::{self, Read, Write};

@@ -1,7 +1,7 @@
 use crate::watch::Watch;
 use std::io::Read;
 use std::net::{Shutdown, TcpStream};
-use std::sync::{Arc, Condvar, CondvarTimeouts, Mutex, Wait};
+use std::sync::{Condvar, CondvarTimeouts, Mutex, Wait};
 use std::time::{Clock, Duration};
 
 /// How long a client may go on sending behind its last reply, in milliseconds.
@@ -28,26 +28,20 @@ pub(crate) struct ClientStream {
     is_read: Mutex<bool>,
     // the writing thread waits here for that
     reading: Condvar,
-    watch: Arc<Watch>,
 }
 
 impl ClientStream {
-    /// A stream to be read and written. `watch` counts for all streams how many linger.
-    pub(crate) fn new(stream: TcpStream, watch: Arc<Watch>) -> ClientStream {
+    /// A stream to be read and written.
+    pub(crate) fn new(stream: TcpStream) -> ClientStream {
         ClientStream {
             stream,
             is_read: Mutex::new(false),
             reading: Condvar::new(),
-            watch,
         }
     }
 
     pub(crate) fn stream(&self) -> &TcpStream {
         &self.stream
-    }
-
-    pub(crate) fn watch(&self) -> &Watch {
-        &self.watch
     }
 
     /// Reads and drops what still comes, to the end, and tells the writing thread that nothing more does.
@@ -57,15 +51,16 @@ impl ClientStream {
         self.reading.notify_all();
     }
 
-    /// Ends the stream behind the last reply, once its client has ended or has had its time.
-    pub(crate) fn end<R: Clock + Wait>(&self, rt: &R) {
-        if self.watch.lingers() < MOST_LINGERING {
+    /// Ends the stream behind the last reply, once its client has ended or has had its time. The watch counts for all streams
+    /// how many linger.
+    pub(crate) fn end<R: Clock + Wait>(&self, rt: &R, watch: &Watch) {
+        if watch.lingers() < MOST_LINGERING {
             // the client may have ended the stream before
             let _ = self.stream.shutdown(Shutdown::Write);
             self.wait_until_read(rt);
         }
         self.cut();
-        self.watch.lingered();
+        watch.lingered();
     }
 
     /// Shuts the stream down both ways, which ends its reading too.

@@ -1,8 +1,7 @@
 use backend_pool::milliseconds_since;
 use connections::Clock;
 use std::sync::Wait;
-use std::thread;
-use std::time::{self, Duration, Instant};
+use std::time::{self, Instant};
 
 /// The milliseconds since the program began to serve.
 #[derive(Drop)]
@@ -23,9 +22,5 @@ impl Clock for SinceStart {
     fn now<R: time::Clock + Wait>(&mut self, rt: &R) -> u64 {
         self.latest = milliseconds_since(rt, self.start).unwrap_or(self.latest);
         self.latest
-    }
-
-    fn pause<R: time::Clock + Wait>(&mut self, rt: &R, milliseconds: u64) {
-        thread::sleep(rt, Duration::from_millis(milliseconds));
     }
 }

@@ -1,19 +1,16 @@
 ghost use Rattle.std.specs.Prelude.{◌≡◌};
 
 use crate::client_stream::ClientStream;
-use crate::plain_hook::{PlainHook, stock};
-use crate::watch::{Telling, Watch};
-use backend_pool::Shared;
+use crate::server::{Machine, Server};
+use crate::watch::Telling;
 use connections::{answer_side, read_side};
-use gateway_core::{ConnId, Stock};
-use std::alloc::Global;
-use std::io::Eprint;
-use std::net::{Net, TcpListener, TcpStream};
+use gateway_core::ConnId;
+use script_replay::stock;
+use std::net::TcpStream;
+use std::sync::Arc;
 use std::sync::atomic::{AtomicBool, Ordering};
 use std::sync::ledger::{Ledger, Share};
-use std::sync::{Arc, Wait};
 use std::thread::{self, JoinHandle, Threads};
-use std::time::Clock;
 
 /// A connection that is served, by a thread that reads and one that it starts, which writes.
 #[derive(Drop)]
@@ -38,126 +35,94 @@ impl Connection {
     /// Opens a connection for a stream, and starts the thread that serves it. None where the gateway does not open it,
     /// or where memory or a thread is refused: then the stream is closed, and nothing was written to it.
     pub(crate) fn start<
-        R: Net<Listener = TcpListener, Stream = TcpStream>
-            + Clock
-            + Eprint
-            + Threads
-            + Wait
-            + Copy
-            + Send
-            + Sync
-            + 'static,
+        M: Machine,
         L: Ledger + Send + Sync + 'static,
         J: Ledger + Send + Sync + 'static,
         K: Ledger + Send + Sync + 'static,
-    >(
-        rt: R,
-        alloc: Global,
-        shared: &Arc<Shared<PlainHook, L, J, K>>,
-        stream: TcpStream,
-        bytes: Share<L>,
-        watch: &Arc<Watch>,
-    ) -> Option<Connection>
+    >(server: &Arc<Server<M, L, J, K>>, stream: TcpStream, bytes: Share<L>) -> Option<Connection>
         requires { bytes.parts ≡ 1 }
     {
         stream.set_nodelay(true).ok()?;
-        let hooks = stock(alloc).ok()?;
-        let over = Arc::new(alloc, AtomicBool::new(false)).ok()?;
+        let hooks = stock(server.alloc).ok()?;
+        let over = Arc::new(server.alloc, AtomicBool::new(false)).ok()?;
         let at_end = Arc::try_clone(&over).ok()?;
-        let gateway = Arc::try_clone(shared).ok()?;
-        let client = ClientStream::new(stream, Arc::try_clone(watch).ok()?);
-        let client = Arc::new(alloc, client).ok()?;
-        let conn = open(&rt, shared, hooks)?;
-        watch.opened();
+        let of = Arc::try_clone(server).ok()?;
+        let client = Arc::new(server.alloc, ClientStream::new(stream)).ok()?;
+        let conn = server.open(hooks)?;
+        server.watch.opened();
         let job = move ||
             requires { bytes.parts ≡ 1 }
         {
-            serve_stream(rt, &gateway, conn, &client, bytes);
+            serve_stream(&of, conn, &client, bytes);
             at_end.store(true, Ordering::SeqCst);
         };
-        match thread::spawn(&rt, job) {
+        match thread::spawn(&server.machine, job) {
             Ok(thread) => Some(Connection { thread, over }),
             Err(_) => {
-                close(&rt, shared, conn);
-                watch.closed();
+                server.close(conn);
+                server.watch.closed();
                 None
             }
         }
     }
 }
 
-/// Opens a connection, in one hold of the lock. It has nothing for anybody to do yet.
-fn open<R: Wait, L: Ledger, J: Ledger, K: Ledger>(
-    rt: &R,
-    shared: &Shared<PlainHook, L, J, K>,
-    hooks: Stock<PlainHook>,
-) -> Option<ConnId> {
-    let mut state = shared.state.lock(rt);
-    state.book.opening(hooks).ok()
-}
-
-/// Closes a connection that nobody serves, in one hold of the lock.
-fn close<R: Wait, L: Ledger, J: Ledger, K: Ledger>(
-    rt: &R,
-    shared: &Shared<PlainHook, L, J, K>,
-    conn: ConnId,
-) {
-    let mut state = shared.state.lock(rt);
-    state.book.closing(conn);
-    shared.let_go(state, conn);
-}
-
 /// Serves a connection by its two sides: reads here, and writes in a thread of its own. Where there is no such thread to be
 /// had, it closes the connection and its stream at once.
 fn serve_stream<
-    R: Clock + Eprint + Threads + Wait + Copy + Send + Sync + 'static,
+    M: Machine,
     L: Ledger + Send + Sync + 'static,
     J: Ledger + Send + Sync + 'static,
     K: Ledger + Send + Sync + 'static,
->(
-    rt: R,
-    shared: &Arc<Shared<PlainHook, L, J, K>>,
-    conn: ConnId,
-    client: &Arc<ClientStream>,
-    bytes: Share<L>,
-)
+>(server: &Arc<Server<M, L, J, K>>, conn: ConnId, client: &Arc<ClientStream>, bytes: Share<L>)
     requires { bytes.parts ≡ 1 }
 {
-    let Some(writer) = start_writer(rt, shared, conn, client) else {
-        close(&rt, shared, conn);
-        client.watch().closed();
+    let Some(writer) = start_writer(server, conn, client) else {
+        server.close(conn);
+        server.watch.closed();
         client.cut();
         return;
     };
     let mut reader = client.stream();
-    read_side(&rt, &mut reader, &**shared, conn, bytes);
-    client.read_to_end(&rt);
-    writer.join(&rt);
+    read_side(&server.machine, &mut reader, &server.shared, conn, bytes);
+    client.read_to_end(&server.machine);
+    writer.join(&server.machine);
 }
 
 /// Starts the thread that writes the replies of a connection, and ends its stream behind the last.
 fn start_writer<
-    R: Clock + Eprint + Threads + Wait + Copy + Send + 'static,
+    M: Machine,
     L: Ledger + Send + Sync + 'static,
     J: Ledger + Send + Sync + 'static,
     K: Ledger + Send + Sync + 'static,
 >(
-    rt: R,
-    shared: &Arc<Shared<PlainHook, L, J, K>>,
+    server: &Arc<Server<M, L, J, K>>,
     conn: ConnId,
     client: &Arc<ClientStream>,
 ) -> Option<JoinHandle<()>> {
-    let gateway = Arc::try_clone(shared).ok()?;
+    let of = Arc::try_clone(server).ok()?;
     let client = Arc::try_clone(client).ok()?;
-    let job = move || {
-        let mut writer = client.stream();
-        let mut telling = Telling {
-            rt: &rt,
-            watch: client.watch(),
-        };
-        answer_side(&rt, &mut writer, &*gateway, conn, &mut telling);
-        client.watch().closed();
-        client.end(&rt);
+    thread::spawn(&server.machine, move || write_stream(&*of, conn, &*client)).ok()
+}
+
+/// Writes the replies of a connection, and ends its stream behind the last.
+fn write_stream<M: Machine, L: Ledger, J: Ledger, K: Ledger>(
+    server: &Server<M, L, J, K>,
+    conn: ConnId,
+    client: &ClientStream,
+) {
+    let mut writer = client.stream();
+    let mut telling = Telling {
+        rt: &server.machine,
+        watch: &server.watch,
     };
-    thread::spawn(&rt, job).ok()
+    answer_side(
+        &server.machine,
+        &mut writer,
+        &server.shared,
+        conn,
+        &mut telling,
+    );
+    server.watch.closed();
+    client.end(&server.machine, &server.watch);
 }

@@ -8,27 +8,18 @@ mod client_stream;
 mod clock;
 mod connection;
 mod crew;
-mod fault;
-mod input;
-mod plain_hook;
-mod replay;
 mod serve;
-mod task;
+mod server;
 mod watch;
-mod words;
 
-pub use fault::Fault;
-pub use input::{read_input, read_plan_input};
+use command_line::{Task, read_words, task_of};
+use script_replay::{Fault, replay};
+use server::Machine;
 use std::fs::Files;
 use std::io::{self, Eprint};
 use std::net::{Net, TcpListener, TcpStream};
 use std::process::ExitCode;
 use std::rt::Env;
-use std::sync::Wait;
-use std::thread::Threads;
-use std::time::Clock;
-pub use task::{Checked, Service, Task, task_of};
-pub use words::read_words;
 
 fn main(rt: HostRuntime) -> ExitCode {
     match run_words(rt) {
@@ -43,21 +34,14 @@ fn main(rt: HostRuntime) -> ExitCode {
 
 /// Does what the machine's words ask for.
 fn run_words<
-    R: Net<Listener = TcpListener, Stream = TcpStream>
-        + Print
-        + Eprint
-        + Input
-        + Env
+    M: Machine
+        + Net<Listener = TcpListener, Stream = TcpStream>
         + AllocGlobal
+        + Env
         + Files
-        + Clock
-        + Threads
-        + Wait
-        + Copy
-        + Send
-        + Sync
-        + 'static,
->(rt: R) -> Result<(), Fault> {
+        + Input
+        + Print,
+>(rt: M) -> Result<(), Fault> {
     let alloc = rt.alloc();
     let owned = read_words(&rt)?;
     let mut words = Vec::new(alloc);
@@ -66,7 +50,7 @@ fn run_words<
     }
     match task_of(alloc, words.as_slice())? {
         Task::Replay => {
-            let _written = replay::replay(alloc, &mut rt.reader(), io::writer(&rt))?;
+            let _written = replay(alloc, &mut rt.reader(), io::writer(&rt))?;
             Ok(())
         }
         Task::Serve(service) => serve::serve(rt, &service),

@@ -2,16 +2,15 @@ ghost use Rattle.std.specs.Prelude.{◌≡◌, ◌<◌};
 
 use crate::connection::Connection;
 use crate::crew::{join_all, start_crew};
-use crate::fault::Fault;
-use crate::input::read_plan_input;
-use crate::plain_hook::PlainHook;
-use crate::task::Service;
+use crate::server::{Machine, Server};
 use crate::watch::Watch;
 use backend_pool::{Blanks, Book, Shared, Shares, WorkerShares};
 use call_plan::Plans;
+use command_line::Service;
+use script_replay::{Fault, PlainHook, read_plan_input};
 use std::alloc::Global;
 use std::fs::{File, Files};
-use std::io::{self, Eprint};
+use std::io;
 use std::marker::Brand;
 use std::net::{Net, TcpListener, TcpStream};
 use std::sync::ledger::{Blank, Ledger, Share};
@@ -26,21 +25,11 @@ const MOST_STREAMS: u64 = u64::MAX - 1;
 /// them have ended. `Plans` for a plan file that is refused; `Io` where it can't be read, at an address that can't be
 /// listened at, and after a failed accept; `Memory` where the gateway or its threads can't be made.
 pub(crate) fn serve<
-    R: Net<Listener = TcpListener, Stream = TcpStream>
-        + AllocGlobal
-        + Files
-        + Clock
-        + Eprint
-        + Threads
-        + Wait
-        + Copy
-        + Send
-        + Sync
-        + 'static,
->(rt: R, service: &Service) -> Result<(), Fault> {
-    let alloc = rt.alloc();
-    let plans = read_plan_file(&rt, alloc, service.plans.as_str())?;
-    let listener = TcpListener::bind(&rt, service.listen.as_str())?;
+    M: Machine + Net<Listener = TcpListener, Stream = TcpStream> + AllocGlobal + Files,
+>(machine: M, service: &Service) -> Result<(), Fault> {
+    let alloc = machine.alloc();
+    let plans = read_plan_file(&machine, alloc, service.plans.as_str())?;
+    let listener = TcpListener::bind(&machine, service.listen.as_str())?;
     let blanks = Blanks {
         bytes: Blank::new(u64::MAX),
         jobs: Blank::new(u64::MAX),
@@ -52,7 +41,9 @@ pub(crate) fn serve<
         .unwrap_or(MOST_STREAMS)
         .min(MOST_STREAMS);
     let told = service.log;
-    serve_with::<R, Brand, Brand, Brand>(rt, alloc, plans, blanks, listener, workers, most, told)
+    serve_with::<M, Brand, Brand, Brand>(
+        machine, alloc, plans, blanks, listener, workers, most, told,
+    )
 }
 
 fn read_plan_file<R: Files>(rt: &R, alloc: Global, path: &str) -> Result<Plans, Fault> {
@@ -63,20 +54,12 @@ fn read_plan_file<R: Files>(rt: &R, alloc: Global, path: &str) -> Result<Plans, 
 /// Serves so many streams by so many workers, tells of it on standard error if that is asked for, and ends all threads that it
 /// started.
 pub(crate) fn serve_with<
-    R: Net<Listener = TcpListener, Stream = TcpStream>
-        + Clock
-        + Eprint
-        + Threads
-        + Wait
-        + Copy
-        + Send
-        + Sync
-        + 'static,
+    M: Machine + Net<Listener = TcpListener, Stream = TcpStream>,
     L: Ledger + Send + Sync + 'static,
     J: Ledger + Send + Sync + 'static,
     K: Ledger + Send + Sync + 'static,
 >(
-    rt: R,
+    machine: M,
     alloc: Global,
     plans: Plans,
     blanks: Blanks,
@@ -90,73 +73,68 @@ pub(crate) fn serve_with<
         × (blanks.results.parts ≡ K.parts) }
     requires enough { (most < blanks.bytes.parts) × (workers < blanks.jobs.parts) × (workers < blanks.results.parts) }
 {
-    let start = Instant::now(&rt)?;
+    let start = Instant::now(&machine)?;
     let (book, shares) = Book::<PlainHook, L, J, K>::new(alloc, plans, blanks)?;
     let Shares {
         bytes,
         jobs,
         results,
     } = shares;
-    let shared = Arc::new(alloc, Shared::counting_from(book, start))?;
-    let watch = Arc::new(alloc, Watch::new(alloc, start, told))?;
+    let server = Arc::new(
+        alloc,
+        Server {
+            machine,
+            alloc,
+            shared: Shared::counting_from(book, start),
+            watch: Watch::new(alloc, start, told),
+        },
+    )?;
     let mut crew = Vec::new(alloc);
-    let mine = WorkerShares { jobs, results };
-    let served = match start_crew(rt, alloc, &shared, &watch, workers, mine, &mut crew) {
-        Ok(()) => accept_streams(rt, alloc, &shared, bytes, listener, most, &watch),
+    let served = match start_crew(&server, workers, WorkerShares { jobs, results }, &mut crew) {
+        Ok(()) => accept_streams(&server, bytes, listener, most),
         Err(_) => Err(Fault::Memory),
     };
-    shared.shut(&rt);
-    watch.end(&rt);
-    join_all(&rt, crew);
+    server.shared.shut(&machine);
+    server.watch.end(&machine);
+    join_all(&machine, crew);
     served
 }
 
 /// Accepts so many streams, or up to an accept that fails; then nobody listens any more, and it waits until all streams have
 /// ended.
 fn accept_streams<
-    R: Net<Listener = TcpListener, Stream = TcpStream>
-        + Clock
-        + Eprint
-        + Threads
-        + Wait
-        + Copy
-        + Send
-        + Sync
-        + 'static,
+    M: Machine,
     L: Ledger + Send + Sync + 'static,
     J: Ledger + Send + Sync + 'static,
     K: Ledger + Send + Sync + 'static,
 >(
-    rt: R,
-    alloc: Global,
-    shared: &Arc<Shared<PlainHook, L, J, K>>,
+    server: &Arc<Server<M, L, J, K>>,
     bytes: Share<L>,
     listener: TcpListener,
     most: u64,
-    watch: &Arc<Watch>,
 ) -> Result<(), Fault>
     requires { most < bytes.parts }
 {
     let mut bytes = bytes;
     let mut accepted = Ok(());
-    let mut connections = Vec::new(alloc);
+    let mut connections = Vec::new(server.alloc);
     for _stream in 0..most {
-        let Ok(stream) = accept(&rt, &listener, shared) else {
+        let Ok(stream) = accept(&**server, &listener) else {
             accepted = Err(Fault::Io);
             break;
         };
-        clear(&rt, &mut connections);
+        clear(&server.machine, &mut connections);
         let mine = bytes.split_off(1, 0);
         if connections.reserve(1).is_err() {
             continue;
         }
-        if let Some(connection) = Connection::start(rt, alloc, shared, stream, mine, watch) {
+        if let Some(connection) = Connection::start(server, stream, mine) {
             connections.push_reserved(connection);
         }
     }
     drop(listener);
     for connection in connections {
-        connection.join(&rt);
+        connection.join(&server.machine);
     }
     accepted
 }
@@ -169,19 +147,18 @@ const MOST_TRIES: u32 = 300;
 
 /// Accepts the next stream. Where that fails it is tried again for some time, and for as long as backends are asked: what it
 /// lacks, as a file descriptor, may be theirs.
-fn accept<R: Clock + Wait, L: Ledger, J: Ledger, K: Ledger>(
-    rt: &R,
+fn accept<M: Clock + Wait, L: Ledger, J: Ledger, K: Ledger>(
+    server: &Server<M, L, J, K>,
     listener: &TcpListener,
-    shared: &Shared<PlainHook, L, J, K>,
 ) -> io::Result<TcpStream> {
     let mut tries: u32 = 0;
-    for _ in rt.forever() {
+    for _ in server.machine.forever() {
         match listener.accept() {
             Ok((stream, _peer)) => return Ok(stream),
             Err(error) if tries >= MOST_TRIES => return Err(error),
-            Err(_) => thread::sleep(rt, Duration::from_millis(PAUSE)),
+            Err(_) => thread::sleep(&server.machine, Duration::from_millis(PAUSE)),
         }
-        if !shared.state.lock(rt).book.is_asking() {
+        if !server.is_asking() {
             tries = tries.saturating_add(1);
         }
     }

@@ -5,7 +5,4 @@ use std::time;
 pub trait Clock {
     /// The moment, in milliseconds from a start of the clock's own.
     fn now<R: time::Clock + Wait>(&mut self, rt: &R) -> u64;
-
-    /// Waits for so many milliseconds, before the next moment is asked for.
-    fn pause<R: time::Clock + Wait>(&mut self, rt: &R, milliseconds: u64);
 }

@@ -2,7 +2,6 @@
 #![tactic(auto)]
 
 mod clock;
-pub mod fakes;
 mod inlet;
 mod keeping;
 mod lock_inlet;

@@ -11,7 +11,7 @@ use crate::lock_inlet::LockInlet;
 use crate::lock_replies::LockReplies;
 use crate::pumping::pump;
 use crate::writing::{write_and_hand_on, write_replies};
-use backend_pool::{Shared, Turn};
+use backend_pool::Shared;
 use gateway_core::{ConnId, Reply, ReplyHook};
 use std::alloc::Global;
 use std::io::{Read, Write};
@@ -92,7 +92,7 @@ pub fn answer_side<
 }
 
 /// Hands the moments of a clock to the gateway, one at each turn, each in one hold of the lock, until that is shut. A moment
-/// that is not later than the one before is not handed in. It sleeps while no backend is asked for long.
+/// that is not later than the one before is not handed in. Between two turns it waits for the least deadline.
 pub fn clock_side<
     R: time::Clock + Wait,
     C: Clock,
@@ -103,10 +103,8 @@ pub fn clock_side<
 >(rt: &R, clock: &mut C, shared: &Shared<H, L, J, K>) {
     for _ in rt.forever() {
         let moment = clock.now(rt);
-        match shared.turn(rt, moment) {
-            Turn::Pause(milliseconds) => clock.pause(rt, milliseconds),
-            Turn::Sleep => shared.sleep_until_asked(rt),
-            Turn::End => return,
+        if !shared.turn(rt, moment) {
+            return;
         }
     }
     unreachable!()

@@ -3,9 +3,11 @@ ghost use Rattle.connect_codec.specs.declared.answer.Outcome.{Outcome as Outcome
 ghost use Rattle.gateway_model.specs.declared.entry.ReplyEntry.{ReplyEntry};
 ghost use Rattle.gateway_theory.specs.Gateway.{is_broken_conn, is_ended, shown, next_reply, outs_of, untaken_of};
 ghost use Rattle.gateway_model.specs.Occurrence as concerning;
-ghost use Rattle.gateway_theory.specs.Serving.{Breaks, BreaksBy, CountsCalls, FewCalls, IsDeaf, Keeps, KeepsBut, TakesOnly, TellsStep};
+ghost use Rattle.gateway_theory.specs.Serving.{TakesSome, WouldBegin, Breaks, BreaksBy, CountsCalls, FewCalls, IsDeaf, Keeps, KeepsBut, TakesOnly, TellsStep};
 ghost use Rattle.gateway_theory.specs.Refused.{RefusesOpening};
+ghost use Rattle.gateway_theory.specs.Least.{ends_any, least_deadline};
 ghost use Rattle.gateway_theory.specs.Tally.{tally_of};
+ghost use Rattle.gateway_model.specs.Past.{is_due};
 ghost use Rattle.gateway_model.specs.Starts.{Placed, occurrences};
 ghost use Rattle.gateway_theory.specs.Store.{conn_of};
 ghost use Rattle.gateway_model.specs.Events.{most_open, Occurs};
@@ -73,10 +75,10 @@ impl<H: ReplyHook + Drop> Core<H> {
     /// Takes bytes of a connection's stream, at most up to the end of a request, and answers how many.
     pub fn feed(&mut self, conn: ConnId, bytes: &[u8]) -> Result<usize, StepFault>
         ensures stands { TakesBytes conn bytes.now result self.old self.new }
-        ensures within { IfOk result (λ n. n ≤ length bytes.now) }
-        ensures moves { 0 < length bytes.now → IfOk result (λ n. 0 < n) }
+        ensures takes { IfOk result (TakesSome (length bytes.now)) }
         ensures one { TakesOneOf conn bytes.now result self.old }
         ensures tells { TellsStep conn self.old self.new result }
+        ensures begins { result ≡ Err StepFault.Exhausted → WouldBegin conn bytes.now self.old }
         ensures heard { OnOk result (IsDeaf conn self.new → ⊥) }
         ensures counts { CountsCalls self.old self.new }
         ensures keeps { Keeps (λ c. c == conn) self.old self.new }
@@ -200,6 +202,15 @@ impl<H: ReplyHook + Drop> Core<H> {
         ensures { result ≡ length self.now.machine.jobs }
     {
         self.streams.waiting_jobs()
+    }
+
+    /// The least deadline of the undecided calls, and of their branches that are out.
+    pub fn next_deadline(&self) -> Option<u64>
+        ensures least { result ≡ least_deadline self.now.machine.calls }
+        // a moment ends a call exactly if it has reached this
+        ensures quiet { (moment : ℕ) → ends_any moment self.now.machine.calls ≡ is_due moment result }
+    {
+        self.streams.next_deadline()
     }
 
     /// How the results that came were seen, those of `starved` among them.

@@ -1,9 +1,11 @@
-ghost use Rattle.std.specs.Prelude.{◌≡◌, ◌==◌, ◌<◌, ◌≤◌, ◌^◌, ◌∷◌, IfOk, IfErr, List, OnErr, false, true, not, filter, length, []};
+ghost use Rattle.std.specs.Prelude.{◌≡◌, ◌==◌, ◌<◌, ◌≤◌, ◌^◌, ◌∷◌, IfOk, IfErr, List, OnErr, false, true, not, filter, length, [], ℕ};
 ghost use Rattle.gateway_theory.specs.Ends.{is_stopped_in, noted};
 ghost use Rattle.gateway_machine.specs.Linked.{IsNow};
 ghost use Rattle.gateway_theory.specs.Heads.{IsOfAll};
 ghost use Rattle.gateway_theory.specs.Gateway.{is_broken_conn, is_ended, outs_of, untaken_of};
+ghost use Rattle.gateway_theory.specs.Least.{ends_any, least_deadline};
 ghost use Rattle.gateway_theory.specs.Step.{moment_after};
+ghost use Rattle.gateway_model.specs.Past.{is_due};
 ghost use Rattle.gateway_theory.specs.Refused.{RefusesOpening};
 ghost use Rattle.gateway_theory.specs.Results.{Forgets, NoneSpent, Starved};
 ghost use Rattle.gateway_machine.specs.Ended.{BranchEnds};
@@ -19,7 +21,7 @@ use connect_codec::Outcome;
 use gateway_machine::{Job, LinkedMachine};
 use gateway_model::{CallId, ConnId};
 use gateway_replies::{Reply, ReplyHook, Stock};
-use gateway_theory::{Cause, OpenError, StepFault, Tally, Took};
+use gateway_theory::{OpenError, StepFault, Tally, Took, Trigger};
 use http_pieces::{Request, State};
 use std::alloc::{AllocError, Global};
 use std::marker::Model;
@@ -126,7 +128,7 @@ impl<H: ReplyHook + Drop> Streams<H> {
             return Err(StepFault::Gone);
         };
         self.streams[index].hang_up();
-        self.machine.end_calls(self.alloc, &Cause::HungUp(number));
+        self.machine.end_calls(self.alloc, &Trigger::HungUp(number));
         if self.machine.is_stopped(number) {
             return Err(StepFault::Memory);
         }
@@ -136,20 +138,20 @@ impl<H: ReplyHook + Drop> Streams<H> {
     /// A moment has come, in milliseconds: the calls end whose deadlines it has reached, or that of a branch of theirs which is
     /// out. True where a connection broke in the step.
     pub(crate) fn moment(&mut self, moment: u64) -> bool
-        ensures ends { Ends (Cause.Reached (moment_after self.old.machine.moment moment))
+        ensures ends { Ends (Trigger.Reached (moment_after self.old.machine.moment moment))
             (record self.old.machine { moment = moment_after self.old.machine.moment moment }) self.old self.new }
         ensures broke { Breaks self.old self.new result }
     {
         let moment = self.machine.tell(moment);
-        self.end_calls(&Cause::Reached(moment))
+        self.end_calls(&Trigger::Reached(moment))
     }
 
     /// The drain has begun: all calls end. True where a connection broke in the step.
     pub(crate) fn drain(&mut self) -> bool
-        ensures ends { Ends Cause.Drained (record self.old.machine { drained = true }) self.old self.new }
+        ensures ends { Ends Trigger.Drained (record self.old.machine { drained = true }) self.old self.new }
         ensures broke { Breaks self.old self.new result }
     {
-        self.end_calls(&Cause::Drained)
+        self.end_calls(&Trigger::Drained)
     }
 
     /// Closes the connection of that number, and answers whether it was open.
@@ -216,6 +218,14 @@ impl<H: ReplyHook + Drop> Streams<H> {
         ensures { result ≡ length self.now.machine.jobs }
     {
         self.machine.waiting_jobs()
+    }
+
+    /// The least deadline of the calls that can be decided, and of their branches that are out.
+    pub(crate) fn next_deadline(&self) -> Option<u64>
+        ensures least { result ≡ least_deadline self.now.machine.calls }
+        ensures quiet { (moment : ℕ) → ends_any moment self.now.machine.calls ≡ is_due moment result }
+    {
+        self.machine.next_deadline()
     }
 
     /// How results were seen.
@@ -331,14 +341,14 @@ impl<H: ReplyHook + Drop> Streams<H> {
     }
 
     /// What may end calls, other than a hang-up, is noted, and the calls end that it ends. True where a connection broke.
-    fn end_calls(&mut self, cause: &Cause) -> bool
-        requires all { IsOfAll cause.now }
-        requires now { IsNow cause.now self.old.machine.moment }
-        ensures ends { Ends cause.now (noted cause.now self.old.machine) self.old self.new }
+    fn end_calls(&mut self, trigger: &Trigger) -> bool
+        requires all { IsOfAll trigger.now }
+        requires now { IsNow trigger.now self.old.machine.moment }
+        ensures ends { Ends trigger.now (noted trigger.now self.old.machine) self.old self.new }
         ensures broke { Breaks self.old self.new result }
     {
         let before = self.machine.broken();
-        self.machine.end_calls(self.alloc, cause);
+        self.machine.end_calls(self.alloc, trigger);
         self.machine.broken() > before
     }
 }

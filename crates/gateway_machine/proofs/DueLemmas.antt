@@ -1,15 +1,15 @@
 -- What the contexts of a call and of its branches tell is what a moment brings.
-use Rattle.std.proofs.Common.{◌≡◌, ℕ, suc, ◌<◌, ◌≤◌, min, Bool, true, false, List, [], ◌∷◌, Option, None, Some, refl, sym, ap, ◌∙◌, arith, ⊎_elim}
+use Rattle.std.proofs.Common.{◌≡◌, ℕ, suc, min, true, false, List, [], ◌∷◌, Option, None, Some, refl, sym, ap, ◌∙◌, arith, ⊎_elim}
 use Rattle.std.specs.Prelude.{◌==◌, is_some, nat_le, if◌then◌else◌, option_map}
 use Rattle.std.specs.Option.{option_or, option_map_or}
-use Rattle.std.proofs.lemmas.Bool.{cases_Bool, eq-eqb, ne_eqb}
+use Rattle.std.proofs.lemmas.Bool.{cases_Bool, eq-eqb}
 use Rattle.call_contexts.specs.Standing.{branch_before, first_branch, if_before, sooner_branch}
 use Rattle.gateway_model.specs.declared.call_event.CallEvent.{CallEvent}
 use Rattle.gateway_model.specs.declared.call_event.CallEvent.TheVariants.{BranchExpired, Expired}
 use Rattle.gateway_model.specs.declared.id.CallId.{CallId}
 use Rattle.gateway_model.specs.Past.{due_by, first_at, is_at, is_due, least_of, smaller}
-use Rattle.gateway_replies.specs.Contexts.{Ended, TimedBranch, by_deadline, event_of}
-use Rattle.gateway_theory.specs.declared.cause.Cause.TheVariants.{Reached}
+use Rattle.gateway_replies.specs.Contexts.{TimedBranch, by_deadline, event_of}
+use Rattle.gateway_theory.specs.declared.trigger.Trigger.TheVariants.{Reached}
 use Rattle.gateway_machine.specs.Linked.{Over, over_by, timed}
 
 -- the branch that stands first, of these deadlines

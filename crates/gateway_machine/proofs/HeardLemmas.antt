@@ -2,18 +2,18 @@
 use Rattle.std.proofs.Common.{◌≡◌, ℕ, ◌<◌, zero, suc, arith, length, refl, sym, ap, ◌∙◌, List, [], ◌∷◌, ◌++◌, Option, Some, None, Bool, true, false, inl, inr, ⊎_elim, subst, map}
 use Rattle.std.specs.Prelude.{◌==◌, All, Err, Ok, OnErr, OnOk, Result, filter, if◌then◌else◌, is_some, not}
 use Rattle.std.specs.Option.{option_or}
-use Rattle.std.proofs.lemmas.Bool.{cases_Bool, eqb-true, or_parts}
-use Rattle.std.proofs.lemmas.List.Elements.{All-cons, All-head, All-map, All-nil, All-push, All-tail, All-weaker}
+use Rattle.std.proofs.lemmas.Bool.{cases_Bool, eqb-true}
+use Rattle.std.proofs.lemmas.List.Elements.{All-cons, All-head, All-map, All-push, All-tail, All-weaker}
 use Rattle.connect_codec.specs.declared.answer.Outcome.{Outcome}
 use Rattle.gateway_model.specs.declared.id.CallId.{CallId}
-use Rattle.gateway_theory.specs.declared.cause.Cause.{Cause}
-use Rattle.gateway_theory.specs.declared.cause.Cause.TheVariants.{Reached, HungUp, Drained}
+use Rattle.gateway_theory.specs.declared.trigger.Trigger.{Trigger}
+use Rattle.gateway_theory.specs.declared.trigger.Trigger.TheVariants.{Reached, HungUp, Drained}
 use Rattle.gateway_theory.specs.declared.fault.Took.{Took}
 use Rattle.gateway_theory.specs.Conn.{ConnValue, conn_value}
 use Rattle.gateway_replies.specs.Contexts.{ContextsValue, Ended, PeerValue, by_drain, by_hang_up, ended_peer, ends_of, ends_peer, is_peer, told}
 use Rattle.gateway_theory.specs.Ends.{noted}
 use Rattle.gateway_theory.specs.Heads.{Head, conn_heads, head, hung_head, noted_heads}
-use Rattle.gateway_machine.specs.Linked.{Hears, IsLinked, linked, linked_by, linked_conns, none_over, over_by}
+use Rattle.gateway_machine.specs.Linked.{Hears, IsLinked, linked, linked_conns, none_over}
 use Rattle.gateway_theory.specs.Results.{Forgets, ResultTaken, StepsAt, Starved, result_at}
 use Rattle.gateway_theory.specs.Store.{MachineValue, broken_at, conn_at, conn_of, kept_at}
 use Rattle.gateway_theory.specs.Enters.{arriving_at, entered_at}
@@ -21,7 +21,9 @@ use Rattle.gateway_theory.specs.Opens.{ReplyTaken, opened_as}
 use Rattle.gateway_theory.specs.Replies.{ReplyValue}
 use Rattle.gateway_model.specs.Occurrence.{Coming}
 use Rattle.gateway_theory.specs.lemmas.HeadLemmas.{heads_entered}
-use Rattle.gateway_machine.proofs.LinkedLemmas.{ends_either, new_ends, not_peer, relinked}
+use Rattle.gateway_machine.proofs.PeerLemmas.{ends_either, not_peer}
+use Rattle.gateway_machine.proofs.ToldLemmas.{relinked}
+use Rattle.gateway_machine.proofs.BetweenLemmas.{new_ends}
 
 -- contexts that are linked as others were, where these others hear the same connections
 pub stays_linked : (c d : ContextsValue) (w : MachineValue) → d ≡ linked c w → c.drained ≡ w.drained → All (Hears c) (conn_heads w.conns) → IsLinked d w
@@ -114,7 +116,7 @@ ends_drained d n (p ∷ ps) is = ⊎_elim
     by true = refl
     by false = refl
 
-pub told_heard : (cause : Cause) (c : ContextsValue) (hs : List Head) → All (Hears c) hs → All (Hears (told cause c)) (noted_heads cause hs)
+pub told_heard : (trigger : Trigger) (c : ContextsValue) (hs : List Head) → All (Hears c) hs → All (Hears (told trigger c)) (noted_heads trigger hs)
 told_heard (Reached now) c hs heard = heard
 told_heard (HungUp n) c hs heard = All-map (Hears (told (HungUp n) c)) (hung_head n) hs (All-weaker (Hears c) (λ h. Hears (told (HungUp n) c) (hung_head n h)) one hs heard)
   where
@@ -126,7 +128,7 @@ told_heard (HungUp n) c hs heard = All-map (Hears (told (HungUp n) c)) (hung_hea
         by false far = λ on. ends_others (by_drain c.drained) n h.number c.conns far ∙ hears on
 told_heard Drained c hs heard = All-weaker (Hears c) (Hears (told Drained c)) (λ h hears on. ends_drained c.drained h.number c.conns (hears on)) hs heard
 
-pub noted_moment : (cause : Cause) (v : MachineValue) → (noted cause v).moment ≡ v.moment
+pub noted_moment : (trigger : Trigger) (v : MachineValue) → (noted trigger v).moment ≡ v.moment
 noted_moment (Reached now) v = refl
 noted_moment (HungUp n) v = refl
 noted_moment Drained v = refl

@@ -1,34 +1,33 @@
 -- A moment that has reached no deadline ends no call.
-use Rattle.std.proofs.Common.{◌≡◌, ℕ, ◌+◌, ◌<◌, zero, suc, arith, refl, sym, ap, ◌∙◌, List, [], ◌∷◌, ◌++◌, Option, Some, None, Bool, true, false, ⊎_elim, subst, map, length}
+use Rattle.std.proofs.Common.{◌≡◌, ℕ, ◌+◌, ◌<◌, zero, suc, arith, refl, sym, ap, ◌∙◌, List, [], ◌∷◌, Option, Some, None, Bool, true, false, subst, map, length}
 use Rattle.std.specs.Prelude.{All, if◌then◌else◌, nat_le}
 use Rattle.std.specs.Option.{option_or}
-use Rattle.std.proofs.lemmas.Bool.{cases_Bool}
 use Rattle.std.proofs.lemmas.List.Elements.{All-cons, All-head, All-nil, All-tail}
 use Rattle.gateway_model.specs.declared.id.CallId.{CallId}
 use Rattle.gateway_model.specs.declared.entry.ReplyEntry.{ReplyEntry}
-use Rattle.gateway_model.specs.Past.{ArrivedCall, call_id, is_call}
-use Rattle.gateway_theory.specs.declared.cause.Cause.{Cause}
-use Rattle.gateway_theory.specs.declared.cause.Cause.TheVariants.{Reached}
+use Rattle.gateway_model.specs.Past.{call_id, is_call}
+use Rattle.gateway_theory.specs.declared.trigger.Trigger.{Trigger}
+use Rattle.gateway_theory.specs.declared.trigger.Trigger.TheVariants.{Reached}
 use Rattle.gateway_theory.specs.Conn.{ConnValue}
-use Rattle.gateway_theory.specs.Ends.{CallsEnd, ConnEnds, EndsOn, IsSettled, MayEnd, caused, ended_below, ended_call, ended_if, ended_kept, is_stopped_in, without_reply}
+use Rattle.gateway_theory.specs.Ends.{CallsEnd, IsSettled, MayEnd, caused, ended_below, ended_call, ended_if, is_stopped_in, without_reply}
 use Rattle.gateway_theory.specs.Kept.{KeptValue}
 use Rattle.gateway_theory.specs.Machine.{slot_at}
-use Rattle.gateway_theory.specs.Step.{CallState, Live, Step, call_state, deadlines_in, kept}
-use Rattle.gateway_theory.specs.Store.{MachineValue, call_at, conn_of, given_up, kept_at}
-use Rattle.gateway_replies.specs.Contexts.{ContextsValue, IsNotDue, LifeValue, TimedBranch}
+use Rattle.gateway_theory.specs.Step.{Live, Step, call_state, deadlines_in, kept}
+use Rattle.gateway_theory.specs.Store.{MachineValue, call_at, conn_of, kept_at}
+use Rattle.gateway_replies.specs.Contexts.{ContextsValue, IsNotDue, TimedBranch}
 use Rattle.gateway_model.specs.Past.{due_by, is_due, least_of, smaller}
 use Rattle.gateway_theory.specs.lemmas.Deadlines.{due_smaller}
-use Rattle.gateway_machine.specs.Linked.{EndsNone, IsLinked, life_in, linked_calls, lives_in, none_over, timed}
+use Rattle.gateway_machine.specs.Linked.{EndsNone, IsLinked, life_in, linked_calls, none_over, timed}
 use Rattle.gateway_theory.specs.lemmas.LimitLemmas.{same_call}
 
--- the cause ends no call of these
-abbrev pub IsLeft : Cause → KeptValue → Type 0
-IsLeft cause k = (l : Live) → k.call.live ≡ Some l → caused cause k.id l.asked (deadlines_in k.call.out l.deadlines) ≡ None
+-- the trigger ends no call of these
+abbrev pub IsLeft : Trigger → KeptValue → Type 0
+IsLeft trigger k = (l : Live) → k.call.live ≡ Some l → caused trigger k.id l.asked (deadlines_in k.call.out l.deadlines) ≡ None
 
-left_call : (cause : Cause) (k : KeptValue) → IsLeft cause k → ended_call cause k.id k.call ≡ kept k.call
-left_call cause k left = by k.call.live left refl
+left_call : (trigger : Trigger) (k : KeptValue) → IsLeft trigger k → ended_call trigger k.id k.call ≡ kept k.call
+left_call trigger k left = by k.call.live left refl
   where
-    by : (o : Option Live) → ((l : Live) → o ≡ Some l → caused cause k.id l.asked (deadlines_in k.call.out l.deadlines) ≡ None) → k.call.live ≡ o → ended_if cause k.id k.call.out o ≡ kept k.call
+    by : (o : Option Live) → ((l : Live) → o ≡ Some l → caused trigger k.id l.asked (deadlines_in k.call.out l.deadlines) ≡ None) → k.call.live ≡ o → ended_if trigger k.id k.call.out o ≡ kept k.call
     by None left o_is = ap (λ o. kept (call_state k.call.out o)) (sym o_is)
     by (Some l) left o_is = rw (left l refl) (ap (λ o. kept (call_state k.call.out o)) (sym o_is))
 
@@ -42,21 +41,21 @@ all_at P (k ∷ ks) zero lt all = All-head P k ks all
 all_at P (k ∷ ks) (suc j) lt all = all_at P ks j (omega (arith, lt)) (All-tail P k ks all)
 
 -- a call that is not kept is not ended
-none_replied : (cause : Cause) (id : CallId) (ks : List KeptValue) → All (IsLeft cause) ks → (ended_call cause id (call_at id ks)).reply ≡ None
-none_replied cause id [] all = refl
-none_replied cause id (k ∷ ks) all = by (is_call k.id id) refl (none_replied cause id ks (All-tail (IsLeft cause) k ks all))
+none_replied : (trigger : Trigger) (id : CallId) (ks : List KeptValue) → All (IsLeft trigger) ks → (ended_call trigger id (call_at id ks)).reply ≡ None
+none_replied trigger id [] all = refl
+none_replied trigger id (k ∷ ks) all = by (is_call k.id id) refl (none_replied trigger id ks (All-tail (IsLeft trigger) k ks all))
   where
-    by : (b : Bool) → is_call k.id id ≡ b → (ended_call cause id (call_at id ks)).reply ≡ None → (ended_call cause id (if b then k.call else call_at id ks)).reply ≡ None
-    by true its rest = ap (λ d. (ended_call cause d k.call).reply) (sym (same_call k.id id its)) ∙ ap (λ (s : Step). s.reply) (left_call cause k (All-head (IsLeft cause) k ks all))
+    by : (b : Bool) → is_call k.id id ≡ b → (ended_call trigger id (call_at id ks)).reply ≡ None → (ended_call trigger id (if b then k.call else call_at id ks)).reply ≡ None
+    by true its rest = ap (λ d. (ended_call trigger d k.call).reply) (sym (same_call k.id id its)) ∙ ap (λ (s : Step). s.reply) (left_call trigger k (All-head (IsLeft trigger) k ks all))
     by false far rest = rest
 
 -- what is ended by nothing stays
-pub none_end : (cause : Cause) (v : MachineValue) → All (IsLeft cause) v.calls → IsSettled v → CallsEnd cause v v
-none_end cause v left settled = record {
+pub none_end : (trigger : Trigger) (v : MachineValue) → All (IsLeft trigger) v.calls → IsSettled v → CallsEnd trigger v v
+none_end trigger v left settled = record {
   moment_is = refl;
   drained_is = refl;
   jobs_are = refl;
-  calls_are = map_same (λ k. without_reply (ended_below cause (is_stopped_in k.id.conn v.conns) true k)) v.calls (λ j lt. one j lt (is_stopped_in (kept_at j v.calls).id.conn v.conns) refl);
+  calls_are = map_same (λ k. without_reply (ended_below trigger (is_stopped_in k.id.conn v.conns) true k)) v.calls (λ j lt. one j lt (is_stopped_in (kept_at j v.calls).id.conn v.conns) refl);
   numbers_are = refl;
   conns_are = λ c. same (conn_of c v.conns);
   breaks_are = λ c now before. let clash : true ≡ false = sym now ∙ before in absurd (cc);
@@ -66,23 +65,23 @@ none_end cause v left settled = record {
     rests : (k : KeptValue) → k.reply ≡ None → without_reply k ≡ k
     rests k none = ap (λ r. record { id = k.id; call = k.call; reply = r }) (sym none)
 
-    one : (j : ℕ) → j < length v.calls → (b : Bool) → is_stopped_in (kept_at j v.calls).id.conn v.conns ≡ b → without_reply (ended_below cause b true (kept_at j v.calls)) ≡ kept_at j v.calls
+    one : (j : ℕ) → j < length v.calls → (b : Bool) → is_stopped_in (kept_at j v.calls).id.conn v.conns ≡ b → without_reply (ended_below trigger b true (kept_at j v.calls)) ≡ kept_at j v.calls
     one j lt true stopped = ap (λ o. record { id = (kept_at j v.calls).id; call = call_state (kept_at j v.calls).call.out o; reply = None }) (sym (settled.none_live j stopped)) ∙ rests (kept_at j v.calls) (settled.no_reply j)
-    one j lt false going = ap (λ (s : Step). record { id = (kept_at j v.calls).id; call = s.call; reply = None }) (left_call cause (kept_at j v.calls) (all_at (IsLeft cause) v.calls j lt left)) ∙ rests (kept_at j v.calls) (settled.no_reply j)
+    one j lt false going = ap (λ (s : Step). record { id = (kept_at j v.calls).id; call = s.call; reply = None }) (left_call trigger (kept_at j v.calls) (all_at (IsLeft trigger) v.calls j lt left)) ∙ rests (kept_at j v.calls) (settled.no_reply j)
 
     or_none : (o : Option ReplyEntry) (b : Bool) (r : Option ReplyEntry) → r ≡ None → o ≡ option_or o (if b then None else r)
     or_none (Some e) b r none = refl
     or_none None true r none = refl
     or_none None false r none = sym none
 
-    same : (o : Option ConnValue) → MayEnd cause v.calls o o
+    same : (o : Option ConnValue) → MayEnd trigger v.calls o o
     same None = tt
     same (Some k) = record {
       number_is = refl;
       taken_is = refl;
       stays_broken = λ b. b;
       size_is = refl;
-      each = λ j lt. or_none (slot_at j k.slots) k.broken _ (none_replied cause (call_id k.number (k.taken + j)) v.calls left);
+      each = λ j lt. or_none (slot_at j k.slots) k.broken _ (none_replied trigger (call_id k.number (k.taken + j)) v.calls left);
     }
 
 -- of branches of which none is due the least is not

@@ -1,21 +1,20 @@
 -- The contexts of branches, as their call begins and as it goes on.
-use Rattle.std.proofs.Common.{◌≡◌, ℕ, zero, suc, ◌+◌, ◌-◌, ◌<◌, ◌≤◌, min, Bool, true, false, List, [], ◌∷◌, ◌++◌, map, length, Option, None, Some, refl, sym, ap, ◌∙◌, arith, ⊎_elim, subst, append-nil}
+use Rattle.std.proofs.Common.{◌≡◌, ℕ, zero, suc, ◌+◌, ◌-◌, ◌<◌, ◌≤◌, Bool, true, false, List, [], ◌∷◌, ◌++◌, map, length, Option, None, Some, refl, sym, ap, ◌∙◌, arith, ⊎_elim, append-nil}
 use Rattle.std.specs.Prelude.{◌==◌, ◌||◌, nat_lt, if◌then◌else◌, slice_get, slice_index_or, slice_set, option_map, option_and_then}
 use Rattle.std.specs.Option.{option_or}
-use Rattle.std.specs.List.{list_any, range_with_len}
+use Rattle.std.specs.List.{range_with_len}
 use Rattle.std.proofs.lemmas.Bool.{cases_Bool, eq-eqb, lt-ltb, ne_eqb, or_parts}
 use Rattle.std.proofs.lemmas.List.FromFn.{length-map-range_with_len, get_or-map-range_with_len, map-range_with_len_more}
 use Rattle.call_contexts.specs.Standing.{drop_branch}
-use Rattle.call_plan.specs.Plan.{PlanRecord, time_of}
+use Rattle.call_plan.specs.Plan.{PlanRecord}
 use Rattle.gateway_model.specs.declared.id.CallId.{CallId}
 use Rattle.gateway_model.specs.Past.{ArrivedCall, deadline_from, is_call}
-use Rattle.gateway_replies.specs.Contexts.{ContextsValue, Ended, KeepsOthers, LifeValue, TimedBranch, contexts_value, ends_of, finished, is_life, on_branches, others, with_branches}
+use Rattle.gateway_replies.specs.Contexts.{ContextsValue, Ended, KeepsOthers, LifeValue, TimedBranch, contexts_value, finished, is_life, on_branches, others, with_branches}
 use Rattle.gateway_machine.specs.KeptCall.{GoesOn}
 use Rattle.gateway_machine.specs.Linked.{Over, branch_started, first_started, none_over, timed}
 use Rattle.gateway_theory.specs.Begins.{first_deadlines, first_ones, first_out}
-use Rattle.gateway_theory.specs.LiveStands.{tasks_from}
 use Rattle.gateway_theory.specs.Step.{Live, deadlines_in, deadlines_next, next_out}
-use Rattle.gateway_theory.specs.Task.{TaskValue, task_of}
+use Rattle.gateway_theory.specs.Task.{task_of}
 
 -- ---- the branches of a list of deadlines
 

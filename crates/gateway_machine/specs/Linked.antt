@@ -2,21 +2,21 @@
 use Rattle.std.specs.Prelude.{◌≡◌, ⊤, ◌==◌, ℕ, zero, suc, Bool, true, false, if◌then◌else◌, length, not, All, List, [], ◌∷◌, ◌++◌, map, filter, Option, None, Some, option_map, option_to_list}
 use Rattle.std.specs.Option.{option_or}
 use Rattle.gateway_model.specs.declared.call_event.CallEvent.{CallEvent}
-use Rattle.gateway_theory.specs.declared.cause.Cause.TheVariants.{Reached, HungUp, Drained}
+use Rattle.gateway_theory.specs.declared.trigger.Trigger.TheVariants.{Reached, HungUp, Drained}
 use Rattle.gateway_theory.specs.Ends.{CallsEnd, IsSettled, noted}
 use Rattle.gateway_theory.specs.Heads.{Head, conn_heads, noted_heads}
 use Rattle.gateway_model.specs.declared.id.CallId.{CallId}
 use Rattle.gateway_machine.specs.declared.machine.arriving.Arriving.{Arriving}
 use Rattle.gateway_machine.specs.declared.machine.arriving.Arriving.TheVariants.{Answered, Begins}
 use Rattle.gateway_model.specs.CallRecord.{CallRecord}
-use Rattle.gateway_theory.specs.declared.cause.Cause.{Cause}
+use Rattle.gateway_theory.specs.declared.trigger.Trigger.{Trigger}
 use Rattle.gateway_theory.specs.Conn.{ConnValue}
 use Rattle.gateway_replies.specs.Contexts.{ContextsValue, Ended, LifeValue, KeepsOthers, PeerValue, TimedBranch, by_deadline, by_drain, by_hang_up, contexts_value, ending_life, ends_of, finished, is_life, on_branches, peer, without}
 use Rattle.gateway_theory.specs.Kept.{KeptValue}
 use Rattle.call_plan.specs.Plan.{PlanRecord}
 use Rattle.connect_codec.specs.declared.answer.Outcome.{Outcome}
 use Rattle.connect_codec.specs.declared.answer.Outcome.TheVariants.{Answer, Fail}
-use Rattle.gateway_model.specs.Past.{ArrivedCall, deadline_from}
+use Rattle.gateway_model.specs.Past.{deadline_from}
 use Rattle.gateway_theory.specs.Begins.{begun_live, first_out}
 use Rattle.gateway_theory.specs.Step.{Live, Step, call_state, deadlines_in, ended_by, is_last_answer, kept}
 use Rattle.gateway_theory.specs.Store.{MachineValue}
@@ -33,13 +33,13 @@ abbrev pub none_over : Over
 none_over id deadline = None
 
 -- those of the calls and branches that this ends
-abbrev pub over_by : Cause → Over
+abbrev pub over_by : Trigger → Over
 over_by (Reached now) id deadline = by_deadline now deadline
 over_by (HungUp conn) id deadline = by_hang_up (conn == id.conn)
 over_by Drained id deadline = by_drain true
 
--- the cause is of this moment
-abbrev pub IsNow : Cause → ℕ → Type 0
+-- the trigger is of this moment
+abbrev pub IsNow : Trigger → ℕ → Type 0
 IsNow (Reached now) moment = now ≡ moment
 IsNow (HungUp conn) moment = ⊤
 IsNow Drained moment = ⊤
@@ -135,7 +135,7 @@ pub record IsLinked (c : ContextsValue) (v : MachineValue) : Type 0 where
   pub heard : All (Hears c) (conn_heads v.conns)
 
 -- it ends no call, and nothing is to be noted
-pub record EndsNone (cause : Cause) (v : MachineValue) : Type 0 where
-  pub noted_is : noted cause v ≡ v
-  pub heads_are : noted_heads cause (conn_heads v.conns) ≡ conn_heads v.conns
-  pub none_ends : IsSettled v → CallsEnd cause v v
+pub record EndsNone (trigger : Trigger) (v : MachineValue) : Type 0 where
+  pub noted_is : noted trigger v ≡ v
+  pub heads_are : noted_heads trigger (conn_heads v.conns) ≡ conn_heads v.conns
+  pub none_ends : IsSettled v → CallsEnd trigger v v

@@ -1,6 +1,7 @@
-ghost use Rattle.std.specs.Prelude.{◌≡◌, ◌≤◌, ◌^◌, option_map, true};
+ghost use Rattle.std.specs.Prelude.{◌≡◌, ◌≤◌, ◌^◌, option_map, true, ℕ};
 ghost use Rattle.gateway_model.specs.Past.{smaller};
-ghost use Rattle.gateway_theory.specs.Task.{job_at};
+ghost use Rattle.gateway_model.specs.Job.{left_at};
+ghost use Rattle.gateway_theory.specs.Task.{deadline_at, job_at};
 
 use crate::machine::task::Task;
 use gateway_model::CallId;
@@ -11,34 +12,34 @@ use std::sync::Arc;
 #[derive(Drop)]
 pub struct Job {
     pub(crate) task: Task,
-    /// How long it had yet as the branch started, in milliseconds: by its call's deadline, or by its own, if that is sooner.
-    remaining: Option<u64>,
+    /// The moment at which the branch started, in milliseconds.
+    start: u64,
+    /// Its call's deadline, or its own, if that is sooner.
+    deadline: Option<u64>,
     pub(crate) wanted: bool,
 }
 
 impl Model for Job {
     ghost use Rattle.std.specs.Prelude.{◌≡◌};
     ghost use Rattle.gateway_theory.specs.Task.{HandedJob};
-    ghost use Rattle.gateway_model.specs.Job.{job_with};
+    ghost use Rattle.gateway_model.specs.Job.{job_with, left_at};
 
     ghost Value = { HandedJob };
 
-    ghost view = { λ j. record { job = job_with j.task.call j.task.branch j.task.asked.plan j.task.asked.request j.task.asked.request_id j.remaining; wanted = j.wanted } };
+    ghost view = { λ j. record { job = job_with j.task.call j.task.branch j.task.asked.plan j.task.asked.request j.task.asked.request_id (left_at j.start j.deadline); deadline = j.deadline; wanted = j.wanted } };
 }
 
 impl Job {
     /// The job of a branch that starts at this moment.
     pub(crate) fn new(task: Task, moment: u64) -> Job
         requires { moment ≤ 2 ^ 62 }
-        ensures { result ≡ record { job = job_at moment task; wanted = true } }
+        ensures { result ≡ record { job = job_at moment task; deadline = deadline_at moment task; wanted = true } }
     {
-        let remaining = match sooner(task.asked.deadline, task.deadline(moment)) {
-            Some(deadline) => Some(deadline.saturating_sub(moment)),
-            None => None,
-        };
+        let deadline = sooner(task.asked.deadline, task.deadline(moment));
         Job {
             task,
-            remaining,
+            start: moment,
+            deadline,
             wanted: true,
         }
     }
@@ -96,7 +97,18 @@ impl Job {
     pub fn remaining(&self) -> Option<u64>
         ensures { result ≡ self.now.job.remaining }
     {
-        self.remaining
+        match self.deadline {
+            Some(deadline) => Some(deadline.saturating_sub(self.start)),
+            None => None,
+        }
+    }
+
+    /// The moment at which its call expires, or it does before its call, in milliseconds. So long had it yet as it started.
+    pub fn deadline(&self) -> Option<u64>
+        ensures deadline { result ≡ self.now.deadline }
+        ensures left { (start : ℕ) × (self.now.job.remaining ≡ left_at start result) }
+    {
+        self.deadline
     }
 
     /// Whether its answer was still wanted as it was handed out: its call could be decided.

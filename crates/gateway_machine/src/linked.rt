@@ -1,5 +1,5 @@
 //! The machine with its contexts.
-ghost use Rattle.std.specs.Prelude.{◌≡◌, ◌<◌, ◌==◌, IfErr, IfOk, None as Nothing, OnErr, OnOk, [], false, length, not, true};
+ghost use Rattle.std.specs.Prelude.{◌≡◌, ◌<◌, ◌==◌, IfErr, IfOk, None as Nothing, OnErr, OnOk, [], false, length, not, true, ℕ};
 ghost use Rattle.std.specs.List.{count_by};
 ghost use Rattle.gateway_model.specs.Arrival.{arrival_of};
 ghost use Rattle.gateway_theory.specs.Ends.{AreApart, CallsEnd, IsSettled, is_stopped_in, noted};
@@ -8,7 +8,9 @@ ghost use Rattle.gateway_theory.specs.Gateway.{are_all_there};
 ghost use Rattle.gateway_machine.specs.Ended.{BranchEnds};
 ghost use Rattle.gateway_machine.specs.Linked.{EndsNone, IsNow};
 ghost use Rattle.gateway_theory.specs.Heads.{conn_heads, noted_heads};
+ghost use Rattle.gateway_theory.specs.Least.{ends_any, least_deadline};
 ghost use Rattle.gateway_model.specs.Occurrence.{Coming};
+ghost use Rattle.gateway_model.specs.Past.{is_due};
 ghost use Rattle.gateway_theory.specs.Opens.{JobTaken, ReplyTaken, closed_at, opened_as};
 ghost use Rattle.gateway_theory.specs.Orderly.{IsOrderly};
 ghost use Rattle.gateway_model.specs.Queue.{front};
@@ -25,7 +27,7 @@ use call_plan::Plans;
 use connect_codec::Outcome;
 use gateway_model::CallId;
 use gateway_replies::{Contexts, Reply, ReplyHook, Stock};
-use gateway_theory::{Cause, StepFault, Took};
+use gateway_theory::{StepFault, Took, Trigger};
 use http_pieces::{Refusal, Request};
 use std::alloc::{AllocError, Global};
 use std::marker::Model;
@@ -47,7 +49,7 @@ impl<H> Model for LinkedMachine<H> {
 
     ghost view = { λ l. l.machine };
 
-    ghost invariant = { λ l. IsLinked l.contexts l.machine };
+    ghost invariant = { λ l. IsLinked l.contexts.standing l.machine };
 }
 
 impl<H: ReplyHook + Drop> LinkedMachine<H> {
@@ -103,29 +105,38 @@ impl<H: ReplyHook + Drop> LinkedMachine<H> {
 
     /// Takes note of what may end calls, tells the contexts, and ends all calls whose contexts this has ended: their replies go into
     /// their slots. Where memory is refused to one of them, its connection breaks.
-    pub fn end_calls(&mut self, alloc: Global, cause: &Cause)
-        requires now { IsNow cause.now self.old.moment }
+    pub fn end_calls(&mut self, alloc: Global, trigger: &Trigger)
+        requires now { IsNow trigger.now self.old.moment }
         requires settled { IsSettled self.old }
         requires apart { AreApart self.old.calls }
-        ensures ended { CallsEnd cause.now (noted cause.now self.old) self.new }
-        ensures heads { conn_heads self.new.conns ≡ noted_heads cause.now (conn_heads self.old.conns) }
+        ensures ended { CallsEnd trigger.now (noted trigger.now self.old) self.new }
+        ensures heads { conn_heads self.new.conns ≡ noted_heads trigger.now (conn_heads self.old.conns) }
     {
-        if !self.may_end(cause) {
+        if !self.may_end(trigger) {
             return;
         }
-        self.contexts.tell(cause);
-        self.machine.note(cause);
-        self.machine.end_calls(alloc, &mut self.contexts, cause);
+        self.contexts.tell(trigger);
+        self.machine.note(trigger);
+        self.machine.end_calls(alloc, &mut self.contexts, trigger);
     }
 
     /// Whether this may end a call. A moment before the least deadline ends none: nobody looks at a call for it.
-    fn may_end(&self, cause: &Cause) -> bool
-        ensures { result ≡ false → EndsNone cause.now self.now }
+    fn may_end(&self, trigger: &Trigger) -> bool
+        ensures { result ≡ false → EndsNone trigger.now self.now }
     {
-        match cause {
-            Cause::Reached(moment) => self.contexts.is_due(*moment),
-            Cause::HungUp(_) | Cause::Drained => true,
+        match trigger {
+            Trigger::Reached(moment) => self.contexts.is_due(*moment),
+            Trigger::HungUp(_) | Trigger::Drained => true,
         }
+    }
+
+    /// The least deadline of the calls that can be decided, and of their branches that are out.
+    pub fn next_deadline(&self) -> Option<u64>
+        ensures least { result ≡ least_deadline self.now.calls }
+        // a moment ends a call exactly if it has reached this
+        ensures quiet { (moment : ℕ) → ends_any moment self.now.calls ≡ is_due moment result }
+    {
+        self.contexts.next_deadline()
     }
 
     /// A branch of a call ends with that outcome. A call that is over, and of which no branch is out, is forgotten. Where memory

@@ -162,7 +162,7 @@ is_out id i (m ∷ past) =
 
 -- ---- deadlines of branches
 
--- the deadline of the branch, if it starts at this moment and has a time of its own (Go `context.WithTimeout`)
+-- the deadline of the branch, if it starts at this moment and has a timeout (Go `context.WithTimeout`)
 abbrev pub deadline_from : ℕ → PlanRecord → ℕ → Option ℕ
 deadline_from moment plan i = option_map (λ t. moment + t) (time_of plan i)
 

@@ -2,7 +2,7 @@
 use Rattle.std.specs.Prelude.{◌≡◌, ◌&&◌, ◌||◌, ℕ, Bool, true, false, is_some, is_none, not, if◌then◌else◌, ◌==◌, List, [], ◌∷◌, ◌++◌, map, filter, nat_le, All, Option, None, Some, option_map}
 use Rattle.std.specs.List.{list_any}
 use Rattle.std.specs.Option.{option_map_or, option_or}
-use Rattle.context_tree.specs.declared.error.Cause.{Cause as EndCause}
+use Rattle.context_tree.specs.declared.error.Cause.{Cause}
 use Rattle.context_tree.specs.declared.error.Cause.TheVariants.{Given, Plain}
 use Rattle.context_tree.specs.declared.error.CtxErr.TheVariants.{DeadlineExceeded}
 use Rattle.context_tree.specs.Context.{Id, same}
@@ -11,14 +11,14 @@ use Rattle.gateway_replies.specs.declared.contexts.cancelled.CancelledBy.{Cancel
 use Rattle.gateway_replies.specs.declared.contexts.cancelled.CancelledBy.TheVariants.{HangUp, Drain}
 use Rattle.gateway_model.specs.declared.call_event.CallEvent.{CallEvent}
 use Rattle.gateway_model.specs.declared.call_event.CallEvent.TheVariants.{BranchExpired, Expired, HungUp as HungUpNow, Drained as DrainedNow}
-use Rattle.gateway_theory.specs.declared.cause.Cause.{Cause}
-use Rattle.gateway_theory.specs.declared.cause.Cause.TheVariants.{Reached, HungUp, Drained}
+use Rattle.gateway_theory.specs.declared.trigger.Trigger.{Trigger}
+use Rattle.gateway_theory.specs.declared.trigger.Trigger.TheVariants.{Reached, HungUp, Drained}
 use Rattle.gateway_model.specs.declared.id.CallId.{CallId}
 use Rattle.gateway_model.specs.Past.{ArrivedCall, is_call, is_due}
 
 -- what ended a context, if anything did: its deadline, or what it was cancelled for
 abbrev pub Ended : Type 0
-Ended = Option (EndCause CancelledBy)
+Ended = Option (Cause CancelledBy)
 
 -- by a deadline, if the moment has reached it
 abbrev pub by_deadline : ℕ → Option ℕ → Ended
@@ -46,7 +46,7 @@ pub record PeerValue : Type 0 where
 abbrev pub peer : ℕ → Ended → PeerValue
 peer number ended = record { number = number; ended = ended }
 
--- a branch of a call that is out and has a time of its own
+-- a branch of a call that is out and has a timeout
 abbrev pub TimedBranch : Type 0
 TimedBranch = Branch CancelledBy
 
@@ -140,7 +140,7 @@ expires_life now l =
     }
 
 -- they are told what may end calls
-abbrev pub told : Cause → ContextsValue → ContextsValue
+abbrev pub told : Trigger → ContextsValue → ContextsValue
 told (Reached now) v = contexts_value v.drained v.conns (map (expires_life now) v.calls)
 told (HungUp number) v =
     contexts_value v.drained

@@ -1,2 +1,4 @@
 pub mod Contexts
+pub mod Hooks
+pub mod Least
 pub mod Ties

@@ -1,16 +1,19 @@
-//! The contexts of the open connections and of their undecided calls, found by the connections' numbers and the calls' ids.
+//! The contexts of the open connections, of their undecided calls and of these calls' branches, found by the connections'
+//! numbers, the calls' ids and the branches' numbers.
 mod cancelled;
+mod deadline;
 mod life;
 mod peer;
 
-ghost use Rattle.std.specs.Prelude.{All, ◌≡◌, ◌==◌, IfErr, IfOk, None as Nothing, OnErr, OnOk, filter, false, not, option_map, true};
+ghost use Rattle.std.specs.Prelude.{All, ◌≡◌, ◌==◌, IfErr, IfOk, None as Nothing, OnErr, OnOk, Some as Just, filter, false, not, option_map, true};
 ghost use Rattle.std.specs.Arc.{arc_value};
 ghost use Rattle.std.specs.List.{list_any};
 ghost use Rattle.gateway_replies.specs.Contexts.{IsNotDue, KeepsOthers, LivesApart, begun, closed, ctx_for, ctx_of, ending_life, event_of, finished, first_life, first_of, has_due, is_life, is_peer, no_contexts, opened, started, told, without, without_calls, without_first};
 ghost use Rattle.gateway_model.specs.Duty.{MeetsDuty};
 ghost use Rattle.gateway_model.specs.Past.{is_call};
 ghost use Rattle.gateway_model.specs.declared.id.CallId.{CallId as AnyCall};
-ghost use Rattle.gateway_replies.specs.Ties.{life_ties, peer_ties};
+ghost use Rattle.gateway_replies.specs.Hooks.{BringsHooks, DropsHook, DropsHooks, KeepsHooks, KeepsStocks, MayLoseHook, TakesHook, hook_of, hooks_of_others, none_hooked};
+ghost use Rattle.gateway_replies.specs.Ties.{Takes, life_ties, peer_ties, stock_ties};
 
 use crate::arrived_call::ArrivedCall;
 use crate::contexts::cancelled::CancelledBy;
@@ -19,15 +22,16 @@ use crate::contexts::peer::Peer;
 use crate::hook::ReplyHook;
 use crate::stock::Stock;
 use call_contexts::CallContexts;
-use context_tree::{Cause as EndCause, CtxId};
+use context_tree::{Cause, CtxId};
 use gateway_model::{CallEvent, CallId, Ending};
-use gateway_theory::Cause;
+use gateway_theory::Trigger;
 use http_pieces::Bytes;
 use std::alloc::{AllocError, Global};
 use std::marker::Model;
 use std::sync::Arc;
 
-/// The contexts of the open connections and of their undecided calls, and the hooks of these calls.
+/// The contexts of the open connections, of their undecided calls and of these calls' branches that are out and have a
+/// timeout; and the hooks of these calls.
 #[derive(Drop)]
 pub struct Contexts<H> {
     contexts: CallContexts<CancelledBy, Arc<Bytes>, H>,
@@ -39,20 +43,25 @@ pub struct Contexts<H> {
 
 impl<H> Model for Contexts<H> {
     ghost use Rattle.std.specs.Arc.{arc_value};
-    ghost use Rattle.gateway_replies.specs.Contexts.{ContextsValue, IsTied, contexts_of};
-    ghost use Rattle.gateway_replies.specs.Ties.{life_ties, peer_ties};
+    ghost use Rattle.gateway_replies.specs.Contexts.{IsTied, contexts_of};
+    ghost use Rattle.gateway_replies.specs.Hooks.{HookedContexts, hooked};
+    ghost use Rattle.gateway_replies.specs.Ties.{AreHooked, hooks_of, life_ties, peer_ties, stock_ties};
 
-    ghost Value = { ContextsValue };
+    ghost Value = { HookedContexts H };
 
-    ghost view = { λ c. contexts_of arc_value (peer_ties c.peers.items) (life_ties c.lives.items) c.contexts.standing };
+    ghost view = { λ c. hooked
+        (contexts_of arc_value (peer_ties c.peers.items) (life_ties c.lives.items) c.contexts.standing)
+        (stock_ties c.peers.items)
+        (hooks_of (life_ties c.lives.items) c.contexts.hooks) };
 
-    ghost invariant = { λ c. IsTied (peer_ties c.peers.items) (life_ties c.lives.items) c.contexts.standing };
+    ghost invariant = { λ c. IsTied (peer_ties c.peers.items) (life_ties c.lives.items) c.contexts.standing
+        × AreHooked (life_ties c.lives.items) c.contexts.hooks };
 }
 
 impl<H: ReplyHook + Drop> Contexts<H> {
     /// Of no connection.
     pub fn new(alloc: Global) -> Result<Contexts<H>, AllocError>
-        ensures { IfOk result (λ contexts. contexts ≡ no_contexts) }
+        ensures { IfOk result (λ contexts. contexts ≡ none_hooked) }
     {
         Ok(Contexts {
             contexts: CallContexts::new(alloc)?,
@@ -63,8 +72,9 @@ impl<H: ReplyHook + Drop> Contexts<H> {
 
     /// A connection opens, with its context and its hooks. Where memory is refused they come back.
     pub fn open(&mut self, number: u64, stock: Stock<H>) -> Result<(), Stock<H>>
-        requires { is_peer number self.old.conns ≡ false }
-        ensures ok { OnOk result (self.new ≡ opened number self.old) }
+        requires { is_peer number self.old.standing.conns ≡ false }
+        ensures ok { OnOk result (self.new.standing ≡ opened number self.old.standing) }
+        ensures hooks { OnOk result (BringsHooks number stock self.old self.new) }
         ensures back { IfErr result (λ back. back ≡ stock) }
         ensures err { OnErr result (self.new ≡ self.old) }
     {
@@ -80,10 +90,13 @@ impl<H: ReplyHook + Drop> Contexts<H> {
 
     /// A call begins on its connection, with the next of the connection's hooks.
     pub fn begin(&mut self, id: &CallId, asked: &ArrivedCall, now: u64) -> Result<(), AllocError>
-        requires known { is_peer id.now.conn self.old.conns ≡ true }
-        requires fresh { is_life id.now self.old.calls ≡ false }
-        ensures ok { OnOk result (self.new ≡ begun now id.now asked.now self.old) }
-        ensures err { OnErr result (self.new ≡ self.old) }
+        requires known { is_peer id.now.conn self.old.standing.conns ≡ true }
+        requires fresh { is_life id.now self.old.standing.calls ≡ false }
+        ensures ok { OnOk result (self.new.standing ≡ begun now id.now asked.now self.old.standing) }
+        ensures hook { OnOk result (TakesHook id.now self.old self.new) }
+        ensures others { KeepsStocks id.now.conn self.old.stocks self.new.stocks }
+        ensures err { OnErr result (self.new.standing ≡ self.old.standing) }
+        ensures lost { OnErr result (MayLoseHook id.now.conn self.old self.new) }
     {
         self.lives.reserve(1)?;
         let request_id = shared(&asked.request_id)?;
@@ -103,25 +116,26 @@ impl<H: ReplyHook + Drop> Contexts<H> {
         Ok(())
     }
 
-    /// Tells the contexts what may end calls: those of the calls that this ends have ended.
-    pub fn tell(&mut self, cause: &Cause)
-        ensures { self.new ≡ told cause.now self.old }
+    /// Tells the contexts what may end calls: those of the calls and branches that this ends have ended.
+    pub fn tell(&mut self, trigger: &Trigger)
+        ensures ended { self.new.standing ≡ told trigger.now self.old.standing }
+        ensures hooks { KeepsHooks self.old self.new }
     {
-        match cause {
-            Cause::Reached(moment) => self.contexts.expire(*moment),
-            Cause::HungUp(number) => {
+        match trigger {
+            Trigger::Reached(moment) => self.contexts.expire(*moment),
+            Trigger::HungUp(number) => {
                 if let Some(conn) = ctx_of(&self.peers, *number) {
                     self.contexts.cancel(conn, CancelledBy::HangUp);
                 }
             }
-            Cause::Drained => self.contexts.drain(CancelledBy::Drain),
+            Trigger::Drained => self.contexts.drain(CancelledBy::Drain),
         }
     }
 
     /// Whether a call's context or a branch's ends at this moment: it has reached the least of their deadlines.
     pub fn is_due(&self, moment: u64) -> bool
-        ensures exact { result ≡ list_any (has_due moment) self.now.calls }
-        ensures not_due { result ≡ false → All (IsNotDue moment) self.now.calls }
+        ensures exact { result ≡ list_any (has_due moment) self.now.standing.calls }
+        ensures not_due { result ≡ false → All (IsNotDue moment) self.now.standing.calls }
     {
         match self.contexts.next_deadline() {
             Some(deadline) => deadline <= moment,
@@ -133,7 +147,7 @@ impl<H: ReplyHook + Drop> Contexts<H> {
     /// drain, or of the deadlines of the call and of its branches the least that has been reached. None where nothing has, or
     /// the call has no context.
     pub fn ending(&self, id: &CallId, moment: u64) -> Option<CallEvent>
-        ensures { result ≡ ending_life moment id.now self.now.calls }
+        ensures { result ≡ ending_life moment id.now self.now.standing.calls }
     {
         self.contexts.apart_law();
         let ctx = ctx_for(&self.lives, id)?;
@@ -142,10 +156,11 @@ impl<H: ReplyHook + Drop> Contexts<H> {
         event_of(ended, branch, moment)
     }
 
-    /// A branch of the call starts at this moment that has a time of its own: its context ends at `at`, or with its call's.
+    /// A branch of the call that has a timeout starts at this moment: its context ends at `at`, or with its call's.
     pub fn start(&mut self, id: &CallId, branch: u32, at: u64, now: u64) -> Result<(), AllocError>
-        requires { is_life id.now self.old.calls ≡ true }
-        ensures ok { OnOk result (self.new ≡ started id.now branch at now self.old) }
+        requires { is_life id.now self.old.standing.calls ≡ true }
+        ensures ok { OnOk result (self.new.standing ≡ started id.now branch at now self.old.standing) }
+        ensures hooks { KeepsHooks self.old self.new }
         ensures err { OnErr result (self.new ≡ self.old) }
     {
         let Some(ctx) = ctx_for(&self.lives, id) else {
@@ -157,7 +172,8 @@ impl<H: ReplyHook + Drop> Contexts<H> {
 
     /// Lets go of the context of that branch of the call, if it has one.
     pub fn finish(&mut self, id: &CallId, branch: u32)
-        ensures { self.new ≡ finished id.now branch self.old }
+        ensures finished { self.new.standing ≡ finished id.now branch self.old.standing }
+        ensures hooks { KeepsHooks self.old self.new }
     {
         let Some(ctx) = ctx_for(&self.lives, id) else {
             return;
@@ -166,11 +182,13 @@ impl<H: ReplyHook + Drop> Contexts<H> {
         self.contexts.let_branch_go(ctx, branch);
     }
 
-    /// Calls the hook of the call with what ended it, and lets go of its context.
+    /// Calls the hook of the call with what ended it, and lets go of its context and of its branches'.
     pub fn end(&mut self, id: &CallId, ending: Ending) -> Result<Bytes, AllocError>
-        requires { is_life id.now self.old.calls ≡ true }
+        requires { is_life id.now self.old.standing.calls ≡ true }
         ensures duty { IfOk result (λ bytes. MeetsDuty ending bytes) }
-        ensures gone { self.new ≡ without id.now self.old }
+        ensures called { (hook : H) → hook_of id.now self.old.hooks ≡ Just hook → H.gives hook ending result }
+        ensures gone { self.new.standing ≡ without id.now self.old.standing }
+        ensures hooks { DropsHook id.now self.old self.new }
     {
         let Some(ctx) = ctx_for(&self.lives, id) else {
             unreachable!();
@@ -183,9 +201,10 @@ impl<H: ReplyHook + Drop> Contexts<H> {
         }
     }
 
-    /// Drops the hook of the call uncalled, if it has one, and lets go of its context.
+    /// Drops the hook of the call uncalled, if it has one, and lets go of its context and of its branches'.
     pub fn abandon(&mut self, id: &CallId)
-        ensures { self.new ≡ without id.now self.old }
+        ensures gone { self.new.standing ≡ without id.now self.old.standing }
+        ensures hooks { DropsHook id.now self.old self.new }
     {
         let Some(ctx) = ctx_for(&self.lives, id) else {
             return;
@@ -197,7 +216,8 @@ impl<H: ReplyHook + Drop> Contexts<H> {
 
     /// Drops all hooks of the connection of that number uncalled, and lets go of its contexts.
     pub fn close(&mut self, number: u64)
-        ensures { self.new ≡ closed number self.old }
+        ensures closed { self.new.standing ≡ closed number self.old.standing }
+        ensures hooks { DropsHooks number self.old self.new }
     {
         self.abandon_all(number);
         self.let_go(number);
@@ -205,22 +225,23 @@ impl<H: ReplyHook + Drop> Contexts<H> {
 
     /// No call has two contexts. It does nothing.
     pub fn apart_law(&self)
-        ensures { LivesApart self.now.calls }
+        ensures { LivesApart self.now.standing.calls }
     {
         let _ = &self.lives;
     }
 
     /// Where a call's context goes, nothing changes but for the calls of its connection. It does nothing.
     pub fn others_law(&self)
-        ensures { (id : AnyCall) → KeepsOthers id.conn self.now (without id self.now) }
+        ensures { (id : AnyCall) → KeepsOthers id.conn self.now.standing (without id self.now.standing) }
     {
         let _ = &self.lives;
     }
 
     /// Lets go of the context of a connection, of which no call has one.
     fn let_go(&mut self, number: u64)
-        requires { first_life number self.old.calls ≡ Nothing }
-        ensures { self.new ≡ closed number self.old }
+        requires { first_life number self.old.standing.calls ≡ Nothing }
+        ensures closed { self.new.standing ≡ closed number self.old.standing }
+        ensures hooks { DropsHooks number self.old self.new }
     {
         let Some(conn) = ctx_of(&self.peers, number) else {
             return;
@@ -231,8 +252,10 @@ impl<H: ReplyHook + Drop> Contexts<H> {
 
     /// Drops the hooks of all calls of the connection of that number.
     fn abandon_all(&mut self, number: u64)
-        ensures gone { self.new ≡ without_calls number self.old }
-        ensures none { first_life number self.new.calls ≡ Nothing }
+        ensures gone { self.new.standing ≡ without_calls number self.old.standing }
+        ensures none { first_life number self.new.standing.calls ≡ Nothing }
+        ensures stocks { self.new.stocks ≡ self.old.stocks }
+        ensures hooks { hooks_of_others number self.new.hooks ≡ hooks_of_others number self.old.hooks }
     {
         for _index in 0..self.lives.len() {
             self.abandon_first(number);
@@ -241,7 +264,9 @@ impl<H: ReplyHook + Drop> Contexts<H> {
 
     /// Drops the hook of the first call of the connection of that number.
     fn abandon_first(&mut self, number: u64)
-        ensures { self.new ≡ without_first (first_life number self.old.calls) self.old }
+        ensures gone { self.new.standing ≡ without_first (first_life number self.old.standing.calls) self.old.standing }
+        ensures stocks { self.new.stocks ≡ self.old.stocks }
+        ensures hooks { hooks_of_others number self.new.hooks ≡ hooks_of_others number self.old.hooks }
     {
         let Some(id) = first_call(&self.lives, number) else {
             return;
@@ -252,16 +277,16 @@ impl<H: ReplyHook + Drop> Contexts<H> {
 
 /// The event by which a call ends at a moment, whose context ended so, and of which that branch ended before it.
 fn event_of(
-    ended: Option<EndCause<CancelledBy>>,
+    ended: Option<Cause<CancelledBy>>,
     branch: Option<u32>,
     moment: u64,
 ) -> Option<CallEvent>
     ensures { result ≡ event_of moment ended branch }
 {
     match ended {
-        Some(EndCause::Given(CancelledBy::HangUp)) => Some(CallEvent::HungUp),
-        Some(EndCause::Given(CancelledBy::Drain)) => Some(CallEvent::Drained),
-        Some(EndCause::Plain(_)) => match branch {
+        Some(Cause::Given(CancelledBy::HangUp)) => Some(CallEvent::HungUp),
+        Some(Cause::Given(CancelledBy::Drain)) => Some(CallEvent::Drained),
+        Some(Cause::Plain(_)) => match branch {
             Some(branch) => Some(CallEvent::BranchExpired(branch, moment)),
             None => Some(CallEvent::Expired(moment)),
         },
@@ -286,7 +311,8 @@ fn ctx_of<H>(peers: &[Peer<H>], number: u64) -> Option<CtxId>
 
 /// The next hook of the connection of that number.
 fn take_hook<H>(peers: &mut Vec<Peer<H>>, number: u64) -> Option<H>
-    ensures { peer_ties peers.new.items ≡ peer_ties peers.old.items }
+    ensures ties { peer_ties peers.new.items ≡ peer_ties peers.old.items }
+    ensures taken { Takes number result (stock_ties peers.old.items) (stock_ties peers.new.items) }
 {
     for index in 0..peers.len() {
         if peers[index].number == number {

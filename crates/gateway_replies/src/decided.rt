@@ -23,10 +23,10 @@ pub fn reply_to<H: ReplyHook + Drop>(
     id: CallId,
     call: CallRecord,
 ) -> Result<Reply, AllocError>
-    requires { is_life id contexts.old.calls ≡ true }
+    requires { is_life id contexts.old.standing.calls ≡ true }
     ensures reply { IfOk result (λ reply. reply ≡ reply_with id (ReplyEntry.Call call)) }
-    ensures gone { OnOk result (contexts.new ≡ without id contexts.old) }
-    ensures others { OnErr result (KeepsOthers id.conn contexts.old contexts.new) }
+    ensures gone { OnOk result (contexts.new.standing ≡ without id contexts.old.standing) }
+    ensures others { OnErr result (KeepsOthers id.conn contexts.old.standing contexts.new.standing) }
 {
     let bytes = bytes_of(alloc, contexts, &id, &call)?;
     Ok(Reply::of_call(id, call, bytes))
@@ -39,10 +39,10 @@ fn bytes_of<H: ReplyHook + Drop>(
     id: &CallId,
     call: &CallRecord,
 ) -> Result<Bytes, AllocError>
-    requires { is_life id.now contexts.old.calls ≡ true }
+    requires { is_life id.now contexts.old.standing.calls ≡ true }
     ensures bytes { IfOk result (λ bytes. bytes ≡ (call_reply call.now).bytes) }
-    ensures gone { OnOk result (contexts.new ≡ without id.now contexts.old) }
-    ensures others { OnErr result (KeepsOthers id.now.conn contexts.old contexts.new) }
+    ensures gone { OnOk result (contexts.new.standing ≡ without id.now contexts.old.standing) }
+    ensures others { OnErr result (KeepsOthers id.now.conn contexts.old.standing contexts.new.standing) }
 {
     match last_ending(alloc, call)? {
         Some(ending) => contexts.end(id, ending),

@@ -9,7 +9,6 @@ pub mod Gathering
 pub mod RunSteps
 pub mod WholeLemmas
 pub mod EventRuns
-pub mod PieceParts
 pub mod Starting
 pub mod Finally
 pub mod OneReply

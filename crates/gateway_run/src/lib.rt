@@ -2,7 +2,6 @@
 //! such a list is read from, and the text that a run is written as.
 #![tactic(auto)]
 
-mod delivery;
 mod fault;
 pub mod laws;
 mod log;
@@ -11,7 +10,6 @@ mod stepping;
 mod text;
 mod whole;
 
-pub use delivery::deliver;
 pub use fault::ScriptError;
 pub use gateway_model::{Event, Run, RunError, Start};
 pub use script::read_script;

@@ -8,9 +8,9 @@ ghost use Rattle.gateway_theory.specs.Serving.{KeepsBut};
 ghost use Rattle.gateway_model.specs.Run.{is_opening};
 ghost use Rattle.gateway_run.specs.Stepping.{BreaksAt, Tells, done_of, opened_by, opening_of, seen_in, taken_of};
 
-use crate::delivery::deliver;
 use gateway_core::{CallId, ConnId, Core, OpenError, ReplyHook, StepFault, Stock, Took};
 use gateway_model::Event;
+use whole_pieces::deliver;
 
 /// What one event came to.
 #[derive(Drop)]

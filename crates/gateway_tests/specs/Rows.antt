@@ -57,7 +57,7 @@ quote = record {
       ∷ record { name = codes "car"; address = codes "127.0.0.1:9004"; path = codes "/acme.v1.Car/Find"; timeout_ms = None } ∷ [];
 }
 
--- the same with a time of its own for each branch, if it has one
+-- the same with a timeout for each branch, if it has one
 abbrev pub timed : PlanRecord → Option ℕ → Option ℕ → Option ℕ → PlanRecord
 timed plan flight hotel car = record plan {
   branches =

@@ -5,8 +5,8 @@ use Rattle.gateway_model.specs.declared.entry.ReplyEntry.{ReplyEntry}
 use Rattle.gateway_model.specs.declared.id.CallId.{CallId}
 use Rattle.gateway_model.specs.declared.call_event.CallEvent.{CallEvent}
 use Rattle.gateway_model.specs.declared.call_event.CallEvent.TheVariants.{HungUp as HungUpNow, Drained as DrainedNow}
-use Rattle.gateway_theory.specs.declared.cause.Cause.{Cause}
-use Rattle.gateway_theory.specs.declared.cause.Cause.TheVariants.{Reached, HungUp, Drained}
+use Rattle.gateway_theory.specs.declared.trigger.Trigger.{Trigger}
+use Rattle.gateway_theory.specs.declared.trigger.Trigger.TheVariants.{Reached, HungUp, Drained}
 use Rattle.gateway_model.specs.Occurrence.{Occurrence}
 use Rattle.gateway_model.specs.Past.{ArrivedCall, due_by, is_call, call_id, closing_occurs, is_drain, is_result_of, moment_of}
 use Rattle.gateway_theory.specs.Step.{CallState, Live, Step, call_state, deadlines_in, kept, ended_by, step}
@@ -17,32 +17,32 @@ use Rattle.gateway_theory.specs.Replies.{reply_with}
 use Rattle.gateway_theory.specs.Store.{MachineValue, machine, machine_value, call_at, conn_of, kept_at, given_up, broken_at, filled_in, hung_at, numbers}
 
 -- the event by which this ends a call of which the branches that are out have these deadlines
-abbrev pub caused : Cause → CallId → ArrivedCall → List (Option ℕ) → Option CallEvent
+abbrev pub caused : Trigger → CallId → ArrivedCall → List (Option ℕ) → Option CallEvent
 caused (Reached moment) id a outs = due_by moment a.deadline outs
 caused (HungUp conn) id a outs = if conn == id.conn then Some HungUpNow else None
 caused Drained id a outs = Some DrainedNow
 
-abbrev pub ended_if : Cause → CallId → List Bool → Option Live → Step
-ended_if cause id out None = kept (call_state out None)
-ended_if cause id out (Some l) = ended_by (caused cause id l.asked (deadlines_in out l.deadlines)) l out
+abbrev pub ended_if : Trigger → CallId → List Bool → Option Live → Step
+ended_if trigger id out None = kept (call_state out None)
+ended_if trigger id out (Some l) = ended_by (caused trigger id l.asked (deadlines_in out l.deadlines)) l out
 
 -- what it makes of a call
-abbrev pub ended_call : Cause → CallId → CallState → Step
-ended_call cause id c = ended_if cause id c.out c.live
+abbrev pub ended_call : Trigger → CallId → CallState → Step
+ended_call trigger id c = ended_if trigger id c.out c.live
 
 -- a call that this has ended, if it does, whose reply is not in its slot yet
-abbrev pub ended_kept : Cause → KeptValue → KeptValue
-ended_kept cause k = record { id = k.id; call = (ended_call cause k.id k.call).call; reply = option_or (ended_call cause k.id k.call).reply k.reply }
+abbrev pub ended_kept : Trigger → KeptValue → KeptValue
+ended_kept trigger k = record { id = k.id; call = (ended_call trigger k.id k.call).call; reply = option_or (ended_call trigger k.id k.call).reply k.reply }
 
 -- a call that ended, and has no reply
 abbrev pub unanswered : KeptValue → KeptValue
 unanswered k = record { id = k.id; call = call_state k.call.out None; reply = k.reply }
 
 -- the call at a place was ended, or its connection broke as it ended
-abbrev pub EndedAt : Cause → ℕ → MachineValue → MachineValue → Type 0
-EndedAt cause i s t =
-    (t ≡ record s { calls = slice_set s.calls i (ended_kept cause (kept_at i s.calls)) })
-    ⊎ ((is_some (ended_call cause (kept_at i s.calls).id (kept_at i s.calls).call).reply ≡ true) × (t ≡ broken_at (kept_at i s.calls).id.conn s))
+abbrev pub EndedAt : Trigger → ℕ → MachineValue → MachineValue → Type 0
+EndedAt trigger i s t =
+    (t ≡ record s { calls = slice_set s.calls i (ended_kept trigger (kept_at i s.calls)) })
+    ⊎ ((is_some (ended_call trigger (kept_at i s.calls).id (kept_at i s.calls).call).reply ≡ true) × (t ≡ broken_at (kept_at i s.calls).id.conn s))
 
 -- the reply of the call at a place went into its slot
 abbrev pub without_reply : KeptValue → KeptValue
@@ -61,10 +61,10 @@ abbrev pub is_stopped_in : ℕ → List ConnValue → Bool
 is_stopped_in c conns = option_map_or (λ k. k.broken) (conn_of c conns) false
 
 -- a call whose connection stopped is given up; another is ended, once it was passed
-abbrev pub ended_below : Cause → Bool → Bool → KeptValue → KeptValue
-ended_below cause true passed k = given_up k
-ended_below cause false true k = ended_kept cause k
-ended_below cause false false k = k
+abbrev pub ended_below : Trigger → Bool → Bool → KeptValue → KeptValue
+ended_below trigger true passed k = given_up k
+ended_below trigger false true k = ended_kept trigger k
+ended_below trigger false false k = k
 
 -- the connection stays as it is, but that it may break
 abbrev pub MayBreak : Option ConnValue → Option ConnValue → Type 0
@@ -74,22 +74,22 @@ MayBreak (Some k) None = ⊥
 MayBreak (Some k) (Some l) = (l ≡ record k { broken = l.broken }) × (k.broken ≡ true → l.broken ≡ true)
 
 -- a call of the connection ends by this
-pub record EndsOn (cause : Cause) (c : ℕ) (calls : List KeptValue) : Type 0 where
+pub record EndsOn (trigger : Trigger) (c : ℕ) (calls : List KeptValue) : Type 0 where
   pub place : ℕ
   pub within : place < length calls
   pub its : (kept_at place calls).id.conn ≡ c
-  pub ends : is_some (ended_call cause (kept_at place calls).id (kept_at place calls).call).reply ≡ true
+  pub ends : is_some (ended_call trigger (kept_at place calls).id (kept_at place calls).call).reply ≡ true
 
 -- the machine, of which the calls before this place have ended
-pub record EndedBelow (cause : Cause) (i : ℕ) (v u : MachineValue) : Type 0 where
+pub record EndedBelow (trigger : Trigger) (i : ℕ) (v u : MachineValue) : Type 0 where
   pub moment_is : u.moment ≡ v.moment
   pub drained_is : u.drained ≡ v.drained
   pub jobs_are : u.jobs ≡ v.jobs
   pub numbers_are : numbers u.conns ≡ numbers v.conns
   pub conns_are : (c : ℕ) → MayBreak (conn_of c v.conns) (conn_of c u.conns)
   pub size_is : length u.calls ≡ length v.calls
-  pub calls_are : (j : ℕ) → kept_at j u.calls ≡ ended_below cause (is_stopped_in (kept_at j v.calls).id.conn u.conns) (nat_lt j i) (kept_at j v.calls)
-  pub breaks_are : (c : ℕ) → is_stopped_in c u.conns ≡ true → is_stopped_in c v.conns ≡ false → EndsOn cause c v.calls
+  pub calls_are : (j : ℕ) → kept_at j u.calls ≡ ended_below trigger (is_stopped_in (kept_at j v.calls).id.conn u.conns) (nat_lt j i) (kept_at j v.calls)
+  pub breaks_are : (c : ℕ) → is_stopped_in c u.conns ≡ true → is_stopped_in c v.conns ≡ false → EndsOn trigger c v.calls
 
 -- between two occurrences: no reply waits for its slot, no call of a broken connection can be decided, and each call that can be
 -- decided has its connection
@@ -132,44 +132,44 @@ pub record SettledBelow (i : ℕ) (u w : MachineValue) : Type 0 where
   pub calls_are : (j : ℕ) → kept_at j w.calls ≡ (if nat_lt j i then without_reply (kept_at j u.calls) else kept_at j u.calls)
 
 -- a connection, of which these calls have ended, or which broke
-pub record ConnEnds (cause : Cause) (calls : List KeptValue) (k l : ConnValue) : Type 0 where
+pub record ConnEnds (trigger : Trigger) (calls : List KeptValue) (k l : ConnValue) : Type 0 where
   pub number_is : l.number ≡ k.number
   pub taken_is : l.taken ≡ k.taken
   pub stays_broken : k.broken ≡ true → l.broken ≡ true
   pub size_is : length l.slots ≡ length k.slots
   pub each : (j : ℕ) → j < length k.slots
       → slot_at j l.slots
-      ≡ option_or (slot_at j k.slots) (if l.broken then None else (ended_call cause (call_id k.number (k.taken + j)) (call_at (call_id k.number (k.taken + j)) calls)).reply)
+      ≡ option_or (slot_at j k.slots) (if l.broken then None else (ended_call trigger (call_id k.number (k.taken + j)) (call_at (call_id k.number (k.taken + j)) calls)).reply)
 
-abbrev pub MayEnd : Cause → List KeptValue → Option ConnValue → Option ConnValue → Type 0
-MayEnd cause calls None None = ⊤
-MayEnd cause calls None (Some l) = ⊥
-MayEnd cause calls (Some k) None = ⊥
-MayEnd cause calls (Some k) (Some l) = ConnEnds cause calls k l
+abbrev pub MayEnd : Trigger → List KeptValue → Option ConnValue → Option ConnValue → Type 0
+MayEnd trigger calls None None = ⊤
+MayEnd trigger calls None (Some l) = ⊥
+MayEnd trigger calls (Some k) None = ⊥
+MayEnd trigger calls (Some k) (Some l) = ConnEnds trigger calls k l
 
 -- the machine, of which all calls have ended that this ends, or their connection broke
-pub record CallsEnd (cause : Cause) (v w : MachineValue) : Type 0 where
+pub record CallsEnd (trigger : Trigger) (v w : MachineValue) : Type 0 where
   pub moment_is : w.moment ≡ v.moment
   pub drained_is : w.drained ≡ v.drained
   pub jobs_are : w.jobs ≡ v.jobs
-  pub calls_are : w.calls ≡ map (λ k. without_reply (ended_below cause (is_stopped_in k.id.conn w.conns) true k)) v.calls
+  pub calls_are : w.calls ≡ map (λ k. without_reply (ended_below trigger (is_stopped_in k.id.conn w.conns) true k)) v.calls
   pub numbers_are : numbers w.conns ≡ numbers v.conns
-  pub conns_are : (c : ℕ) → MayEnd cause v.calls (conn_of c v.conns) (conn_of c w.conns)
-  pub breaks_are : (c : ℕ) → is_stopped_in c w.conns ≡ true → is_stopped_in c v.conns ≡ false → EndsOn cause c v.calls
+  pub conns_are : (c : ℕ) → MayEnd trigger v.calls (conn_of c v.conns) (conn_of c w.conns)
+  pub breaks_are : (c : ℕ) → is_stopped_in c w.conns ≡ true → is_stopped_in c v.conns ≡ false → EndsOn trigger c v.calls
 
 -- what may end calls is noted: the drain, or that the peer of a connection hung up
-abbrev pub noted : Cause → MachineValue → MachineValue
+abbrev pub noted : Trigger → MachineValue → MachineValue
 noted (Reached moment) v = v
 noted (HungUp conn) v = hung_at conn v
 noted Drained v = record v { drained = true }
 
 -- ---- as occurrences
 
--- the calls end by the cause as they do at the occurrence
-pub record EndsBy (o : Occurrence) (cause : Cause) (s v : MachineValue) : Type 0 where
+-- the calls end by the trigger as they do at the occurrence
+pub record EndsBy (o : Occurrence) (trigger : Trigger) (s v : MachineValue) : Type 0 where
   pub plain : is_entry o ≡ false
   pub no_closing : (d : ℕ) → closing_occurs d o ≡ false
   pub no_result : (id : CallId) (i : ℕ) → is_result_of id i o ≡ false
   pub no_start : (closed : ℕ → ConnState) → starting o (machine closed s) ≡ []
-  pub steps : (id : CallId) (c : CallState) → step s.moment id o c ≡ ended_call cause id c
+  pub steps : (id : CallId) (c : CallState) → step s.moment id o c ≡ ended_call trigger id c
   pub machine_is : v ≡ machine_value (max s.moment (moment_of o)) (is_drain o || s.drained) s.conns s.calls s.jobs

@@ -1,7 +1,7 @@
 -- Whose peers hung up, by the connections and by their streams.
 use Rattle.std.specs.Prelude.{◌≡◌, ⊤, ℕ, Bool, true, if◌then◌else◌, ◌==◌, List, map}
-use Rattle.gateway_theory.specs.declared.cause.Cause.{Cause}
-use Rattle.gateway_theory.specs.declared.cause.Cause.TheVariants.{Reached, HungUp, Drained}
+use Rattle.gateway_theory.specs.declared.trigger.Trigger.{Trigger}
+use Rattle.gateway_theory.specs.declared.trigger.Trigger.TheVariants.{Reached, HungUp, Drained}
 use Rattle.gateway_theory.specs.Conn.{ConnValue}
 use Rattle.gateway_theory.specs.Gateway.{GatewayValue, StreamValue}
 
@@ -23,7 +23,7 @@ stream_heads streams = map (λ s. head s.number s.hung_up) streams
 abbrev pub hung_head : ℕ → Head → Head
 hung_head c h = if h.number == c then head h.number true else h
 
-abbrev pub noted_heads : Cause → List Head → List Head
+abbrev pub noted_heads : Trigger → List Head → List Head
 noted_heads (Reached moment) heads = heads
 noted_heads (HungUp conn) heads = map (hung_head conn) heads
 noted_heads Drained heads = heads
@@ -33,6 +33,6 @@ abbrev pub IsHeard : GatewayValue → Type 0
 IsHeard v = conn_heads v.machine.conns ≡ stream_heads v.streams
 
 -- what may end calls of all connections
-abbrev pub IsOfAll : Cause → Type 0
+abbrev pub IsOfAll : Trigger → Type 0
 IsOfAll (HungUp conn) = ⊥
 IsOfAll _ = ⊤

@@ -16,6 +16,7 @@ pub mod Conn
 pub mod Store
 pub mod Tally
 pub mod Ends
+pub mod Least
 pub mod Results
 pub mod Enters
 pub mod Opens

@@ -2,14 +2,15 @@
 use Rattle.std.specs.List.{count_by}
 use Rattle.std.specs.Option.{option_map_or}
 use Rattle.std.specs.Prelude.{◌≡◌, ◌↔◌, ◌⊎◌, ⊤, ℕ, ◌+◌, ◌^◌, ◌<◌, ◌≤◌, IfErr, OnErr, OnOk, Bool, true, false, ◌&&◌, not, nat_lt, if◌then◌else◌, ◌==◌, All, List, [], ◌∷◌, ◌++◌, take, map, filter, length, Option, None, Some, is_none, is_some, Result, Ok, Err, slice_set}
-use Rattle.http_pieces.specs.Reader.{Reading, HasRead, Stopped, Waiting, after_request, is_over}
+use Rattle.http_pieces.specs.Reader.{Reading, HasRead, Stopped, Waiting, after_request, ending_after, is_over}
 use Rattle.http_pieces.specs.Request.{HttpRequest}
+use Rattle.http_pieces.specs.Requests.{Requests}
 use Rattle.call_plan.specs.Plan.{PlanRecord}
 use Rattle.gateway_theory.specs.declared.fault.StepFault.{StepFault}
 use Rattle.gateway_theory.specs.declared.fault.StepFault.TheVariants.{Exhausted, Gone, Memory}
 use Rattle.gateway_model.specs.declared.seen.Seen.{Seen}
-use Rattle.gateway_theory.specs.declared.cause.Cause.{Cause}
-use Rattle.gateway_theory.specs.declared.cause.Cause.TheVariants.{HungUp}
+use Rattle.gateway_theory.specs.declared.trigger.Trigger.{Trigger}
+use Rattle.gateway_theory.specs.declared.trigger.Trigger.TheVariants.{HungUp}
 use Rattle.gateway_theory.specs.Conn.{ConnValue}
 use Rattle.gateway_theory.specs.Ends.{CallsEnd, is_stopped_in}
 use Rattle.gateway_model.specs.Arrival.{arrival_of}
@@ -142,9 +143,32 @@ abbrev pub ComesBy : List PlanRecord → ℕ → Option HttpRequest → Reading 
 ComesBy plans i (Some q) reading v w = Enters i (Request q (arrival_of plans q)) v w
 ComesBy plans i None reading v w = StopsBy i reading v w
 
--- why a connection breaks as something comes on it: memory was refused, or as many calls were begun as may be
-abbrev pub IsFault : StepFault → ℕ → Type 0
-IsFault fault begun = (fault ≡ Memory) ⊎ ((fault ≡ Exhausted) × (most_begun ≤ begun))
+-- what comes on the connection at that place begins a call
+abbrev pub begins_at : ℕ → Coming → MachineValue → Bool
+begins_at i x v = is_some (arriving_at i x v).call.live
+
+-- a request that comes begins one, if there is a request
+abbrev pub begins_by : List PlanRecord → ℕ → Option HttpRequest → MachineValue → Bool
+begins_by plans i None v = false
+begins_by plans i (Some q) v = begins_at i (Request q (arrival_of plans q)) v
+
+-- why a connection breaks as something comes on it: memory was refused, or a call would begin and as many were begun as may be
+abbrev pub IsFault : StepFault → ℕ → Bool → Type 0
+IsFault fault begun begins = (fault ≡ Memory) ⊎ ((fault ≡ Exhausted) × (most_begun ≤ begun) × (begins ≡ true))
+
+-- with so many bytes of the piece that request of the stream is whole, if there is one
+abbrev pub IsWhole : ℕ → List ℕ → StreamValue → Option HttpRequest → Type 0
+IsWhole n bytes s None = Unit {0}
+IsWhole n bytes s (Some q) = (text : List ℕ) (given : List HttpRequest) → HasRead s.reader text given → Requests 0 (text ++ take n bytes) (given ++ q ∷ []) (ending_after q)
+
+-- with the piece a request of that connection is whole which would begin a call
+pub record WouldBegin (number : ℕ) (bytes : List ℕ) (v : GatewayValue) : Type 0 where
+  pub index : ℕ
+  pub conn_is : (conn_at index v.machine.conns).number ≡ number
+  pub read : ℕ
+  pub request : HttpRequest
+  pub whole : IsWhole read bytes (stream_at index v.streams) (Some request)
+  pub begins : begins_at index (Request request (arrival_of v.plans request)) v.machine ≡ true
 
 -- as many calls were begun as are kept more, and no more than may be
 pub record CountsCalls (v w : GatewayValue) : Type 0 where
@@ -156,7 +180,7 @@ pub record CountsCalls (v w : GatewayValue) : Type 0 where
 pub record IsMade (i : ℕ) (x : Coming) (begun : ℕ) (v : MachineValue) (begun_then : ℕ) (w : MachineValue) (result : Result ⊤ StepFault) : Type 0 where
   pub ok : OnOk result (w ≡ entered_at i (arriving_at i x v) v)
   pub err : OnErr result (w ≡ broken_at (conn_at i v.conns).number v)
-  pub fault : IfErr result (λ f. IsFault f begun_then)
+  pub fault : IfErr result (λ f. IsFault f begun_then (begins_at i x v))
   pub grows : begun ≤ begun_then
   pub sum_is : begun_then + length v.calls ≡ begun + length w.calls
   pub few : begun < begun_then → begun_then ≤ most_begun
@@ -166,10 +190,15 @@ pub record BringsAt (i : ℕ) (request : Option HttpRequest) (v w : GatewayValue
   pub comes : ComesBy v.plans i request (stream_at i v.streams).reader.reading v.machine w.machine
   pub fine : OnOk result (is_stopped_in (conn_at i v.machine.conns).number w.machine.conns ≡ false)
   pub stopped : OnErr result (is_stopped_in (conn_at i v.machine.conns).number w.machine.conns ≡ true)
-  pub fault : IfErr result (λ f. IsFault f w.begun)
+  pub fault : IfErr result (λ f. IsFault f w.begun (begins_by v.plans i request v.machine))
   pub counts : CountsCalls v w
   pub bound : w.begun ≤ v.begun + calls_with v.plans request
   pub rest : w ≡ record v { machine = w.machine; begun = w.begun }
+
+-- of that many bytes so many are taken: no more, and some where there are some
+pub record TakesSome (given taken : ℕ) : Type 0 where
+  pub within : taken ≤ given
+  pub moves : 0 < given → 0 < taken
 
 -- what bytes of a stream come to
 pub data FedTo (number : ℕ) (bytes : List ℕ) (v w : GatewayValue) (result : Result ℕ StepFault) : Type 0 where
@@ -182,7 +211,8 @@ pub data FedTo (number : ℕ) (bytes : List ℕ) (v w : GatewayValue) (result : 
       → w ≡ record v { machine = broken_at number v.machine } → FedTo number bytes v w result
   -- so many were read, and what they brought came, or broke the connection
   came : (i n : ℕ) → ListensAt number v i → is_over (stream_at i v.streams).reader.reading ≡ false → Feeds i n bytes v w
-      → n ≤ length bytes → (0 < length bytes → 0 < n) → (fault : StepFault) → IsFault fault w.begun → CountsCalls v w
+      → n ≤ length bytes → (0 < length bytes → 0 < n) → (request : Option HttpRequest) → IsWhole n bytes (stream_at i v.streams) request
+      → (fault : StepFault) → IsFault fault w.begun (begins_by v.plans i request v.machine) → CountsCalls v w
       → result ≡ (if is_stopped_in number w.machine.conns then Err fault else Ok n) → FedTo number bytes v w result
 
 -- ---- what else is done
@@ -201,8 +231,8 @@ pub data HangsUp (number : ℕ) (v w : GatewayValue) (result : Result ⊤ StepFa
       → result ≡ (if is_stopped_in number w.machine.conns then Err Memory else Ok tt) → HangsUp number v w result
 
 -- calls end of the machine, to which what ends them was told
-pub record Ends (cause : Cause) (told : MachineValue) (v w : GatewayValue) : Type 0 where
-  pub ends : CallsEnd cause told w.machine
+pub record Ends (trigger : Trigger) (told : MachineValue) (v w : GatewayValue) : Type 0 where
+  pub ends : CallsEnd trigger told w.machine
   pub rest : w ≡ record v { machine = w.machine }
 
 -- a connection breaks in the step, or none does

@@ -8,6 +8,7 @@ pub mod JobLemmas
 pub mod UnknownLemmas
 pub mod Unborn
 pub mod Deadlines
+pub mod LeastLemmas
 pub mod Frame
 pub mod StepLemmas
 pub mod BeginsLemmas

@@ -2,14 +2,14 @@
 //! The laws are facts on every list of events; their functions do nothing. No code of the gateway is here.
 #![tactic(auto)]
 
-mod cause;
 pub mod event_laws;
 mod fault;
 pub mod laws;
 pub mod request_laws;
 pub mod served_laws;
 mod tally;
+mod trigger;
 
-pub use cause::Cause;
 pub use fault::{OpenError, StepFault, Took};
 pub use tally::Tally;
+pub use trigger::Trigger;

@@ -1,5 +1,5 @@
 ghost use Rattle.std.specs.Prelude.{◌≡◌, ◌<◌, ℕ, length};
-ghost use Rattle.gateway_theory.specs.declared.cause.Cause.{Cause as AnyCause};
+ghost use Rattle.gateway_theory.specs.declared.trigger.Trigger.{Trigger as AnyTrigger};
 ghost use Rattle.gateway_machine.specs.Linked.{IsNow, Over, linked, linked_by, over_by};
 ghost use Rattle.gateway_replies.specs.Contexts.{Ended, ends_of};
 ghost use Rattle.gateway_theory.specs.Heads.{conn_heads};
@@ -7,7 +7,7 @@ ghost use Rattle.gateway_theory.specs.Ends.{AreApart, CallsEnd, EndedAt, IsSettl
 
 use crate::machine::store::Machine;
 use gateway_replies::{Contexts, ReplyHook};
-use gateway_theory::Cause;
+use gateway_theory::Trigger;
 use std::alloc::Global;
 
 impl Machine {
@@ -19,11 +19,11 @@ impl Machine {
         index: usize,
     )
         requires there { index < length self.old.calls }
-        requires live { (ends : ℕ → Ended) × (over : Over) × (contexts.old ≡ linked_by ends over self.old) }
-        ensures ended { (ends : ℕ → Ended) (cause : AnyCause) → IsNow cause self.old.moment
-            → contexts.old ≡ linked_by ends (over_by cause) self.old → EndedAt cause index self.old self.new }
-        ensures linked { (ends : ℕ → Ended) (cause : AnyCause) → IsNow cause self.old.moment
-            → contexts.old ≡ linked_by ends (over_by cause) self.old → contexts.new ≡ linked_by ends (over_by cause) self.new }
+        requires live { (ends : ℕ → Ended) × (over : Over) × (contexts.old.standing ≡ linked_by ends over self.old) }
+        ensures ended { (ends : ℕ → Ended) (trigger : AnyTrigger) → IsNow trigger self.old.moment
+            → contexts.old.standing ≡ linked_by ends (over_by trigger) self.old → EndedAt trigger index self.old self.new }
+        ensures linked { (ends : ℕ → Ended) (trigger : AnyTrigger) → IsNow trigger self.old.moment
+            → contexts.old.standing ≡ linked_by ends (over_by trigger) self.old → contexts.new.standing ≡ linked_by ends (over_by trigger) self.new }
     {
         contexts.apart_law();
         let moment = self.moment;
@@ -49,14 +49,14 @@ impl Machine {
         &mut self,
         alloc: Global,
         contexts: &mut Contexts<H>,
-        cause: &Cause,
+        trigger: &Trigger,
     )
-        requires now { IsNow cause.now self.old.moment }
+        requires now { IsNow trigger.now self.old.moment }
         requires settled { IsSettled self.old }
         requires apart { AreApart self.old.calls }
-        requires linked { contexts.old ≡ linked_by (ends_of contexts.old) (over_by cause.now) self.old }
-        ensures ended { CallsEnd cause.now self.old self.new }
-        ensures linked { contexts.new ≡ linked contexts.old self.new }
+        requires linked { contexts.old.standing ≡ linked_by (ends_of contexts.old.standing) (over_by trigger.now) self.old }
+        ensures ended { CallsEnd trigger.now self.old self.new }
+        ensures linked { contexts.new.standing ≡ linked contexts.old.standing self.new }
         ensures heads { conn_heads self.new.conns ≡ conn_heads self.old.conns }
     {
         for index in 0..self.calls.len() {

@@ -1,4 +1,4 @@
-ghost use Rattle.std.specs.Prelude.{[], ◌≡◌, ◌+◌, ◌<◌, ◌≤◌, ◌++◌, ◌^◌, Some, None as Nothing, IfErr, IfOk, OnOk, OnErr, false, length, map};
+ghost use Rattle.std.specs.Prelude.{[], ◌≡◌, ◌+◌, ◌<◌, ◌≤◌, ◌++◌, ◌^◌, Some, None as Nothing, IfErr, IfOk, OnOk, OnErr, false, true, length, map};
 ghost use Rattle.std.specs.VecDeque.{deque_capacity};
 ghost use Rattle.gateway_model.specs.Arrival.{arrival_of};
 ghost use Rattle.gateway_theory.specs.Begins.{begins};
@@ -10,7 +10,7 @@ ghost use Rattle.gateway_theory.specs.Task.{job_at};
 ghost use Rattle.gateway_machine.specs.Linked.{ComesWith, IsLinkedBut, linked};
 ghost use Rattle.gateway_model.specs.Occurrence.{Coming};
 ghost use Rattle.gateway_theory.specs.Arrivals.{calls_in};
-ghost use Rattle.gateway_theory.specs.Serving.{IsFault, IsMade, most_begun};
+ghost use Rattle.gateway_theory.specs.Serving.{IsFault, IsMade, begins_at, most_begun};
 ghost use Rattle.gateway_theory.specs.Step.{gone, step_to};
 ghost use Rattle.gateway_theory.specs.Store.{broken_at, conn_at, waiting};
 ghost use Rattle.gateway_theory.specs.declared.fault.StepFault.TheVariants as fault;
@@ -48,11 +48,11 @@ impl Machine {
     ) -> Result<(), StepFault>
         requires there { index < length self.old.conns }
         requires on { (conn_at index self.old.conns).broken ≡ false }
-        requires heard { ends_of contexts.old (conn_at index self.old.conns).number ≡ by_drain self.old.drained }
-        requires fresh { is_life (next_of (conn_at index self.old.conns)) contexts.old.calls ≡ false }
-        requires linked { contexts.old ≡ linked contexts.old self.old }
+        requires heard { ends_of contexts.old.standing (conn_at index self.old.conns).number ≡ by_drain self.old.drained }
+        requires fresh { is_life (next_of (conn_at index self.old.conns)) contexts.old.standing.calls ≡ false }
+        requires linked { contexts.old.standing ≡ linked contexts.old.standing self.old }
         ensures made { IsMade index (Coming.Request request (arrival_of plans.now request)) begun.old self.old begun.new self.new result }
-        ensures linked { contexts.new ≡ linked contexts.old self.new }
+        ensures linked { contexts.new.standing ≡ linked contexts.old.standing self.new }
     {
         let came = self.take_in(alloc, contexts, plans, index, request, begun);
         if came.is_err() {
@@ -71,11 +71,11 @@ impl Machine {
         refusal: Refusal,
     ) -> Result<(), StepFault>
         requires there { index < length self.old.conns }
-        requires linked { contexts.old ≡ linked contexts.old self.old }
+        requires linked { contexts.old.standing ≡ linked contexts.old.standing self.old }
         ensures ok { OnOk result (self.new ≡ entered_at index (arriving_at index (Coming.Refused refusal) self.old) self.old) }
         ensures err { OnErr result (self.new ≡ broken_at (conn_at index self.old.conns).number self.old) }
         ensures fault { IfErr result (λ f. f ≡ fault.Memory) }
-        ensures linked { contexts.new ≡ linked contexts.old self.new }
+        ensures linked { contexts.new.standing ≡ linked contexts.old.standing self.new }
     {
         let stopped = self.refuse(alloc, index, refusal);
         if stopped.is_err() {
@@ -97,15 +97,16 @@ impl Machine {
     ) -> Result<(), StepFault>
         requires there { index < length self.old.conns }
         requires on { (conn_at index self.old.conns).broken ≡ false }
-        requires heard { ends_of contexts.old (conn_at index self.old.conns).number ≡ by_drain self.old.drained }
-        requires fresh { is_life (next_of (conn_at index self.old.conns)) contexts.old.calls ≡ false }
-        requires linked { contexts.old ≡ linked contexts.old self.old }
+        requires heard { ends_of contexts.old.standing (conn_at index self.old.conns).number ≡ by_drain self.old.drained }
+        requires fresh { is_life (next_of (conn_at index self.old.conns)) contexts.old.standing.calls ≡ false }
+        requires linked { contexts.old.standing ≡ linked contexts.old.standing self.old }
         ensures ok { OnOk result (self.new
             ≡ entered_at index (arriving_at index (Coming.Request request (arrival_of plans.now request)) self.old) self.old) }
-        ensures linked { OnOk result (contexts.new ≡ linked contexts.old self.new) }
+        ensures linked { OnOk result (contexts.new.standing ≡ linked contexts.old.standing self.new) }
         ensures err { OnErr result (self.new ≡ self.old) }
-        ensures others { OnErr result (IsLinkedBut (ends_of contexts.old) (conn_at index self.old.conns).number contexts.new self.new) }
-        ensures fault { IfErr result (λ f. IsFault f begun.new) }
+        ensures others { OnErr result (IsLinkedBut (ends_of contexts.old.standing) (conn_at index self.old.conns).number contexts.new.standing self.new) }
+        ensures fault { IfErr result (λ f. IsFault f begun.new
+            (begins_at index (Coming.Request request (arrival_of plans.now request)) self.old)) }
         ensures grows { begun.old ≤ begun.new }
         ensures counts { begun.new + length self.old.calls ≡ begun.old + length self.new.calls }
         ensures few { begun.old < begun.new → begun.new ≤ most_begun }
@@ -132,7 +133,7 @@ impl Machine {
         ensures err { OnErr result (self.new ≡ self.old) }
         ensures counted { OnOk result ((begun.new ≡ begun.old + 1) × (begun.new ≤ most_begun)) }
         ensures same { OnErr result (begun.new ≡ begun.old) }
-        ensures fault { IfErr result (λ f. IsFault f begun.new) }
+        ensures fault { IfErr result (λ f. IsFault f begun.new true) }
     {
         if *begun >= MOST_BEGUN {
             return Err(StepFault::Exhausted);
@@ -153,13 +154,13 @@ impl Machine {
     ) -> Result<Arriving, AllocError>
         requires there { index < length self.now.conns }
         requires on { (conn_at index self.now.conns).broken ≡ false }
-        requires heard { ends_of contexts.old (conn_at index self.now.conns).number ≡ by_drain self.now.drained }
-        requires fresh { is_life (next_of (conn_at index self.now.conns)) contexts.old.calls ≡ false }
-        requires linked { contexts.old ≡ linked contexts.old self.now }
+        requires heard { ends_of contexts.old.standing (conn_at index self.now.conns).number ≡ by_drain self.now.drained }
+        requires fresh { is_life (next_of (conn_at index self.now.conns)) contexts.old.standing.calls ≡ false }
+        requires linked { contexts.old.standing ≡ linked contexts.old.standing self.now }
         ensures ok { IfOk result (λ arriving. ComesTo arriving (next_of (conn_at index self.now.conns)) self.now.moment
             (arriving_at index (Coming.Request request (arrival_of plans.now request)) self.now)) }
-        ensures contexts { IfOk result (λ arriving. ComesWith arriving (next_of (conn_at index self.now.conns)) self.now.moment contexts.old contexts.new) }
-        ensures others { OnErr result (KeepsOthers (conn_at index self.now.conns).number contexts.old contexts.new) }
+        ensures contexts { IfOk result (λ arriving. ComesWith arriving (next_of (conn_at index self.now.conns)) self.now.moment contexts.old.standing contexts.new.standing) }
+        ensures others { OnErr result (KeepsOthers (conn_at index self.now.conns).number contexts.old.standing contexts.new.standing) }
     {
         timeout_law();
         let plan = match target_path(&request) {
@@ -203,12 +204,12 @@ impl Machine {
     ) -> Result<Arriving, AllocError>
         requires there { index < length self.now.conns }
         requires on { (conn_at index self.now.conns).broken ≡ false }
-        requires heard { ends_of contexts.old (conn_at index self.now.conns).number ≡ by_drain self.now.drained }
-        requires fresh { is_life (next_of (conn_at index self.now.conns)) contexts.old.calls ≡ false }
-        requires linked { contexts.old ≡ linked contexts.old self.now }
+        requires heard { ends_of contexts.old.standing (conn_at index self.now.conns).number ≡ by_drain self.now.drained }
+        requires fresh { is_life (next_of (conn_at index self.now.conns)) contexts.old.standing.calls ≡ false }
+        requires linked { contexts.old.standing ≡ linked contexts.old.standing self.now }
         ensures ok { IfOk result (λ arriving. ComesTo arriving (next_of (conn_at index self.now.conns)) self.now.moment (asking_at index asked self.now)) }
-        ensures contexts { IfOk result (λ arriving. ComesWith arriving (next_of (conn_at index self.now.conns)) self.now.moment contexts.old contexts.new) }
-        ensures others { OnErr result (KeepsOthers (conn_at index self.now.conns).number contexts.old contexts.new) }
+        ensures contexts { IfOk result (λ arriving. ComesWith arriving (next_of (conn_at index self.now.conns)) self.now.moment contexts.old.standing contexts.new.standing) }
+        ensures others { OnErr result (KeepsOthers (conn_at index self.now.conns).number contexts.old.standing contexts.new.standing) }
     {
         let conn = &self.conns[index];
         if conn.is_full() {

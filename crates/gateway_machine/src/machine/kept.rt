@@ -120,10 +120,10 @@ impl Kept {
         outcome: &Outcome,
         moment: u64,
     ) -> Result<(), AllocError>
-        requires known { is_some self.now.call.live ≡ true → is_life self.now.id contexts.old.calls ≡ true }
+        requires known { is_some self.now.call.live ≡ true → is_life self.now.id contexts.old.standing.calls ≡ true }
         requires moment { moment ≤ 2 ^ 62 }
-        ensures ok { OnOk result (contexts.new ≡ passed_on moment branch outcome.now self.now contexts.old) }
-        ensures err { OnErr result (contexts.new ≡ contexts.old) }
+        ensures ok { OnOk result (contexts.new.standing ≡ passed_on moment branch outcome.now self.now contexts.old.standing) }
+        ensures err { OnErr result (contexts.new.standing ≡ contexts.old.standing) }
         ensures live { OnErr result (is_some self.now.call.live ≡ true) }
     {
         match (&self.live, outcome) {
@@ -213,12 +213,12 @@ impl Kept {
         contexts: &mut Contexts<H>,
         moment: u64,
     ) -> Result<(), AllocError>
-        requires { is_some self.old.call.live ≡ true → is_life self.old.id contexts.old.calls ≡ true }
-        ensures ended { OnOk result (self.new ≡ ended_with (event_for moment self.old.id contexts.old) self.old) }
-        ensures gone { OnOk result (contexts.new
-            ≡ (if is_some (ends_with (event_for moment self.old.id contexts.old) self.old.call.out self.old.call.live).reply then without self.old.id contexts.old else contexts.old)) }
-        ensures others { OnErr result (KeepsOthers self.old.id.conn contexts.old contexts.new) }
-        ensures refused { OnErr result ((is_some (ends_with (event_for moment self.old.id contexts.old) self.old.call.out self.old.call.live).reply ≡ true)
+        requires { is_some self.old.call.live ≡ true → is_life self.old.id contexts.old.standing.calls ≡ true }
+        ensures ended { OnOk result (self.new ≡ ended_with (event_for moment self.old.id contexts.old.standing) self.old) }
+        ensures gone { OnOk result (contexts.new.standing
+            ≡ (if is_some (ends_with (event_for moment self.old.id contexts.old.standing) self.old.call.out self.old.call.live).reply then without self.old.id contexts.old.standing else contexts.old.standing)) }
+        ensures others { OnErr result (KeepsOthers self.old.id.conn contexts.old.standing contexts.new.standing) }
+        ensures refused { OnErr result ((is_some (ends_with (event_for moment self.old.id contexts.old.standing) self.old.call.out self.old.call.live).reply ≡ true)
             × (self.new ≡ unanswered self.old)) }
     {
         let Some(live) = self.live.take() else {

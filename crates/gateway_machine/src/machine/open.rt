@@ -20,11 +20,11 @@ impl Machine {
         stock: Stock<H>,
     ) -> Result<(), Stock<H>>
         requires new { conn_of number self.old.conns ≡ Nothing }
-        requires linked { contexts.old ≡ linked contexts.old self.old }
+        requires linked { contexts.old.standing ≡ linked contexts.old.standing self.old }
         ensures ok { OnOk result (self.new ≡ opened_as number self.old) }
         ensures back { IfErr result (λ back. back ≡ stock) }
         ensures err { OnErr result (self.new ≡ self.old) }
-        ensures linked { contexts.new ≡ linked contexts.old self.new }
+        ensures linked { contexts.new.standing ≡ linked contexts.old.standing self.new }
     {
         if self.conns.reserve(1).is_err() {
             return Err(stock);
@@ -36,9 +36,9 @@ impl Machine {
 
     /// Closes the connection of that number: its calls are given up, and what it had not handed out is dropped.
     pub(crate) fn close<H: ReplyHook + Drop>(&mut self, contexts: &mut Contexts<H>, number: u64)
-        requires { contexts.old ≡ linked contexts.old self.old }
+        requires { contexts.old.standing ≡ linked contexts.old.standing self.old }
         ensures closed { self.new ≡ closed_at number self.old }
-        ensures linked { contexts.new ≡ linked contexts.old self.new }
+        ensures linked { contexts.new.standing ≡ linked contexts.old.standing self.new }
     {
         contexts.close(number);
         give_up(&mut self.calls, number);

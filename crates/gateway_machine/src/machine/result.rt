@@ -34,9 +34,9 @@ impl Machine {
         branch: u32,
         outcome: Outcome,
     ) -> Took
-        requires { contexts.old ≡ linked contexts.old self.old }
+        requires { contexts.old.standing ≡ linked contexts.old.standing self.old }
         ensures taken { BranchEnds id.now branch outcome self.old self.new result }
-        ensures linked { contexts.new ≡ linked contexts.old self.new }
+        ensures linked { contexts.new.standing ≡ linked contexts.old.standing self.new }
     {
         let Some(index) = self.find(id) else {
             return Took::unknown();
@@ -68,12 +68,12 @@ impl Machine {
         branch: u32,
         outcome: Outcome,
     ) -> Took
-        requires linked { contexts.old ≡ linked contexts.old self.old }
+        requires linked { contexts.old.standing ≡ linked contexts.old.standing self.old }
         requires orderly { IsOrderly self.old }
         ensures taken { (between : MachineValue) × BranchEnds id.now branch outcome self.old between result × Forgets id.now between self.new }
         ensures unknown { result.seen ≡ Seen.Unknown → self.new ≡ self.old }
         ensures none_spent { (result.seen ≡ Seen.Unknown → ⊥) → NoneSpent id.now self.new.calls }
-        ensures linked { contexts.new ≡ linked contexts.old self.new }
+        ensures linked { contexts.new.standing ≡ linked contexts.old.standing self.new }
     {
         let took = self.result(alloc, contexts, id, branch, outcome);
         self.forget_unless(took.seen, id);
@@ -87,12 +87,12 @@ impl Machine {
         id: &CallId,
         branch: u32,
     ) -> Took
-        requires linked { contexts.old ≡ linked contexts.old self.old }
+        requires linked { contexts.old.standing ≡ linked contexts.old.standing self.old }
         requires orderly { IsOrderly self.old }
         ensures taken { (between : MachineValue) × Starved id.now branch self.old between result × Forgets id.now between self.new }
         ensures unknown { result.seen ≡ Seen.Unknown → self.new ≡ self.old }
         ensures none_spent { (result.seen ≡ Seen.Unknown → ⊥) → NoneSpent id.now self.new.calls }
-        ensures linked { contexts.new ≡ linked contexts.old self.new }
+        ensures linked { contexts.new.standing ≡ linked contexts.old.standing self.new }
     {
         let took = self.come_back(contexts, id, branch);
         self.forget_unless(took.seen, id);
@@ -106,9 +106,9 @@ impl Machine {
         id: &CallId,
         branch: u32,
     ) -> Took
-        requires { contexts.old ≡ linked contexts.old self.old }
+        requires { contexts.old.standing ≡ linked contexts.old.standing self.old }
         ensures taken { Starved id.now branch self.old self.new result }
-        ensures linked { contexts.new ≡ linked contexts.old self.new }
+        ensures linked { contexts.new.standing ≡ linked contexts.old.standing self.new }
     {
         let Some(index) = self.find(id) else {
             return Took::unknown();
@@ -130,9 +130,9 @@ impl Machine {
         broke: bool,
         number: u64,
     )
-        requires { contexts.old ≡ linked contexts.old self.old }
+        requires { contexts.old.standing ≡ linked contexts.old.standing self.old }
         ensures broken { self.new ≡ (if broke then broken_at number self.old else self.old) }
-        ensures linked { contexts.new ≡ linked contexts.old self.new }
+        ensures linked { contexts.new.standing ≡ linked contexts.old.standing self.new }
     {
         if broke {
             self.break_conn(contexts, number);
@@ -187,9 +187,9 @@ impl Machine {
         id: &CallId,
         decided: Option<CallRecord>,
     ) -> bool
-        requires { IsLinkedWith (ends_of contexts.old) id.now decided contexts.old self.old }
+        requires { IsLinkedWith (ends_of contexts.old.standing) id.now decided contexts.old.standing self.old }
         ensures decided { DecidedBy id.now decided self.old self.new result }
-        ensures linked { contexts.new ≡ linked contexts.old self.new }
+        ensures linked { contexts.new.standing ≡ linked contexts.old.standing self.new }
     {
         let Some(decided) = decided else {
             return false;

@@ -12,7 +12,7 @@ use crate::machine::conn::Conn;
 use crate::machine::kept::Kept;
 use gateway_model::CallId;
 use gateway_replies::{Contexts, Reply, ReplyHook};
-use gateway_theory::Cause;
+use gateway_theory::Trigger;
 use std::alloc::Global;
 use std::collections::VecDeque;
 use std::marker::Model;
@@ -76,13 +76,13 @@ impl Machine {
     }
 
     /// Takes note of what may end calls: the drain, or that the peer of a connection hung up.
-    pub(crate) fn note(&mut self, cause: &Cause)
-        ensures { self.new ≡ noted cause.now self.old }
+    pub(crate) fn note(&mut self, trigger: &Trigger)
+        ensures { self.new ≡ noted trigger.now self.old }
     {
-        match cause {
-            Cause::Reached(_) => {}
-            Cause::HungUp(number) => hang_up_in(&mut self.conns, *number),
-            Cause::Drained => self.drained = true,
+        match trigger {
+            Trigger::Reached(_) => {}
+            Trigger::HungUp(number) => hang_up_in(&mut self.conns, *number),
+            Trigger::Drained => self.drained = true,
         }
     }
 
@@ -151,7 +151,7 @@ impl Machine {
         number: u64,
     )
         ensures broken { self.new ≡ broken_at number self.old }
-        ensures closed { contexts.new ≡ closed number contexts.old }
+        ensures closed { contexts.new.standing ≡ closed number contexts.old.standing }
     {
         contexts.close(number);
         give_up(&mut self.calls, number);

@@ -29,10 +29,10 @@ pub fn start_branch<H: ReplyHook + Drop>(
     deadline: Option<u64>,
     moment: u64,
 ) -> Result<(), AllocError>
-    requires known { is_life id.now contexts.old.calls ≡ true }
+    requires known { is_life id.now contexts.old.standing.calls ≡ true }
     requires later { IfSome deadline (λ at. moment < at) }
-    ensures ok { OnOk result (contexts.new ≡ branch_started id.now branch deadline contexts.old) }
-    ensures err { OnErr result (contexts.new ≡ contexts.old) }
+    ensures ok { OnOk result (contexts.new.standing ≡ branch_started id.now branch deadline contexts.old.standing) }
+    ensures err { OnErr result (contexts.new.standing ≡ contexts.old.standing) }
 {
     match deadline {
         Some(at) => contexts.start(id, branch, at, moment),
@@ -47,10 +47,10 @@ pub fn start_first<H: ReplyHook + Drop>(
     asked: &ArrivedCall,
     moment: u64,
 ) -> Result<(), AllocError>
-    requires known { is_life id.now contexts.old.calls ≡ true }
+    requires known { is_life id.now contexts.old.standing.calls ≡ true }
     requires moment { moment ≤ 2 ^ 62 }
-    ensures ok { OnOk result (contexts.new ≡ first_started id.now moment asked.now.plan (first_ones asked.now) contexts.old) }
-    ensures others { KeepsOthers id.now.conn contexts.old contexts.new }
+    ensures ok { OnOk result (contexts.new.standing ≡ first_started id.now moment asked.now.plan (first_ones asked.now) contexts.old.standing) }
+    ensures others { KeepsOthers id.now.conn contexts.old.standing contexts.new.standing }
 {
     let plan = &asked.plan;
     let first = plan.branches().len().min(plan.limit() as usize);

@@ -4,7 +4,7 @@ use Rattle.std.specs.Prelude.{if◌then◌else◌, ◌==◌, nat_lt, filter, sli
 use Rattle.std.specs.Option.{option_map_or}
 use Rattle.std.proofs.lemmas.Bool.{ltb-true, ltb-false}
 use Rattle.std.proofs.lemmas.List.{length-map}
-use Rattle.gateway_theory.specs.declared.cause.Cause.{Cause}
+use Rattle.gateway_theory.specs.declared.trigger.Trigger.{Trigger}
 use Rattle.gateway_theory.specs.Conn.{ConnValue}
 use Rattle.gateway_theory.specs.Ends.{CallsEnd, MayEnd, is_stopped_in}
 use Rattle.gateway_theory.specs.Gateway.{GatewayValue}
@@ -70,13 +70,13 @@ counted (k ∷ conns) (l ∷ new) size still =
     }
 
 -- what ends calls leaves broken what is
-still_broken : (cause : Cause) (v w : MachineValue) → ConnsApart v.conns → ConnsApart w.conns → length w.conns ≡ length v.conns → ((j : ℕ) → (conn_at j w.conns).number ≡ (conn_at j v.conns).number)
-    → CallsEnd cause v w → StillBroken v.conns w.conns
-still_broken cause v w apart then_apart size same e j lt on =
+still_broken : (trigger : Trigger) (v w : MachineValue) → ConnsApart v.conns → ConnsApart w.conns → length w.conns ≡ length v.conns → ((j : ℕ) → (conn_at j w.conns).number ≡ (conn_at j v.conns).number)
+    → CallsEnd trigger v w → StillBroken v.conns w.conns
+still_broken trigger v w apart then_apart size same e j lt on =
     by_conn (conn_of (conn_at j v.conns).number v.conns) (conn_of (conn_at j v.conns).number w.conns)
     (conn_found j v.conns lt apart) (ap (λ n. conn_of n w.conns) (sym (same j)) ∙ conn_found j w.conns (omega (arith, lt, size)) then_apart) (e.conns_are (conn_at j v.conns).number)
   where
-    by_conn : (a b : Option ConnValue) → a ≡ Some (conn_at j v.conns) → b ≡ Some (conn_at j w.conns) → MayEnd cause v.calls a b → (conn_at j w.conns).broken ≡ true
+    by_conn : (a b : Option ConnValue) → a ≡ Some (conn_at j v.conns) → b ≡ Some (conn_at j w.conns) → MayEnd trigger v.calls a b → (conn_at j w.conns).broken ≡ true
     by_conn None b a_is b_is m = absurd (cc)
     by_conn (Some k) None a_is b_is m = absurd (cc)
     by_conn (Some k) (Some l) a_is b_is m =
@@ -116,16 +116,16 @@ stopped_same c (x ∷ a) (y ∷ b) same still on =
         let there : is_stopped_in c a ≡ true = sym (ap (λ t. option_map_or (λ (k : ConnValue). k.broken) (if t then Some x else conn_of c a) false) e) ∙ x_on in
         ap (λ t. option_map_or (λ (k : ConnValue). k.broken) (if t then Some y else conn_of c b) false) (ap (λ n. n == c) number ∙ e) ∙ later there
 
-pub ends_breaks : (cause : Cause) (v w : GatewayValue) (b : Bool) → ConnsApart v.machine.conns → ConnsApart w.machine.conns → CallsEnd cause v.machine w.machine
+pub ends_breaks : (trigger : Trigger) (v w : GatewayValue) (b : Bool) → ConnsApart v.machine.conns → ConnsApart w.machine.conns → CallsEnd trigger v.machine w.machine
     → b ≡ nat_lt (broken_count v.machine.conns) (broken_count w.machine.conns) → Breaks v w b
-ends_breaks cause v w b apart then_apart e b_is = by_count (nat_lt (broken_count v.machine.conns) (broken_count w.machine.conns)) refl b_is
+ends_breaks trigger v w b apart then_apart e b_is = by_count (nat_lt (broken_count v.machine.conns) (broken_count w.machine.conns)) refl b_is
   where
     size : length w.machine.conns ≡ length v.machine.conns
     size = sym (length-map w.machine.conns (λ k. k.number)) ∙ ap (λ (ns : List ℕ). length ns) e.numbers_are ∙ length-map v.machine.conns (λ k. k.number)
 
     counts : Counted v.machine.conns w.machine.conns
     counts = counted v.machine.conns w.machine.conns size
-        (still_broken cause v.machine w.machine apart then_apart size (λ j. number_at j w.machine.conns v.machine.conns e.numbers_are) e)
+        (still_broken trigger v.machine w.machine apart then_apart size (λ j. number_at j w.machine.conns v.machine.conns e.numbers_are) e)
 
     stopped_of : (j : ℕ) (conns : List ConnValue) → j < length conns → ConnsApart conns → is_stopped_in (conn_at j conns).number conns ≡ (conn_at j conns).broken
     stopped_of j conns lt a = ap (λ o. option_map_or (λ (k : ConnValue). k.broken) o false) (conn_found j conns lt a)

@@ -1,10 +1,11 @@
 -- What comes on a connection, with the count of the calls that it begins.
-use Rattle.std.proofs.Common.{◌≡◌, ℕ, ◌<◌, Bool, true, false, List, length, Option, None, Some, Result, Ok, Err, refl, ap, ◌∙◌, subst, arith, inl, inr, append-nil}
-use Rattle.std.specs.Prelude.{⊤, IfErr, OnErr, OnOk, if◌then◌else◌, is_some}
+use Rattle.std.proofs.Common.{◌≡◌, ℕ, ◌<◌, Bool, true, false, List, ◌++◌, length, Option, None, Some, Result, Ok, Err, refl, ap, ◌∙◌, subst, arith, inl, inr, append-nil}
+use Rattle.std.specs.Prelude.{⊤, take, IfErr, OnErr, OnOk, if◌then◌else◌, is_some}
 use Rattle.std.specs.Option.{option_map_or}
 use Rattle.std.proofs.lemmas.Bool.{eq-eqb}
 use Rattle.std.proofs.lemmas.List.{length-map}
 use Rattle.http_pieces.specs.declared.refusal.Refusal.{Refusal}
+use Rattle.http_pieces.specs.Reader.{HasReadTo}
 use Rattle.http_pieces.specs.Request.{HttpRequest}
 use Rattle.gateway_theory.specs.declared.fault.StepFault.{StepFault}
 use Rattle.gateway_theory.specs.declared.fault.StepFault.TheVariants.{Memory}
@@ -18,7 +19,7 @@ use Rattle.gateway_theory.specs.Gateway.{GatewayValue, stream_at}
 use Rattle.gateway_model.specs.Occurrence.{Coming, Request, Refused}
 use Rattle.gateway_theory.specs.Arrivals.{calls_in}
 use Rattle.gateway_model.specs.Past.{ArrivedCall}
-use Rattle.gateway_theory.specs.Serving.{gateway_value, BringsAt, ReadsAt, CountsCalls, IsFault, IsMade, IsServing, StopsBy}
+use Rattle.gateway_theory.specs.Serving.{gateway_value, IsWhole, begins_by, BringsAt, ReadsAt, CountsCalls, IsFault, IsMade, IsServing, StopsBy}
 use Rattle.gateway_theory.specs.Step.{Step}
 use Rattle.gateway_theory.specs.Store.{MachineValue, broken_at, conn_at, conn_of, given_up_if}
 use Rattle.gateway_theory.specs.lemmas.EndLemmas.{stopped_now}
@@ -80,9 +81,9 @@ module _ (i : ℕ) (v : GatewayValue) (serving : IsServing v) (there : i < lengt
     few = λ more. absurd (omega (arith, more));
   }
 
-  memory_fault : (begun : ℕ) (result : Result ⊤ StepFault) → IfErr result (λ f. f ≡ Memory) → IfErr result (λ f. IsFault f begun)
-  memory_fault begun (Ok done) e = tt
-  memory_fault begun (Err fault) e = inl e
+  memory_fault : (begun : ℕ) (begins : Bool) (result : Result ⊤ StepFault) → IfErr result (λ f. f ≡ Memory) → IfErr result (λ f. IsFault f begun begins)
+  memory_fault begun begins (Ok done) e = tt
+  memory_fault begun begins (Err fault) e = inl e
 
   pub brings_refusal : (refusal : Refusal) (m : MachineValue) (result : Result ⊤ StepFault) → OnOk result (m ≡ entered_at i (arriving_at i (Refused refusal) v.machine) v.machine)
       → OnErr result (m ≡ broken_at k.number v.machine) → IfErr result (λ f. f ≡ Memory) → (Enters i (Refused refusal) v.machine m → StopsBy i (stream_at i v.streams).reader.reading v.machine m)
@@ -91,7 +92,7 @@ module _ (i : ℕ) (v : GatewayValue) (serving : IsServing v) (there : i < lengt
     comes = stops (enters_by i (Refused refusal) v.machine m result ok err);
     fine = still_on (Refused refusal) m result ok;
     stopped = now_off (Refused refusal) m result err;
-    fault = memory_fault v.begun result memory;
+    fault = memory_fault v.begun false result memory;
     counts = none_begun m (same_size refusal m result ok err);
     bound = omega arith;
     rest = refl;
@@ -111,3 +112,13 @@ module _ (i : ℕ) (v : GatewayValue) (serving : IsServing v) (there : i < lengt
 -- bytes that are read begin no call
 pub counts_read : (i n : ℕ) (request : Option HttpRequest) (bytes : List ℕ) (u v w : GatewayValue) → ReadsAt i n request bytes u v → CountsCalls v w → CountsCalls u w
 counts_read i n request bytes u v w p x = let y = subst (λ (z : GatewayValue). CountsCalls z w) p.rest x in record { grows = y.grows; sum_is = y.sum_is; few = y.few }
+
+-- the request that was read is whole with the bytes that were
+pub read_whole : (i n : ℕ) (request : Option HttpRequest) (bytes : List ℕ) (u v : GatewayValue) → ReadsAt i n request bytes u v → IsWhole n bytes (stream_at i u.streams) request
+read_whole i n None bytes u v r = tt
+read_whole i n (Some q) bytes u v r = λ text given h. subst (λ x. HasReadTo x (text ++ take n bytes) given) r.reads.takes.waited (r.reads.reads.reads text given h).reads
+
+-- reading begins no call and leaves the machine
+pub same_fault : (i n : ℕ) (request : Option HttpRequest) (bytes : List ℕ) (u v : GatewayValue) (fault : StepFault) (begun : ℕ) → ReadsAt i n request bytes u v
+    → IsFault fault begun (begins_by v.plans i request v.machine) → IsFault fault begun (begins_by u.plans i request u.machine)
+same_fault i n request bytes u v fault begun r is = subst (λ (y : GatewayValue). IsFault fault begun (begins_by y.plans i request y.machine)) r.rest is

@@ -9,7 +9,7 @@ use Rattle.connect_codec.specs.declared.answer.Outcome.{Outcome}
 use Rattle.connect_codec.specs.declared.answer.Outcome.TheVariants.{Fail}
 use Rattle.gateway_theory.specs.declared.fault.Took.{Took}
 use Rattle.gateway_model.specs.declared.id.CallId.{CallId}
-use Rattle.gateway_theory.specs.declared.cause.Cause.{Cause}
+use Rattle.gateway_theory.specs.declared.trigger.Trigger.{Trigger}
 use Rattle.gateway_theory.specs.Breaks.{AreConcerned}
 use Rattle.gateway_theory.specs.Conn.{ConnValue, added, state_of}
 use Rattle.gateway_theory.specs.Ends.{AreApart, CallsEnd, ended_call, is_stopped_in}
@@ -67,11 +67,11 @@ not_stopped c conns fates are on = by_conn (conn_of c conns) refl
     by_conn None e = ap (λ o. option_map_or (λ (k : ConnValue). k.broken) o false) e
     by_conn (Some k) e = ap (λ o. option_map_or (λ (k : ConnValue). k.broken) o false) e ∙ are c k e ∙ on
 
-pub ends_concern : (o : Occurrence) (cause : Cause) (s v w : MachineValue) (closed : ℕ → ConnState) (fates : ℕ → Fate) (taken : ℕ → List ReplyEntry) (handed : List JobValue) (os : List Occurrence)
-    → v.conns ≡ s.conns → v.calls ≡ s.calls → ((id : CallId) (c : CallState) → step s.moment id o c ≡ ended_call cause id c)
-    → IsOrderly s → FatesAre fates s.conns → FatedStands (machine closed s) fates taken handed os → CallsEnd cause v w
+pub ends_concern : (o : Occurrence) (trigger : Trigger) (s v w : MachineValue) (closed : ℕ → ConnState) (fates : ℕ → Fate) (taken : ℕ → List ReplyEntry) (handed : List JobValue) (os : List Occurrence)
+    → v.conns ≡ s.conns → v.calls ≡ s.calls → ((id : CallId) (c : CallState) → step s.moment id o c ≡ ended_call trigger id c)
+    → IsOrderly s → FatesAre fates s.conns → FatedStands (machine closed s) fates taken handed os → CallsEnd trigger v w
     → AreConcerned (λ c. is_stopped_in c w.conns) fates o os
-ends_concern o cause s v w closed fates taken handed os conns_are calls_are steps orderly are h e = λ c on stops.
+ends_concern o trigger s v w closed fates taken handed os conns_are calls_are steps orderly are h e = λ c on stops.
     let before : is_stopped_in c v.conns ≡ false = ap (λ ks. is_stopped_in c ks) conns_are ∙ not_stopped c s.conns fates are on in
     let ends = e.breaks_are c stops before in
     let within : ends.place < length s.calls = subst (λ ks. ends.place < length ks) calls_are ends.within in
@@ -80,8 +80,8 @@ ends_concern o cause s v w closed fates taken handed os conns_are calls_are step
     let conn_is : k.id.conn ≡ c = ap (λ (x : KeptValue). x.id.conn) (sym here) ∙ ends.its in
     let found : call_at k.id s.calls ≡ k.call = call_found k.id s.calls ends.place (found_place ends.place s.calls within orderly.apart) in
     let replies : is_some (step s.moment k.id o (call_at k.id s.calls)).reply ≡ true =
-    ap (λ (x : Step). is_some x.reply) (steps k.id (call_at k.id s.calls)) ∙ ap (λ x. is_some (ended_call cause k.id x).reply) found
-    ∙ ap (λ (x : KeptValue). is_some (ended_call cause x.id x.call).reply) (sym here) ∙ ends.ends in
+    ap (λ (x : Step). is_some x.reply) (steps k.id (call_at k.id s.calls)) ∙ ap (λ x. is_some (ended_call trigger k.id x).reply) found
+    ∙ ap (λ (x : KeptValue). is_some (ended_call trigger x.id x.call).reply) (sym here) ∙ ends.ends in
     ap (λ n. concerns n o (marked os)) (sym conn_is)
     ∙ replied s closed fates taken handed os o k.id h (ap (λ n. is_broken (fates n)) conn_is ∙ on) replies
 

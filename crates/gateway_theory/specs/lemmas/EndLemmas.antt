@@ -8,7 +8,7 @@ use Rattle.std.proofs.Math.ListN.{get_or-eq_default}
 use Rattle.gateway_model.specs.declared.entry.ReplyEntry.{ReplyEntry}
 use Rattle.gateway_model.specs.declared.call_event.CallEvent.{CallEvent}
 use Rattle.gateway_model.specs.declared.id.CallId.{CallId}
-use Rattle.gateway_theory.specs.declared.cause.Cause.{Cause}
+use Rattle.gateway_theory.specs.declared.trigger.Trigger.{Trigger}
 use Rattle.gateway_model.specs.Past.{call_id, is_call}
 use Rattle.gateway_theory.specs.Step.{deadlines_in, CallState, Live, call_state, ended_by}
 use Rattle.gateway_theory.specs.Machine.{slot_at}
@@ -27,25 +27,25 @@ out_ended : (e : Option CallEvent) (l : Live) (out : List Bool) → (ended_by e 
 out_ended None l out = refl
 out_ended (Some e) l out = refl
 
-pub out_same : (cause : Cause) (id : CallId) (out : List Bool) (live : Option Live) → (ended_if cause id out live).call.out ≡ out
-out_same cause id out None = refl
-out_same cause id out (Some l) = out_ended (caused cause id l.asked (deadlines_in out l.deadlines)) l out
+pub out_same : (trigger : Trigger) (id : CallId) (out : List Bool) (live : Option Live) → (ended_if trigger id out live).call.out ≡ out
+out_same trigger id out None = refl
+out_same trigger id out (Some l) = out_ended (caused trigger id l.asked (deadlines_in out l.deadlines)) l out
 
-given_ended : (cause : Cause) (k : KeptValue) → given_up (ended_kept cause k) ≡ given_up k
-given_ended cause k = ap (λ o. record { id = k.id; call = call_state o None; reply = None }) (out_same cause k.id k.call.out k.call.live)
+given_ended : (trigger : Trigger) (k : KeptValue) → given_up (ended_kept trigger k) ≡ given_up k
+given_ended trigger k = ap (λ o. record { id = k.id; call = call_state o None; reply = None }) (out_same trigger k.id k.call.out k.call.live)
 
 -- a call that was given up does not end
-ended_given : (cause : Cause) (k : KeptValue) → ended_kept cause (given_up k) ≡ given_up k
-ended_given cause k = refl
+ended_given : (trigger : Trigger) (k : KeptValue) → ended_kept trigger (given_up k) ≡ given_up k
+ended_given trigger k = refl
 
-not_live : (cause : Cause) (id : CallId) (out : List Bool) (live : Option Live) → is_some (ended_if cause id out live).reply ≡ true → is_some live ≡ true
-not_live cause id out None e = absurd (cc)
-not_live cause id out (Some l) e = refl
+not_live : (trigger : Trigger) (id : CallId) (out : List Bool) (live : Option Live) → is_some (ended_if trigger id out live).reply ≡ true → is_some live ≡ true
+not_live trigger id out None e = absurd (cc)
+not_live trigger id out (Some l) e = refl
 
-pub id_below : (cause : Cause) (stopped passed : Bool) (k : KeptValue) → (ended_below cause stopped passed k).id ≡ k.id
-id_below cause true passed k = refl
-id_below cause false true k = refl
-id_below cause false false k = refl
+pub id_below : (trigger : Trigger) (stopped passed : Bool) (k : KeptValue) → (ended_below trigger stopped passed k).id ≡ k.id
+id_below trigger true passed k = refl
+id_below trigger false true k = refl
+id_below trigger false false k = refl
 
 -- ---- connections
 
@@ -124,8 +124,8 @@ given_same k no_reply none = by_parts k.call k.reply no_reply none
     by_parts : (c : CallState) (r : Option ReplyEntry) → r ≡ None → c.live ≡ None → made k.id c r ≡ made k.id (call_state c.out None) None
     by_parts c r r_is l_is = ap (made k.id c) r_is ∙ ap (λ (x : Option Live). made k.id (call_state c.out x) None) l_is
 
-pub ends_start : (cause : Cause) (v : MachineValue) → IsSettled v → EndedBelow cause 0 v v
-ends_start cause v s = record {
+pub ends_start : (trigger : Trigger) (v : MachineValue) → IsSettled v → EndedBelow trigger 0 v v
+ends_start trigger v s = record {
   moment_is = refl;
   drained_is = refl;
   jobs_are = refl;
@@ -136,7 +136,7 @@ ends_start cause v s = record {
   breaks_are = λ c yes_now no_before. absurd (let clash : true ≡ false = sym yes_now ∙ no_before in cc);
 }
   where
-    by_stop : (j : ℕ) (b : Bool) → is_stopped_in (kept_at j v.calls).id.conn v.conns ≡ b → kept_at j v.calls ≡ ended_below cause b false (kept_at j v.calls)
+    by_stop : (j : ℕ) (b : Bool) → is_stopped_in (kept_at j v.calls).id.conn v.conns ≡ b → kept_at j v.calls ≡ ended_below trigger b false (kept_at j v.calls)
     by_stop j true b_is = given_same (kept_at j v.calls) (s.no_reply j) (s.none_live j b_is)
     by_stop j false b_is = refl
 
@@ -147,34 +147,34 @@ lt_more i j ne =
     (cases_lt j i)
 
 -- the call at the place, as the loop finds it
-at_place : (cause : Cause) (b : Bool) (k : KeptValue) → ended_kept cause (ended_below cause b false k) ≡ ended_below cause b true k
-at_place cause true k = ended_given cause k
-at_place cause false k = refl
+at_place : (trigger : Trigger) (b : Bool) (k : KeptValue) → ended_kept trigger (ended_below trigger b false k) ≡ ended_below trigger b true k
+at_place trigger true k = ended_given trigger k
+at_place trigger false k = refl
 
-given_below : (cause : Cause) (b passed : Bool) (k : KeptValue) → given_up (ended_below cause b passed k) ≡ given_up k
-given_below cause true passed k = refl
-given_below cause false true k = given_ended cause k
-given_below cause false false k = refl
+given_below : (trigger : Trigger) (b passed : Bool) (k : KeptValue) → given_up (ended_below trigger b passed k) ≡ given_up k
+given_below trigger true passed k = refl
+given_below trigger false true k = given_ended trigger k
+given_below trigger false false k = refl
 
-ended_one : (cause : Cause) (i : ℕ) (v u t : MachineValue) → EndedBelow cause i v u → i < length u.calls
-    → t ≡ record u { calls = slice_set u.calls i (ended_kept cause (kept_at i u.calls)) } → EndedBelow cause (i + 1) v t
-ended_one cause i v u t h lt t_is = subst (λ x. EndedBelow cause (i + 1) v x) (sym t_is) (record {
+ended_one : (trigger : Trigger) (i : ℕ) (v u t : MachineValue) → EndedBelow trigger i v u → i < length u.calls
+    → t ≡ record u { calls = slice_set u.calls i (ended_kept trigger (kept_at i u.calls)) } → EndedBelow trigger (i + 1) v t
+ended_one trigger i v u t h lt t_is = subst (λ x. EndedBelow trigger (i + 1) v x) (sym t_is) (record {
   moment_is = h.moment_is;
   drained_is = h.drained_is;
   jobs_are = h.jobs_are;
   numbers_are = h.numbers_are;
   conns_are = h.conns_are;
-  size_is = length-set u.calls i (ended_kept cause (kept_at i u.calls)) ∙ h.size_is;
+  size_is = length-set u.calls i (ended_kept trigger (kept_at i u.calls)) ∙ h.size_is;
   calls_are = λ j. ⊎_elim (λ (here : j ≡ i).
-      subst (λ n. kept_at n (slice_set u.calls i (ended_kept cause (kept_at i u.calls))) ≡ ended_below cause (is_stopped_in (kept_at n v.calls).id.conn u.conns) (nat_lt n (i + 1)) (kept_at n v.calls))
+      subst (λ n. kept_at n (slice_set u.calls i (ended_kept trigger (kept_at i u.calls))) ≡ ended_below trigger (is_stopped_in (kept_at n v.calls).id.conn u.conns) (nat_lt n (i + 1)) (kept_at n v.calls))
       (sym here)
-      (get_or-set_same u.calls i (ended_kept cause (kept_at i u.calls)) no_call lt
-      ∙ ap (ended_kept cause) (h.calls_are i ∙ ap (λ b. ended_below cause (is_stopped_in (kept_at i v.calls).id.conn u.conns) b (kept_at i v.calls)) (le-ltb i i (omega arith)))
-      ∙ at_place cause (is_stopped_in (kept_at i v.calls).id.conn u.conns) (kept_at i v.calls)
-      ∙ ap (λ b. ended_below cause (is_stopped_in (kept_at i v.calls).id.conn u.conns) b (kept_at i v.calls)) (sym (lt-ltb i (i + 1) (omega arith)))))
+      (get_or-set_same u.calls i (ended_kept trigger (kept_at i u.calls)) no_call lt
+      ∙ ap (ended_kept trigger) (h.calls_are i ∙ ap (λ b. ended_below trigger (is_stopped_in (kept_at i v.calls).id.conn u.conns) b (kept_at i v.calls)) (le-ltb i i (omega arith)))
+      ∙ at_place trigger (is_stopped_in (kept_at i v.calls).id.conn u.conns) (kept_at i v.calls)
+      ∙ ap (λ b. ended_below trigger (is_stopped_in (kept_at i v.calls).id.conn u.conns) b (kept_at i v.calls)) (sym (lt-ltb i (i + 1) (omega arith)))))
       (λ (ne : j ≡ i → ⊥).
-      get_or-set_other u.calls i j (ended_kept cause (kept_at i u.calls)) no_call ne ∙ h.calls_are j
-      ∙ ap (λ b. ended_below cause (is_stopped_in (kept_at j v.calls).id.conn u.conns) b (kept_at j v.calls)) (lt_more i j ne))
+      get_or-set_other u.calls i j (ended_kept trigger (kept_at i u.calls)) no_call ne ∙ h.calls_are j
+      ∙ ap (λ b. ended_below trigger (is_stopped_in (kept_at j v.calls).id.conn u.conns) b (kept_at j v.calls)) (lt_more i j ne))
       (cases_eq j i);
   breaks_are = h.breaks_are;
 })
@@ -187,10 +187,10 @@ given_at c j calls =
     ∙ sym (ap (given_up_if c) (kept_past calls j ge) ∙ cond_both (0 == c) (given_up no_call) no_call (λ x. x ≡ no_call) (λ _. refl) (λ _. refl)))
     (cases_lt j (length calls))
 
-broke_one : (cause : Cause) (i : ℕ) (v u t : MachineValue) → EndedBelow cause i v u → IsSettled v → i < length u.calls
-    → is_some (ended_call cause (kept_at i u.calls).id (kept_at i u.calls).call).reply ≡ true → t ≡ broken_at (kept_at i u.calls).id.conn u
-    → EndedBelow cause (i + 1) v t
-broke_one cause i v u t h s lt ends t_is = subst (λ x. EndedBelow cause (i + 1) v x) (sym t_is) (record {
+broke_one : (trigger : Trigger) (i : ℕ) (v u t : MachineValue) → EndedBelow trigger i v u → IsSettled v → i < length u.calls
+    → is_some (ended_call trigger (kept_at i u.calls).id (kept_at i u.calls).call).reply ≡ true → t ≡ broken_at (kept_at i u.calls).id.conn u
+    → EndedBelow trigger (i + 1) v t
+broke_one trigger i v u t h s lt ends t_is = subst (λ x. EndedBelow trigger (i + 1) v x) (sym t_is) (record {
   moment_is = h.moment_is;
   drained_is = h.drained_is;
   jobs_are = h.jobs_are;
@@ -208,7 +208,7 @@ broke_one cause i v u t h s lt ends t_is = subst (λ x. EndedBelow cause (i + 1)
     k = kept_at i v.calls
 
     id_is : (j : ℕ) → (kept_at j u.calls).id ≡ (kept_at j v.calls).id
-    id_is j = ap (λ (x : KeptValue). x.id) (h.calls_are j) ∙ id_below cause (is_stopped_in (kept_at j v.calls).id.conn u.conns) (nat_lt j i) (kept_at j v.calls)
+    id_is j = ap (λ (x : KeptValue). x.id) (h.calls_are j) ∙ id_below trigger (is_stopped_in (kept_at j v.calls).id.conn u.conns) (nat_lt j i) (kept_at j v.calls)
 
     -- it was not stopped, since it ends
     going : is_stopped_in k.id.conn u.conns ≡ false
@@ -216,45 +216,45 @@ broke_one cause i v u t h s lt ends t_is = subst (λ x. EndedBelow cause (i + 1)
       where
         by_it : (b : Bool) → is_stopped_in k.id.conn u.conns ≡ b → is_stopped_in k.id.conn u.conns ≡ false
         by_it false b_is = b_is
-        by_it true b_is = absurd (let given : kept_at i u.calls ≡ given_up k = h.calls_are i ∙ ap (λ b. ended_below cause b (nat_lt i i) k) b_is in
-            let clash : false ≡ true = sym (ap (λ (x : KeptValue). is_some (ended_call cause x.id x.call).reply) given) ∙ ends in cc)
+        by_it true b_is = absurd (let given : kept_at i u.calls ≡ given_up k = h.calls_are i ∙ ap (λ b. ended_below trigger b (nat_lt i i) k) b_is in
+            let clash : false ≡ true = sym (ap (λ (x : KeptValue). is_some (ended_call trigger x.id x.call).reply) given) ∙ ends in cc)
 
     as_was : kept_at i u.calls ≡ k
-    as_was = h.calls_are i ∙ ap (λ b. ended_below cause b (nat_lt i i) k) going ∙ ap (λ b. ended_below cause false b k) (le-ltb i i (omega arith))
+    as_was = h.calls_are i ∙ ap (λ b. ended_below trigger b (nat_lt i i) k) going ∙ ap (λ b. ended_below trigger false b k) (le-ltb i i (omega arith))
 
-    ends_then : is_some (ended_call cause k.id k.call).reply ≡ true
-    ends_then = ap (λ (x : KeptValue). is_some (ended_call cause x.id x.call).reply) (sym as_was) ∙ ends
+    ends_then : is_some (ended_call trigger k.id k.call).reply ≡ true
+    ends_then = ap (λ (x : KeptValue). is_some (ended_call trigger x.id x.call).reply) (sym as_was) ∙ ends
 
     c_is : k.id.conn ≡ c
     c_is = ap (λ (x : KeptValue). x.id.conn) (sym as_was)
 
     there : is_some (conn_of c u.conns) ≡ true
     there = ap (λ n. is_some (conn_of n u.conns)) (sym c_is)
-        ∙ some_still (conn_of k.id.conn v.conns) (conn_of k.id.conn u.conns) (h.conns_are k.id.conn) (s.has_conn i (not_live cause k.id k.call.out k.call.live ends_then))
+        ∙ some_still (conn_of k.id.conn v.conns) (conn_of k.id.conn u.conns) (h.conns_are k.id.conn) (s.has_conn i (not_live trigger k.id k.call.out k.call.live ends_then))
 
     by_conn : (j : ℕ) → (((kept_at j v.calls).id.conn == c) ≡ true) ⊎ (((kept_at j v.calls).id.conn == c) ≡ false)
-        → given_up_if c (kept_at j u.calls) ≡ ended_below cause (is_stopped_in (kept_at j v.calls).id.conn (map (broken_if c) u.conns)) (nat_lt j (i + 1)) (kept_at j v.calls)
+        → given_up_if c (kept_at j u.calls) ≡ ended_below trigger (is_stopped_in (kept_at j v.calls).id.conn (map (broken_if c) u.conns)) (nat_lt j (i + 1)) (kept_at j v.calls)
     by_conn j (inl it) =
         let here : is_some (conn_of (kept_at j v.calls).id.conn u.conns) ≡ true = ap (λ n. is_some (conn_of n u.conns)) (eqb-true (kept_at j v.calls).id.conn c it) ∙ there in
         let stop : is_stopped_in (kept_at j v.calls).id.conn (map (broken_if c) u.conns) ≡ true = stopped_now (kept_at j v.calls).id.conn c u.conns it here in
         ap (λ b. if b then given_up (kept_at j u.calls) else kept_at j u.calls) (ap (λ (x : CallId). x.conn == c) (id_is j) ∙ it)
-        ∙ ap given_up (h.calls_are j) ∙ given_below cause (is_stopped_in (kept_at j v.calls).id.conn u.conns) (nat_lt j i) (kept_at j v.calls)
-        ∙ ap (λ b. ended_below cause b (nat_lt j (i + 1)) (kept_at j v.calls)) (sym stop)
+        ∙ ap given_up (h.calls_are j) ∙ given_below trigger (is_stopped_in (kept_at j v.calls).id.conn u.conns) (nat_lt j i) (kept_at j v.calls)
+        ∙ ap (λ b. ended_below trigger b (nat_lt j (i + 1)) (kept_at j v.calls)) (sym stop)
     by_conn j (inr ne) =
         let other : j ≡ i → ⊥ = λ same. let clash : true ≡ false = sym (eq-eqb (kept_at j v.calls).id.conn c (ap (λ n. (kept_at n v.calls).id.conn) same ∙ c_is)) ∙ ne in cc in
         ap (λ b. if b then given_up (kept_at j u.calls) else kept_at j u.calls) (ap (λ (x : CallId). x.conn == c) (id_is j) ∙ ne)
         ∙ h.calls_are j
-        ∙ ap (λ b. ended_below cause b (nat_lt j i) (kept_at j v.calls)) (sym (stopped_then (kept_at j v.calls).id.conn c u.conns ne))
-        ∙ ap (λ b. ended_below cause (is_stopped_in (kept_at j v.calls).id.conn (map (broken_if c) u.conns)) b (kept_at j v.calls)) (lt_more i j other)
+        ∙ ap (λ b. ended_below trigger b (nat_lt j i) (kept_at j v.calls)) (sym (stopped_then (kept_at j v.calls).id.conn c u.conns ne))
+        ∙ ap (λ b. ended_below trigger (is_stopped_in (kept_at j v.calls).id.conn (map (broken_if c) u.conns)) b (kept_at j v.calls)) (lt_more i j other)
 
-    by_which : (d : ℕ) → is_stopped_in d (map (broken_if c) u.conns) ≡ true → is_stopped_in d v.conns ≡ false → ((d == c) ≡ true) ⊎ ((d == c) ≡ false) → EndsOn cause d v.calls
+    by_which : (d : ℕ) → is_stopped_in d (map (broken_if c) u.conns) ≡ true → is_stopped_in d v.conns ≡ false → ((d == c) ≡ true) ⊎ ((d == c) ≡ false) → EndsOn trigger d v.calls
     by_which d now_so before_not (inl it) =
         record { place = i; within = omega (arith, lt, h.size_is); its = c_is ∙ sym (eqb-true d c it); ends = ends_then }
     by_which d now_so before_not (inr ne) = h.breaks_are d (sym (stopped_then d c u.conns ne) ∙ now_so) before_not
 
-pub ends_next : (cause : Cause) (i : ℕ) (v u t : MachineValue) → EndedBelow cause i v u → IsSettled v → i < length u.calls → EndedAt cause i u t → EndedBelow cause (i + 1) v t
-ends_next cause i v u t h s lt (inl t_is) = ended_one cause i v u t h lt t_is
-ends_next cause i v u t h s lt (inr broke) = broke_one cause i v u t h s lt broke.0 broke.1
+pub ends_next : (trigger : Trigger) (i : ℕ) (v u t : MachineValue) → EndedBelow trigger i v u → IsSettled v → i < length u.calls → EndedAt trigger i u t → EndedBelow trigger (i + 1) v t
+ends_next trigger i v u t h s lt (inl t_is) = ended_one trigger i v u t h lt t_is
+ends_next trigger i v u t h s lt (inr broke) = broke_one trigger i v u t h s lt broke.0 broke.1
 
 -- ---- the second loop
 
@@ -381,27 +381,27 @@ no_others id (k ∷ calls) f ids none =
     rw not_it (no_others id calls f ids (λ j lt. none (suc j) (omega (arith, lt))))
 
 -- the reply of a call that ends, unless its connection stopped
-reply_of : (cause : Cause) (b : Bool) (k : KeptValue) → k.reply ≡ None
-    → (ended_below cause b true k).reply ≡ (if b then None else (ended_call cause k.id k.call).reply)
-reply_of cause true k none = refl
-reply_of cause false k none = ap (λ r. option_or (ended_call cause k.id k.call).reply r) none ∙ or_none (ended_call cause k.id k.call).reply
+reply_of : (trigger : Trigger) (b : Bool) (k : KeptValue) → k.reply ≡ None
+    → (ended_below trigger b true k).reply ≡ (if b then None else (ended_call trigger k.id k.call).reply)
+reply_of trigger true k none = refl
+reply_of trigger false k none = ap (λ r. option_or (ended_call trigger k.id k.call).reply r) none ∙ or_none (ended_call trigger k.id k.call).reply
 
-replies_are : (cause : Cause) (stop : ℕ → Bool) (id : CallId) (calls : List KeptValue) → AreApart calls → ((j : ℕ) → (kept_at j calls).reply ≡ None)
-    → reply_in id (map (λ k. ended_below cause (stop k.id.conn) true k) calls) ≡ (if stop id.conn then None else (ended_call cause id (call_at id calls)).reply)
-replies_are cause stop id [] apart none = cond_both (stop id.conn) None None (λ x. None ≡ x) (λ _. refl) (λ _. refl)
-replies_are cause stop id (k ∷ calls) apart none =
+replies_are : (trigger : Trigger) (stop : ℕ → Bool) (id : CallId) (calls : List KeptValue) → AreApart calls → ((j : ℕ) → (kept_at j calls).reply ≡ None)
+    → reply_in id (map (λ k. ended_below trigger (stop k.id.conn) true k) calls) ≡ (if stop id.conn then None else (ended_call trigger id (call_at id calls)).reply)
+replies_are trigger stop id [] apart none = cond_both (stop id.conn) None None (λ x. None ≡ x) (λ _. refl) (λ _. refl)
+replies_are trigger stop id (k ∷ calls) apart none =
     ap (λ x. option_or (if is_call x id then (f k).reply else None) (reply_in id (map f calls))) (ids k)
-    ∙ by_it (replies_are cause stop id calls (λ i j lt le. apart (suc i) (suc j) (omega (arith, lt)) (omega (arith, le))) (λ j. none (suc j))) (is_call k.id id) refl
+    ∙ by_it (replies_are trigger stop id calls (λ i j lt le. apart (suc i) (suc j) (omega (arith, lt)) (omega (arith, le))) (λ j. none (suc j))) (is_call k.id id) refl
   where
     f : KeptValue → KeptValue
-    f k = ended_below cause (stop k.id.conn) true k
+    f k = ended_below trigger (stop k.id.conn) true k
 
     ids : (k : KeptValue) → (f k).id ≡ k.id
-    ids k = id_below cause (stop k.id.conn) true k
+    ids k = id_below trigger (stop k.id.conn) true k
 
-    by_it : reply_in id (map f calls) ≡ (if stop id.conn then None else (ended_call cause id (call_at id calls)).reply) → (b : Bool) → is_call k.id id ≡ b
+    by_it : reply_in id (map f calls) ≡ (if stop id.conn then None else (ended_call trigger id (call_at id calls)).reply) → (b : Bool) → is_call k.id id ≡ b
         → option_or (if is_call k.id id then (f k).reply else None) (reply_in id (map f calls))
-        ≡ (if stop id.conn then None else (ended_call cause id (if is_call k.id id then k.call else call_at id calls)).reply)
+        ≡ (if stop id.conn then None else (ended_call trigger id (if is_call k.id id then k.call else call_at id calls)).reply)
     by_it rec true b_is =
         let same : k.id ≡ id = same_call k.id id b_is in
         let others : reply_in id (map f calls) ≡ None = no_others id calls f ids (λ j lt.
@@ -409,8 +409,8 @@ replies_are cause stop id (k ∷ calls) apart none =
         let there : (kept_at j calls).id ≡ id = same_call (kept_at j calls).id id it in
         let clash : true ≡ false = sym b_is ∙ ap (λ x. is_call k.id x) (sym there) ∙ apart 0 (suc j) (omega arith) (omega (arith, lt)) in cc))
         (λ (e : is_call (kept_at j calls).id id ≡ false). e) (cases_Bool (is_call (kept_at j calls).id id))) in
-        rw (b_is, others) (or_none (f k).reply ∙ reply_of cause (stop k.id.conn) k (none 0)
-        ∙ ap (λ (x : CallId). if stop x.conn then None else (ended_call cause x k.call).reply) same)
+        rw (b_is, others) (or_none (f k).reply ∙ reply_of trigger (stop k.id.conn) k (none 0)
+        ∙ ap (λ (x : CallId). if stop x.conn then None else (ended_call trigger x k.call).reply) same)
     by_it rec false b_is = rw b_is rec
 
 abbrev stopped_by : Option ConnValue → Bool
@@ -422,16 +422,16 @@ takes_stop calls None (Some l) m = absurd m
 takes_stop calls (Some k) None m = absurd m
 takes_stop calls (Some k) (Some l) m = m.broken_is
 
-conn_ends : (cause : Cause) (calls ended : List KeptValue) (a b c : Option ConnValue) → MayBreak a b → MayTakeIn ended b c
+conn_ends : (trigger : Trigger) (calls ended : List KeptValue) (a b c : Option ConnValue) → MayBreak a b → MayTakeIn ended b c
     → ((k l : ConnValue) (j : ℕ) → a ≡ Some k → c ≡ Some l → reply_in (call_id k.number (k.taken + j)) ended
-    ≡ (if l.broken then None else (ended_call cause (call_id k.number (k.taken + j)) (call_at (call_id k.number (k.taken + j)) calls)).reply))
-    → MayEnd cause calls a c
-conn_ends cause calls ended None None None p q r = tt
-conn_ends cause calls ended None None (Some z) p q r = absurd q
-conn_ends cause calls ended None (Some y) c p q r = absurd p
-conn_ends cause calls ended (Some x) None c p q r = absurd p
-conn_ends cause calls ended (Some x) (Some y) None p q r = absurd q
-conn_ends cause calls ended (Some x) (Some y) (Some z) p q r =
+    ≡ (if l.broken then None else (ended_call trigger (call_id k.number (k.taken + j)) (call_at (call_id k.number (k.taken + j)) calls)).reply))
+    → MayEnd trigger calls a c
+conn_ends trigger calls ended None None None p q r = tt
+conn_ends trigger calls ended None None (Some z) p q r = absurd q
+conn_ends trigger calls ended None (Some y) c p q r = absurd p
+conn_ends trigger calls ended (Some x) None c p q r = absurd p
+conn_ends trigger calls ended (Some x) (Some y) None p q r = absurd q
+conn_ends trigger calls ended (Some x) (Some y) (Some z) p q r =
     let same : y ≡ record x { broken = y.broken } = p.0 in
     let slots : y.slots ≡ x.slots = ap (λ (k : ConnValue). k.slots) same in
     let number : y.number ≡ x.number = ap (λ (k : ConnValue). k.number) same in
@@ -449,25 +449,25 @@ conn_ends cause calls ended (Some x) (Some y) (Some z) p q r =
           ∙ ap (λ e. option_or (slot_at j x.slots) e) (r x z j refl refl);
     }
 
-pub ends_all : (cause : Cause) (i n : ℕ) (v u w : MachineValue) → IsSettled v → AreApart v.calls → EndedBelow cause i v u → length u.calls ≤ i → SettledBelow n u w → length w.calls ≤ n
-    → CallsEnd cause v w
-ends_all cause i n v u w s apart h all g done = record {
+pub ends_all : (trigger : Trigger) (i n : ℕ) (v u w : MachineValue) → IsSettled v → AreApart v.calls → EndedBelow trigger i v u → length u.calls ≤ i → SettledBelow n u w → length w.calls ≤ n
+    → CallsEnd trigger v w
+ends_all trigger i n v u w s apart h all g done = record {
   moment_is = g.moment_is ∙ h.moment_is;
   drained_is = g.drained_is ∙ h.drained_is;
   jobs_are = g.jobs_are ∙ h.jobs_are;
-  calls_are = ext_get_or no_call w.calls (map (λ k. without_reply (ended_below cause (is_stopped_in k.id.conn w.conns) true k)) v.calls)
-      (g.size_is ∙ h.size_is ∙ sym (length-map v.calls (λ k. without_reply (ended_below cause (is_stopped_in k.id.conn w.conns) true k))))
+  calls_are = ext_get_or no_call w.calls (map (λ k. without_reply (ended_below trigger (is_stopped_in k.id.conn w.conns) true k)) v.calls)
+      (g.size_is ∙ h.size_is ∙ sym (length-map v.calls (λ k. without_reply (ended_below trigger (is_stopped_in k.id.conn w.conns) true k))))
       (λ j lt. g.calls_are j ∙ ap (λ b. if b then without_reply (kept_at j u.calls) else kept_at j u.calls) (lt-ltb j n (omega (arith, lt, done)))
       ∙ ap without_reply (at_end j (omega (arith, lt, g.size_is)))
-      ∙ ap (λ b. without_reply (ended_below cause b true (kept_at j v.calls))) (sym (stops (kept_at j v.calls).id.conn))
-      ∙ sym (get_or-map (λ k. without_reply (ended_below cause (is_stopped_in k.id.conn w.conns) true k)) v.calls j no_call no_call (omega (arith, lt, g.size_is, h.size_is))));
+      ∙ ap (λ b. without_reply (ended_below trigger b true (kept_at j v.calls))) (sym (stops (kept_at j v.calls).id.conn))
+      ∙ sym (get_or-map (λ k. without_reply (ended_below trigger (is_stopped_in k.id.conn w.conns) true k)) v.calls j no_call no_call (omega (arith, lt, g.size_is, h.size_is))));
   numbers_are = g.numbers_are ∙ h.numbers_are;
-  conns_are = λ c. conn_ends cause v.calls u.calls (conn_of c v.conns) (conn_of c u.conns) (conn_of c w.conns) (h.conns_are c) (takes c)
+  conns_are = λ c. conn_ends trigger v.calls u.calls (conn_of c v.conns) (conn_of c u.conns) (conn_of c w.conns) (h.conns_are c) (takes c)
       (λ k l j k_is l_is.
       let here : k.number ≡ c = open_number c v.conns k k_is in
       ap (λ calls. reply_in (call_id k.number (k.taken + j)) calls) ended
-      ∙ replies_are cause (λ d. is_stopped_in d u.conns) (call_id k.number (k.taken + j)) v.calls apart s.no_reply
-      ∙ ap (λ b. if b then None else (ended_call cause (call_id k.number (k.taken + j)) (call_at (call_id k.number (k.taken + j)) v.calls)).reply)
+      ∙ replies_are trigger (λ d. is_stopped_in d u.conns) (call_id k.number (k.taken + j)) v.calls apart s.no_reply
+      ∙ ap (λ b. if b then None else (ended_call trigger (call_id k.number (k.taken + j)) (call_at (call_id k.number (k.taken + j)) v.calls)).reply)
       (ap (λ d. is_stopped_in d u.conns) here ∙ sym (stops c) ∙ ap (λ o. stopped_by o) l_is));
   breaks_are = λ c now_so before_not. h.breaks_are c (sym (stops c) ∙ now_so) before_not;
 }
@@ -478,13 +478,13 @@ ends_all cause i n v u w s apart h all g done = record {
     stops : (c : ℕ) → is_stopped_in c w.conns ≡ is_stopped_in c u.conns
     stops c = takes_stop u.calls (conn_of c u.conns) (conn_of c w.conns) (takes c)
 
-    at_end : (j : ℕ) → j < length u.calls → kept_at j u.calls ≡ ended_below cause (is_stopped_in (kept_at j v.calls).id.conn u.conns) true (kept_at j v.calls)
-    at_end j lt = h.calls_are j ∙ ap (λ b. ended_below cause (is_stopped_in (kept_at j v.calls).id.conn u.conns) b (kept_at j v.calls)) (lt-ltb j i (omega (arith, lt, all)))
+    at_end : (j : ℕ) → j < length u.calls → kept_at j u.calls ≡ ended_below trigger (is_stopped_in (kept_at j v.calls).id.conn u.conns) true (kept_at j v.calls)
+    at_end j lt = h.calls_are j ∙ ap (λ b. ended_below trigger (is_stopped_in (kept_at j v.calls).id.conn u.conns) b (kept_at j v.calls)) (lt-ltb j i (omega (arith, lt, all)))
 
-    ended : u.calls ≡ map (λ k. ended_below cause (is_stopped_in k.id.conn u.conns) true k) v.calls
-    ended = ext_get_or no_call u.calls (map (λ k. ended_below cause (is_stopped_in k.id.conn u.conns) true k) v.calls)
-        (h.size_is ∙ sym (length-map v.calls (λ k. ended_below cause (is_stopped_in k.id.conn u.conns) true k)))
-        (λ j lt. at_end j lt ∙ sym (get_or-map (λ k. ended_below cause (is_stopped_in k.id.conn u.conns) true k) v.calls j no_call no_call (omega (arith, lt, h.size_is))))
+    ended : u.calls ≡ map (λ k. ended_below trigger (is_stopped_in k.id.conn u.conns) true k) v.calls
+    ended = ext_get_or no_call u.calls (map (λ k. ended_below trigger (is_stopped_in k.id.conn u.conns) true k) v.calls)
+        (h.size_is ∙ sym (length-map v.calls (λ k. ended_below trigger (is_stopped_in k.id.conn u.conns) true k)))
+        (λ j lt. at_end j lt ∙ sym (get_or-map (λ k. ended_below trigger (is_stopped_in k.id.conn u.conns) true k) v.calls j no_call no_call (omega (arith, lt, h.size_is))))
 
 -- behind all of them one more makes no difference
 pub settles_end : (i : ℕ) (u w : MachineValue) → SettledBelow i u w → length u.calls ≤ i → SettledBelow (length u.calls) u w

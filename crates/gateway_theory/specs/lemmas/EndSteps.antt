@@ -5,7 +5,7 @@ use Rattle.std.specs.Option.{option_or, option_map_or}
 use Rattle.std.proofs.lemmas.Bool.{cond_both, cases_Bool}
 use Rattle.std.proofs.lemmas.List.{ext_get_or}
 use Rattle.gateway_model.specs.declared.id.CallId.{CallId}
-use Rattle.gateway_theory.specs.declared.cause.Cause.{Cause}
+use Rattle.gateway_theory.specs.declared.trigger.Trigger.{Trigger}
 use Rattle.gateway_theory.specs.Breaks.{is_stopped, CallStays, ConnStays, CallAfter, ConnOn, AfterBreaks}
 use Rattle.gateway_theory.specs.Conn.{ConnValue, state_of}
 use Rattle.gateway_theory.specs.Ends.{ended_if, ended_call, without_reply, is_stopped_in, ended_below, ConnEnds, MayEnd, CallsEnd}
@@ -23,56 +23,56 @@ use Rattle.gateway_theory.specs.lemmas.LimitLemmas.{same_call}
 -- ---- the calls
 
 -- a call that ended, unless its connection stopped
-abbrev after_of : Cause → Bool → CallId → CallState → CallState
-after_of cause stop id c = if stop then call_state c.out None else (ended_call cause id c).call
+abbrev after_of : Trigger → Bool → CallId → CallState → CallState
+after_of trigger stop id c = if stop then call_state c.out None else (ended_call trigger id c).call
 
-call_below : (cause : Cause) (b : Bool) (k : KeptValue) → (without_reply (ended_below cause b true k)).call ≡ after_of cause b k.id k.call
-call_below cause true k = refl
-call_below cause false k = refl
+call_below : (trigger : Trigger) (b : Bool) (k : KeptValue) → (without_reply (ended_below trigger b true k)).call ≡ after_of trigger b k.id k.call
+call_below trigger true k = refl
+call_below trigger false k = refl
 
-after_gone : (cause : Cause) (b : Bool) (id : CallId) → gone ≡ after_of cause b id gone
-after_gone cause true id = refl
-after_gone cause false id = refl
+after_gone : (trigger : Trigger) (b : Bool) (id : CallId) → gone ≡ after_of trigger b id gone
+after_gone trigger true id = refl
+after_gone trigger false id = refl
 
-pub call_ended : (cause : Cause) (stop : ℕ → Bool) (id : CallId) (calls : List KeptValue)
-    → call_at id (map (λ k. without_reply (ended_below cause (stop k.id.conn) true k)) calls) ≡ after_of cause (stop id.conn) id (call_at id calls)
-call_ended cause stop id [] = after_gone cause (stop id.conn) id
-call_ended cause stop id (k ∷ calls) =
-    ap (λ x. if is_call x id then (f k).call else call_at id (map f calls)) (id_below cause (stop k.id.conn) true k)
+pub call_ended : (trigger : Trigger) (stop : ℕ → Bool) (id : CallId) (calls : List KeptValue)
+    → call_at id (map (λ k. without_reply (ended_below trigger (stop k.id.conn) true k)) calls) ≡ after_of trigger (stop id.conn) id (call_at id calls)
+call_ended trigger stop id [] = after_gone trigger (stop id.conn) id
+call_ended trigger stop id (k ∷ calls) =
+    ap (λ x. if is_call x id then (f k).call else call_at id (map f calls)) (id_below trigger (stop k.id.conn) true k)
     ∙ ⊎_elim (λ (here : is_call k.id id ≡ true).
-    rw here (call_below cause (stop k.id.conn) k ∙ ap (λ (x : CallId). after_of cause (stop x.conn) x k.call) (same_call k.id id here)))
-    (λ (there : is_call k.id id ≡ false). rw there (call_ended cause stop id calls))
+    rw here (call_below trigger (stop k.id.conn) k ∙ ap (λ (x : CallId). after_of trigger (stop x.conn) x k.call) (same_call k.id id here)))
+    (λ (there : is_call k.id id ≡ false). rw there (call_ended trigger stop id calls))
     (cases_Bool (is_call k.id id))
   where
     f : KeptValue → KeptValue
-    f k = without_reply (ended_below cause (stop k.id.conn) true k)
+    f k = without_reply (ended_below trigger (stop k.id.conn) true k)
 
-outs_after : (cause : Cause) (b : Bool) (id : CallId) (c : CallState) (i : ℕ) → has_out (after_of cause b id c) i ≡ has_out c i
-outs_after cause true id c i = refl
-outs_after cause false id c i = ap (λ o. has_out (call_state o None) i) (out_same cause id c.out c.live)
+outs_after : (trigger : Trigger) (b : Bool) (id : CallId) (c : CallState) (i : ℕ) → has_out (after_of trigger b id c) i ≡ has_out c i
+outs_after trigger true id c i = refl
+outs_after trigger false id c i = ap (λ o. has_out (call_state o None) i) (out_same trigger id c.out c.live)
 
 -- ---- the connections
 
 -- a connection that stopped keeps its slots
-stays : (cause : Cause) (calls : List KeptValue) (k l : ConnValue) → ConnEnds cause calls k l → l.broken ≡ true → ConnStays (state_of k) (state_of l)
-stays cause calls k l e broke = record {
+stays : (trigger : Trigger) (calls : List KeptValue) (k l : ConnValue) → ConnEnds trigger calls k l → l.broken ≡ true → ConnStays (state_of k) (state_of l)
+stays trigger calls k l e broke = record {
   taken_is = e.taken_is;
   slots_are = ext_get_or None l.slots k.slots e.size_is
       (λ j lt. e.each j (omega (arith, lt, e.size_is))
-      ∙ ap (λ b. option_or (slot_at j k.slots) (if b then None else (ended_call cause (call_id k.number (k.taken + j)) (call_at (call_id k.number (k.taken + j)) calls)).reply)) broke
+      ∙ ap (λ b. option_or (slot_at j k.slots) (if b then None else (ended_call trigger (call_id k.number (k.taken + j)) (call_at (call_id k.number (k.taken + j)) calls)).reply)) broke
       ∙ or_none (slot_at j k.slots));
 }
 
 -- a connection that did not stop has the replies of its calls
-goes_on : (o : Occurrence) (cause : Cause) (s : MachineState) (calls : List KeptValue) (c : ℕ) (k l : ConnValue) → ConnEnds cause calls k l → k.number ≡ c → l.broken ≡ false
-    → ((d : ℕ) → closing_occurs d o ≡ false) → ((id : CallId) → (step_of id o s).reply ≡ (ended_call cause id (call_at id calls)).reply)
+goes_on : (o : Occurrence) (trigger : Trigger) (s : MachineState) (calls : List KeptValue) (c : ℕ) (k l : ConnValue) → ConnEnds trigger calls k l → k.number ≡ c → l.broken ≡ false
+    → ((d : ℕ) → closing_occurs d o ≡ false) → ((id : CallId) → (step_of id o s).reply ≡ (ended_call trigger id (call_at id calls)).reply)
     → ConnAfter o s c (state_of k) (state_of l)
-goes_on o cause s calls c k l e number on no_closing steps = record {
+goes_on o trigger s calls c k l e number on no_closing steps = record {
   taken_is = e.taken_is;
   closed_is = ap (λ b. b || false) (sym (no_closing c));
   size_is = e.size_is;
   each = λ j lt. e.each j lt
-      ∙ ap (λ b. option_or (slot_at j k.slots) (if b then None else (ended_call cause (call_id k.number (k.taken + j)) (call_at (call_id k.number (k.taken + j)) calls)).reply)) on
+      ∙ ap (λ b. option_or (slot_at j k.slots) (if b then None else (ended_call trigger (call_id k.number (k.taken + j)) (call_at (call_id k.number (k.taken + j)) calls)).reply)) on
       ∙ ap (λ r. option_or (slot_at j k.slots) r) (sym (steps (call_id k.number (k.taken + j))))
       ∙ ap (λ n. option_or (slot_at j k.slots) (step_of (call_id n (k.taken + j)) o s).reply) number;
 }
@@ -86,64 +86,64 @@ still o s c k no_closing none = record {
   each = λ j lt. sym (ap (λ r. option_or (slot_at j k.slots) r) (none (k.taken + j)) ∙ or_none (slot_at j k.slots));
 }
 
-conn_after : (o : Occurrence) (cause : Cause) (s : MachineState) (calls : List KeptValue) (c : ℕ) (closed : ConnState) (a b : Option ConnValue) (broken stop : Bool)
-    → MayEnd cause calls a b → ((k : ConnValue) → a ≡ Some k → (k.number ≡ c) × (k.broken ≡ broken)) → stop ≡ option_map_or (λ (l : ConnValue). l.broken) b false
-    → ((d : ℕ) → closing_occurs d o ≡ false) → ((id : CallId) → (step_of id o s).reply ≡ (ended_call cause id (call_at id calls)).reply)
+conn_after : (o : Occurrence) (trigger : Trigger) (s : MachineState) (calls : List KeptValue) (c : ℕ) (closed : ConnState) (a b : Option ConnValue) (broken stop : Bool)
+    → MayEnd trigger calls a b → ((k : ConnValue) → a ≡ Some k → (k.number ≡ c) × (k.broken ≡ broken)) → stop ≡ option_map_or (λ (l : ConnValue). l.broken) b false
+    → ((d : ℕ) → closing_occurs d o ≡ false) → ((id : CallId) → (step_of id o s).reply ≡ (ended_call trigger id (call_at id calls)).reply)
     → (a ≡ None → (j : ℕ) → (step_of (call_id c j) o s).reply ≡ None)
     → ConnOn (broken || stop) o s c (option_map_or state_of a closed) (option_map_or state_of b closed)
-conn_after o cause s calls c closed None None true stop m its stop_is no_closing steps none = record { taken_is = refl; slots_are = refl }
-conn_after o cause s calls c closed None None false stop m its stop_is no_closing steps none = rw stop_is (still o s c closed no_closing (none refl))
-conn_after o cause s calls c closed None (Some l) broken stop m its stop_is no_closing steps none = absurd m
-conn_after o cause s calls c closed (Some k) None broken stop m its stop_is no_closing steps none = absurd m
-conn_after o cause s calls c closed (Some k) (Some l) true stop m its stop_is no_closing steps none = stays cause calls k l m (m.stays_broken (its k refl).1)
-conn_after o cause s calls c closed (Some k) (Some l) false true m its stop_is no_closing steps none = stays cause calls k l m (sym stop_is)
-conn_after o cause s calls c closed (Some k) (Some l) false false m its stop_is no_closing steps none =
-    goes_on o cause s calls c k l m (its k refl).0 (sym stop_is) no_closing steps
+conn_after o trigger s calls c closed None None true stop m its stop_is no_closing steps none = record { taken_is = refl; slots_are = refl }
+conn_after o trigger s calls c closed None None false stop m its stop_is no_closing steps none = rw stop_is (still o s c closed no_closing (none refl))
+conn_after o trigger s calls c closed None (Some l) broken stop m its stop_is no_closing steps none = absurd m
+conn_after o trigger s calls c closed (Some k) None broken stop m its stop_is no_closing steps none = absurd m
+conn_after o trigger s calls c closed (Some k) (Some l) true stop m its stop_is no_closing steps none = stays trigger calls k l m (m.stays_broken (its k refl).1)
+conn_after o trigger s calls c closed (Some k) (Some l) false true m its stop_is no_closing steps none = stays trigger calls k l m (sym stop_is)
+conn_after o trigger s calls c closed (Some k) (Some l) false false m its stop_is no_closing steps none =
+    goes_on o trigger s calls c k l m (its k refl).0 (sym stop_is) no_closing steps
 
 -- ---- the machine
 
-stays_by : (o : Occurrence) (cause : Cause) (b : Bool) (id : CallId) (old new : CallState) → ((i : ℕ) → is_result_of id i o ≡ false) → new ≡ after_of cause b id old → CallStays id o old new
-stays_by o cause b id old new no_result new_is = record {
-  outs_are = λ i. ap (λ c. has_out c i) new_is ∙ outs_after cause b id old i ∙ sym (ap (λ r. has_out old i && not r) (no_result i) ∙ and_true (has_out old i));
+stays_by : (o : Occurrence) (trigger : Trigger) (b : Bool) (id : CallId) (old new : CallState) → ((i : ℕ) → is_result_of id i o ≡ false) → new ≡ after_of trigger b id old → CallStays id o old new
+stays_by o trigger b id old new no_result new_is = record {
+  outs_are = λ i. ap (λ c. has_out c i) new_is ∙ outs_after trigger b id old i ∙ sym (ap (λ r. has_out old i && not r) (no_result i) ∙ and_true (has_out old i));
 }
 
-call_after : (o : Occurrence) (cause : Cause) (broken stop : Bool) (id : CallId) (old new stepped : CallState) → ((i : ℕ) → is_result_of id i o ≡ false) → new ≡ after_of cause stop id old
-    → (stop ≡ false → after_of cause stop id old ≡ stepped) → CallAfter (broken || stop) id o old new stepped
-call_after o cause true stop id old new stepped no_result new_is same = stays_by o cause stop id old new no_result new_is
-call_after o cause false true id old new stepped no_result new_is same = stays_by o cause true id old new no_result new_is
-call_after o cause false false id old new stepped no_result new_is same = new_is ∙ same refl
+call_after : (o : Occurrence) (trigger : Trigger) (broken stop : Bool) (id : CallId) (old new stepped : CallState) → ((i : ℕ) → is_result_of id i o ≡ false) → new ≡ after_of trigger stop id old
+    → (stop ≡ false → after_of trigger stop id old ≡ stepped) → CallAfter (broken || stop) id o old new stepped
+call_after o trigger true stop id old new stepped no_result new_is same = stays_by o trigger stop id old new no_result new_is
+call_after o trigger false true id old new stepped no_result new_is same = stays_by o trigger true id old new no_result new_is
+call_after o trigger false false id old new stepped no_result new_is same = new_is ∙ same refl
 
--- what an occurrence makes of the machine that ends calls by this cause, where v is the machine with the moment and the drain told
-pub ends_breaks : (o : Occurrence) (cause : Cause) (s v w : MachineValue) (closed : ℕ → ConnState) (fates : ℕ → Fate)
+-- what an occurrence makes of the machine that ends calls by this trigger, where v is the machine with the moment and the drain told
+pub ends_breaks : (o : Occurrence) (trigger : Trigger) (s v w : MachineValue) (closed : ℕ → ConnState) (fates : ℕ → Fate)
     → ((d : ℕ) → closing_occurs d o ≡ false) → ((id : CallId) (i : ℕ) → is_result_of id i o ≡ false) → starting o (machine closed s) ≡ []
-    → ((id : CallId) (c : CallState) → step s.moment id o c ≡ ended_call cause id c)
+    → ((id : CallId) (c : CallState) → step s.moment id o c ≡ ended_call trigger id c)
     → v ≡ machine_value (max s.moment (moment_of o)) (is_drain o || s.drained) s.conns s.calls s.jobs
-    → HasFates fates s → CallsEnd cause v w
+    → HasFates fates s → CallsEnd trigger v w
     → AfterBreaks (λ c. is_stopped_in c w.conns) fates o (machine closed s) (machine closed w)
-ends_breaks o cause s v w closed fates no_closing no_result no_start steps v_is f ends = by_parts (subst (λ x. CallsEnd cause x w) v_is ends)
+ends_breaks o trigger s v w closed fates no_closing no_result no_start steps v_is f ends = by_parts (subst (λ x. CallsEnd trigger x w) v_is ends)
   where
     u : MachineValue
     u = machine_value (max s.moment (moment_of o)) (is_drain o || s.drained) s.conns s.calls s.jobs
 
-    replies : (id : CallId) → (step_of id o (machine closed s)).reply ≡ (ended_call cause id (call_at id s.calls)).reply
+    replies : (id : CallId) → (step_of id o (machine closed s)).reply ≡ (ended_call trigger id (call_at id s.calls)).reply
     replies id = ap (λ (x : Step). x.reply) (steps id (call_at id s.calls))
 
     none_of : (id : CallId) → conn_of id.conn s.conns ≡ None → (step_of id o (machine closed s)).reply ≡ None
-    none_of id shut = replies id ∙ ap (λ l. (ended_if cause id (call_at id s.calls).out l).reply) (f.none_live id shut)
+    none_of id shut = replies id ∙ ap (λ l. (ended_if trigger id (call_at id s.calls).out l).reply) (f.none_live id shut)
 
-    same : (id : CallId) (b : Bool) → b ≡ false → after_of cause b id (call_at id s.calls) ≡ (step_of id o (machine closed s)).call
+    same : (id : CallId) (b : Bool) → b ≡ false → after_of trigger b id (call_at id s.calls) ≡ (step_of id o (machine closed s)).call
     same id true e = absurd (cc)
     same id false e = ap (λ (x : Step). x.call) (sym (steps id (call_at id s.calls)))
 
-    by_parts : CallsEnd cause u w → AfterBreaks (λ c. is_stopped_in c w.conns) fates o (machine closed s) (machine closed w)
+    by_parts : CallsEnd trigger u w → AfterBreaks (λ c. is_stopped_in c w.conns) fates o (machine closed s) (machine closed w)
     by_parts e = record {
       moment_is = e.moment_is;
       drained_is = e.drained_is;
-      calls_are = λ id. call_after o cause (is_broken (fates id.conn)) (is_stopped_in id.conn w.conns) id (call_at id s.calls) (call_at id w.calls)
+      calls_are = λ id. call_after o trigger (is_broken (fates id.conn)) (is_stopped_in id.conn w.conns) id (call_at id s.calls) (call_at id w.calls)
           (step_of id o (machine closed s)).call (no_result id)
-          (ap (call_at id) e.calls_are ∙ call_ended cause (λ c. is_stopped_in c w.conns) id s.calls)
+          (ap (call_at id) e.calls_are ∙ call_ended trigger (λ c. is_stopped_in c w.conns) id s.calls)
           (same id (is_stopped_in id.conn w.conns));
-      conns_are = λ c. conn_after o cause (machine closed s) s.calls c (closed c) (conn_of c s.conns) (conn_of c w.conns) (is_broken (fates c)) (is_stopped_in c w.conns) (e.conns_are c)
+      conns_are = λ c. conn_after o trigger (machine closed s) s.calls c (closed c) (conn_of c s.conns) (conn_of c w.conns) (is_broken (fates c)) (is_stopped_in c w.conns) (e.conns_are c)
           (λ k k_is. (open_number c s.conns k k_is, f.open_are c k k_is)) refl no_closing replies
           (λ shut j. none_of (call_id c j) shut);
       jobs_are = e.jobs_are ∙ sym (append-nil s.jobs)

@@ -5,8 +5,8 @@ use Rattle.std.specs.Option.{option_map_or}
 use Rattle.std.proofs.lemmas.List.Elements.{All-map}
 use Rattle.gateway_model.specs.declared.entry.ReplyEntry.{ReplyEntry}
 use Rattle.gateway_model.specs.declared.id.CallId.{CallId}
-use Rattle.gateway_theory.specs.declared.cause.Cause.{Cause}
-use Rattle.gateway_theory.specs.declared.cause.Cause.TheVariants.{Reached, HungUp as HangsUp, Drained}
+use Rattle.gateway_theory.specs.declared.trigger.Trigger.{Trigger}
+use Rattle.gateway_theory.specs.declared.trigger.Trigger.TheVariants.{Reached, HungUp as HangsUp, Drained}
 use Rattle.gateway_theory.specs.Conn.{ConnValue}
 use Rattle.gateway_theory.specs.Ends.{CallsEnd, EndsBy, MayEnd, ended_below, ended_if, is_stopped_in, without_reply}
 use Rattle.gateway_theory.specs.Fate.{Fate, Unbroken, BrokenAt, fate_after, fates_after, is_broken}
@@ -28,10 +28,10 @@ use Rattle.gateway_theory.specs.lemmas.OrderSteps.{ends_order, fates_next}
 zero_most : (n : ℕ) → n ≡ max n 0
 zero_most n = omega arith
 
-by_live : (moment : ℕ) (cause : Cause) (id : CallId) (o : Occurrence) (c : CallState) → ((l : Live) → ended_live moment id o c.out (Some l) ≡ ended_if cause id c.out (Some l))
-    → (l : Option Live) → ended_live moment id o c.out l ≡ ended_if cause id c.out l
-by_live moment cause id o c each None = refl
-by_live moment cause id o c each (Some l) = each l
+by_live : (moment : ℕ) (trigger : Trigger) (id : CallId) (o : Occurrence) (c : CallState) → ((l : Live) → ended_live moment id o c.out (Some l) ≡ ended_if trigger id c.out (Some l))
+    → (l : Option Live) → ended_live moment id o c.out l ≡ ended_if trigger id c.out l
+by_live moment trigger id o c each None = refl
+by_live moment trigger id o c each (Some l) = each l
 
 pub moment_ends : (m : ℕ) (s : MachineValue) → EndsBy (Moment m) (Reached (moment_after s.moment m)) s (machine_value (moment_after s.moment m) s.drained s.conns s.calls s.jobs)
 moment_ends m s = record {
@@ -63,8 +63,8 @@ drain_ends s = record {
   machine_is = ap (λ t. machine_value t true s.conns s.calls s.jobs) (zero_most s.moment);
 }
 
-module _ (o : Occurrence) (cause : Cause) (s v w : MachineValue) (closed : ℕ → ConnState) (fates : ℕ → Fate) (taken : ℕ → List ReplyEntry) (handed : List JobValue) (os : List Occurrence)
-    (by : EndsBy o cause s v) (orderly : IsOrderly s) (are : FatesAre fates s.conns) (h : FatedStands (machine closed s) fates taken handed os) (e : CallsEnd cause v w) where
+module _ (o : Occurrence) (trigger : Trigger) (s v w : MachineValue) (closed : ℕ → ConnState) (fates : ℕ → Fate) (taken : ℕ → List ReplyEntry) (handed : List JobValue) (os : List Occurrence)
+    (by : EndsBy o trigger s v) (orderly : IsOrderly s) (are : FatesAre fates s.conns) (h : FatedStands (machine closed s) fates taken handed os) (e : CallsEnd trigger v w) where
   conns_are : v.conns ≡ s.conns
   conns_are = ap (λ (m : MachineValue). m.conns) by.machine_is
 
@@ -76,14 +76,14 @@ module _ (o : Occurrence) (cause : Cause) (s v w : MachineValue) (closed : ℕ �
 
   pub ending_stands : FatedStands (machine closed w) fates_then taken handed (o ∷ os)
   ending_stands = fated_after o (λ c. is_stopped_in c w.conns) (machine closed s) (machine closed w) fates taken handed os by.plain h
-      (ends_concern o cause s v w closed fates taken handed os conns_are calls_are by.steps orderly are h e)
-      (ends_breaks o cause s v w closed fates by.no_closing by.no_result (by.no_start closed) by.steps by.machine_is (has_fates fates s orderly are) e)
+      (ends_concern o trigger s v w closed fates taken handed os conns_are calls_are by.steps orderly are h e)
+      (ends_breaks o trigger s v w closed fates by.no_closing by.no_result (by.no_start closed) by.steps by.machine_is (has_fates fates s orderly are) e)
 
   -- each connection after it was there before, with as many requests, and unbroken if it is
   pub conn_before : (c : ℕ) (l : ConnValue) → conn_of c w.conns ≡ Some l → (k : ConnValue) × (conn_of c s.conns ≡ Some k) × (l.taken ≡ k.taken) × (length l.slots ≡ length k.slots) × (l.broken ≡ false → k.broken ≡ false)
   conn_before c l l_is = by_conn (conn_of c v.conns) (conn_of c w.conns) (ap (conn_of c) conns_are) l_is (e.conns_are c)
     where
-      by_conn : (a b : Option ConnValue) → a ≡ conn_of c s.conns → b ≡ Some l → MayEnd cause v.calls a b
+      by_conn : (a b : Option ConnValue) → a ≡ conn_of c s.conns → b ≡ Some l → MayEnd trigger v.calls a b
           → (k : ConnValue) × (conn_of c s.conns ≡ Some k) × (l.taken ≡ k.taken) × (length l.slots ≡ length k.slots) × (l.broken ≡ false → k.broken ≡ false)
       by_conn None None a_is b_is m = absurd (cc)
       by_conn None (Some y) a_is b_is m = absurd m
@@ -104,7 +104,7 @@ module _ (o : Occurrence) (cause : Cause) (s v w : MachineValue) (closed : ℕ �
   pub none_before : (c : ℕ) → conn_of c s.conns ≡ None → conn_of c w.conns ≡ None
   none_before c none = by_conn (conn_of c v.conns) (conn_of c w.conns) (ap (conn_of c) conns_are ∙ none) refl (e.conns_are c)
     where
-      by_conn : (a b : Option ConnValue) → a ≡ None → conn_of c w.conns ≡ b → MayEnd cause v.calls a b → conn_of c w.conns ≡ None
+      by_conn : (a b : Option ConnValue) → a ≡ None → conn_of c w.conns ≡ b → MayEnd trigger v.calls a b → conn_of c w.conns ≡ None
       by_conn None None a_is b_is m = b_is
       by_conn None (Some y) a_is b_is m = absurd m
       by_conn (Some x) b a_is b_is m = absurd (cc)
@@ -123,6 +123,6 @@ module _ (o : Occurrence) (cause : Cause) (s v w : MachineValue) (closed : ℕ �
 
   pub ending_calls : (c : ℕ) → All (λ (k : KeptValue). (k.id.conn == c) ≡ false) s.calls → All (λ (k : KeptValue). (k.id.conn == c) ≡ false) w.calls
   ending_calls c all = subst (All (λ (k : KeptValue). (k.id.conn == c) ≡ false)) (sym e.calls_are)
-      (All-map (λ (k : KeptValue). (k.id.conn == c) ≡ false) (λ k. without_reply (ended_below cause (is_stopped_in k.id.conn w.conns) true k)) v.calls
-      (λ j d lt. ap (λ (x : CallId). x.conn == c) (id_below cause (is_stopped_in (slice_index_or v.calls j d).id.conn w.conns) true (slice_index_or v.calls j d))
+      (All-map (λ (k : KeptValue). (k.id.conn == c) ≡ false) (λ k. without_reply (ended_below trigger (is_stopped_in k.id.conn w.conns) true k)) v.calls
+      (λ j d lt. ap (λ (x : CallId). x.conn == c) (id_below trigger (is_stopped_in (slice_index_or v.calls j d).id.conn w.conns) true (slice_index_or v.calls j d))
       ∙ subst (All (λ (k : KeptValue). (k.id.conn == c) ≡ false)) (sym calls_are) all j d lt))

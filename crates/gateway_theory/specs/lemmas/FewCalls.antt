@@ -11,7 +11,7 @@ use Rattle.connect_codec.specs.declared.answer.Outcome.{Outcome}
 use Rattle.gateway_model.specs.declared.entry.ReplyEntry.{ReplyEntry}
 use Rattle.gateway_theory.specs.declared.fault.Took.{Took}
 use Rattle.gateway_model.specs.declared.id.CallId.{CallId}
-use Rattle.gateway_theory.specs.declared.cause.Cause.{Cause}
+use Rattle.gateway_theory.specs.declared.trigger.Trigger.{Trigger}
 use Rattle.gateway_model.specs.Arrival.{Asks, Judged}
 use Rattle.gateway_theory.specs.Begins.{arrive}
 use Rattle.gateway_theory.specs.Conn.{ConnValue, added, conn_value, without_first}
@@ -102,10 +102,10 @@ few_filled id reply conns h c l l_is on = by_conn (conn_of c conns) refl (conn_o
         let now : undecided y ≤ undecided x = fewer y.slots x.slots _ m.size_is m.each in
         subst (λ (k : ConnValue). undecided k ≤ most_calls) same (omega (arith, was, now))
 
-pub few_ended : (cause : Cause) (v w : MachineValue) → CallsEnd cause v w → FewCalls v.conns → FewCalls w.conns
-few_ended cause v w e h c l l_is on = by_conn (conn_of c v.conns) refl (conn_of c w.conns) l_is (e.conns_are c)
+pub few_ended : (trigger : Trigger) (v w : MachineValue) → CallsEnd trigger v w → FewCalls v.conns → FewCalls w.conns
+few_ended trigger v w e h c l l_is on = by_conn (conn_of c v.conns) refl (conn_of c w.conns) l_is (e.conns_are c)
   where
-    by_conn : (a : Option ConnValue) → conn_of c v.conns ≡ a → (b : Option ConnValue) → b ≡ Some l → MayEnd cause v.calls a b → undecided l ≤ most_calls
+    by_conn : (a : Option ConnValue) → conn_of c v.conns ≡ a → (b : Option ConnValue) → b ≡ Some l → MayEnd trigger v.calls a b → undecided l ≤ most_calls
     by_conn None a_is None b_is m = absurd (cc)
     by_conn None a_is (Some y) b_is m = absurd m
     by_conn (Some x) a_is None b_is m = absurd m

@@ -6,7 +6,7 @@ use Rattle.std.proofs.lemmas.Bool.{cond_both, eqb-true}
 use Rattle.std.proofs.lemmas.List.Elements.{All-map}
 use Rattle.gateway_model.specs.declared.entry.ReplyEntry.{ReplyEntry}
 use Rattle.gateway_model.specs.declared.id.CallId.{CallId}
-use Rattle.gateway_theory.specs.declared.cause.Cause.{Cause}
+use Rattle.gateway_theory.specs.declared.trigger.Trigger.{Trigger}
 use Rattle.gateway_theory.specs.Breaks.{AreConcerned}
 use Rattle.gateway_theory.specs.Conn.{ConnValue}
 use Rattle.gateway_theory.specs.Ends.{CallsEnd, EndsBy, is_stopped_in}
@@ -34,12 +34,12 @@ module _ (v w : GatewayValue) (texts : ℕ → List ℕ) (taken : ℕ → List R
     (opened_is : w.opened ≡ v.opened) (begun_same : w.begun ≡ v.begun) (orderly : IsOrderly v.machine) (h : GatewayStands v texts taken handed os) where
   -- ---- calls end
 
-  pub ended_stands : (o : Occurrence) (cause : Cause) (told : MachineValue) → EndsBy o cause v.machine told → CallsEnd cause told w.machine → GatewayStands w texts taken handed (o ∷ os)
-  ended_stands o cause told by e = record {
+  pub ended_stands : (o : Occurrence) (trigger : Trigger) (told : MachineValue) → EndsBy o trigger v.machine told → CallsEnd trigger told w.machine → GatewayStands w texts taken handed (o ∷ os)
+  ended_stands o trigger told by e = record {
     closed = h.closed;
     fates = later;
-    fated = ending_stands o cause v.machine told w.machine h.closed h.fates taken handed os by orderly h.fates_are h.fated e;
-    fates_are = ending_fates o cause v.machine told w.machine h.closed h.fates taken handed os by orderly h.fates_are h.fated e;
+    fated = ending_stands o trigger v.machine told w.machine h.closed h.fates taken handed os by orderly h.fates_are h.fated e;
+    fates_are = ending_fates o trigger v.machine told w.machine h.closed h.fates taken handed os by orderly h.fates_are h.fated e;
     streams_stand = streams_go v w texts g same h.streams_stand;
     unopened = λ c le. still c (h.unopened c (subst (λ m. m ≤ c) opened_is le));
     begun_is = let same = begun_same in let was = h.begun_is in omega (arith, same, was);
@@ -51,10 +51,10 @@ module _ (v w : GatewayValue) (texts : ℕ → List ℕ) (taken : ℕ → List R
       g : Goes v.machine w.machine
       g = record {
         back = λ c l l_is on.
-            let k = conn_before o cause v.machine told w.machine h.closed h.fates taken handed os by orderly h.fates_are h.fated e c l l_is in
+            let k = conn_before o trigger v.machine told w.machine h.closed h.fates taken handed os by orderly h.fates_are h.fated e c l l_is in
             (k.0, k.1, k.4 on, let a : l.taken ≡ k.0.taken = k.2 in let b : length l.slots ≡ length k.0.slots = k.3 in omega (arith, a, b));
-        none = λ c none. none_before o cause v.machine told w.machine h.closed h.fates taken handed os by orderly h.fates_are h.fated e c none;
-        no_call = λ c all. ending_calls o cause v.machine told w.machine h.closed h.fates taken handed os by orderly h.fates_are h.fated e c all;
+        none = λ c none. none_before o trigger v.machine told w.machine h.closed h.fates taken handed os by orderly h.fates_are h.fated e c none;
+        no_call = λ c all. ending_calls o trigger v.machine told w.machine h.closed h.fates taken handed os by orderly h.fates_are h.fated e c all;
       }
 
       still : (c : ℕ) → Unopened v h.closed h.fates c → Unopened w h.closed later c

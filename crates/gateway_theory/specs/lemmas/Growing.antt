@@ -10,7 +10,7 @@ use Rattle.gateway_model.specs.declared.entry.ReplyEntry.{ReplyEntry}
 use Rattle.gateway_model.specs.declared.call_event.CallEvent.{CallEvent}
 use Rattle.gateway_theory.specs.declared.fault.Took.{Took}
 use Rattle.gateway_model.specs.declared.id.CallId.{CallId}
-use Rattle.gateway_theory.specs.declared.cause.Cause.{Cause}
+use Rattle.gateway_theory.specs.declared.trigger.Trigger.{Trigger}
 use Rattle.gateway_model.specs.Arrival.{Asks, Judged}
 use Rattle.gateway_theory.specs.Begins.{arrive, begins, ends_first, first_ones}
 use Rattle.gateway_model.specs.Known.{is_of}
@@ -148,20 +148,20 @@ none_if : (o x : Option ReplyEntry) (b : Bool) → b ≡ true → option_or o (i
 none_if o x true e = or_none o
 none_if o x false e = absurd (cc)
 
-ended_conn : (cause : Cause) (calls : List _) (a b : Option ConnValue) → MayEnd cause calls a b → MayGrow a b
-ended_conn cause calls None None m = tt
-ended_conn cause calls None (Some l) m = absurd m
-ended_conn cause calls (Some k) None m = absurd m
-ended_conn cause calls (Some k) (Some l) m = record {
+ended_conn : (trigger : Trigger) (calls : List _) (a b : Option ConnValue) → MayEnd trigger calls a b → MayGrow a b
+ended_conn trigger calls None None m = tt
+ended_conn trigger calls None (Some l) m = absurd m
+ended_conn trigger calls (Some k) None m = absurd m
+ended_conn trigger calls (Some k) (Some l) m = record {
   stays_broken = m.stays_broken;
   replies_stay = front_stays k.slots l.slots m.size_is (λ j lt there. m.each j lt ∙ or_stays (slot_at j k.slots) _ there);
   replies_same = λ e. ap front (slots_same k.slots l.slots m.size_is
       (λ j lt. m.each j lt ∙ none_if (slot_at j k.slots) _ l.broken (m.stays_broken e)));
 }
 
-pub grew_ended : (cause : Cause) (told v w : MachineValue) → told.conns ≡ v.conns → told.jobs ≡ v.jobs → CallsEnd cause told w → Grew v w
-grew_ended cause told v w conns_are jobs_are e = grew_still v w (e.jobs_are ∙ jobs_are)
-    (λ c. subst (λ ks. MayGrow (conn_of c ks) (conn_of c w.conns)) conns_are (ended_conn cause told.calls (conn_of c told.conns) (conn_of c w.conns) (e.conns_are c)))
+pub grew_ended : (trigger : Trigger) (told v w : MachineValue) → told.conns ≡ v.conns → told.jobs ≡ v.jobs → CallsEnd trigger told w → Grew v w
+grew_ended trigger told v w conns_are jobs_are e = grew_still v w (e.jobs_are ∙ jobs_are)
+    (λ c. subst (λ ks. MayGrow (conn_of c ks) (conn_of c w.conns)) conns_are (ended_conn trigger told.calls (conn_of c told.conns) (conn_of c w.conns) (e.conns_are c)))
 
 -- ---- what comes on a stream
 

@@ -7,8 +7,8 @@ use Rattle.std.proofs.lemmas.List.{map-append}
 use Rattle.connect_codec.specs.declared.answer.Outcome.{Outcome}
 use Rattle.gateway_theory.specs.declared.fault.Took.{Took}
 use Rattle.gateway_model.specs.declared.id.CallId.{CallId}
-use Rattle.gateway_theory.specs.declared.cause.Cause.{Cause}
-use Rattle.gateway_theory.specs.declared.cause.Cause.TheVariants.{Reached, HungUp, Drained}
+use Rattle.gateway_theory.specs.declared.trigger.Trigger.{Trigger}
+use Rattle.gateway_theory.specs.declared.trigger.Trigger.TheVariants.{Reached, HungUp, Drained}
 use Rattle.gateway_theory.specs.Conn.{ConnValue, added, conn_value, fill_at, filled, without_first}
 use Rattle.gateway_theory.specs.Ends.{AreApart, CallsEnd, ConnEnds, EndedAt, IsSettled, MayEnd, is_stopped_in, noted, settled_at}
 use Rattle.gateway_theory.specs.Enters.{Enters, arriving_at}
@@ -227,7 +227,7 @@ hung_ends n v w e = record {
 
 -- ---- what is noted of what may end calls
 
-pub noted_settled : (cause : Cause) (v : MachineValue) → IsSettled v → IsSettled (noted cause v)
+pub noted_settled : (trigger : Trigger) (v : MachineValue) → IsSettled v → IsSettled (noted trigger v)
 noted_settled (Reached now) v h = h
 noted_settled (HungUp n) v h = record {
   no_reply = h.no_reply;
@@ -240,19 +240,19 @@ noted_settled (HungUp n) v h = record {
     still (Some k) = refl
 noted_settled Drained v h = record { no_reply = h.no_reply; none_live = h.none_live; has_conn = h.has_conn }
 
-pub noted_apart : (cause : Cause) (v : MachineValue) → AreApart v.calls → AreApart (noted cause v).calls
+pub noted_apart : (trigger : Trigger) (v : MachineValue) → AreApart v.calls → AreApart (noted trigger v).calls
 noted_apart (Reached now) v h = h
 noted_apart (HungUp n) v h = h
 noted_apart Drained v h = h
 
-pub noted_conns : (cause : Cause) (v : MachineValue) → conn_heads (noted cause v).conns ≡ noted_heads cause (conn_heads v.conns)
+pub noted_conns : (trigger : Trigger) (v : MachineValue) → conn_heads (noted trigger v).conns ≡ noted_heads trigger (conn_heads v.conns)
 noted_conns (Reached now) v = refl
 noted_conns (HungUp n) v = heads_hung n v.conns
 noted_conns Drained v = refl
 
-pub heads_ended_at : (cause : Cause) (i : ℕ) (v w : MachineValue) → EndedAt cause i v w → conn_heads w.conns ≡ conn_heads v.conns
-heads_ended_at cause i v w (inl e) = ap (λ (m : MachineValue). conn_heads m.conns) e
-heads_ended_at cause i v w (inr e) = ap (λ (m : MachineValue). conn_heads m.conns) e.1 ∙ heads_broken (kept_at i v.calls).id.conn v.conns
+pub heads_ended_at : (trigger : Trigger) (i : ℕ) (v w : MachineValue) → EndedAt trigger i v w → conn_heads w.conns ≡ conn_heads v.conns
+heads_ended_at trigger i v w (inl e) = ap (λ (m : MachineValue). conn_heads m.conns) e
+heads_ended_at trigger i v w (inr e) = ap (λ (m : MachineValue). conn_heads m.conns) e.1 ∙ heads_broken (kept_at i v.calls).id.conn v.conns
 
 pub heads_settled_at : (i : ℕ) (v w : MachineValue) → w ≡ settled_at i v → conn_heads w.conns ≡ conn_heads v.conns
 heads_settled_at i v w e = ap (λ (m : MachineValue). conn_heads m.conns) e ∙ heads_filled (option_map (reply_with (kept_at i v.calls).id) (kept_at i v.calls).reply) v.conns

@@ -3,8 +3,8 @@ use Rattle.std.proofs.Common.{◌≡◌, ℕ, Bool, true, false, List, refl, sym
 use Rattle.std.specs.Prelude.{⊤, if◌then◌else◌, nat_lt, slice_set, Result, Ok, Err}
 use Rattle.gateway_theory.specs.declared.fault.StepFault.{StepFault}
 use Rattle.gateway_theory.specs.declared.fault.StepFault.TheVariants.{Memory}
-use Rattle.gateway_theory.specs.declared.cause.Cause.{Cause}
-use Rattle.gateway_theory.specs.declared.cause.Cause.TheVariants.{Reached, HungUp, Drained}
+use Rattle.gateway_theory.specs.declared.trigger.Trigger.{Trigger}
+use Rattle.gateway_theory.specs.declared.trigger.Trigger.TheVariants.{Reached, HungUp, Drained}
 use Rattle.gateway_theory.specs.Ends.{CallsEnd, is_stopped_in, noted}
 use Rattle.gateway_theory.specs.Gateway.{GatewayValue, StreamValue, is_waiting, stream_at}
 use Rattle.gateway_theory.specs.Heads.{Head, IsHeard, IsOfAll, conn_heads, hung_head, noted_heads, stream_heads}
@@ -16,24 +16,24 @@ use Rattle.gateway_theory.specs.lemmas.OrderSteps.{ends_order}
 use Rattle.gateway_theory.specs.lemmas.ServingLemmas.{keeps_ended, keeps_same, machine_kept, read_at, stream_kept, streams_apart}
 
 -- the gateway, whose machine took note
-abbrev pub noting : Cause → GatewayValue → GatewayValue
-noting cause v = gateway_value v.plans (noted cause v.machine) v.streams v.opened v.begun v.tally
+abbrev pub noting : Trigger → GatewayValue → GatewayValue
+noting trigger v = gateway_value v.plans (noted trigger v.machine) v.streams v.opened v.begun v.tally
 
-pub noted_serving : (cause : Cause) (v : GatewayValue) → IsOfAll cause → IsServing v → IsServing (noting cause v)
+pub noted_serving : (trigger : Trigger) (v : GatewayValue) → IsOfAll trigger → IsServing v → IsServing (noting trigger v)
 noted_serving (Reached now) v all h = machine_kept v v.machine (keeps_same v.machine v.machine refl refl) h
 noted_serving (HungUp n) v all h = absurd all
 noted_serving Drained v all h = machine_kept v (record v.machine { drained = true }) (keeps_same v.machine (record v.machine { drained = true }) refl refl) h
 
-pub ended_serving : (cause : Cause) (v : GatewayValue) (m : MachineValue) → IsOfAll cause → IsServing v → CallsEnd cause (noted cause v.machine) m
+pub ended_serving : (trigger : Trigger) (v : GatewayValue) (m : MachineValue) → IsOfAll trigger → IsServing v → CallsEnd trigger (noted trigger v.machine) m
     → IsServing (gateway_value v.plans m v.streams v.opened v.begun v.tally)
-ended_serving cause v m all h ends = machine_kept (noting cause v) m (keeps_ended cause (noted cause v.machine) m ends) (noted_serving cause v all h)
+ended_serving trigger v m all h ends = machine_kept (noting trigger v) m (keeps_ended trigger (noted trigger v.machine) m ends) (noted_serving trigger v all h)
 
-pub ended_heads : (cause : Cause) (heads : List Head) → IsOfAll cause → noted_heads cause heads ≡ heads
+pub ended_heads : (trigger : Trigger) (heads : List Head) → IsOfAll trigger → noted_heads trigger heads ≡ heads
 ended_heads (Reached now) heads all = refl
 ended_heads (HungUp n) heads all = absurd all
 ended_heads Drained heads all = refl
 
-pub told_breaks : (cause : Cause) (v w : GatewayValue) (b : Bool) → IsOfAll cause → IsServing v → CallsEnd cause (noted cause v.machine) w.machine
+pub told_breaks : (trigger : Trigger) (v w : GatewayValue) (b : Bool) → IsOfAll trigger → IsServing v → CallsEnd trigger (noted trigger v.machine) w.machine
     → b ≡ nat_lt (broken_count v.machine.conns) (broken_count w.machine.conns) → Breaks v w b
 told_breaks (Reached now) v w b all h ends b_is =
     ends_breaks (Reached now) v w b h.orderly.conns_apart (ends_order (Reached now) v.machine w.machine ends h.orderly).conns_apart ends b_is

@@ -7,6 +7,7 @@ use Rattle.std.specs.Option.{option_map_or, option_or}
 use Rattle.std.proofs.lemmas.Bool.{cases_Bool, cond_both, eq-eqb, eqb-true, lt-ltb, ltb-true, ne_eqb}
 use Rattle.std.proofs.lemmas.List.{length-map}
 use Rattle.connect_codec.specs.declared.answer.Outcome.{Outcome}
+use Rattle.http_pieces.specs.Request.{HttpRequest}
 use Rattle.gateway_theory.specs.declared.fault.StepFault.{StepFault}
 use Rattle.gateway_model.specs.declared.seen.Seen.{Seen}
 use Rattle.gateway_theory.specs.declared.fault.StepFault.TheVariants.{Exhausted, Gone, Memory}
@@ -14,8 +15,8 @@ use Rattle.gateway_model.specs.declared.seen.Seen.TheVariants.{Counted, Late, Un
 use Rattle.gateway_theory.specs.declared.fault.Took.{Took}
 use Rattle.gateway_model.specs.declared.call_event.CallEvent.TheVariants.{HungUp as HungUpNow}
 use Rattle.gateway_model.specs.declared.id.CallId.{CallId}
-use Rattle.gateway_theory.specs.declared.cause.Cause.{Cause}
-use Rattle.gateway_theory.specs.declared.cause.Cause.TheVariants.{HungUp}
+use Rattle.gateway_theory.specs.declared.trigger.Trigger.{Trigger}
+use Rattle.gateway_theory.specs.declared.trigger.Trigger.TheVariants.{HungUp}
 use Rattle.gateway_theory.specs.Breaks.{seen_by}
 use Rattle.gateway_theory.specs.Conn.{ConnValue, conn_value, without_first}
 use Rattle.gateway_theory.specs.Ends.{EndsBy, ended_if, is_stopped_in}
@@ -33,7 +34,7 @@ use Rattle.gateway_theory.specs.Opens.{JobTaken}
 use Rattle.gateway_theory.specs.Orderly.{FatesAre, IsOrderly}
 use Rattle.gateway_theory.specs.Replies.{ReplyValue}
 use Rattle.gateway_theory.specs.Results.{Forgets, ResultTaken, Starved, result_at}
-use Rattle.gateway_theory.specs.Serving.{BreaksBy, Closes, CountsCalls, IsFault, TellsStep, most_begun, Ends, FedTo, IsDeaf, came, dropped, unheard, unread, HangsUp, silent, hung, IsServing, Keeps, KeepsBut, ListensAt, Opens, TakesOnly, TakesReply, absent, taken}
+use Rattle.gateway_theory.specs.Serving.{IsWhole, TakesSome, WouldBegin, begins_by, BreaksBy, Closes, CountsCalls, IsFault, TellsStep, most_begun, Ends, FedTo, IsDeaf, came, dropped, unheard, unread, HangsUp, silent, hung, IsServing, Keeps, KeepsBut, ListensAt, Opens, TakesOnly, TakesReply, absent, taken}
 use Rattle.gateway_model.specs.Starts.{occurrences}
 use Rattle.gateway_theory.specs.Step.{CallState, Live, ended_by, has_out}
 use Rattle.gateway_theory.specs.Store.{MachineValue, broken_at, conn_at, conn_of, given_up_if, kept_at}
@@ -255,7 +256,7 @@ module _ (n : ℕ) (bytes : List ℕ) (v w : GatewayValue) (serving : IsServing 
       (ap (λ (y : GatewayValue). y.begun) w_is) (ap (λ (y : GatewayValue). y.tally) w_is)
       (grew_broken n v.machine w.machine (ap (λ (y : GatewayValue). y.machine.conns) w_is) (ap (λ (y : GatewayValue). y.machine.jobs) w_is))
       (only_breaks n v w (λ c ne. ap (λ (y : GatewayValue). is_broken_conn c y) w_is ∙ stopped_then c n v.machine.conns ne))
-  fed_keeps r (came i m l going f within moves why is counts r_is) = fed_grew i m l f counts
+  fed_keeps r (came i m l going f within moves q whole why is counts r_is) = fed_grew i m l f counts
 
   counts_same : w.begun ≡ v.begun → length w.machine.calls ≡ length v.machine.calls → CountsCalls v w
   counts_same begun_is size = record {
@@ -269,62 +270,69 @@ module _ (n : ℕ) (bytes : List ℕ) (v w : GatewayValue) (serving : IsServing 
   fed_counts r (dropped i l over r_is w_is) = counts_same (ap (λ (y : GatewayValue). y.begun) w_is) (ap (λ (y : GatewayValue). length y.machine.calls) w_is)
   fed_counts r (unread i l going r_is w_is) = counts_same (ap (λ (y : GatewayValue). y.begun) w_is)
       (ap (λ (y : GatewayValue). length y.machine.calls) w_is ∙ length-map v.machine.calls (given_up_if n))
-  fed_counts r (came i m l going f within moves why is counts r_is) = counts
+  fed_counts r (came i m l going f within moves q whole why is counts r_is) = counts
 
-  pub fed_within : (r : std.Result ℕ StepFault) → FedTo n bytes v w r → IfOk r (λ m. m ≤ length bytes)
-  fed_within r (unheard deaf r_is w_is) = subst (λ x. IfOk x (λ m. m ≤ length bytes)) (sym r_is) tt
-  fed_within r (dropped i l over r_is w_is) = subst (λ x. IfOk x (λ m. m ≤ length bytes)) (sym r_is) (omega arith)
-  fed_within r (unread i l going r_is w_is) = subst (λ x. IfOk x (λ m. m ≤ length bytes)) (sym r_is) tt
-  fed_within r (came i m l going f within moves why is counts r_is) = subst (λ x. IfOk x (λ k. k ≤ length bytes)) (sym r_is) (by_stop (is_stopped_in n w.machine.conns))
+  pub fed_takes : (r : std.Result ℕ StepFault) → FedTo n bytes v w r → IfOk r (TakesSome (length bytes))
+  fed_takes r (unheard deaf r_is w_is) = subst (λ x. IfOk x (TakesSome (length bytes))) (sym r_is) tt
+  fed_takes r (dropped i l over r_is w_is) = subst (λ x. IfOk x (TakesSome (length bytes))) (sym r_is) (record { within = omega arith; moves = λ some. some })
+  fed_takes r (unread i l going r_is w_is) = subst (λ x. IfOk x (TakesSome (length bytes))) (sym r_is) tt
+  fed_takes r (came i m l going f within moves q whole why is counts r_is) = subst (λ x. IfOk x (TakesSome (length bytes))) (sym r_is) (by_stop (is_stopped_in n w.machine.conns))
     where
-      by_stop : (b : Bool) → IfOk (if b then Err why else Ok m) (λ k. k ≤ length bytes)
+      by_stop : (b : Bool) → IfOk (if b then Err why else Ok m) (TakesSome (length bytes))
       by_stop true = tt
-      by_stop false = within
-
-  pub fed_moves : (r : std.Result ℕ StepFault) → FedTo n bytes v w r → 0 < length bytes → IfOk r (λ m. 0 < m)
-  fed_moves r (unheard deaf r_is w_is) some = subst (λ x. IfOk x (λ m. 0 < m)) (sym r_is) tt
-  fed_moves r (dropped i l over r_is w_is) some = subst (λ x. IfOk x (λ m. 0 < m)) (sym r_is) some
-  fed_moves r (unread i l going r_is w_is) some = subst (λ x. IfOk x (λ m. 0 < m)) (sym r_is) tt
-  fed_moves r (came i m l going f within moves why is counts r_is) some = subst (λ x. IfOk x (λ k. 0 < k)) (sym r_is) (by_stop (is_stopped_in n w.machine.conns))
-    where
-      by_stop : (b : Bool) → IfOk (if b then Err why else Ok m) (λ k. 0 < k)
-      by_stop true = tt
-      by_stop false = moves some
+      by_stop false = record { within = within; moves = moves }
 
   -- `Gone` at a connection whose pieces are taken would be an answer as it breaks
-  pub not_gone : {A : Type 0} (b : Bool) (a : A) (why : StepFault) (begun : ℕ) (r : std.Result A StepFault) → IsFault why begun → r ≡ (if b then Err why else Ok a) → r ≡ Err Gone → ⊥
-  not_gone true a why begun r (inl is) e gone = let clash = sym gone ∙ e in cc
-  not_gone true a why begun r (inr is) e gone = let clash = sym gone ∙ e in let its = is.0 in cc
-  not_gone false a why begun r is e gone = let clash = sym gone ∙ e in cc
+  pub not_gone : {A : Type 0} (b : Bool) (a : A) (why : StepFault) (begun : ℕ) (begins : Bool) (r : std.Result A StepFault) → IsFault why begun begins → r ≡ (if b then Err why else Ok a) → r ≡ Err Gone → ⊥
+  not_gone true a why begun begins r (inl is) e gone = let clash = sym gone ∙ e in cc
+  not_gone true a why begun begins r (inr is) e gone = let clash = sym gone ∙ e in let its = is.0 in cc
+  not_gone false a why begun begins r is e gone = let clash = sym gone ∙ e in cc
 
   stopped_by : {A : Type 0} (b : Bool) (a : A) (why fault : StepFault) (r : std.Result A StepFault) → r ≡ (if b then Err why else Ok a) → r ≡ Err fault → b ≡ true
   stopped_by true a why fault r e at = refl
   stopped_by false a why fault r e at = absurd (let clash = sym at ∙ e in cc)
 
-  exhausted_by : {A : Type 0} (b : Bool) (a : A) (why : StepFault) (begun : ℕ) (r : std.Result A StepFault) → IsFault why begun → r ≡ (if b then Err why else Ok a) → r ≡ Err Exhausted → most_begun ≤ begun
-  exhausted_by true a why begun r (inl is) e at = absurd (let clash = sym at ∙ e in cc)
-  exhausted_by true a why begun r (inr is) e at = is.1
-  exhausted_by false a why begun r is e at = absurd (let clash = sym at ∙ e in cc)
+  exhausted_by : {A : Type 0} (b : Bool) (a : A) (why : StepFault) (begun : ℕ) (begins : Bool) (r : std.Result A StepFault) → IsFault why begun begins → r ≡ (if b then Err why else Ok a) → r ≡ Err Exhausted → most_begun ≤ begun
+  exhausted_by true a why begun begins r (inl is) e at = absurd (let clash = sym at ∙ e in cc)
+  exhausted_by true a why begun begins r (inr is) e at = is.1
+  exhausted_by false a why begun begins r is e at = absurd (let clash = sym at ∙ e in cc)
+
+  -- it would begin a call
+  begins_then : {A : Type 0} (b : Bool) (a : A) (why : StepFault) (begun : ℕ) (begins : Bool) (r : std.Result A StepFault) → IsFault why begun begins → r ≡ (if b then Err why else Ok a) → r ≡ Err Exhausted → begins ≡ true
+  begins_then true a why begun begins r (inl is) e at = absurd (let clash = sym at ∙ e in cc)
+  begins_then true a why begun begins r (inr is) e at = is.2
+  begins_then false a why begun begins r is e at = absurd (let clash = sym at ∙ e in cc)
 
   pub fed_gone : (r : std.Result ℕ StepFault) → FedTo n bytes v w r → r ≡ Err Gone → w ≡ v
   fed_gone r (unheard deaf r_is w_is) gone = w_is
   fed_gone r (dropped i l over r_is w_is) gone = w_is
   fed_gone r (unread i l going r_is w_is) gone = absurd (let clash = sym gone ∙ r_is in cc)
-  fed_gone r (came i m l going f within moves why is counts r_is) gone = absurd (not_gone (is_stopped_in n w.machine.conns) m why w.begun r is r_is gone)
+  fed_gone r (came i m l going f within moves q whole why is counts r_is) gone = absurd (not_gone (is_stopped_in n w.machine.conns) m why w.begun (begins_by v.plans i q v.machine) r is r_is gone)
 
   pub fed_memory : (r : std.Result ℕ StepFault) → FedTo n bytes v w r → r ≡ Err Memory → is_broken_conn n w ≡ true
   fed_memory r (unheard deaf r_is w_is) memory = absurd (let clash = sym memory ∙ r_is in cc)
   fed_memory r (dropped i l over r_is w_is) memory = absurd (let clash = sym memory ∙ r_is in cc)
   fed_memory r (unread i l going r_is w_is) memory = ap (λ (y : GatewayValue). is_broken_conn n y) w_is
       ∙ stopped_now n n v.machine.conns (eq-eqb n n refl) (ap (λ o. is_some o) (ap (λ m. conn_of m v.machine.conns) (sym l.conn_is) ∙ conn_found i v.machine.conns l.conn_there serving.orderly.conns_apart))
-  fed_memory r (came i m l going f within moves why is counts r_is) memory = stopped_by (is_stopped_in n w.machine.conns) m why Memory r r_is memory
+  fed_memory r (came i m l going f within moves q whole why is counts r_is) memory = stopped_by (is_stopped_in n w.machine.conns) m why Memory r r_is memory
 
   pub fed_exhausted : (r : std.Result ℕ StepFault) → FedTo n bytes v w r → r ≡ Err Exhausted → (is_broken_conn n w ≡ true) × (most_begun ≤ w.begun)
   fed_exhausted r (unheard deaf r_is w_is) e = absurd (let clash = sym e ∙ r_is in cc)
   fed_exhausted r (dropped i l over r_is w_is) e = absurd (let clash = sym e ∙ r_is in cc)
   fed_exhausted r (unread i l going r_is w_is) e = absurd (let clash = sym e ∙ r_is in cc)
-  fed_exhausted r (came i m l going f within moves why is counts r_is) e =
-      (stopped_by (is_stopped_in n w.machine.conns) m why Exhausted r r_is e, exhausted_by (is_stopped_in n w.machine.conns) m why w.begun r is r_is e)
+  fed_exhausted r (came i m l going f within moves q whole why is counts r_is) e =
+      (stopped_by (is_stopped_in n w.machine.conns) m why Exhausted r r_is e, exhausted_by (is_stopped_in n w.machine.conns) m why w.begun (begins_by v.plans i q v.machine) r is r_is e)
+
+  pub fed_begins : (r : std.Result ℕ StepFault) → FedTo n bytes v w r → r ≡ Err Exhausted → WouldBegin n bytes v
+  fed_begins r (unheard deaf r_is w_is) e = absurd (let clash = sym e ∙ r_is in cc)
+  fed_begins r (dropped i l over r_is w_is) e = absurd (let clash = sym e ∙ r_is in cc)
+  fed_begins r (unread i l going r_is w_is) e = absurd (let clash = sym e ∙ r_is in cc)
+  fed_begins r (came i m l going f within moves q whole why is counts r_is) e =
+      by_request q whole (begins_then (is_stopped_in n w.machine.conns) m why w.begun (begins_by v.plans i q v.machine) r is r_is e)
+    where
+      by_request : (q : Option HttpRequest) → IsWhole m bytes (stream_at i v.streams) q → begins_by v.plans i q v.machine ≡ true → WouldBegin n bytes v
+      by_request None whole begins = absurd (cc)
+      by_request (Some q) whole begins = record { index = i; conn_is = l.conn_is; read = m; request = q; whole = whole; begins = begins }
 
   pub hung_keeps : (r : std.Result ⊤ StepFault) → HangsUp n v w r → Keeps (λ c. c == n) v w
   hung_keeps r (silent deaf r_is w_is) = keeps_all (λ c. c == n) v w w_is
@@ -343,7 +351,7 @@ module _ (n : ℕ) (bytes : List ℕ) (v w : GatewayValue) (serving : IsServing 
 
   pub hung_gone : (r : std.Result ⊤ StepFault) → HangsUp n v w r → r ≡ Err Gone → w ≡ v
   hung_gone r (silent deaf r_is w_is) gone = w_is
-  hung_gone r (hung i l ends rest r_is) gone = absurd (not_gone (is_stopped_in n w.machine.conns) tt Memory w.begun r (inl refl) r_is gone)
+  hung_gone r (hung i l ends rest r_is) gone = absurd (not_gone (is_stopped_in n w.machine.conns) tt Memory w.begun false r (inl refl) r_is gone)
 
   pub hung_memory : (r : std.Result ⊤ StepFault) → HangsUp n v w r → r ≡ Err Memory → is_broken_conn n w ≡ true
   hung_memory r (silent deaf r_is w_is) memory = absurd (let clash = sym memory ∙ r_is in cc)
@@ -377,11 +385,11 @@ module _ (n : ℕ) (v : GatewayValue) (serving : IsServing v) where
   fed_deaf bytes w r (unheard deaf r_is w_is) = (λ e. deaf, λ d. r_is)
   fed_deaf bytes w r (dropped i l over r_is w_is) = (λ e. absurd (let clash = sym e ∙ r_is in cc), λ d. absurd (heard i l d))
   fed_deaf bytes w r (unread i l going r_is w_is) = (λ e. absurd (let clash = sym e ∙ r_is in cc), λ d. absurd (heard i l d))
-  fed_deaf bytes w r (came i m l going f within moves why is counts r_is) = (λ e. absurd (not_gone n bytes v w serving (is_stopped_in n w.machine.conns) m why w.begun r is r_is e), λ d. absurd (heard i l d))
+  fed_deaf bytes w r (came i m l going f within moves q whole why is counts r_is) = (λ e. absurd (not_gone n bytes v w serving (is_stopped_in n w.machine.conns) m why w.begun (begins_by v.plans i q v.machine) r is r_is e), λ d. absurd (heard i l d))
 
   pub hung_deaf : (w : GatewayValue) (r : std.Result ⊤ StepFault) → HangsUp n v w r → (r ≡ Err Gone) ↔ IsDeaf n v
   hung_deaf w r (silent deaf r_is w_is) = (λ e. deaf, λ d. r_is)
-  hung_deaf w r (hung i l ends rest r_is) = (λ e. absurd (not_gone n [] v w serving (is_stopped_in n w.machine.conns) tt Memory w.begun r (inl refl) r_is e), λ d. absurd (heard i l d))
+  hung_deaf w r (hung i l ends rest r_is) = (λ e. absurd (not_gone n [] v w serving (is_stopped_in n w.machine.conns) tt Memory w.begun false r (inl refl) r_is e), λ d. absurd (heard i l d))
 
   fine : {A : Type 0} (b : Bool) (a : A) (why : StepFault) (r : std.Result A StepFault) → r ≡ (if b then Err why else Ok a) → OnOk r (b ≡ false)
   fine true a why r e = subst (λ x. OnOk x (true ≡ false)) (sym e) tt
@@ -391,7 +399,7 @@ module _ (n : ℕ) (v : GatewayValue) (serving : IsServing v) where
   fed_fine bytes w r (unheard deaf r_is w_is) = subst (λ x. OnOk x (is_broken_conn n w ≡ false)) (sym r_is) tt
   fed_fine bytes w r (dropped i l over r_is w_is) = subst (λ x. OnOk x (is_broken_conn n w ≡ false)) (sym r_is) (ap (λ (x : GatewayValue). is_broken_conn n x) w_is ∙ whole i l)
   fed_fine bytes w r (unread i l going r_is w_is) = subst (λ x. OnOk x (is_broken_conn n w ≡ false)) (sym r_is) tt
-  fed_fine bytes w r (came i m l going f within moves why is counts r_is) = fine (is_stopped_in n w.machine.conns) m why r r_is
+  fed_fine bytes w r (came i m l going f within moves q whole why is counts r_is) = fine (is_stopped_in n w.machine.conns) m why r r_is
 
   pub hung_fine : (w : GatewayValue) (r : std.Result ⊤ StepFault) → HangsUp n v w r → OnOk r (is_broken_conn n w ≡ false)
   hung_fine w r (silent deaf r_is w_is) = subst (λ x. OnOk x (is_broken_conn n w ≡ false)) (sym r_is) tt
@@ -403,7 +411,7 @@ module _ (n : ℕ) (v w : GatewayValue) (serving : IsServing v) (then_serving : 
   fed_heard bytes r (unheard deaf r_is w_is) = subst (λ x. OnOk x (IsDeaf n w → ⊥)) (sym r_is) tt
   fed_heard bytes r (dropped i l over r_is w_is) = subst (λ x. OnOk x (IsDeaf n w → ⊥)) (sym r_is) (λ deaf. heard n v serving i l (subst (IsDeaf n) w_is deaf))
   fed_heard bytes r (unread i l going r_is w_is) = subst (λ x. OnOk x (IsDeaf n w → ⊥)) (sym r_is) tt
-  fed_heard bytes r (came i m l going f within moves why is counts r_is) = by_stop (is_stopped_in n w.machine.conns) refl r_is
+  fed_heard bytes r (came i m l going f within moves q whole why is counts r_is) = by_stop (is_stopped_in n w.machine.conns) refl r_is
     where
       stream_is : stream_of n w.streams ≡ Some (record (stream_at i v.streams) { reader = f.new })
       stream_is = ap (stream_of n) f.streams_are ∙ stream_set n i (record (stream_at i v.streams) { reader = f.new }) v.streams l.stream_there (streams_apart v serving) refl
@@ -443,10 +451,10 @@ hung_tells n v w serving r h = record {
   unbroken = hung_fine n v serving w r h;
 }
 
-pub ended_keeps : (cause : Cause) (told : MachineValue) (v w : GatewayValue) → told.conns ≡ v.machine.conns → told.jobs ≡ v.machine.jobs → Ends cause told v w → Keeps (λ c. true) v w
-ended_keeps cause told v w conns_are jobs_are x = keeps_grew (λ c. true) v w (ap (λ (y : GatewayValue). y.plans) x.rest) (ap (λ (y : GatewayValue). y.opened) x.rest)
+pub ended_keeps : (trigger : Trigger) (told : MachineValue) (v w : GatewayValue) → told.conns ≡ v.machine.conns → told.jobs ≡ v.machine.jobs → Ends trigger told v w → Keeps (λ c. true) v w
+ended_keeps trigger told v w conns_are jobs_are x = keeps_grew (λ c. true) v w (ap (λ (y : GatewayValue). y.plans) x.rest) (ap (λ (y : GatewayValue). y.opened) x.rest)
     (ap (λ (y : GatewayValue). y.begun) x.rest) (ap (λ (y : GatewayValue). y.tally) x.rest)
-    (grew_ended cause told v.machine w.machine conns_are jobs_are x.ends) (λ c now before. refl)
+    (grew_ended trigger told v.machine w.machine conns_are jobs_are x.ends) (λ c now before. refl)
 
 -- a connection that breaks was not broken by its fate
 fate_before : (c : ℕ) (fates : ℕ → Fate) (v w : GatewayValue) → FatesAre fates v.machine.conns → Grew v.machine w.machine → is_broken_conn c w ≡ true → is_broken_conn c v ≡ false → is_broken (fates c) ≡ false
@@ -458,13 +466,13 @@ fate_before c fates v w are g now before = by_conn (conn_of c v.machine.conns) r
     by_conn None k_is (Some l) l_is m = absurd (subst (λ x. MayGrow x (Some l)) k_is (subst (λ y. MayGrow (conn_of c v.machine.conns) y) l_is m))
 
 -- a connection that breaks as calls end is one that this concerns
-pub ended_concerns : (o : Occurrence) (cause : Cause) (told : MachineValue) (v w : GatewayValue) → IsServing v → EndsBy o cause v.machine told → Ends cause told v w → BreaksBy o v w
-ended_concerns o cause told v w serving by x = λ opened es taken handed occurred h occurs c now before.
+pub ended_concerns : (o : Occurrence) (trigger : Trigger) (told : MachineValue) (v w : GatewayValue) → IsServing v → EndsBy o trigger v.machine told → Ends trigger told v w → BreaksBy o v w
+ended_concerns o trigger told v w serving by x = λ opened es taken handed occurred h occurs c now before.
     let stands : GatewayStands v (λ d. stream opened d es) taken handed (occurrences occurred) = h.stands occurred occurs in
-    ends_concern o cause v.machine told w.machine stands.closed stands.fates taken handed (occurrences occurred)
+    ends_concern o trigger v.machine told w.machine stands.closed stands.fates taken handed (occurrences occurred)
     (ap (λ (m : MachineValue). m.conns) by.machine_is) (ap (λ (m : MachineValue). m.calls) by.machine_is) by.steps serving.orderly stands.fates_are stands.fated x.ends c
     (fate_before c stands.fates v w stands.fates_are
-    (grew_ended cause told v.machine w.machine (ap (λ (m : MachineValue). m.conns) by.machine_is) (ap (λ (m : MachineValue). m.jobs) by.machine_is) x.ends) now before) now
+    (grew_ended trigger told v.machine w.machine (ap (λ (m : MachineValue). m.conns) by.machine_is) (ap (λ (m : MachineValue). m.jobs) by.machine_is) x.ends) now before) now
 
 module _ (id : CallId) (branch : ℕ) (u : MachineValue) (took : Took) (v w : GatewayValue) (orderly : IsOrderly v.machine) (rest : w ≡ record v { machine = w.machine; tally = w.tally }) (forgets : Forgets id u w.machine)
     (tally_is : (before : List Seen) → v.tally ≡ tally_of before → w.tally ≡ tally_of (took.seen ∷ before)) where

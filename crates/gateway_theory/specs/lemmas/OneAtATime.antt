@@ -81,7 +81,7 @@ module _ (laws : RequestLaws) (n : ℕ) (bytes : List ℕ) (v w : GatewayValue) 
       counted : answer m ≡ answer (length bytes) → m ≡ length bytes
       counted e = cc
   fed_one (Ok m) (unread i l going r w_is) = absurd (cc)
-  fed_one (Ok m) (came i k l going f within moves why is counts r) = by_stop (is_stopped_in n w.machine.conns) r
+  fed_one (Ok m) (came i k l going f within moves q whole why is counts r) = by_stop (is_stopped_in n w.machine.conns) r
     where
       counted : answer m ≡ answer k → k ≡ m
       counted e = cc

@@ -7,7 +7,7 @@ use Rattle.std.proofs.lemmas.List.Elements.{All-map, All-filter, All-set}
 use Rattle.connect_codec.specs.declared.answer.Outcome.{Outcome}
 use Rattle.gateway_theory.specs.declared.fault.Took.{Took}
 use Rattle.gateway_model.specs.declared.id.CallId.{CallId}
-use Rattle.gateway_theory.specs.declared.cause.Cause.{Cause}
+use Rattle.gateway_theory.specs.declared.trigger.Trigger.{Trigger}
 use Rattle.gateway_model.specs.declared.entry.ReplyEntry.{ReplyEntry}
 use Rattle.gateway_theory.specs.Conn.{ConnValue}
 use Rattle.gateway_theory.specs.Ends.{AreApart, CallsEnd, MayEnd, ended_below, ended_if, is_stopped_in, without_reply}
@@ -55,50 +55,50 @@ fates_next o os fates w still = λ c k k_is. by_fate c k (fates c) refl (ap (λ 
 
 -- ---- endings
 
-end_order : (cause : Cause) (stop : Bool) (conns new : List ConnValue) (k : KeptValue)
+end_order : (trigger : Trigger) (stop : Bool) (conns new : List ConnValue) (k : KeptValue)
     → ((l : ConnValue) → conn_of k.id.conn new ≡ Some l → (x : ConnValue) × (conn_of k.id.conn conns ≡ Some x) × (l.taken ≡ x.taken) × (length l.slots ≡ length x.slots))
     → ((x : ConnValue) → conn_of k.id.conn conns ≡ Some x → stop ≡ false → (l : ConnValue) × (conn_of k.id.conn new ≡ Some l) × (l.broken ≡ false))
-    → IsInOrder conns k → IsInOrder new (without_reply (ended_below cause stop true k))
-end_order cause stop conns new k back on h = record {
+    → IsInOrder conns k → IsInOrder new (without_reply (ended_below trigger stop true k))
+end_order trigger stop conns new k back on h = record {
   no_reply = refl;
   goes_on = λ live. by_stop stop refl live;
   came = λ l e.
-      let same : (ended_below cause stop true k).id ≡ k.id = id_below cause stop true k in
+      let same : (ended_below trigger stop true k).id ≡ k.id = id_below trigger stop true k in
       let x = back l (ap (λ (y : CallId). conn_of y.conn new) (sym same) ∙ e) in
       let low : k.id.request < x.0.taken + length x.0.slots = h.came x.0 x.1 in
-      let at_it : (ended_below cause stop true k).id.request ≡ k.id.request = ap (λ (y : CallId). y.request) same in
+      let at_it : (ended_below trigger stop true k).id.request ≡ k.id.request = ap (λ (y : CallId). y.request) same in
       let taken_is : l.taken ≡ x.0.taken = x.2 in
       let size : length l.slots ≡ length x.0.slots = x.3 in
       omega (arith, low, at_it, taken_is, size);
 }
   where
-    live_before : (id : CallId) (out : List Bool) (l : Option Live) → is_some (ended_if cause id out l).call.live ≡ true → is_some l ≡ true
+    live_before : (id : CallId) (out : List Bool) (l : Option Live) → is_some (ended_if trigger id out l).call.live ≡ true → is_some l ≡ true
     live_before id out None e = absurd (cc)
     live_before id out (Some l) e = refl
 
-    by_stop : (b : Bool) → stop ≡ b → is_some (without_reply (ended_below cause stop true k)).call.live ≡ true
-        → (c : ConnValue) × (conn_of (ended_below cause stop true k).id.conn new ≡ Some c) × (c.broken ≡ false)
-    by_stop true e live = absurd (let clash : is_some (given_up k).call.live ≡ true = ap (λ b. is_some (without_reply (ended_below cause b true k)).call.live) (sym e) ∙ live in cc)
+    by_stop : (b : Bool) → stop ≡ b → is_some (without_reply (ended_below trigger stop true k)).call.live ≡ true
+        → (c : ConnValue) × (conn_of (ended_below trigger stop true k).id.conn new ≡ Some c) × (c.broken ≡ false)
+    by_stop true e live = absurd (let clash : is_some (given_up k).call.live ≡ true = ap (λ b. is_some (without_reply (ended_below trigger b true k)).call.live) (sym e) ∙ live in cc)
     by_stop false e live =
-        let c = h.goes_on (live_before k.id k.call.out k.call.live (ap (λ b. is_some (without_reply (ended_below cause b true k)).call.live) (sym e) ∙ live)) in
+        let c = h.goes_on (live_before k.id k.call.out k.call.live (ap (λ b. is_some (without_reply (ended_below trigger b true k)).call.live) (sym e) ∙ live)) in
         let l = on c.0 c.1 e in
-        (l.0, ap (λ (y : CallId). conn_of y.conn new) (id_below cause stop true k) ∙ l.1, l.2)
+        (l.0, ap (λ (y : CallId). conn_of y.conn new) (id_below trigger stop true k) ∙ l.1, l.2)
 
-pub ends_order : (cause : Cause) (v w : MachineValue) → CallsEnd cause v w → IsOrderly v → IsOrderly w
-ends_order cause v w e h = record {
+pub ends_order : (trigger : Trigger) (v w : MachineValue) → CallsEnd trigger v w → IsOrderly v → IsOrderly w
+ends_order trigger v w e h = record {
   calls_are = subst (All (IsInOrder w.conns)) (sym e.calls_are) (All-map (IsInOrder w.conns) f v.calls
-      (λ j d lt. end_order cause (is_stopped_in (slice_index_or v.calls j d).id.conn w.conns) v.conns w.conns (slice_index_or v.calls j d)
+      (λ j d lt. end_order trigger (is_stopped_in (slice_index_or v.calls j d).id.conn w.conns) v.conns w.conns (slice_index_or v.calls j d)
       (λ l l_is. back (conn_of (slice_index_or v.calls j d).id.conn v.conns) (conn_of (slice_index_or v.calls j d).id.conn w.conns) l l_is (e.conns_are (slice_index_or v.calls j d).id.conn))
       (λ x x_is on. goes (conn_of (slice_index_or v.calls j d).id.conn v.conns) (conn_of (slice_index_or v.calls j d).id.conn w.conns) x x_is on (e.conns_are (slice_index_or v.calls j d).id.conn))
       (h.calls_are j d lt)));
-  apart = subst AreApart (sym e.calls_are) (ids_mapped f v.calls (λ k. id_below cause (is_stopped_in k.id.conn w.conns) true k) h.apart);
+  apart = subst AreApart (sym e.calls_are) (ids_mapped f v.calls (λ k. id_below trigger (is_stopped_in k.id.conn w.conns) true k) h.apart);
   conns_apart = by_numbers w.conns v.conns e.numbers_are h.conns_apart;
 }
   where
     f : KeptValue → KeptValue
-    f k = without_reply (ended_below cause (is_stopped_in k.id.conn w.conns) true k)
+    f k = without_reply (ended_below trigger (is_stopped_in k.id.conn w.conns) true k)
 
-    back : (a b : Option ConnValue) (l : ConnValue) → b ≡ Some l → MayEnd cause v.calls a b → (x : ConnValue) × (a ≡ Some x) × (l.taken ≡ x.taken) × (length l.slots ≡ length x.slots)
+    back : (a b : Option ConnValue) (l : ConnValue) → b ≡ Some l → MayEnd trigger v.calls a b → (x : ConnValue) × (a ≡ Some x) × (l.taken ≡ x.taken) × (length l.slots ≡ length x.slots)
     back None None l l_is m = absurd (cc)
     back None (Some y) l l_is m = absurd m
     back (Some x) None l l_is m = absurd m
@@ -106,7 +106,7 @@ ends_order cause v w e h = record {
         let same : y ≡ l = some_same l_is in
         (x, refl, ap (λ (k : ConnValue). k.taken) (sym same) ∙ m.taken_is, ap (λ (k : ConnValue). length k.slots) (sym same) ∙ m.size_is)
 
-    goes : (a b : Option ConnValue) (x : ConnValue) → a ≡ Some x → option_map_or (λ (k : ConnValue). k.broken) b false ≡ false → MayEnd cause v.calls a b
+    goes : (a b : Option ConnValue) (x : ConnValue) → a ≡ Some x → option_map_or (λ (k : ConnValue). k.broken) b false ≡ false → MayEnd trigger v.calls a b
         → (l : ConnValue) × (b ≡ Some l) × (l.broken ≡ false)
     goes None None x x_is on m = absurd (cc)
     goes None (Some y) x x_is on m = absurd m

@@ -39,7 +39,7 @@ pub ended_reply : (r : CallRecord) (e : CallEvent) (why : EndCause) → last_eve
     → (call_reply r).bytes ≡ error_reply (ending_error (ending_with why r.last)) r.last
 ended_reply r e why is_last is_why =
     ap (λ (event : Option CallEvent). (by_event r event).bytes) is_last
-    ∙ ap (λ (cause : Option EndCause). (by_error r (option_map cause_error cause)).bytes) is_why
+    ∙ ap (λ (trigger : Option EndCause). (by_error r (option_map cause_error trigger)).bytes) is_why
 
 -- the reply to a call that an answer decides
 pub answered_reply : (r : CallRecord) (i : ℕ) (body : List ℕ) → last_event r.events ≡ Some (Answer i body)

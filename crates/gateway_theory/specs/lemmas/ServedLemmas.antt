@@ -9,8 +9,8 @@ use Rattle.http_pieces.specs.Reader.{HasRead}
 use Rattle.gateway_model.specs.declared.entry.ReplyEntry.{ReplyEntry}
 use Rattle.gateway_theory.specs.declared.fault.Took.{Took}
 use Rattle.gateway_model.specs.declared.id.CallId.{CallId}
-use Rattle.gateway_theory.specs.declared.cause.Cause.{Cause}
-use Rattle.gateway_theory.specs.declared.cause.Cause.TheVariants.{Reached, Drained}
+use Rattle.gateway_theory.specs.declared.trigger.Trigger.{Trigger}
+use Rattle.gateway_theory.specs.declared.trigger.Trigger.TheVariants.{Reached, Drained}
 use Rattle.gateway_theory.specs.Conn.{ConnValue}
 use Rattle.gateway_theory.specs.Ends.{CallsEnd, EndsBy, MayEnd, ended_below, is_stopped_in, without_reply}
 use Rattle.gateway_theory.specs.Kept.{KeptValue}
@@ -144,14 +144,14 @@ module _ (v w : GatewayValue) (opened : List ℕ) (e : Event) (es : Before) (tak
 
 -- ---- calls end
 
-pub goes_ended : (cause : Cause) (v w : MachineValue) → CallsEnd cause v w → Goes v w
-goes_ended cause v w e = record {
+pub goes_ended : (trigger : Trigger) (v w : MachineValue) → CallsEnd trigger v w → Goes v w
+goes_ended trigger v w e = record {
   back = λ c l l_is on. by_conn c (conn_of c v.conns) (conn_of c w.conns) l refl l_is on (e.conns_are c);
   none = λ c none. still_none c w.conns v.conns e.numbers_are none;
   no_call = λ c all. calls c all;
 }
   where
-    by_conn : (c : ℕ) (a b : Option ConnValue) (l : ConnValue) → conn_of c v.conns ≡ a → b ≡ Some l → l.broken ≡ false → MayEnd cause v.calls a b
+    by_conn : (c : ℕ) (a b : Option ConnValue) (l : ConnValue) → conn_of c v.conns ≡ a → b ≡ Some l → l.broken ≡ false → MayEnd trigger v.calls a b
         → (k : ConnValue) × (conn_of c v.conns ≡ Some k) × (k.broken ≡ false) × (l.taken + length l.slots ≡ k.taken + length k.slots)
     by_conn c None None l a_is b_is on m = absurd (cc)
     by_conn c None (Some y) l a_is b_is on m = absurd m
@@ -170,24 +170,24 @@ goes_ended cause v w e = record {
 
     calls : (c : ℕ) → NoCallOf c v.calls → NoCallOf c w.calls
     calls c all = subst (NoCallOf c) (sym e.calls_are)
-        (All-map (λ (k : KeptValue). (k.id.conn == c) ≡ false) (λ k. without_reply (ended_below cause (is_stopped_in k.id.conn w.conns) true k)) v.calls
-        (λ j d lt. ap (λ (x : CallId). x.conn == c) (id_below cause (is_stopped_in (slice_index_or v.calls j d).id.conn w.conns) true (slice_index_or v.calls j d)) ∙ all j d lt))
+        (All-map (λ (k : KeptValue). (k.id.conn == c) ≡ false) (λ k. without_reply (ended_below trigger (is_stopped_in k.id.conn w.conns) true k)) v.calls
+        (λ j d lt. ap (λ (x : CallId). x.conn == c) (id_below trigger (is_stopped_in (slice_index_or v.calls j d).id.conn w.conns) true (slice_index_or v.calls j d)) ∙ all j d lt))
 
 module _ (v w : GatewayValue) (opened : List ℕ) (es : Before) (taken : ℕ → List ReplyEntry) (handed : List JobValue) (serving : IsServing v) (h : Served v opened es taken handed) where
   -- by a moment or by the drain
-  ended_by : (e : Event) (o : Occurrence) (cause : Cause) (told : MachineValue) → IsPlain opened e es → ((os : List Occurrence) → OccursAt v.plans opened e es os → os ≡ o ∷ [])
+  ended_by : (e : Event) (o : Occurrence) (trigger : Trigger) (told : MachineValue) → IsPlain opened e es → ((os : List Occurrence) → OccursAt v.plans opened e es os → os ≡ o ∷ [])
       → told.conns ≡ v.machine.conns → told.calls ≡ v.machine.calls
-      → EndsBy o cause v.machine told → Ends cause told v w → Served w opened (e ∷ es) taken handed
-  ended_by e o cause told plain one conns_are calls_are by x = record {
+      → EndsBy o trigger v.machine told → Ends trigger told v w → Served w opened (e ∷ es) taken handed
+  ended_by e o trigger told plain one conns_are calls_are by x = record {
     conns = conns_plain opened e es v w plain (record {
       opened_is = ap (λ (y : GatewayValue). y.opened) x.rest;
       streams_are = ap (λ (y : GatewayValue). y.streams) x.rest;
       numbers_are = x.ends.numbers_are ∙ ap numbers conns_are;
-      goes = from_told (goes_ended cause told w.machine x.ends);
+      goes = from_told (goes_ended trigger told w.machine x.ends);
     }) h.conns;
     stands = stands_one v w opened e es taken handed (ap (λ (y : GatewayValue). y.plans) x.rest) o one (λ c. text_still opened c e es (plain.brings_none c))
         (λ os stands. ended_stands v w (λ c. stream opened c es) taken handed os (λ c t t_is on. ap (λ (y : GatewayValue). stream_of c y.streams) (sym x.rest) ∙ t_is)
-        (λ c none. ap (λ (y : GatewayValue). stream_of c y.streams) x.rest ∙ none) (ap (λ (y : GatewayValue). y.opened) x.rest) (ap (λ (y : GatewayValue). y.begun) x.rest) serving.orderly stands o cause told by x.ends) h.stands;
+        (λ c none. ap (λ (y : GatewayValue). stream_of c y.streams) x.rest ∙ none) (ap (λ (y : GatewayValue). y.opened) x.rest) (ap (λ (y : GatewayValue). y.begun) x.rest) serving.orderly stands o trigger told by x.ends) h.stands;
   }
     where
       from_told : Goes told w.machine → Goes v.machine w.machine

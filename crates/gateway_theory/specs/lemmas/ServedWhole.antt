@@ -110,7 +110,7 @@ module _ (laws : RequestLaws) (n : ℕ) (p q : List ℕ) (v w : GatewayValue) (o
         (over_more laws (stream_at i v.streams).reader (stream opened n es ++ p) (take m q) (was_read i l).0 over (was_read i l).1));
   })
   fed_more m (unread i l going r w_is) = absurd (cc)
-  fed_more m (came i k l going f within moves why is counts r) = by_stop (is_stopped_in n w.machine.conns) r
+  fed_more m (came i k l going f within moves request whole why is counts r) = by_stop (is_stopped_in n w.machine.conns) r
     where
       by_stop : (b : Bool) → Ok m ≡ (if b then Err why else Ok k) → ServedUpTo n (p ++ take m q) w opened es taken handed
       by_stop true e = absurd (cc)
@@ -131,7 +131,7 @@ module _ (laws : RequestLaws) (n : ℕ) (p q : List ℕ) (v w : GatewayValue) (o
   fed_fault fault then_serving (dropped i l over r w_is) = absurd (cc)
   fed_fault fault then_serving (unread i l going r w_is) =
       joined_up w q (ap (λ (x : GatewayValue). x.plans) w_is) (unread_served n v w opened (Piece n p ∷ es) taken handed serving h.served i l q w_is)
-  fed_fault fault then_serving (came i k l going f within moves why is counts r) = by_stop (is_stopped_in n w.machine.conns) refl r
+  fed_fault fault then_serving (came i k l going f within moves request whole why is counts r) = by_stop (is_stopped_in n w.machine.conns) refl r
     where
       first : Served w opened (Piece n (p ++ take k q) ∷ es) taken handed
       first = joined_up w (take k q) f.plans_are (came_served n v w opened (Piece n p ∷ es) taken handed serving h.served i l laws k q going f)

@@ -12,7 +12,7 @@ use Rattle.gateway_model.specs.declared.entry.ReplyEntry.{ReplyEntry}
 use Rattle.gateway_theory.specs.declared.fault.Took.{Took}
 use Rattle.gateway_model.specs.declared.id.CallId.{CallId}
 use Rattle.gateway_theory.specs.declared.tally.Tally.{Tally}
-use Rattle.gateway_theory.specs.declared.cause.Cause.{Cause}
+use Rattle.gateway_theory.specs.declared.trigger.Trigger.{Trigger}
 use Rattle.gateway_theory.specs.Conn.{ConnValue, added, conn_value, without_first}
 use Rattle.gateway_theory.specs.Ends.{CallsEnd, ended_below, is_stopped_in, without_reply}
 use Rattle.gateway_theory.specs.Enters.{Enters, arriving_at}
@@ -167,14 +167,14 @@ keeps_entered i x v w lt on enters = record {
         let clash : None ≡ Some (conn_at i v.conns) = sym none ∙ ap (λ n. conn_of n v.conns) (eqb-true c (conn_at i v.conns).number its) ∙ conn_found i v.conns lt h.conns_apart in cc))
         (λ (ne : (c == (conn_at i v.conns).number) ≡ false). ne) (cases_Bool (c == (conn_at i v.conns).number))
 
-pub keeps_ended : (cause : Cause) (v w : MachineValue) → CallsEnd cause v w → Keeps v w
-keeps_ended cause v w e = record {
-  orderly = ends_order cause v w e;
+pub keeps_ended : (trigger : Trigger) (v w : MachineValue) → CallsEnd trigger v w → Keeps v w
+keeps_ended trigger v w e = record {
+  orderly = ends_order trigger v w e;
   numbers_are = e.numbers_are;
   no_call = λ h c none all. subst (NoCallOf c) (sym e.calls_are)
-      (All-map (λ (k : KeptValue). (k.id.conn == c) ≡ false) (λ k. without_reply (ended_below cause (is_stopped_in k.id.conn w.conns) true k)) v.calls
-      (λ j d lt. ap (λ (x : CallId). x.conn == c) (id_below cause (is_stopped_in (slice_index_or v.calls j d).id.conn w.conns) true (slice_index_or v.calls j d)) ∙ all j d lt));
-  few = λ h. few_ended cause v w e;
+      (All-map (λ (k : KeptValue). (k.id.conn == c) ≡ false) (λ k. without_reply (ended_below trigger (is_stopped_in k.id.conn w.conns) true k)) v.calls
+      (λ j d lt. ap (λ (x : CallId). x.conn == c) (id_below trigger (is_stopped_in (slice_index_or v.calls j d).id.conn w.conns) true (slice_index_or v.calls j d)) ∙ all j d lt));
+  few = λ h. few_ended trigger v w e;
 }
 
 forgotten_numbers : (id : CallId) (v w : MachineValue) → Forgets id v w → numbers w.conns ≡ numbers v.conns

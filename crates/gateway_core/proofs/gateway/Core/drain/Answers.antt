@@ -4,7 +4,7 @@ use Rattle.gateway_theory.specs.lemmas.EndingSteps.{drain_ends}
 use Rattle.gateway_theory.specs.Gateway.{GatewayValue}
 use Rattle.gateway_theory.specs.Served.{Served}
 use Rattle.gateway_theory.specs.Serving.{Keeps, Breaks, BreaksBy}
-use Rattle.gateway_theory.specs.declared.cause.Cause.TheVariants.{Drained}
+use Rattle.gateway_theory.specs.declared.trigger.Trigger.TheVariants.{Drained}
 use Rattle.gateway_theory.specs.lemmas.ServedLemmas.{drain_served}
 use Rattle.gateway_theory.specs.lemmas.Keeping.{ended_concerns, ended_keeps}
 use Rattle.gateway_core.proofs.gateway.Core.drain.Goals as goal

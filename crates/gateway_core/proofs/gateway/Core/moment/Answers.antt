@@ -5,7 +5,7 @@ use Rattle.gateway_theory.specs.Gateway.{GatewayValue}
 use Rattle.gateway_theory.specs.Served.{Served}
 use Rattle.gateway_theory.specs.Serving.{Keeps, Breaks, BreaksBy}
 use Rattle.gateway_theory.specs.Step.{moment_after}
-use Rattle.gateway_theory.specs.declared.cause.Cause.TheVariants.{Reached}
+use Rattle.gateway_theory.specs.declared.trigger.Trigger.TheVariants.{Reached}
 use Rattle.gateway_theory.specs.lemmas.ServedLemmas.{moment_served}
 use Rattle.gateway_theory.specs.lemmas.Keeping.{ended_concerns, ended_keeps}
 use Rattle.gateway_core.proofs.gateway.Core.moment.Goals as goal

@@ -10,14 +10,14 @@ use Rattle.gateway_core.proofs.streams.Streams.end_calls.Goals as goal
 pub invariant_of-self : goal.invariant_of-self
 invariant_of-self g c =
     let v : GatewayValue = gateway_value c.self.inside.plans c.self.inside.machine c.self.inside.streams.items c.self.inside.opened c.self.inside.begun c.self.inside.tally in (
-      ended_serving c.args.cause.now v c.end_calls.new.self c.requires.all c.self.invariant.0 c.end_calls.ensures.ended,
-      c.end_calls.ensures.heads ∙ ended_heads c.args.cause.now (conn_heads v.machine.conns) c.requires.all ∙ c.self.invariant.1,
+      ended_serving c.args.trigger.now v c.end_calls.new.self c.requires.all c.self.invariant.0 c.end_calls.ensures.ended,
+      c.end_calls.ensures.heads ∙ ended_heads c.args.trigger.now (conn_heads v.machine.conns) c.requires.all ∙ c.self.invariant.1,
     )
 
 pub returns-clause-broke : goal.returns-clause-broke
 returns-clause-broke g c =
     let v : GatewayValue = gateway_value c.self.inside.plans c.self.inside.machine c.self.inside.streams.items c.self.inside.opened c.self.inside.begun c.self.inside.tally in
     subst (λ (x : GatewayValue). Breaks x (gateway_value v.plans c.end_calls.new.self v.streams v.opened v.begun v.tally) (nat_lt c.broken-before.result c.broken.result)) c.self.view_is
-    (told_breaks c.args.cause.now v (gateway_value v.plans c.end_calls.new.self v.streams v.opened v.begun v.tally) (nat_lt c.broken-before.result c.broken.result) c.requires.all c.self.invariant.0
+    (told_breaks c.args.trigger.now v (gateway_value v.plans c.end_calls.new.self v.streams v.opened v.begun v.tally) (nat_lt c.broken-before.result c.broken.result) c.requires.all c.self.invariant.0
     c.end_calls.ensures.ended
     (ap (λ n. nat_lt n c.broken.result) c.broken-before.ensures ∙ ap (λ n. nat_lt (broken_count v.machine.conns) n) c.broken.ensures))

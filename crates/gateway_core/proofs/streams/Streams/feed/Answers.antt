@@ -8,7 +8,7 @@ use Rattle.gateway_theory.specs.Gateway.{GatewayValue, StreamValue, stream_at}
 use Rattle.gateway_theory.specs.Serving.{came, dropped, unread, IsServing}
 use Rattle.gateway_theory.specs.Store.{broken_at, conn_at}
 use Rattle.gateway_theory.specs.lemmas.BringLemmas.{fed}
-use Rattle.gateway_theory.specs.lemmas.Bringing.{counts_read}
+use Rattle.gateway_theory.specs.lemmas.Bringing.{counts_read, read_whole, same_fault}
 use Rattle.gateway_theory.specs.lemmas.ServingLemmas.{read_at, stream_is_at}
 use Rattle.gateway_theory.specs.Heads.{IsHeard}
 use Rattle.gateway_theory.specs.lemmas.HeadLemmas.{heard_at}
@@ -43,6 +43,7 @@ returns g c =
     (fed i c.in-Ok.taken c.in-Ok.request c.args.bytes.now s c.read.new.self c.bring.new.self c.bring.result c.in-Some.ensures.stream_there c.in-Ok.ensures.ok c.bring.ensures)
     c.in-Ok.ensures.ok.reads.reads.within
     (λ some. c.in-Ok.ensures.ok.reads.reads.moves some (read_at i s c.in-Some.ensures.stream_there (subst IsServing c.self.view_is c.self.invariant.0)))
+    c.in-Ok.request (read_whole i c.in-Ok.taken c.in-Ok.request c.args.bytes.now s c.read.new.self c.in-Ok.ensures.ok)
     Memory (inl refl)
     (counts_read i c.in-Ok.taken c.in-Ok.request c.args.bytes.now s c.read.new.self c.bring.new.self c.in-Ok.ensures.ok c.bring.ensures.counts)
     (sym (ap (λ b. if b then Err Memory else Ok c.in-Ok.taken) on))
@@ -60,7 +61,8 @@ returns-in_err-bring g c =
     (fed i c.in-Ok.taken c.in-Ok.request c.args.bytes.now s c.read.new.self c.bring.new.self c.bring.result c.in-Some.ensures.stream_there c.in-Ok.ensures.ok c.bring.ensures)
     c.in-Ok.ensures.ok.reads.reads.within
     (λ some. c.in-Ok.ensures.ok.reads.reads.moves some (read_at i s c.in-Some.ensures.stream_there (subst IsServing c.self.view_is c.self.invariant.0)))
-    c.in_err-bring.field-0.0 c.in_err-bring.ensures.fault
+    c.in-Ok.request (read_whole i c.in-Ok.taken c.in-Ok.request c.args.bytes.now s c.read.new.self c.in-Ok.ensures.ok)
+    c.in_err-bring.field-0.0 (same_fault i c.in-Ok.taken c.in-Ok.request c.args.bytes.now s c.read.new.self c.in_err-bring.field-0.0 c.bring.new.self.begun c.in-Ok.ensures.ok c.in_err-bring.ensures.fault)
     (counts_read i c.in-Ok.taken c.in-Ok.request c.args.bytes.now s c.read.new.self c.bring.new.self c.in-Ok.ensures.ok c.bring.ensures.counts)
     (given.1 ∙ ap Err given.2 ∙ sym (ap (λ b. if b then Err c.in_err-bring.field-0.0 else Ok c.in-Ok.taken) on))
 

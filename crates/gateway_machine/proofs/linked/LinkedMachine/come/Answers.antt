@@ -13,11 +13,11 @@ use Rattle.gateway_machine.proofs.linked.LinkedMachine.come.Goals as goal
 pub come-requires-clause-fresh : goal.come-requires-clause-fresh
 come-requires-clause-fresh g c =
     ap (λ (x : ContextsValue). is_life (next_of (conn_at c.args.index c.self.inside.machine.conns)) x.calls) c.self.invariant.are
-    ∙ next_fresh (ends_of c.self.inside.contexts) none_over c.self.inside.machine c.args.index (subst (λ (m : MachineValue). c.args.index < length m.conns) (sym c.self.view_is) c.requires.there) (subst IsOrderly (sym c.self.view_is) c.requires.orderly)
+    ∙ next_fresh (ends_of c.self.inside.contexts.standing) none_over c.self.inside.machine c.args.index (subst (λ (m : MachineValue). c.args.index < length m.conns) (sym c.self.view_is) c.requires.there) (subst IsOrderly (sym c.self.view_is) c.requires.orderly)
 
 pub come-requires-clause-heard : goal.come-requires-clause-heard
 come-requires-clause-heard g c =
-    heard_at c.args.index c.self.inside.contexts c.self.inside.machine c.self.invariant (subst (λ (m : MachineValue). c.args.index < length m.conns) (sym c.self.view_is) c.requires.there)
+    heard_at c.args.index c.self.inside.contexts.standing c.self.inside.machine c.self.invariant (subst (λ (m : MachineValue). c.args.index < length m.conns) (sym c.self.view_is) c.requires.there)
     (subst (λ (m : MachineValue). (conn_at c.args.index m.conns).hung_up ≡ false) (sym c.self.view_is) c.requires.heard)
 
 pub come-requires-clause-linked : goal.come-requires-clause-linked
@@ -25,5 +25,5 @@ come-requires-clause-linked g c = c.self.invariant.are
 
 pub invariant_of-self : goal.invariant_of-self
 invariant_of-self g c =
-    came_linked c.args.index (Request c.args.request (arrival_of c.args.plans.now c.args.request)) c.self.inside.contexts c.come.new.contexts c.self.inside.machine c.come.new.self c.come.result
+    came_linked c.args.index (Request c.args.request (arrival_of c.args.plans.now c.args.request)) c.self.inside.contexts.standing c.come.new.contexts.standing c.self.inside.machine c.come.new.self c.come.result
     (subst (λ (m : MachineValue). c.args.index < length m.conns) (sym c.self.view_is) c.requires.there) c.self.invariant c.come.ensures.made.ok c.come.ensures.made.err c.come.ensures.linked

@@ -4,7 +4,7 @@ use Rattle.gateway_theory.specs.Ends.{AreApart, CallsEnd, IsSettled, noted}
 use Rattle.gateway_theory.specs.Heads.{conn_heads, noted_heads}
 use Rattle.gateway_theory.specs.Store.{MachineValue}
 use Rattle.gateway_theory.specs.lemmas.HeadLemmas.{noted_apart, noted_conns, noted_settled}
-use Rattle.gateway_machine.proofs.LinkedLemmas.{told_linked}
+use Rattle.gateway_machine.proofs.ToldLemmas.{told_linked}
 use Rattle.gateway_replies.specs.Contexts.{ContextsValue, ends_of}
 use Rattle.gateway_machine.specs.Linked.{Hears, IsNow, linked_by, over_by}
 use Rattle.gateway_machine.proofs.HeardLemmas.{noted_moment, stays_linked, told_heard}
@@ -12,37 +12,37 @@ use Rattle.gateway_machine.proofs.linked.LinkedMachine.end_calls.Goals as goal
 
 pub end_calls-requires-clause-settled : goal.end_calls-requires-clause-settled
 end_calls-requires-clause-settled g c =
-    subst IsSettled (sym c.note.ensures) (noted_settled c.args.cause.now c.self.inside.machine (subst IsSettled (sym c.self.view_is) c.requires.settled))
+    subst IsSettled (sym c.note.ensures) (noted_settled c.args.trigger.now c.self.inside.machine (subst IsSettled (sym c.self.view_is) c.requires.settled))
 
 pub end_calls-requires-clause-apart : goal.end_calls-requires-clause-apart
 end_calls-requires-clause-apart g c =
     subst (λ (m : MachineValue). AreApart m.calls) (sym c.note.ensures)
-    (noted_apart c.args.cause.now c.self.inside.machine (subst (λ (m : MachineValue). AreApart m.calls) (sym c.self.view_is) c.requires.apart))
+    (noted_apart c.args.trigger.now c.self.inside.machine (subst (λ (m : MachineValue). AreApart m.calls) (sym c.self.view_is) c.requires.apart))
 
 pub end_calls-requires-clause-linked : goal.end_calls-requires-clause-linked
 end_calls-requires-clause-linked g c =
-    told_linked c.args.cause.now c.self.inside.machine c.self.inside.contexts c.tell.new.self c.self.invariant.are c.tell.ensures ∙ ap (linked_by (ends_of c.tell.new.self) (over_by c.args.cause.now)) (sym c.note.ensures)
+    told_linked c.args.trigger.now c.self.inside.machine c.self.inside.contexts.standing c.tell.new.self.standing c.self.invariant.are c.tell.ensures.ended ∙ ap (linked_by (ends_of c.tell.new.self.standing) (over_by c.args.trigger.now)) (sym c.note.ensures)
 
 pub returns-clause-ended : goal.returns-clause-ended
 returns-clause-ended g c =
-    subst (λ (m : MachineValue). CallsEnd c.args.cause.now (noted c.args.cause.now m) c.end_calls.new.self) c.self.view_is
-    (subst (λ (m : MachineValue). CallsEnd c.args.cause.now m c.end_calls.new.self) c.note.ensures c.end_calls.ensures.ended)
+    subst (λ (m : MachineValue). CallsEnd c.args.trigger.now (noted c.args.trigger.now m) c.end_calls.new.self) c.self.view_is
+    (subst (λ (m : MachineValue). CallsEnd c.args.trigger.now m c.end_calls.new.self) c.note.ensures c.end_calls.ensures.ended)
 
 pub returns-clause-heads : goal.returns-clause-heads
 returns-clause-heads g c =
-    c.end_calls.ensures.heads ∙ ap (λ (m : MachineValue). conn_heads m.conns) c.note.ensures ∙ noted_conns c.args.cause.now c.self.inside.machine
-    ∙ ap (λ (m : MachineValue). noted_heads c.args.cause.now (conn_heads m.conns)) c.self.view_is
+    c.end_calls.ensures.heads ∙ ap (λ (m : MachineValue). conn_heads m.conns) c.note.ensures ∙ noted_conns c.args.trigger.now c.self.inside.machine
+    ∙ ap (λ (m : MachineValue). noted_heads c.args.trigger.now (conn_heads m.conns)) c.self.view_is
 
 pub end_calls-requires-clause-now : goal.end_calls-requires-clause-now
-end_calls-requires-clause-now g c = subst (λ (m : MachineValue). IsNow c.args.cause.now m.moment) (sym c.note.ensures)
-    (subst (IsNow c.args.cause.now) (sym (noted_moment c.args.cause.now c.self.inside.machine)) (subst (λ (m : MachineValue). IsNow c.args.cause.now m.moment) (sym c.self.view_is) c.requires.now))
+end_calls-requires-clause-now g c = subst (λ (m : MachineValue). IsNow c.args.trigger.now m.moment) (sym c.note.ensures)
+    (subst (IsNow c.args.trigger.now) (sym (noted_moment c.args.trigger.now c.self.inside.machine)) (subst (λ (m : MachineValue). IsNow c.args.trigger.now m.moment) (sym c.self.view_is) c.requires.now))
 
 pub invariant_of-self : goal.invariant_of-self
 invariant_of-self g c =
-    let heads = c.end_calls.ensures.heads ∙ ap (λ (m : MachineValue). conn_heads m.conns) c.note.ensures ∙ noted_conns c.args.cause.now c.self.inside.machine in
-    stays_linked c.tell.new.self c.end_calls.new.contexts c.end_calls.new.self c.end_calls.ensures.linked
-    (ap (λ (z : ContextsValue). z.drained) (told_linked c.args.cause.now c.self.inside.machine c.self.inside.contexts c.tell.new.self c.self.invariant.are c.tell.ensures)
+    let heads = c.end_calls.ensures.heads ∙ ap (λ (m : MachineValue). conn_heads m.conns) c.note.ensures ∙ noted_conns c.args.trigger.now c.self.inside.machine in
+    stays_linked c.tell.new.self.standing c.end_calls.new.contexts.standing c.end_calls.new.self c.end_calls.ensures.linked
+    (ap (λ (z : ContextsValue). z.drained) (told_linked c.args.trigger.now c.self.inside.machine c.self.inside.contexts.standing c.tell.new.self.standing c.self.invariant.are c.tell.ensures.ended)
     ∙ ap (λ (m : MachineValue). m.drained) (sym c.note.ensures) ∙ sym c.end_calls.ensures.ended.drained_is)
-    (subst (λ hs. All (Hears c.tell.new.self) hs) (sym heads)
-    (subst (λ x. All (Hears x) (noted_heads c.args.cause.now (conn_heads c.self.inside.machine.conns))) (sym c.tell.ensures)
-    (told_heard c.args.cause.now c.self.inside.contexts (conn_heads c.self.inside.machine.conns) c.self.invariant.heard)))
+    (subst (λ hs. All (Hears c.tell.new.self.standing) hs) (sym heads)
+    (subst (λ x. All (Hears x) (noted_heads c.args.trigger.now (conn_heads c.self.inside.machine.conns))) (sym c.tell.ensures.ended)
+    (told_heard c.args.trigger.now c.self.inside.contexts.standing (conn_heads c.self.inside.machine.conns) c.self.invariant.heard)))

@@ -1,4 +1,4 @@
-use Rattle.std.proofs.Common.{◌≡◌, ℕ, ◌≤◌, map, length}
+use Rattle.std.proofs.Common.{◌≡◌, ◌≤◌, map, length}
 use Rattle.std.specs.Prelude.{take}
 use Rattle.std.specs.Vec.{vec_capacity}
 use Rattle.gateway_model.specs.Past.{deadline_from}

@@ -1,4 +1,4 @@
-use Rattle.std.proofs.Common.{◌≡◌, ℕ, suc, ◌+◌, min, Option, length, refl, sym, ap, ◌∙◌, arith, subst}
+use Rattle.std.proofs.Common.{◌≡◌, ℕ, suc, ◌+◌, min, length, refl, sym, ap, ◌∙◌, arith, subst}
 use Rattle.std.specs.Arc.{arc_value}
 use Rattle.call_plan.specs.Plan.{PlanRecord}
 use Rattle.gateway_machine.specs.Linked.{branch_started, first_started}
@@ -14,12 +14,12 @@ loop-branch-init g c = refl
 pub start_branch-requires-clause-known : goal.start_branch-requires-clause-known
 start_branch-requires-clause-known g c =
     ap (λ (x : ContextsValue). is_life c.args.id.now x.calls) c.loop-branch.invariant
-    ∙ first_known c.args.id.now c.args.moment c.args.asked.now.plan c.loop-branch.branch c.args.contexts.now ∙ c.requires.known
+    ∙ first_known c.args.id.now c.args.moment c.args.asked.now.plan c.loop-branch.branch c.args.contexts.now.standing ∙ c.requires.known
 
 pub returns-in_err-start_branch-clause-others : goal.returns-in_err-start_branch-clause-others
 returns-in_err-start_branch-clause-others g c =
-    subst (KeepsOthers c.args.id.now.conn c.args.contexts.now) (sym (c.in_err-start_branch.ensures.err ∙ c.loop-branch.invariant))
-    (first_others c.args.id.now c.args.moment c.args.asked.now.plan c.loop-branch.branch c.args.contexts.now)
+    subst (KeepsOthers c.args.id.now.conn c.args.contexts.now.standing) (sym (c.in_err-start_branch.ensures.err ∙ c.loop-branch.invariant))
+    (first_others c.args.id.now c.args.moment c.args.asked.now.plan c.loop-branch.branch c.args.contexts.now.standing)
 
 pub loop-branch-preserved : goal.loop-branch-preserved
 loop-branch-preserved g c =
@@ -28,9 +28,9 @@ loop-branch-preserved g c =
     let k : ℕ = c.loop-branch.branch in
     let deadline : c.deadline_of-deadline.result ≡ deadline_from c.args.moment plan k =
     c.deadline_of-deadline.ensures.deadline ∙ ap (λ (p : PlanRecord). deadline_from c.args.moment p k) (c.deref-in-loop-branch.ensures ∙ ap (λ (a : ArrivedCall). a.plan) c.asked.view_is) in
-    c.in_ok-start_branch.ensures.ok ∙ ap (λ d. branch_started id k d c.loop-branch.contexts) deadline
+    c.in_ok-start_branch.ensures.ok ∙ ap (λ d. branch_started id k d c.loop-branch.contexts.standing) deadline
     ∙ ap (branch_started id k (deadline_from c.args.moment plan k)) c.loop-branch.invariant
-    ∙ ap (λ n. first_started id c.args.moment plan n c.args.contexts.now) (let e : suc k ≡ k + 1 = omega arith in e)
+    ∙ ap (λ n. first_started id c.args.moment plan n c.args.contexts.now.standing) (let e : suc k ≡ k + 1 = omega arith in e)
 
 pub returns-clause-ok : goal.returns-clause-ok
 returns-clause-ok g c =
@@ -40,9 +40,9 @@ returns-clause-ok g c =
     let limit : c.limit.result ≡ plan.limit = c.limit.ensures.limit ∙ ap (λ (p : PlanRecord). p.limit) (c.deref-2.ensures ∙ view) in
     let last : c.loop-branch.branch ≡ first_ones c.args.asked.now =
     omega (arith, c.loop-branch-test.false, c.loop-branch.auto.branch-end) ∙ c.min-first.ensures ∙ ap (λ n. min n c.limit.result) all ∙ ap (min (length plan.branches)) (limit ∙ omega arith) in
-    c.loop-branch.invariant ∙ ap (λ n. first_started c.args.id.now c.args.moment plan n c.args.contexts.now) last
+    c.loop-branch.invariant ∙ ap (λ n. first_started c.args.id.now c.args.moment plan n c.args.contexts.now.standing) last
 
 pub returns-clause-others : goal.returns-clause-others
 returns-clause-others g c =
-    subst (KeepsOthers c.args.id.now.conn c.args.contexts.now) (sym c.loop-branch.invariant)
-    (first_others c.args.id.now c.args.moment c.args.asked.now.plan c.loop-branch.branch c.args.contexts.now)
+    subst (KeepsOthers c.args.id.now.conn c.args.contexts.now.standing) (sym c.loop-branch.invariant)
+    (first_others c.args.id.now c.args.moment c.args.asked.now.plan c.loop-branch.branch c.args.contexts.now.standing)

@@ -1,7 +1,15 @@
 use Rattle.std.proofs.Common.{ap, ◌∙◌}
+use Rattle.std.specs.Prelude.{◌==◌, filter, not}
 use Rattle.gateway_replies.specs.Contexts.{closed}
 use Rattle.gateway_replies.proofs.ContextLemmas.{closed_both}
 use Rattle.gateway_replies.proofs.contexts.Contexts.close.Goals as goal
 
 pub returns : goal.returns
-returns g c = c.let_go.ensures ∙ ap (closed c.args.number) c.abandon_all.ensures.gone ∙ closed_both c.args.number c.args.self.now
+returns g c =
+    record {
+      closed = c.let_go.ensures.closed ∙ ap (closed c.args.number) c.abandon_all.ensures.gone ∙ closed_both c.args.number c.args.self.now.standing;
+      hooks = record {
+        stocks_are = c.let_go.ensures.hooks.stocks_are ∙ ap (filter (λ s. not (s.0 == c.args.number))) c.abandon_all.ensures.stocks;
+        hooks_are = c.let_go.ensures.hooks.hooks_are ∙ c.abandon_all.ensures.hooks;
+      };
+    }

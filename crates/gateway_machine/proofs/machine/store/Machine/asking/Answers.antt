@@ -10,7 +10,8 @@ use Rattle.gateway_replies.specs.Contexts.{ContextsValue, KeepsOthers, by_drain,
 use Rattle.gateway_model.specs.declared.id.CallId.{CallId}
 use Rattle.gateway_theory.specs.Store.{MachineValue, conn_at, no_conn}
 use Rattle.gateway_machine.specs.Linked.{event_for, life_in, none_over}
-use Rattle.gateway_machine.proofs.LinkedLemmas.{asking_first, begun_gone, begun_is, begun_on, begun_others, first_event, first_linked, known_peer, others_then}
+use Rattle.gateway_machine.proofs.PeerLemmas.{known_peer}
+use Rattle.gateway_machine.proofs.BetweenLemmas.{asking_first, begun_gone, begun_is, begun_on, begun_others, first_event, first_linked, others_then}
 use Rattle.gateway_theory.specs.lemmas.Cases.{err_if}
 use Rattle.gateway_theory.specs.lemmas.StoreLemmas.{conn_is}
 use Rattle.gateway_machine.proofs.machine.store.Machine.asking.Goals as goal
@@ -21,12 +22,21 @@ begin-requires-clause-known g c =
     let conn : c.index-conn.result.now ≡ conn_at c.args.index s.conns =
     conn_is c.self.inside.conns.items s.conns c.args.index c.index-conn.result.now no_conn (ap (λ (m : MachineValue). m.conns) c.self.view_is) c.requires.there c.index-conn.ensures in
     let id_is : c.next_id-id.result ≡ next_of (conn_at c.args.index s.conns) = c.next_id-id.ensures ∙ ap next_of conn in
-    ap (λ (d : CallId). is_peer d.conn c.args.contexts.now.conns) id_is ∙ ap (λ (x : ContextsValue). is_peer (conn_at c.args.index s.conns).number x.conns) c.requires.linked
-    ∙ known_peer (ends_of c.args.contexts.now) s.conns c.args.index c.requires.there c.requires.on
+    ap (λ (d : CallId). is_peer d.conn c.args.contexts.now.standing.conns) id_is ∙ ap (λ (x : ContextsValue). is_peer (conn_at c.args.index s.conns).number x.conns) c.requires.linked
+    ∙ known_peer (ends_of c.args.contexts.now.standing) s.conns c.args.index c.requires.there c.requires.on
 
 pub reply_to-requires : goal.reply_to-requires
 reply_to-requires g c =
-    ap (λ (x : ContextsValue). is_life c.next_id-id.result x.calls) c.in_ok-begin.ensures.ok ∙ begun_is _ c.next_id-id.result c.args.asked c.args.contexts.now
+    ap (λ (x : ContextsValue). is_life c.next_id-id.result x.calls) c.in_ok-begin.ensures.ok ∙ begun_is _ c.next_id-id.result c.args.asked c.args.contexts.now.standing
+
+pub returns-in_err-end-in-Some-clause-others : goal.returns-in_err-end-in-Some-clause-others
+returns-in_err-end-in-Some-clause-others g c =
+    let s : MachineValue = c.args.self.now in
+    let conn : c.index-conn.result.now ≡ conn_at c.args.index s.conns =
+    conn_is c.self.inside.conns.items s.conns c.args.index c.index-conn.result.now no_conn (ap (λ (m : MachineValue). m.conns) c.self.view_is) c.requires.there c.index-conn.ensures in
+    let id_is : c.next_id-id.result ≡ next_of (conn_at c.args.index s.conns) = c.next_id-id.ensures ∙ ap next_of conn in
+    err_if c.from_residual-in_err-end-in-Some.result (subst (λ n. KeepsOthers n c.args.contexts.now.standing c.begin.new.self.standing) (ap (λ (d : CallId). d.conn) id_is)
+    (subst (KeepsOthers c.next_id-id.result.conn c.args.contexts.now.standing) (sym c.in_ok-begin.ensures.ok) (begun_others _ c.next_id-id.result c.args.asked c.args.contexts.now.standing)))
 
 pub returns-in_err-reply-in-Some-clause-others : goal.returns-in_err-reply-in-Some-clause-others
 returns-in_err-reply-in-Some-clause-others g c =
@@ -34,9 +44,9 @@ returns-in_err-reply-in-Some-clause-others g c =
     let conn : c.index-conn.result.now ≡ conn_at c.args.index s.conns =
     conn_is c.self.inside.conns.items s.conns c.args.index c.index-conn.result.now no_conn (ap (λ (m : MachineValue). m.conns) c.self.view_is) c.requires.there c.index-conn.ensures in
     let id_is : c.next_id-id.result ≡ next_of (conn_at c.args.index s.conns) = c.next_id-id.ensures ∙ ap next_of conn in
-    err_if c.from_residual-in_err-reply-in-Some.result (subst (λ n. KeepsOthers n c.args.contexts.now c.reply_to.new.contexts) (ap (λ (d : CallId). d.conn) id_is)
-    (others_then c.next_id-id.result.conn c.args.contexts.now c.begin.new.self c.reply_to.new.contexts
-    (subst (KeepsOthers c.next_id-id.result.conn c.args.contexts.now) (sym c.in_ok-begin.ensures.ok) (begun_others _ c.next_id-id.result c.args.asked c.args.contexts.now)) c.in_err-reply-in-Some.ensures.others))
+    err_if c.from_residual-in_err-reply-in-Some.result (subst (λ n. KeepsOthers n c.args.contexts.now.standing c.reply_to.new.contexts.standing) (ap (λ (d : CallId). d.conn) id_is)
+    (others_then c.next_id-id.result.conn c.args.contexts.now.standing c.begin.new.self.standing c.reply_to.new.contexts.standing
+    (subst (KeepsOthers c.next_id-id.result.conn c.args.contexts.now.standing) (sym c.in_ok-begin.ensures.ok) (begun_others _ c.next_id-id.result c.args.asked c.args.contexts.now.standing)) c.in_err-reply-in-Some.ensures.others))
 
 pub returns-in_ok-reply-in-Some-clause-contexts : goal.returns-in_ok-reply-in-Some-clause-contexts
 returns-in_ok-reply-in-Some-clause-contexts g c =
@@ -45,7 +55,7 @@ returns-in_ok-reply-in-Some-clause-contexts g c =
     conn_is c.self.inside.conns.items s.conns c.args.index c.index-conn.result.now no_conn (ap (λ (m : MachineValue). m.conns) c.self.view_is) c.requires.there c.index-conn.ensures in
     let id_is : c.next_id-id.result ≡ next_of (conn_at c.args.index s.conns) = c.next_id-id.ensures ∙ ap next_of conn in
     c.in_ok-reply-in-Some.ensures.gone ∙ ap (without c.next_id-id.result) c.in_ok-begin.ensures.ok
-    ∙ begun_gone _ c.next_id-id.result c.args.asked c.args.contexts.now (ap (λ d. is_life d c.args.contexts.now.calls) id_is ∙ c.requires.fresh)
+    ∙ begun_gone _ c.next_id-id.result c.args.asked c.args.contexts.now.standing (ap (λ d. is_life d c.args.contexts.now.standing.calls) id_is ∙ c.requires.fresh)
 
 pub returns-in_ok-reply-in-Some-clause-ok : goal.returns-in_ok-reply-in-Some-clause-ok
 returns-in_ok-reply-in-Some-clause-ok g c =
@@ -55,8 +65,8 @@ returns-in_ok-reply-in-Some-clause-ok g c =
     let id_is : c.next_id-id.result ≡ next_of (conn_at c.args.index s.conns) = c.next_id-id.ensures ∙ ap next_of conn in
     let full : is_full (conn_at c.args.index s.conns).slots ≡ false = ap (λ (k : ConnValue). is_full k.slots) (sym conn) ∙ sym c.is_full.ensures ∙ c.if-is_full.false in
     let first : c.ending.result ≡ ends_first s.moment s.drained c.args.asked = c.ending.ensures ∙ ap (event_for c.self.inside.moment c.next_id-id.result) c.in_ok-begin.ensures.ok
-    ∙ first_event c.self.inside.moment c.next_id-id.result c.args.asked c.args.contexts.now s.drained (ap (λ d. is_life d c.args.contexts.now.calls) id_is ∙ c.requires.fresh)
-    (ap (λ (d : CallId). ends_of c.args.contexts.now d.conn) id_is ∙ c.requires.heard) ∙ ap (λ (m : MachineValue). ends_first m.moment s.drained c.args.asked) c.self.view_is in
+    ∙ first_event c.self.inside.moment c.next_id-id.result c.args.asked c.args.contexts.now.standing s.drained (ap (λ d. is_life d c.args.contexts.now.standing.calls) id_is ∙ c.requires.fresh)
+    (ap (λ (d : CallId). ends_of c.args.contexts.now.standing d.conn) id_is ∙ c.requires.heard) ∙ ap (λ (m : MachineValue). ends_first m.moment s.drained c.args.asked) c.self.view_is in
     let entry : Calling (record_of c.args.asked [] (c.in-Some.event ∷ [])) ≡ c.in_ok-reply-in-Some.reply.entry =
     ap (λ r. Calling r) (sym c.in_ok-end-in-Some.ensures) ∙ sym (ap (λ (r : ReplyValue). r.entry) c.in_ok-reply-in-Some.ensures.reply) in (
       ap (λ (r : ReplyValue). r.id) c.in_ok-reply-in-Some.ensures.reply ∙ id_is,
@@ -71,14 +81,14 @@ returns-in_ok-start_first-in-None-clause-ok g c =
     let id_is : c.next_id-id.result ≡ next_of (conn_at c.args.index s.conns) = c.next_id-id.ensures ∙ ap next_of conn in
     let full : is_full (conn_at c.args.index s.conns).slots ≡ false = ap (λ (k : ConnValue). is_full k.slots) (sym conn) ∙ sym c.is_full.ensures ∙ c.if-is_full.false in
     let first : c.ending.result ≡ ends_first s.moment s.drained c.args.asked = c.ending.ensures ∙ ap (event_for c.self.inside.moment c.next_id-id.result) c.in_ok-begin.ensures.ok
-    ∙ first_event c.self.inside.moment c.next_id-id.result c.args.asked c.args.contexts.now s.drained (ap (λ d. is_life d c.args.contexts.now.calls) id_is ∙ c.requires.fresh)
-    (ap (λ (d : CallId). ends_of c.args.contexts.now d.conn) id_is ∙ c.requires.heard) ∙ ap (λ (m : MachineValue). ends_first m.moment s.drained c.args.asked) c.self.view_is in
+    ∙ first_event c.self.inside.moment c.next_id-id.result c.args.asked c.args.contexts.now.standing s.drained (ap (λ d. is_life d c.args.contexts.now.standing.calls) id_is ∙ c.requires.fresh)
+    (ap (λ (d : CallId). ends_of c.args.contexts.now.standing d.conn) id_is ∙ c.requires.heard) ∙ ap (λ (m : MachineValue). ends_first m.moment s.drained c.args.asked) c.self.view_is in
     asking_first c.args.index c.args.asked s None full (sym c.in-None.is ∙ first)
 
 -- what stands of the contexts as the first branches start
 pub start_first-requires-clause-known : goal.start_first-requires-clause-known
 start_first-requires-clause-known g c =
-    ap (λ (x : ContextsValue). is_life c.next_id-id.result x.calls) c.in_ok-begin.ensures.ok ∙ begun_is _ c.next_id-id.result c.args.asked c.args.contexts.now
+    ap (λ (x : ContextsValue). is_life c.next_id-id.result x.calls) c.in_ok-begin.ensures.ok ∙ begun_is _ c.next_id-id.result c.args.asked c.args.contexts.now.standing
 
 pub returns-in_ok-start_first-in-None-clause-contexts : goal.returns-in_ok-start_first-in-None-clause-contexts
 returns-in_ok-start_first-in-None-clause-contexts g c =
@@ -86,16 +96,16 @@ returns-in_ok-start_first-in-None-clause-contexts g c =
     let conn : c.index-conn.result.now ≡ conn_at c.args.index s.conns =
     conn_is c.self.inside.conns.items s.conns c.args.index c.index-conn.result.now no_conn (ap (λ (m : MachineValue). m.conns) c.self.view_is) c.requires.there c.index-conn.ensures in
     let id_is : c.next_id-id.result ≡ next_of (conn_at c.args.index s.conns) = c.next_id-id.ensures ∙ ap next_of conn in
-    let fresh : is_life c.next_id-id.result c.args.contexts.now.calls ≡ false = ap (λ d. is_life d c.args.contexts.now.calls) id_is ∙ c.requires.fresh in
-    let heard : ends_of c.args.contexts.now c.next_id-id.result.conn ≡ by_drain s.drained = ap (λ (d : CallId). ends_of c.args.contexts.now d.conn) id_is ∙ c.requires.heard in
+    let fresh : is_life c.next_id-id.result c.args.contexts.now.standing.calls ≡ false = ap (λ d. is_life d c.args.contexts.now.standing.calls) id_is ∙ c.requires.fresh in
+    let heard : ends_of c.args.contexts.now.standing c.next_id-id.result.conn ≡ by_drain s.drained = ap (λ (d : CallId). ends_of c.args.contexts.now.standing d.conn) id_is ∙ c.requires.heard in
     let first : c.ending.result ≡ ends_first c.self.inside.moment s.drained c.args.asked = c.ending.ensures ∙ ap (event_for c.self.inside.moment c.next_id-id.result) c.in_ok-begin.ensures.ok
-    ∙ first_event c.self.inside.moment c.next_id-id.result c.args.asked c.args.contexts.now s.drained fresh heard in
-    first_linked c.self.inside.moment c.next_id-id.result c.args.asked c.args.contexts.now c.begin.new.self c.start_first.new.contexts fresh
-    (c.in_ok-begin.ensures.ok ∙ begun_on c.self.inside.moment c.next_id-id.result c.args.asked c.args.contexts.now s.drained heard (sym first ∙ c.in-None.is))
+    ∙ first_event c.self.inside.moment c.next_id-id.result c.args.asked c.args.contexts.now.standing s.drained fresh heard in
+    first_linked c.self.inside.moment c.next_id-id.result c.args.asked c.args.contexts.now.standing c.begin.new.self.standing c.start_first.new.contexts.standing fresh
+    (c.in_ok-begin.ensures.ok ∙ begun_on c.self.inside.moment c.next_id-id.result c.args.asked c.args.contexts.now.standing s.drained heard (sym first ∙ c.in-None.is))
     c.in_ok-start_first-in-None.ensures.ok
-    ∙ ap (λ d. contexts_value c.args.contexts.now.drained c.args.contexts.now.conns (c.args.contexts.now.calls ++ life_in none_over d (first_out c.args.asked) (begun_live c.self.inside.moment d c.args.asked) ∷ [])) id_is
-    ∙ ap (λ (m : MachineValue). contexts_value c.args.contexts.now.drained c.args.contexts.now.conns
-    (c.args.contexts.now.calls ++ life_in none_over (next_of (conn_at c.args.index s.conns)) (first_out c.args.asked) (begun_live m.moment (next_of (conn_at c.args.index s.conns)) c.args.asked) ∷ [])) c.self.view_is
+    ∙ ap (λ d. contexts_value c.args.contexts.now.standing.drained c.args.contexts.now.standing.conns (c.args.contexts.now.standing.calls ++ life_in none_over d (first_out c.args.asked) (begun_live c.self.inside.moment d c.args.asked) ∷ [])) id_is
+    ∙ ap (λ (m : MachineValue). contexts_value c.args.contexts.now.standing.drained c.args.contexts.now.standing.conns
+    (c.args.contexts.now.standing.calls ++ life_in none_over (next_of (conn_at c.args.index s.conns)) (first_out c.args.asked) (begun_live m.moment (next_of (conn_at c.args.index s.conns)) c.args.asked) ∷ [])) c.self.view_is
 
 pub returns-in_err-start_first-in-None-clause-others : goal.returns-in_err-start_first-in-None-clause-others
 returns-in_err-start_first-in-None-clause-others g c =
@@ -103,6 +113,6 @@ returns-in_err-start_first-in-None-clause-others g c =
     let conn : c.index-conn.result.now ≡ conn_at c.args.index s.conns =
     conn_is c.self.inside.conns.items s.conns c.args.index c.index-conn.result.now no_conn (ap (λ (m : MachineValue). m.conns) c.self.view_is) c.requires.there c.index-conn.ensures in
     let id_is : c.next_id-id.result ≡ next_of (conn_at c.args.index s.conns) = c.next_id-id.ensures ∙ ap next_of conn in
-    err_if c.from_residual-in_err-start_first-in-None.result (subst (λ n. KeepsOthers n c.args.contexts.now c.start_first.new.contexts) (ap (λ (d : CallId). d.conn) id_is)
-    (others_then c.next_id-id.result.conn c.args.contexts.now c.begin.new.self c.start_first.new.contexts
-    (subst (KeepsOthers c.next_id-id.result.conn c.args.contexts.now) (sym c.in_ok-begin.ensures.ok) (begun_others _ c.next_id-id.result c.args.asked c.args.contexts.now)) c.start_first.ensures.others))
+    err_if c.from_residual-in_err-start_first-in-None.result (subst (λ n. KeepsOthers n c.args.contexts.now.standing c.start_first.new.contexts.standing) (ap (λ (d : CallId). d.conn) id_is)
+    (others_then c.next_id-id.result.conn c.args.contexts.now.standing c.begin.new.self.standing c.start_first.new.contexts.standing
+    (subst (KeepsOthers c.next_id-id.result.conn c.args.contexts.now.standing) (sym c.in_ok-begin.ensures.ok) (begun_others _ c.next_id-id.result c.args.asked c.args.contexts.now.standing)) c.start_first.ensures.others))

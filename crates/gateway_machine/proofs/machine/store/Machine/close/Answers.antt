@@ -5,7 +5,7 @@ use Rattle.gateway_theory.specs.Task.{HandedJob}
 use Rattle.gateway_theory.specs.Opens.{closed_at}
 use Rattle.gateway_theory.specs.Store.{machine_value, waiting}
 use Rattle.gateway_replies.specs.Contexts.{ends_of}
-use Rattle.gateway_machine.proofs.LinkedLemmas.{closed_linked}
+use Rattle.gateway_machine.proofs.BetweenLemmas.{closed_linked}
 use Rattle.gateway_theory.specs.lemmas.StoreLemmas.{waiting_less}
 use Rattle.gateway_machine.proofs.machine.store.Machine.close.Goals as goal
 
@@ -14,7 +14,7 @@ invariant_of-self g c = (let room = c.self.invariant.0 in omega (arith, room, wa
 
 pub returns-clause-linked : goal.returns-clause-linked
 returns-clause-linked g c =
-    closed_linked (ends_of c.args.contexts.now) c.args.number c.args.self.now _ c.args.contexts.now c.close.new.self c.requires c.close.ensures
+    closed_linked (ends_of c.args.contexts.now.standing) c.args.number c.args.self.now _ c.args.contexts.now.standing c.close.new.self.standing c.requires c.close.ensures.closed
     (ap (λ ks. machine_value c.self.inside.moment c.self.inside.drained ks c.give_up.new.calls.items (map (λ (j : HandedJob). j.job) c.self.inside.jobs.items)) c.close_in.ensures
     ∙ ap (λ ks. machine_value c.self.inside.moment c.self.inside.drained (filter (λ (k : ConnValue). not (k.number == c.args.number)) c.self.inside.conns.items) ks (map (λ (j : HandedJob). j.job) c.self.inside.jobs.items)) c.give_up.ensures
     ∙ ap (closed_at c.args.number) c.self.view_is)

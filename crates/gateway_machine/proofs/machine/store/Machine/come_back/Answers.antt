@@ -86,4 +86,4 @@ returns-clause-taken g c =
     )
 
 pub returns-clause-linked : goal.returns-clause-linked
-returns-clause-linked g c = c.break_if.ensures.linked ∙ sym (c.give_back.ensures.linked (ends_of c.args.contexts.now))
+returns-clause-linked g c = c.break_if.ensures.linked ∙ sym (c.give_back.ensures.linked (ends_of c.args.contexts.now.standing))

@@ -6,4 +6,4 @@ use Rattle.gateway_replies.specs.Contexts.{ends_of}
 use Rattle.gateway_machine.proofs.machine.store.Machine.end_calls.Given as goal
 
 abbrev pub invariant-loop-index : goal.invariant-loop-index
-invariant-loop-index g l = EndedBelow l.cause l.index l.fn.self l.self × (l.contexts ≡ linked_by (ends_of l.fn.contexts) (over_by l.cause) l.self) × (conn_heads l.self.conns ≡ conn_heads l.fn.self.conns)
+invariant-loop-index g l = EndedBelow l.trigger l.index l.fn.self l.self × (l.contexts.standing ≡ linked_by (ends_of l.fn.contexts.standing) (over_by l.trigger) l.self) × (conn_heads l.self.conns ≡ conn_heads l.fn.self.conns)

@@ -5,7 +5,8 @@ use Rattle.gateway_model.specs.Past.{is_call}
 use Rattle.gateway_replies.specs.Contexts.{contexts_value}
 use Rattle.gateway_theory.specs.Task.{HandedJob}
 use Rattle.gateway_machine.specs.Linked.{linked_calls, linked_conns, none_over}
-use Rattle.gateway_machine.proofs.LinkedLemmas.{forgot_linked, spent_dead}
+use Rattle.gateway_machine.proofs.LinkedLemmas.{forgot_linked}
+use Rattle.gateway_machine.proofs.BetweenLemmas.{spent_dead}
 use Rattle.gateway_theory.specs.Results.{NoneSpent, is_spent, without_call}
 use Rattle.gateway_theory.specs.Store.{MachineValue, machine_value, kept_at, waiting}
 use Rattle.gateway_theory.specs.lemmas.Forgetting.{none_left}

@@ -1,4 +1,4 @@
-use Rattle.std.proofs.Common.{◌≡◌, ℕ, ◌<◌, ◌++◌, false, true, refl, sym, ap, ◌∙◌, arith, inl, inr, length, map, subst, slice_set}
+use Rattle.std.proofs.Common.{◌≡◌, ℕ, ◌<◌, ◌++◌, true, refl, sym, ap, ◌∙◌, arith, inl, inr, length, map, subst, slice_set}
 use Rattle.std.specs.Prelude.{if◌then◌else◌, is_some, option_to_list, Some}
 use Rattle.gateway_model.specs.declared.seen.Seen.TheVariants.{Counted, Late, Unknown}
 use Rattle.gateway_theory.specs.Kept.{KeptValue}
@@ -9,7 +9,8 @@ use Rattle.gateway_theory.specs.lemmas.LimitLemmas.{same_call}
 use Rattle.gateway_replies.specs.Contexts.{ContextsValue, ends_of, is_life}
 use Rattle.gateway_machine.specs.KeptCall.{GoesOn}
 use Rattle.gateway_machine.specs.Linked.{IsLinkedWith, linked, linked_by, none_over, passed_on}
-use Rattle.gateway_machine.proofs.LinkedLemmas.{live_has_life, passed_ends, stepped_linked}
+use Rattle.gateway_machine.proofs.LinkedLemmas.{live_has_life}
+use Rattle.gateway_machine.proofs.BetweenLemmas.{passed_ends, stepped_linked}
 use Rattle.gateway_theory.specs.lemmas.StoreLemmas.{call_missing, item_is, on_err, on_ok}
 use Rattle.gateway_machine.proofs.ResultLemmas.{at_moment, found_out, its_at, next_waits, starved_live, waits_then, steps_at}
 use Rattle.gateway_machine.proofs.machine.store.Machine.result.Goals as goal
@@ -97,7 +98,7 @@ pass_on-requires-clause-known g c = λ some.
     let i : ℕ = c.in-Some.index in
     let items : c.self.inside.calls.items ≡ s.calls = ap (λ (m : MachineValue). m.calls) c.self.view_is in
     let was : c.index-3.result.now ≡ kept_at i s.calls = item_is c.self.inside.calls.items s.calls i c.index-3.result.now items c.in-Some.ensures.0 c.index-3.ensures in
-    ap (λ (x : ContextsValue). is_life c.index-3.result.now.id x.calls) c.requires ∙ live_has_life (ends_of c.args.contexts.now) none_over s.calls i c.index-3.result.now was some
+    ap (λ (x : ContextsValue). is_life c.index-3.result.now.id x.calls) c.requires ∙ live_has_life (ends_of c.args.contexts.now.standing) none_over s.calls i c.index-3.result.now was some
 
 pub decide-broke-requires : goal.decide-broke-requires
 decide-broke-requires g c =
@@ -112,17 +113,17 @@ decide-broke-requires g c =
     let out : has_out x.call c.args.branch ≡ true = ap (λ (k : KeptValue). has_out k.call c.args.branch) (at ∙ sym was) ∙ sym c.is_out.ensures ∙ c.if-not-is_out.false in
     let goes : (l : Live) → x.call.live ≡ Some l → GoesOn x.id x.call.out l =
     subst (λ (k : KeptValue). (l : Live) → k.call.live ≡ Some l → GoesOn k.id k.call.out l) (was_2 ∙ sym at) c.going_law.ensures in
-    let passed : c.pass_on.new.contexts ≡ passed_on s.moment c.args.branch c.args.outcome x c.args.contexts.now =
+    let passed : c.pass_on.new.contexts.standing ≡ passed_on s.moment c.args.branch c.args.outcome x c.args.contexts.now.standing =
     on_ok c.pass_on.result _ c.pass_on.ensures.ok (sym c.is_err.ensures.value ∙ c.if-is_err.false)
-    ∙ ap (λ m. passed_on m c.args.branch c.args.outcome c.index-3.result.now c.args.contexts.now) (ap (λ (m : MachineValue). m.moment) c.self.view_is)
-    ∙ ap (λ k. passed_on s.moment c.args.branch c.args.outcome k c.args.contexts.now) (was_3 ∙ sym at) in
-    let ends : ends_of c.pass_on.new.contexts ≡ ends_of c.args.contexts.now =
-    ap ends_of passed ∙ passed_ends s.moment c.args.branch c.args.outcome x c.args.contexts.now in
+    ∙ ap (λ m. passed_on m c.args.branch c.args.outcome c.index-3.result.now c.args.contexts.now.standing) (ap (λ (m : MachineValue). m.moment) c.self.view_is)
+    ∙ ap (λ k. passed_on s.moment c.args.branch c.args.outcome k c.args.contexts.now.standing) (was_3 ∙ sym at) in
+    let ends : ends_of c.pass_on.new.contexts.standing ≡ ends_of c.args.contexts.now.standing =
+    ap ends_of passed ∙ passed_ends s.moment c.args.branch c.args.outcome x c.args.contexts.now.standing in
     let w : MachineValue = machine_value c.self.inside.moment c.self.inside.drained c.self.inside.conns.items (slice_set c.self.inside.calls.items i c.take_result-taken.new.self)
     (map (λ (j : HandedJob). j.job) c.start.new.jobs.items) in
-    subst (λ e. IsLinkedWith e c.args.id.now c.take_result-taken.result.decided c.pass_on.new.contexts w) (sym ends)
-    (stepped_linked (ends_of c.args.contexts.now) s.moment c.args.branch c.args.outcome s w i x c.take_result-taken.new.self
-    c.take_result-taken.result.decided c.take_result-taken.result.next c.args.id.now c.args.contexts.now c.pass_on.new.contexts c.in-Some.ensures.0 at
+    subst (λ e. IsLinkedWith e c.args.id.now c.take_result-taken.result.decided c.pass_on.new.contexts.standing w) (sym ends)
+    (stepped_linked (ends_of c.args.contexts.now.standing) s.moment c.args.branch c.args.outcome s w i x c.take_result-taken.new.self
+    c.take_result-taken.result.decided c.take_result-taken.result.next c.args.id.now c.args.contexts.now.standing c.pass_on.new.contexts.standing c.in-Some.ensures.0 at
     (at_moment c.self.inside.moment s.moment c.args.branch c.args.outcome x c.take_result-taken.new.self c.take_result-taken.result.decided c.take_result-taken.result.next
     (ap (λ (m : MachineValue). m.moment) c.self.view_is) c.take_result-taken.ensures)
     out goes (same_call (kept_at i s.calls).id c.args.id.now c.in-Some.ensures.1) c.apart_law.ensures c.requires passed (ap (λ (m : MachineValue). m.drained) c.self.view_is) (ap (λ (m : MachineValue). m.conns) c.self.view_is)
@@ -133,14 +134,14 @@ returns-clause-linked g c =
     let s : MachineValue = c.args.self.now in
     let i : ℕ = c.in-Some.index in
     let items : c.self.inside.calls.items ≡ s.calls = ap (λ (m : MachineValue). m.calls) c.self.view_is in
-    let ends : ends_of c.pass_on.new.contexts ≡ ends_of c.args.contexts.now =
+    let ends : ends_of c.pass_on.new.contexts.standing ≡ ends_of c.args.contexts.now.standing =
     ap ends_of (on_ok c.pass_on.result _ c.pass_on.ensures.ok (sym c.is_err.ensures.value ∙ c.if-is_err.false))
-    ∙ passed_ends c.self.inside.moment c.args.branch c.args.outcome c.index-3.result.now c.args.contexts.now in
+    ∙ passed_ends c.self.inside.moment c.args.branch c.args.outcome c.index-3.result.now c.args.contexts.now.standing in
     c.decide-broke.ensures.linked ∙ ap (λ e. linked_by e none_over c.decide-broke.new.self) ends
 
 pub come_back-requires : goal.come_back-requires
 come_back-requires g c =
-    let same : c.pass_on.new.contexts ≡ c.args.contexts.now = on_err c.pass_on.result _ c.pass_on.ensures.err (sym c.is_err.ensures.value ∙ c.if-is_err.true) in
+    let same : c.pass_on.new.contexts.standing ≡ c.args.contexts.now.standing = on_err c.pass_on.result _ c.pass_on.ensures.err (sym c.is_err.ensures.value ∙ c.if-is_err.true) in
     same ∙ c.requires ∙ ap (λ (x : ContextsValue). linked x c.args.self.now) (sym same)
 
 pub returns-then-is_err-clause-taken : goal.returns-then-is_err-clause-taken

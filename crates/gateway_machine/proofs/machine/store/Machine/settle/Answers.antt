@@ -1,7 +1,8 @@
 use Rattle.std.proofs.Common.{ap, ◌∙◌, slice_set}
 use Rattle.gateway_machine.specs.Linked.{linked_conns, lives_in}
 use Rattle.gateway_theory.specs.Store.{MachineValue}
-use Rattle.gateway_machine.proofs.LinkedLemmas.{alike_linked, conns_filled_in}
+use Rattle.gateway_machine.proofs.PeerLemmas.{conns_filled_in}
+use Rattle.gateway_machine.proofs.LinkedLemmas.{alike_linked}
 use Rattle.gateway_theory.specs.lemmas.StoreLemmas.{item_is}
 use Rattle.gateway_machine.proofs.machine.store.Machine.settle.Goals as goal
 

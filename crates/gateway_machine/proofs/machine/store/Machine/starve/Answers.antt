@@ -9,7 +9,7 @@ returns g c = record {
   taken = (c.come_back-took.new.self, c.come_back-took.ensures.taken, c.forget_unless.ensures.forgets);
   unknown = λ e. c.forget_unless.ensures.kept e ∙ unknown_starved c.args.id.now c.args.branch c.args.self.now c.come_back-took.new.self c.come_back-took.result c.come_back-took.ensures.taken e;
   none_spent = c.forget_unless.ensures.none_spent;
-  linked = c.come_back-took.ensures.linked ∙ sym (c.forget_unless.ensures.linked (ends_of c.args.contexts.now));
+  linked = c.come_back-took.ensures.linked ∙ sym (c.forget_unless.ensures.linked (ends_of c.args.contexts.now.standing));
 }
 
 pub forget_unless-requires : goal.forget_unless-requires

@@ -12,7 +12,7 @@ returns g c = record {
       (λ starved. unknown_starved c.args.id.now c.args.branch c.args.self.now c.result-took.new.self c.result-took.result starved.1 e)
       c.result-took.ensures.taken;
   none_spent = c.forget_unless.ensures.none_spent;
-  linked = c.result-took.ensures.linked ∙ sym (c.forget_unless.ensures.linked (ends_of c.args.contexts.now));
+  linked = c.result-took.ensures.linked ∙ sym (c.forget_unless.ensures.linked (ends_of c.args.contexts.now.standing));
 }
 
 pub forget_unless-requires : goal.forget_unless-requires

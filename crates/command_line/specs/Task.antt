@@ -1,0 +1,19 @@
+-- What the words of the command line ask for.
+use Rattle.std.specs.Prelude.{◌≤◌, ⊤, IfSome}
+use Rattle.command_line.specs.declared.task.Task.{Task}
+use Rattle.command_line.specs.declared.task.Task.TheVariants.{Replay, Serve, Check}
+use Rattle.script_replay.specs.declared.fault.Fault.{Fault}
+use Rattle.script_replay.specs.declared.fault.Fault.TheVariants.{Memory, Words}
+
+-- its numbers are in their ranges
+abbrev pub IsInRange : Task → Type 0
+IsInRange Replay = ⊤
+IsInRange (Check _) = ⊤
+IsInRange (Serve service) =
+    ((1 ≤ service.workers) × (service.workers ≤ 64)) × IfSome service.connections (λ count. (1 ≤ count) × (count ≤ 1000000))
+
+-- the faults that reading the words may give
+abbrev pub IsOfWords : Fault → Type 0
+IsOfWords Words = ⊤
+IsOfWords Memory = ⊤
+IsOfWords _ = ⊥

@@ -1,0 +1,8 @@
+//! The words of the command line: what they ask the program for.
+#![tactic(auto)]
+
+mod task;
+mod words;
+
+pub use task::{Checked, Service, Task, task_of};
+pub use words::read_words;

@@ -1,0 +1,155 @@
+ghost use Rattle.std.specs.Prelude.{◌≡◌, ◌≢◌, IfErr, IfOk};
+ghost use Rattle.clap.specs.Values.{kind_of};
+ghost use Rattle.command_line.specs.Task.{IsInRange, IsOfWords};
+
+use clap::error::ErrorKind;
+use clap::{Arg, ArgAction, ArgMatches, Command, Error, value_parser};
+use http_pieces::Text;
+use script_replay::Fault;
+use std::alloc::{AllocError, Global};
+
+/// So many workers are the most.
+const MOST_WORKERS: u32 = 64;
+
+/// So many accepted streams are the most that can be asked for.
+const MOST_CONNECTIONS: u64 = 1_000_000;
+
+/// What the words ask for.
+#[derive(Drop, PartialEq, Eq, Debug)]
+pub enum Task {
+    /// Runs the script on standard input.
+    Replay,
+    /// Serves clients over TCP.
+    Serve(Service),
+    /// Says whether a file is fine, or what is wrong with it and where.
+    Check(Checked),
+}
+
+/// A file that is to be checked, by its path as it was given.
+#[derive(Drop, PartialEq, Eq, Debug)]
+pub enum Checked {
+    /// As a plan file.
+    Plans(Text),
+    /// As a script.
+    Script(Text),
+}
+
+/// How clients are to be served.
+#[derive(Drop, PartialEq, Eq, Debug)]
+pub struct Service {
+    /// The address to listen at, as it was given: a host and a port.
+    pub listen: Text,
+    /// The path of the plan file, as it was given.
+    pub plans: Text,
+    /// How many threads ask backends: 1 to 64.
+    pub workers: u32,
+    /// How many streams are accepted before the program ends, 1 to 1,000,000; None where it goes on.
+    pub connections: Option<u64>,
+    /// Whether it is told on standard error what becomes of calls.
+    pub log: bool,
+}
+
+/// Reads the machine's words, the program's name first. All but a task are `Fault::Words`, a request for help too;
+/// want of memory is `Fault::Memory`.
+pub fn task_of(alloc: Global, words: &[&str]) -> Result<Task, Fault>
+    ensures faults { IfErr result IsOfWords }
+    ensures in_range { IfOk result IsInRange }
+{
+    let command = command(alloc).map_err(|_| Fault::Memory)?;
+    let matches = command.try_get_matches_from(words).map_err(refusal)?;
+    match matches.subcommand() {
+        Some(("replay", _)) => Ok(Task::Replay),
+        Some(("serve", options)) => service_of(alloc, options),
+        Some(("check", options)) => checked_of(alloc, options),
+        _ => Err(Fault::Words),
+    }
+}
+
+fn command<'a>(alloc: Global) -> Result<Command<'a>, AllocError> {
+    Command::new(alloc, "connect_gateway")
+        .subcommand(Command::new(alloc, "replay"))?
+        .subcommand(serve_command(alloc)?)?
+        .subcommand(check_command(alloc)?)
+}
+
+fn serve_command<'a>(alloc: Global) -> Result<Command<'a>, AllocError> {
+    Command::new(alloc, "serve")
+        .arg(option(alloc, "listen").required(true))?
+        .arg(option(alloc, "plans").required(true))?
+        .arg(number(alloc, "workers").required(true))?
+        .arg(number(alloc, "connections"))?
+        .arg(option(alloc, "log").action(ArgAction::SetTrue))
+}
+
+fn check_command<'a>(alloc: Global) -> Result<Command<'a>, AllocError> {
+    Command::new(alloc, "check")
+        .arg(option(alloc, "plans"))?
+        .arg(option(alloc, "script"))
+}
+
+/// An option of that name.
+fn option<'a>(alloc: Global, name: &'a str) -> Arg<'a> {
+    Arg::new(alloc, name).long(name)
+}
+
+/// An option whose value is a whole number.
+fn number<'a>(alloc: Global, name: &'a str) -> Arg<'a> {
+    option(alloc, name).value_parser(value_parser!(u64))
+}
+
+fn refusal(error: Error) -> Fault
+    ensures words { IsOfWords result }
+    ensures memory { kind_of error ≡ ErrorKind.OutOfMemory → result ≡ Fault.Memory }
+    ensures others { kind_of error ≢ ErrorKind.OutOfMemory → result ≡ Fault.Words }
+{
+    match error.kind() {
+        ErrorKind::OutOfMemory => Fault::Memory,
+        _ => Fault::Words,
+    }
+}
+
+fn service_of(alloc: Global, options: &ArgMatches<'_>) -> Result<Task, Fault>
+    ensures faults { IfErr result IsOfWords }
+    ensures in_range { IfOk result IsInRange }
+{
+    let workers = match options.get_one::<u32>("workers") {
+        Some(workers) if 1 <= workers && workers <= MOST_WORKERS => workers,
+        _ => return Err(Fault::Words),
+    };
+    let connections = options.get_one::<u64>("connections");
+    if let Some(count) = connections {
+        if count < 1 || MOST_CONNECTIONS < count {
+            return Err(Fault::Words);
+        }
+    }
+    Ok(Task::Serve(Service {
+        listen: text_of(alloc, options, "listen")?,
+        plans: text_of(alloc, options, "plans")?,
+        workers,
+        connections,
+        log: options.get_flag("log"),
+    }))
+}
+
+/// One of the two files is named, and not both.
+fn checked_of(alloc: Global, options: &ArgMatches<'_>) -> Result<Task, Fault>
+    ensures faults { IfErr result IsOfWords }
+    ensures in_range { IfOk result IsInRange }
+{
+    let checked = match (options.get_str("plans"), options.get_str("script")) {
+        (Some(plans), None) => Checked::Plans(Text::from_str(alloc, plans)?),
+        (None, Some(script)) => Checked::Script(Text::from_str(alloc, script)?),
+        _ => return Err(Fault::Words),
+    };
+    Ok(Task::Check(checked))
+}
+
+/// The value of an option.
+fn text_of(alloc: Global, options: &ArgMatches<'_>, name: &str) -> Result<Text, Fault>
+    ensures { IfErr result IsOfWords }
+{
+    let Some(text) = options.get_str(name) else {
+        return Err(Fault::Words);
+    };
+    Ok(Text::from_str(alloc, text)?)
+}

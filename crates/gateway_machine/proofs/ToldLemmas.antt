@@ -1,0 +1,226 @@
+-- The contexts of a machine when what may end calls was told to them.
+use Rattle.std.proofs.Common.{◌≡◌, ℕ, zero, suc, refl, sym, ap, ◌∙◌, List, [], ◌∷◌, ◌++◌, Option, Some, None, Bool, true, false, ⊎_elim, subst, map}
+use Rattle.std.specs.Prelude.{◌==◌}
+use Rattle.std.specs.Option.{option_or}
+use Rattle.std.proofs.lemmas.Bool.{cases_Bool, or_parts}
+use Rattle.std.proofs.lemmas.List.{map-append}
+use Rattle.std.proofs.lemmas.List.Elements.{All-cons, All-head, All-nil, All-tail}
+use Rattle.std.specs.Prelude.{All}
+use Rattle.gateway_model.specs.declared.id.CallId.{CallId}
+use Rattle.gateway_theory.specs.declared.trigger.Trigger.{Trigger}
+use Rattle.gateway_theory.specs.declared.trigger.Trigger.TheVariants.{Reached, HungUp, Drained}
+use Rattle.gateway_model.specs.declared.call_event.CallEvent.{CallEvent}
+use Rattle.gateway_model.specs.declared.call_event.CallEvent.TheVariants.{HungUp as HungUpNow}
+use Rattle.gateway_replies.specs.Contexts.{ContextsValue, Ended, LifeValue, LivesApart, TimedBranch, by_deadline, by_drain, by_hang_up, contexts_value, ending_at, ending_life, ends_life, expires_life, ends_of, event_of, is_life, told}
+use Rattle.gateway_theory.specs.Ends.{caused, ended_below, ended_call, ended_if, ended_kept, noted, without_reply}
+use Rattle.gateway_theory.specs.Kept.{KeptValue}
+use Rattle.gateway_machine.specs.Linked.{IsNow, Over, ended_with, ends_with, event_for, linked, linked_by, linked_calls, life_in, linked_conns, lives_in, none_over, over_by, timed}
+use Rattle.gateway_model.specs.Past.{due_by, expiry, is_call, is_due, least_of, smaller}
+use Rattle.call_contexts.specs.Standing.{branch_before, ends_branch, expires_branch}
+use Rattle.gateway_theory.specs.lemmas.Deadlines.{due_smaller}
+use Rattle.gateway_machine.proofs.DueLemmas.{least_first, moment_event}
+use Rattle.gateway_theory.specs.Step.{Live, Step, deadlines_in, ended_by}
+use Rattle.gateway_theory.specs.Store.{MachineValue, hung_if, kept_at}
+use Rattle.gateway_theory.specs.lemmas.Cases.{sym_eqb}
+use Rattle.gateway_theory.specs.lemmas.LimitLemmas.{same_call}
+use Rattle.gateway_theory.specs.lemmas.StoreLemmas.{call_itself}
+use Rattle.gateway_machine.proofs.PeerLemmas.{drained_linked, hung_linked, relinked_conns}
+use Rattle.gateway_machine.proofs.LinkedLemmas.{dead_life, live_life, live_linked}
+
+-- what becomes of each branch's context
+timed_told : (g : TimedBranch → TimedBranch) (over : Over) (id : CallId) (call : Option ℕ)
+    → ((k at : ℕ) → g (record { branch = k; deadline = at; ended = None }) ≡ record { branch = k; deadline = at; ended = option_or (over id call) (over id (Some at)) })
+    → (k : ℕ) (ds : List (Option ℕ)) → map g (timed none_over id call k ds) ≡ timed over id call k ds
+timed_told g over id call each k [] = refl
+timed_told g over id call each k (None ∷ ds) = timed_told g over id call each (suc k) ds
+timed_told g over id call each k (Some at ∷ ds) =
+    ap (λ b. b ∷ map g (timed none_over id call (suc k) ds)) (each k at)
+    ∙ ap (λ bs. record { branch = k; deadline = at; ended = option_or (over id call) (over id (Some at)) } ∷ bs) (timed_told g over id call each (suc k) ds)
+
+-- each context of a call, and of its branches, has ended by this
+lives_told : (h : LifeValue → LifeValue) (over : Over) → ((id : CallId) (out : List Bool) (l : Live) → h (life_in none_over id out l) ≡ life_in over id out l) → (ks : List KeptValue)
+    → map h (linked_calls none_over ks) ≡ linked_calls over ks
+lives_told h over same [] = refl
+lives_told h over same (k ∷ ks) =
+    map-append h (lives_in none_over k) (linked_calls none_over ks)
+    ∙ ap (λ ls. map h (lives_in none_over k) ++ ls) (lives_told h over same ks)
+    ∙ ap (λ ls. ls ++ linked_calls over ks) (by k.call.live refl)
+  where
+    by : (o : Option Live) → k.call.live ≡ o → map h (lives_in none_over k) ≡ lives_in over k
+    by None o_is = rw (dead_life none_over k o_is, dead_life over k o_is) refl
+    by (Some l) o_is = rw (live_life none_over k l o_is, live_life over k l o_is) (ap (λ x. x ∷ []) (same k.id k.call.out l))
+
+or_itself : (e : Ended) → e ≡ option_or e e
+or_itself None = refl
+or_itself (Some x) = refl
+
+-- of one call, its deadline and what ended it
+abbrev life_of : CallId → Live → Ended → List TimedBranch → LifeValue
+life_of id l ended branches = record { id = id; deadline = l.asked.deadline; request_id = l.asked.request_id; ended = ended; branches = branches }
+
+reached_life : (now : ℕ) (id : CallId) (out : List Bool) (l : Live) → expires_life now (life_in none_over id out l) ≡ life_in (over_by (Reached now)) id out l
+reached_life now id out l =
+    ap (life_of id l (by_deadline now l.asked.deadline))
+    (timed_told (λ (b : TimedBranch). expires_branch now (ends_branch (by_deadline now l.asked.deadline) b)) (over_by (Reached now)) id l.asked.deadline (λ k at. refl) 0 (deadlines_in out l.deadlines))
+
+hung_life : (c : ℕ) (id : CallId) (out : List Bool) (l : Live) → ends_life (by_hang_up (id.conn == c)) (life_in none_over id out l) ≡ life_in (over_by (HungUp c)) id out l
+hung_life c id out l =
+    ap (λ b. ends_life (by_hang_up b) (life_in none_over id out l)) (sym_eqb id.conn c)
+    ∙ ap (life_of id l (by_hang_up (c == id.conn)))
+    (timed_told (ends_branch (by_hang_up (c == id.conn))) (over_by (HungUp c)) id l.asked.deadline
+    (λ k at. ap (λ e. record { branch = k; deadline = at; ended = e }) (or_itself (by_hang_up (c == id.conn)))) 0 (deadlines_in out l.deadlines))
+
+drained_life : (id : CallId) (out : List Bool) (l : Live) → ends_life (by_drain true) (life_in none_over id out l) ≡ life_in (over_by Drained) id out l
+drained_life id out l =
+    ap (life_of id l (by_drain true)) (timed_told (ends_branch (by_drain true)) (over_by Drained) id l.asked.deadline (λ k at. refl) 0 (deadlines_in out l.deadlines))
+
+-- what ended the connections' contexts, once this was told
+abbrev ends_told : Trigger → (ℕ → Ended) → ℕ → Ended
+ends_told (Reached now) e n = e n
+ends_told (HungUp c) e n = option_or (e n) (by_hang_up (n == c))
+ends_told Drained e n = option_or (e n) (by_drain true)
+
+-- what may end calls was told to their contexts, and noted
+told_as : (e : ℕ → Ended) (trigger : Trigger) (v : MachineValue) → told trigger (linked_by e none_over v) ≡ linked_by (ends_told trigger e) (over_by trigger) (noted trigger v)
+told_as e (Reached now) v = ap (contexts_value v.drained (linked_conns e v.conns)) (lives_told (expires_life now) (over_by (Reached now)) (reached_life now) v.calls)
+told_as e (HungUp c) v =
+    ap (λ ps. contexts_value v.drained ps (map (λ l. ends_life (by_hang_up (l.id.conn == c)) l) (linked_calls none_over v.calls))) (sym (hung_linked e c v.conns))
+    ∙ ap (contexts_value v.drained (linked_conns (ends_told (HungUp c) e) (map (hung_if c) v.conns)))
+    (lives_told (λ l. ends_life (by_hang_up (l.id.conn == c)) l) (over_by (HungUp c)) (hung_life c) v.calls)
+told_as e Drained v =
+    ap (λ ps. contexts_value true ps (map (λ l. ends_life (by_drain true) l) (linked_calls none_over v.calls))) (sym (drained_linked e v.conns))
+    ∙ ap (contexts_value true (linked_conns (ends_told Drained e) v.conns)) (lives_told (λ l. ends_life (by_drain true) l) (over_by Drained) drained_life v.calls)
+
+-- they are linked by what they tell themselves
+pub relinked : (e : ℕ → Ended) (over : Over) (v : MachineValue) (x : ContextsValue) → x ≡ linked_by e over v → x ≡ linked_by (ends_of x) over v
+relinked e over v x is = is ∙ ap (λ ps. contexts_value v.drained ps (linked_calls over v.calls)) (sym (relinked_conns e (by_drain v.drained) v.conns))
+    ∙ ap (λ (z : ContextsValue). linked_by (ends_of z) over v) (sym is)
+
+pub told_linked : (trigger : Trigger) (v : MachineValue) (x y : ContextsValue) → x ≡ linked x v → y ≡ told trigger x → y ≡ linked_by (ends_of y) (over_by trigger) (noted trigger v)
+told_linked trigger v x y x_is y_is = relinked (ends_told trigger (ends_of x)) (over_by trigger) (noted trigger v) y (y_is ∙ ap (told trigger) x_is ∙ told_as (ends_of x) trigger v)
+
+-- where no context has ended, no branch has before its call
+never_before : (over : Over) (id : CallId) (call : Option ℕ) (ds : List (Option ℕ)) → ((d : Option ℕ) → over id d ≡ None) → branch_before call (timed over id call 0 ds) ≡ None
+never_before over id call ds never = by (least_of ds) refl
+  where
+    by : (o : Option ℕ) → least_of ds ≡ o → branch_before call (timed over id call 0 ds) ≡ None
+    by None o_is = rw (least_first over id call 0 ds, o_is) refl
+    by (Some y) o_is = rw (least_first over id call 0 ds, o_is, never call, never (Some y)) refl
+
+-- the event that ends a call by this is the one that its contexts tell
+pub event_is : (trigger : Trigger) (moment : ℕ) (id : CallId) (out : List Bool) (l : Live) → IsNow trigger moment
+    → ending_at moment (life_in (over_by trigger) id out l) ≡ caused trigger id l.asked (deadlines_in out l.deadlines)
+event_is (Reached now) moment id out l is =
+    subst (λ m. event_of m (by_deadline now l.asked.deadline) (branch_before l.asked.deadline (timed (over_by (Reached now)) id l.asked.deadline 0 (deadlines_in out l.deadlines)))
+    ≡ due_by now l.asked.deadline (deadlines_in out l.deadlines)) is (moment_event now id l.asked.deadline (deadlines_in out l.deadlines))
+event_is (HungUp c) moment id out l is = ⊎_elim
+    (λ (its : (c == id.conn) ≡ true). rw its refl)
+    (λ (far : (c == id.conn) ≡ false).
+    ap (λ o. event_of moment (by_hang_up (c == id.conn)) o)
+    (never_before (over_by (HungUp c)) id l.asked.deadline (deadlines_in out l.deadlines) (λ d. ap by_hang_up far))
+    ∙ rw far refl)
+    (cases_Bool (c == id.conn))
+event_is Drained moment id out l is = refl
+
+-- by which event the contexts of a call that can be decided end it
+pub life_over : (over : Over) (moment : ℕ) (ks : List KeptValue) (i : ℕ) (l : Live) → LivesApart (linked_calls over ks) → (kept_at i ks).call.live ≡ Some l
+    → ending_life moment (kept_at i ks).id (linked_calls over ks) ≡ ending_at moment (life_in over (kept_at i ks).id (kept_at i ks).call.out l)
+life_over over moment [] i l apart is = cc
+life_over over moment (k ∷ ks) zero l apart is = rw (live_life over k l is, call_itself k.id) refl
+life_over over moment (k ∷ ks) (suc i) l apart is = by (λ tail. life_over over moment ks i l tail is) k.call.live refl
+  where
+    by : (LivesApart (linked_calls over ks) → ending_life moment (kept_at i ks).id (linked_calls over ks) ≡ ending_at moment (life_in over (kept_at i ks).id (kept_at i ks).call.out l)) → (o : Option Live) → k.call.live ≡ o
+        → ending_life moment (kept_at i ks).id (lives_in over k ++ linked_calls over ks) ≡ ending_at moment (life_in over (kept_at i ks).id (kept_at i ks).call.out l)
+    by rest None o_is = rw (dead_life over k o_is) (rest (subst (λ ls. LivesApart (ls ++ linked_calls over ks)) (dead_life over k o_is) apart))
+    by rest (Some m) o_is =
+        let two = subst (λ ls. LivesApart (ls ++ linked_calls over ks)) (live_life over k m o_is) apart in
+        let off : is_call k.id (kept_at i ks).id ≡ false = ⊎_elim
+        (λ (e : is_call k.id (kept_at i ks).id ≡ true).
+        let there : is_life (kept_at i ks).id (linked_calls over ks) ≡ true = live_linked over ks i l is in
+        let gone : is_life (kept_at i ks).id (linked_calls over ks) ≡ false = subst (λ d. is_life d (linked_calls over ks) ≡ false) (same_call k.id (kept_at i ks).id e) two.0 in
+        let clash : true ≡ false = sym there ∙ gone in cc)
+        (λ (n : is_call k.id (kept_at i ks).id ≡ false). n)
+        (cases_Bool (is_call k.id (kept_at i ks).id)) in
+        rw (live_life over k m o_is, off) (rest two.1)
+
+-- a call ends by its context as it does by the trigger
+pub ends_as : (trigger : Trigger) (event : Option CallEvent) (k : KeptValue) → ((l : Live) → k.call.live ≡ Some l → event ≡ caused trigger k.id l.asked (deadlines_in k.call.out l.deadlines))
+    → ends_with event k.call.out k.call.live ≡ ended_call trigger k.id k.call
+ends_as trigger event k its = by k.call.live its
+  where
+    by : (o : Option Live) → ((l : Live) → o ≡ Some l → event ≡ caused trigger k.id l.asked (deadlines_in k.call.out l.deadlines)) → ends_with event k.call.out o ≡ ended_if trigger k.id k.call.out o
+    by None its = refl
+    by (Some l) its = ap (λ q. ended_by q l k.call.out) (its l refl)
+
+pub ended_as : (trigger : Trigger) (event : Option CallEvent) (k : KeptValue) → ((l : Live) → k.call.live ≡ Some l → event ≡ caused trigger k.id l.asked (deadlines_in k.call.out l.deadlines)) → ended_with event k ≡ ended_kept trigger k
+ended_as trigger event k its = ap (λ (t : Step). record { id = k.id; call = t.call; reply = option_or t.reply k.reply }) (ends_as trigger event k its)
+
+-- the event that its context tells of a call at a place
+pub event_at : (trigger : Trigger) (moment : ℕ) (e : ℕ → Ended) (v : MachineValue) (c : ContextsValue) (i : ℕ) (x : KeptValue) → x ≡ kept_at i v.calls → IsNow trigger moment → LivesApart c.calls
+    → c ≡ linked_by e (over_by trigger) v → (l : Live) → x.call.live ≡ Some l → event_for moment x.id c ≡ caused trigger x.id l.asked (deadlines_in x.call.out l.deadlines)
+event_at trigger moment e v c i x x_is now apart c_is l l_is = subst (λ (k : KeptValue). k.call.live ≡ Some l → event_for moment k.id c ≡ caused trigger k.id l.asked (deadlines_in k.call.out l.deadlines)) (sym x_is)
+    (λ is. ap (λ (z : ContextsValue). event_for moment (kept_at i v.calls).id z) c_is
+    ∙ life_over (over_by trigger) moment v.calls i l (subst (λ (z : ContextsValue). LivesApart z.calls) c_is apart) is
+    ∙ event_is trigger moment (kept_at i v.calls).id (kept_at i v.calls).call.out l now) l_is
+
+-- where neither the call's context nor those of these branches have ended
+timed_alike : (over : Over) (id : CallId) (call : Option ℕ) (k : ℕ) (ds : List (Option ℕ)) → over id call ≡ None → All (λ d. over id d ≡ None) ds → timed over id call k ds ≡ timed none_over id call k ds
+timed_alike over id call k [] none all = refl
+timed_alike over id call k (None ∷ ds) none all = timed_alike over id call (suc k) ds none (All-tail (λ d. over id d ≡ None) None ds all)
+timed_alike over id call k (Some at ∷ ds) none all =
+    ap (λ e. record { branch = k; deadline = at; ended = option_or e (over id (Some at)) } ∷ timed over id call (suc k) ds) none
+    ∙ ap (λ e. record { branch = k; deadline = at; ended = e } ∷ timed over id call (suc k) ds) (All-head (λ d. over id d ≡ None) (Some at) ds all)
+    ∙ ap (λ bs. record { branch = k; deadline = at; ended = None } ∷ bs) (timed_alike over id call (suc k) ds none (All-tail (λ d. over id d ≡ None) (Some at) ds all))
+
+not_reached : (now : ℕ) (d : Option ℕ) → is_due now d ≡ false → by_deadline now d ≡ None
+not_reached now d n = rw n refl
+
+none_reached : (now : ℕ) (ds : List (Option ℕ)) → is_due now (least_of ds) ≡ false → All (λ d. by_deadline now d ≡ None) ds
+none_reached now [] n = All-nil (λ d. by_deadline now d ≡ None)
+none_reached now (d ∷ ds) n =
+    let two = or_parts (is_due now d) (is_due now (least_of ds)) (sym (due_smaller now d (least_of ds)) ∙ n) in
+    All-cons (λ d. by_deadline now d ≡ None) d ds (not_reached now d two.0) (none_reached now ds two.1)
+
+all_never : (over : Over) (id : CallId) → ((d : Option ℕ) → over id d ≡ None) → (ds : List (Option ℕ)) → All (λ d. over id d ≡ None) ds
+all_never over id never [] = All-nil (λ d. over id d ≡ None)
+all_never over id never (d ∷ ds) = All-cons (λ d. over id d ≡ None) d ds (never d) (all_never over id never ds)
+
+-- what ends no call has ended no context of it
+not_caused : (trigger : Trigger) (id : CallId) (out : List Bool) (l : Live) → caused trigger id l.asked (deadlines_in out l.deadlines) ≡ None → life_in (over_by trigger) id out l ≡ life_in none_over id out l
+not_caused (Reached now) id out l none = ⊎_elim
+    (λ (y : is_due now (smaller l.asked.deadline (least_of (deadlines_in out l.deadlines))) ≡ true).
+    let bad : Some (expiry now l.asked.deadline (deadlines_in out l.deadlines)) ≡ None = rw y at none in cc)
+    (λ (n : is_due now (smaller l.asked.deadline (least_of (deadlines_in out l.deadlines))) ≡ false).
+    let two = or_parts (is_due now l.asked.deadline) (is_due now (least_of (deadlines_in out l.deadlines))) (sym (due_smaller now l.asked.deadline (least_of (deadlines_in out l.deadlines))) ∙ n) in
+    ap (λ e. life_of id l e (timed (over_by (Reached now)) id l.asked.deadline 0 (deadlines_in out l.deadlines))) (not_reached now l.asked.deadline two.0)
+    ∙ ap (life_of id l None) (timed_alike (over_by (Reached now)) id l.asked.deadline 0 (deadlines_in out l.deadlines) (not_reached now l.asked.deadline two.0) (none_reached now (deadlines_in out l.deadlines) two.1)))
+    (cases_Bool (is_due now (smaller l.asked.deadline (least_of (deadlines_in out l.deadlines)))))
+not_caused (HungUp c) id out l none = ⊎_elim
+    (λ (y : (c == id.conn) ≡ true). let bad : Some HungUpNow ≡ None = rw y at none in cc)
+    (λ (n : (c == id.conn) ≡ false).
+    ap (λ e. life_of id l e (timed (over_by (HungUp c)) id l.asked.deadline 0 (deadlines_in out l.deadlines))) (ap by_hang_up n)
+    ∙ ap (life_of id l None) (timed_alike (over_by (HungUp c)) id l.asked.deadline 0 (deadlines_in out l.deadlines) (ap by_hang_up n)
+    (all_never (over_by (HungUp c)) id (λ d. ap by_hang_up n) (deadlines_in out l.deadlines))))
+    (cases_Bool (c == id.conn))
+not_caused Drained id out l none = cc
+
+-- of those that can be decided still, none has ended by it
+ended_one : (trigger : Trigger) (stopped : Bool) (k : KeptValue)
+    → lives_in (over_by trigger) (without_reply (ended_below trigger stopped true k)) ≡ lives_in none_over (without_reply (ended_below trigger stopped true k))
+ended_one trigger true k = refl
+ended_one trigger false k = by k.call.live refl
+  where
+    by : (o : Option Live) → k.call.live ≡ o → lives_in (over_by trigger) (without_reply (ended_kept trigger k)) ≡ lives_in none_over (without_reply (ended_kept trigger k))
+    by None o_is = rw o_is refl
+    by (Some l) o_is = on (caused trigger k.id l.asked (deadlines_in k.call.out l.deadlines)) refl
+      where
+        on : (q : Option CallEvent) → caused trigger k.id l.asked (deadlines_in k.call.out l.deadlines) ≡ q → lives_in (over_by trigger) (without_reply (ended_kept trigger k)) ≡ lives_in none_over (without_reply (ended_kept trigger k))
+        on None q_is = rw (o_is, q_is) (ap (λ x. x ∷ []) (not_caused trigger k.id k.call.out l q_is))
+        on (Some e) q_is = rw (o_is, q_is) refl
+
+pub not_over : (trigger : Trigger) (stop : CallId → Bool) (ks : List KeptValue)
+    → linked_calls (over_by trigger) (map (λ k. without_reply (ended_below trigger (stop k.id) true k)) ks) ≡ linked_calls none_over (map (λ k. without_reply (ended_below trigger (stop k.id) true k)) ks)
+not_over trigger stop [] = refl
+not_over trigger stop (k ∷ ks) =
+    ap (λ ls. ls ++ linked_calls (over_by trigger) (map (λ (m : KeptValue). without_reply (ended_below trigger (stop m.id) true m)) ks)) (ended_one trigger (stop k.id) k)
+    ∙ ap (λ ls. lives_in none_over (without_reply (ended_below trigger (stop k.id) true k)) ++ ls) (not_over trigger stop ks)

@@ -1,0 +1,309 @@
+-- The hooks of connections and of calls, beside their contexts.
+use Rattle.std.proofs.Common.{◌≡◌, ℕ, ◌<◌, zero, suc, refl, sym, ap, ◌∙◌, List, [], ◌∷◌, ◌++◌, Option, Some, None, true, false, ⊎_elim, subst, map, length, arith}
+use Rattle.std.specs.Prelude.{IfNone, IfOk, IfSome, OnErr, Result, Ok, Err, ◌==◌, ◌||◌, not, if◌then◌else◌, filter, slice_set, slice_index_or}
+use Rattle.std.specs.List.{list_any}
+use Rattle.std.proofs.lemmas.Bool.{cases_Bool, eqb-true}
+use Rattle.std.proofs.lemmas.List.{map_push}
+use Rattle.std.proofs.lemmas.Option.{same_Some}
+use Rattle.context_tree.specs.Context.{Id, same}
+use Rattle.call_contexts.specs.Standing.{AreApart, WithHooks, with_standing, hook_for, is_call as is_standing}
+use Rattle.gateway_model.specs.declared.id.CallId.{CallId}
+use Rattle.gateway_model.specs.Past.{is_call}
+use Rattle.gateway_theory.specs.lemmas.Cases.{all_stay, sym_eqb}
+use Rattle.gateway_theory.specs.lemmas.LimitLemmas.{same_call}
+use Rattle.gateway_replies.specs.declared.contexts.peer.Peer.{Peer}
+use Rattle.gateway_replies.specs.declared.contexts.cancelled.CancelledBy.{CancelledBy}
+use Rattle.gateway_replies.specs.declared.contexts.life.Life.{Life}
+use Rattle.gateway_replies.specs.Contexts.{AllContexts, AreTied, CallContext, ContextsValue, Lives, NoTwo, Peers, ctx_for, ctx_of, first_of, same_id}
+use Rattle.gateway_replies.specs.Hooks.{BringsHooks, DropsHook, DropsHooks, HookedContexts, Hooks, KeepsHooks, KeepsStocks, Stocks, TakesHook, hook_of, hooked, hooks_but, hooks_of_others, stock_of}
+use Rattle.gateway_replies.specs.Ties.{AreHooked, Takes, hooks_of, life_tie, life_ties, peer_ties, stock_tie, stock_ties}
+use Rattle.gateway_replies.proofs.ListLemmas.{any_map, filter_map_both, same_itself, same_true}
+use Rattle.gateway_replies.proofs.PeerLemmas.{first_same, rest_same}
+use Rattle.gateway_replies.proofs.ContextLemmas.{no_ctx_for, stands_in}
+
+-- ---- the hooks of calls
+
+-- the first call of a connection is one of it
+pub first_of_it : (number : ℕ) (ls : Lives) (id : CallId) → first_of number ls ≡ Some id → (id.conn == number) ≡ true
+first_of_it number [] id is = cc
+first_of_it number (l ∷ ls) id is = ⊎_elim
+    (λ (y : (l.0.conn == number) ≡ true). ap (λ (k : CallId). k.conn == number) (sym (same_Some l.0 id (rw y at is))) ∙ y)
+    (λ (n : (l.0.conn == number) ≡ false). first_of_it number ls id (rw n at is))
+    (cases_Bool (l.0.conn == number))
+
+module _ {V : Type 0} where
+  -- as many contexts as calls have this one
+  as_tied : (ps : Peers) (ls : Lives) (cs : List (CallContext V)) (x : Id) → AreTied ps ls cs → list_any (λ (c : CallContext V). same c.id x) cs ≡ list_any (λ (l : CallId × Id). same l.1 x) ls
+  as_tied ps [] [] x tied = refl
+  as_tied ps [] (c ∷ cs) x tied = absurd tied
+  as_tied ps (l ∷ ls) [] x tied = absurd tied
+  as_tied ps (l ∷ ls) (c ∷ cs) x tied = ap (λ z. same z x || list_any (λ (d : CallContext V). same d.id x) cs) tied.0
+      ∙ ap (λ b. same l.1 x || b) (as_tied ps ls cs x tied.2)
+
+  -- the context of another call is another one
+  far_from : (ps : Peers) (ls : Lives) (cs : List (CallContext V)) (c : CallContext V) (id : CallId) (x : Id) → AreTied ps ls cs → is_standing c.id cs ≡ false → ctx_for id ls ≡ Some x → same c.id x ≡ false
+  far_from ps ls cs c id x tied apart there = ⊎_elim
+      (λ (e : same c.id x ≡ true).
+      let bad : is_standing x cs ≡ false = subst (λ z. is_standing z cs ≡ false) (same_true c.id x e) apart in
+      let clash : true ≡ false = sym (stands_in ps ls cs id x tied there) ∙ bad in cc)
+      (λ (f : same c.id x ≡ false). f)
+      (cases_Bool (same c.id x))
+
+module _ {H : Type 0} where
+  -- one that is not there stays away
+  hook_in : (id : CallId) (ls : Lives) (hs : List (Id × H)) → AreHooked ls hs → list_any (λ h. is_call h.0 id) (hooks_of ls hs) ≡ list_any (λ l. is_call l.0 id) ls
+  hook_in id [] hs hooked = refl
+  hook_in id (l ∷ ls) [] hooked = cc
+  hook_in id (l ∷ ls) (h ∷ hs) hooked = ap (λ b. is_call l.0 id || b) (hook_in id ls hs (rest_same _ _ _ _ hooked))
+
+  -- a call begins with a hook
+  pub hooked_more : (ls : Lives) (hs : List (Id × H)) (l : CallId × Id) (hook : H) → AreHooked ls hs → AreHooked (ls ++ l ∷ []) (hs ++ (l.1, hook) ∷ [])
+  hooked_more ls hs l hook hooked = map_push (λ (h : Id × H). h.0) hs (l.1, hook) ∙ ap (λ ids. ids ++ l.1 ∷ []) hooked ∙ sym (map_push (λ (m : CallId × Id). m.1) ls l)
+
+  pub hooks_more : (ls : Lives) (hs : List (Id × H)) (l : CallId × Id) (hook : H) → AreHooked ls hs → hooks_of (ls ++ l ∷ []) (hs ++ (l.1, hook) ∷ []) ≡ hooks_of ls hs ++ (l.0, hook) ∷ []
+  hooks_more [] [] l hook hooked = refl
+  hooks_more [] (h ∷ hs) l hook hooked = cc
+  hooks_more (m ∷ ms) [] l hook hooked = cc
+  hooks_more (m ∷ ms) (h ∷ hs) l hook hooked = ap (λ xs. (m.0, h.1) ∷ xs) (hooks_more ms hs l hook (rest_same _ _ _ _ hooked))
+
+  none_hooked_there : {V : Type 0} (ps : Peers) (ls : Lives) (cs : List (CallContext V)) (hs : List (Id × H)) (x : Id) → AreTied ps ls cs → AreHooked ls hs
+      → list_any (λ (c : CallContext V). same c.id x) cs ≡ false → list_any (λ (h : Id × H). same h.0 x) hs ≡ false
+  none_hooked_there ps ls cs hs x tied hooked none = sym (any_map (λ z. same z x) (λ (h : Id × H). h.0) hs) ∙ ap (list_any (λ z. same z x)) hooked
+      ∙ any_map (λ z. same z x) (λ (l : CallId × Id). l.1) ls ∙ sym (as_tied ps ls cs x tied) ∙ none
+
+  -- without the call
+  pub hooks_less : {V : Type 0} (ps : Peers) (ls : Lives) (cs : List (CallContext V)) (hs : List (Id × H)) (id : CallId) (x : Id) → AreTied ps ls cs → AreApart cs → NoTwo same_id ls → AreHooked ls hs
+      → ctx_for id ls ≡ Some x
+      → AreHooked (filter (λ l. not (is_call l.0 id)) ls) (filter (λ h. not (same h.0 x)) hs)
+      × (hooks_of (filter (λ l. not (is_call l.0 id)) ls) (filter (λ h. not (same h.0 x)) hs) ≡ hooks_but id (hooks_of ls hs))
+  hooks_less ps [] cs hs id x tied apart calls hooked is = cc
+  hooks_less ps (l ∷ ls) [] hs id x tied apart calls hooked is = absurd tied
+  hooks_less ps (l ∷ ls) (c ∷ cs) [] id x tied apart calls hooked is = cc
+  hooks_less {V = V} ps (l ∷ ls) (c ∷ cs) (h ∷ hs) id x tied apart calls hooked is = ⊎_elim
+      (λ (y : is_call l.0 id ≡ true).
+      let id_is : l.0 ≡ id = same_call l.0 id y in
+      let x_is : l.1 ≡ x = same_Some l.1 x (rw y at is) in
+      let its : same h.0 x ≡ true = ap (λ z. same z x) (first_same _ _ _ _ hooked ∙ x_is) ∙ same_itself x in
+      let no_call : list_any (λ (m : CallId × Id). is_call m.0 id) ls ≡ false = subst (λ k. list_any (λ (m : CallId × Id). is_call m.0 k) ls ≡ false) id_is calls.0 in
+      let no_ctx : list_any (λ (d : CallContext V). same d.id x) cs ≡ false = subst (λ z. list_any (λ (d : CallContext V). same d.id z) cs ≡ false) (tied.0 ∙ x_is) apart.0 in
+      let no_hook : list_any (λ (k : Id × H). same k.0 x) hs ≡ false = none_hooked_there ps ls cs hs x tied.2 (rest_same _ _ _ _ hooked) no_ctx in
+      let ls_are : filter (λ (m : CallId × Id). not (is_call m.0 id)) ls ≡ ls = all_stay (λ (m : CallId × Id). is_call m.0 id) ls no_call in
+      let hs_are : filter (λ (k : Id × H). not (same k.0 x)) hs ≡ hs = all_stay (λ (k : Id × H). same k.0 x) hs no_hook in
+      let stays : filter (λ (k : CallId × H). not (is_call k.0 id)) (hooks_of ls hs) ≡ hooks_of ls hs =
+      all_stay (λ (k : CallId × H). is_call k.0 id) (hooks_of ls hs) (hook_in id ls hs (rest_same _ _ _ _ hooked) ∙ no_call) in
+      rw (y, its, ls_are, hs_are, stays) (rest_same _ _ _ _ hooked, refl))
+      (λ (n : is_call l.0 id ≡ false).
+      let there : ctx_for id ls ≡ Some x = rw n at is in
+      let far : same h.0 x ≡ false = ap (λ z. same z x) (first_same _ _ _ _ hooked ∙ sym tied.0) ∙ far_from ps ls cs c id x tied.2 apart.0 there in
+      let rest = hooks_less ps ls cs hs id x tied.2 apart.1 calls.1 (rest_same _ _ _ _ hooked) there in
+      rw (n, far) (
+        ap (λ ids. h.0 ∷ ids) rest.0 ∙ ap (λ i. i ∷ map (λ (m : CallId × Id). m.1) (filter (λ (m : CallId × Id). not (is_call m.0 id)) ls)) (first_same _ _ _ _ hooked),
+        ap (λ k. (l.0, h.1) ∷ k) rest.1,
+      ))
+      (cases_Bool (is_call l.0 id))
+
+  -- the hook on the context of a call is the call's
+  pub its_hook : {V : Type 0} (ps : Peers) (ls : Lives) (cs : List (CallContext V)) (hs : List (Id × H)) (id : CallId) (x : Id) → AreTied ps ls cs → AreApart cs → AreHooked ls hs
+      → ctx_for id ls ≡ Some x → hook_for x hs ≡ hook_of id (hooks_of ls hs)
+  its_hook ps [] cs hs id x tied apart hooked is = cc
+  its_hook ps (l ∷ ls) [] hs id x tied apart hooked is = absurd tied
+  its_hook ps (l ∷ ls) (c ∷ cs) [] id x tied apart hooked is = cc
+  its_hook {V = V} ps (l ∷ ls) (c ∷ cs) (h ∷ hs) id x tied apart hooked is = ⊎_elim
+      (λ (y : is_call l.0 id ≡ true).
+      let its : same h.0 x ≡ true = ap (λ z. same z x) (first_same _ _ _ _ hooked ∙ same_Some l.1 x (rw y at is)) ∙ same_itself x in
+      rw (y, its) refl)
+      (λ (n : is_call l.0 id ≡ false).
+      let there : ctx_for id ls ≡ Some x = rw n at is in
+      let far : same h.0 x ≡ false = ap (λ z. same z x) (first_same _ _ _ _ hooked ∙ sym tied.0) ∙ far_from ps ls cs c id x tied.2 apart.0 there in
+      rw (n, far) (its_hook ps ls cs hs id x tied.2 apart.1 (rest_same _ _ _ _ hooked) there))
+      (cases_Bool (is_call l.0 id))
+
+  -- without one of the connection's calls the hooks of others are the same
+  pub same_hooks : (number : ℕ) (id : CallId) (hooks : Hooks H) → (id.conn == number) ≡ true → hooks_of_others number (hooks_but id hooks) ≡ hooks_of_others number hooks
+  same_hooks number id [] its = refl
+  same_hooks number id (h ∷ hs) its = ⊎_elim
+      (λ (y : is_call h.0 id ≡ true).
+      let off : (h.0.conn == number) ≡ true = ap (λ (k : CallId). k.conn == number) (same_call h.0 id y) ∙ its in
+      rw (y, off) (same_hooks number id hs its))
+      (λ (n : is_call h.0 id ≡ false). rw n (ap (λ k. if not (h.0.conn == number) then h ∷ k else k) (same_hooks number id hs its)))
+      (cases_Bool (is_call h.0 id))
+
+  -- of a connection without calls none has a hook
+  pub hooks_stay : (number : ℕ) (ls : Lives) (hs : List (Id × H)) → first_of number ls ≡ None → hooks_of ls hs ≡ hooks_of_others number (hooks_of ls hs)
+  hooks_stay number [] hs none = refl
+  hooks_stay number (l ∷ ls) [] none = refl
+  hooks_stay number (l ∷ ls) (h ∷ hs) none = ⊎_elim
+      (λ (y : (l.0.conn == number) ≡ true). let bad : Some l.0 ≡ None = rw y at none in cc)
+      (λ (n : (l.0.conn == number) ≡ false). rw n (ap (λ k. (l.0, h.1) ∷ k) (hooks_stay number ls hs (rw n at none))))
+      (cases_Bool (l.0.conn == number))
+
+  -- a call that has no hook loses none
+  pub no_hook_but : (id : CallId) (ls : Lives) (hs : List (Id × H)) → AreHooked ls hs → list_any (λ l. is_call l.0 id) ls ≡ false → hooks_of ls hs ≡ hooks_but id (hooks_of ls hs)
+  no_hook_but id ls hs hooked none = sym (all_stay (λ (k : CallId × H). is_call k.0 id) (hooks_of ls hs) (hook_in id ls hs hooked ∙ none))
+
+-- ---- the hooks that connections have
+
+-- none of the first so many is of that number
+abbrev pub AreOthers : {H : Type 0} → ℕ → ℕ → List (Peer H) → Type 0
+AreOthers number zero ps = Unit {0}
+AreOthers number (suc i) [] = Unit {0}
+AreOthers number (suc i) (p ∷ ps) = ((p.number == number) ≡ false) × AreOthers number i ps
+
+module _ {H : Type 0} where
+  -- what stands at a place does not hang on what would stand for none
+  pub same_at : (i : ℕ) (ps : List (Peer H)) (x y : Peer H) → i < length ps → slice_index_or ps i x ≡ slice_index_or ps i y
+  same_at i [] x y low = absurd (omega (arith, low))
+  same_at zero (p ∷ ps) x y low = refl
+  same_at (suc i) (p ∷ ps) x y low = same_at i ps x y (omega (arith, low))
+
+  pub one_more_other : (number i : ℕ) (ps : List (Peer H)) (x : Peer H) → AreOthers number i ps → ((slice_index_or ps i x).number == number) ≡ false → AreOthers number (suc i) ps
+  one_more_other number i [] x others none = tt
+  one_more_other number zero (p ∷ ps) x others none = (none, tt)
+  one_more_other number (suc i) (p ∷ ps) x others none = (others.0, one_more_other number i ps x others.1 none)
+
+  -- the one at that place has other hooks then
+  pub stock_set : (number i : ℕ) (ps : List (Peer H)) (p q : Peer H) → i < length ps → p ≡ slice_index_or ps i p → (p.number == number) ≡ true → q.number ≡ p.number → AreOthers number i ps
+      → (stock_of number (stock_ties ps) ≡ p.stock) × (stock_of number (stock_ties (slice_set ps i q)) ≡ q.stock) × KeepsStocks number (stock_ties ps) (stock_ties (slice_set ps i q))
+  stock_set number i [] p q low is its same others = absurd (omega (arith, low))
+  stock_set number zero (r ∷ ps) p q low is its same others = (
+    ap (λ (z : Peer H). stock_of number (stock_ties (z ∷ ps))) (sym is) ∙ rw its refl,
+    rw (same, its) refl,
+    λ other ne.
+        let p_off : (p.number == other) ≡ false = ap (λ k. k == other) (eqb-true p.number number its) ∙ sym_eqb number other ∙ ne in
+        let q_off : (q.number == other) ≡ false = ap (λ k. k == other) same ∙ p_off in
+        let r_off : (r.number == other) ≡ false = ap (λ (z : Peer H). z.number == other) (sym is) ∙ p_off in
+        rw (q_off, r_off) refl,
+  )
+  stock_set number (suc i) (r ∷ ps) p q low is its same others =
+      let rest = stock_set number i ps p q (omega (arith, low)) is its same others.1 in (
+        rw others.0 rest.0,
+        rw others.0 rest.1,
+        λ other ne. ap (λ s. if r.number == other then r.stock else s) (rest.2 other ne),
+      )
+
+  set_same : (i : ℕ) (ps : List (Peer H)) (p q : Peer H) → p ≡ slice_index_or ps i p → q.number ≡ p.number → q.stock ≡ p.stock → stock_ties (slice_set ps i q) ≡ stock_ties ps
+  set_same i [] p q is number_is stock_is = refl
+  set_same zero (r ∷ ps) p q is number_is stock_is = ap (λ n. (n, q.stock) ∷ stock_ties ps) number_is ∙ ap (λ s. (p.number, s) ∷ stock_ties ps) stock_is ∙ ap (λ (z : Peer H). stock_ties (z ∷ ps)) is
+  set_same (suc i) (r ∷ ps) p q is number_is stock_is = ap (λ ss. stock_tie r ∷ ss) (set_same i ps p q is number_is stock_is)
+
+  -- the first hook of the one at that place is taken
+  pub taken_at : (number i : ℕ) (ps : List (Peer H)) (p q : Peer H) (r : Option H) → i < length ps → p ≡ slice_index_or ps i p → (p.number == number) ≡ true → q.number ≡ p.number
+      → AreOthers number i ps → IfSome r (λ h. p.stock ≡ h ∷ q.stock) → IfNone r ((p.stock ≡ []) × (q.stock ≡ [])) → Takes number r (stock_ties ps) (stock_ties (slice_set ps i q))
+  taken_at number i ps p q (Some hook) low is its same others first none =
+      let set = stock_set number i ps p q low is its same others in (
+        set.0 ∙ first ∙ ap (λ s. hook ∷ s) (sym set.1),
+        set.2,
+      )
+  taken_at number i ps p q None low is its same others first none = (
+    (stock_set number i ps p q low is its same others).0 ∙ none.0,
+    set_same i ps p q is same (none.1 ∙ sym none.0),
+  )
+
+  -- none is of that number
+  pub no_stock : (number : ℕ) (ps : List (Peer H)) → AreOthers number (length ps) ps → stock_of number (stock_ties ps) ≡ []
+  no_stock number [] others = refl
+  no_stock number (p ∷ ps) others = rw others.0 (no_stock number ps others.1)
+
+  pub stocks_less : (number : ℕ) (ps : List (Peer H)) → stock_ties (filter (λ p. not (p.number == number)) ps) ≡ filter (λ s. not (s.0 == number)) (stock_ties ps)
+  stocks_less number ps = filter_map_both (λ (s : ℕ × List H). not (s.0 == number)) stock_tie ps
+
+  -- a connection that is not there takes no hooks along
+  pub stocks_stay : (number : ℕ) (ps : List (Peer H)) → list_any (λ (s : ℕ × List H). s.0 == number) (stock_ties ps) ≡ false → stock_ties ps ≡ filter (λ s. not (s.0 == number)) (stock_ties ps)
+  stocks_stay number ps none = sym (all_stay (λ (s : ℕ × List H). s.0 == number) (stock_ties ps) none)
+
+-- ---- what becomes of them, as the code keeps them
+
+module _ {H : Type 0} where
+  pub still_hooked : (ls : Lives) (hs is : List (Id × H)) → is ≡ hs → AreHooked ls hs → AreHooked ls is
+  still_hooked ls hs is e hooked = ap (map (λ (h : Id × H). h.0)) e ∙ hooked
+
+  pub keeps : (u : HookedContexts H) (x y : ContextsValue) (ps : List (Peer H)) (ls : Lives) (hs is : List (Id × H)) → hooked x (stock_ties ps) (hooks_of ls hs) ≡ u → is ≡ hs
+      → KeepsHooks u (hooked y (stock_ties ps) (hooks_of ls is))
+  keeps u x y ps ls hs is u_is e = record {
+    stocks_are = ap (λ (v : HookedContexts H). v.stocks) u_is;
+    hooks_are = ap (hooks_of ls) e ∙ ap (λ (v : HookedContexts H). v.hooks) u_is;
+  }
+
+  pub brings : (u : HookedContexts H) (x y : ContextsValue) (ps more : List (Peer H)) (p : Peer H) (ls : Lives) (hs is : List (Id × H)) → hooked x (stock_ties ps) (hooks_of ls hs) ≡ u → is ≡ hs
+      → more ≡ ps ++ p ∷ [] → BringsHooks p.number p.stock u (hooked y (stock_ties more) (hooks_of ls is))
+  brings u x y ps more p ls hs is u_is e more_is = record {
+    stocks_are = ap stock_ties more_is ∙ map_push stock_tie ps p ∙ ap (λ (v : HookedContexts H). v.stocks ++ (p.number, p.stock) ∷ []) u_is;
+    hooks_are = ap (hooks_of ls) e ∙ ap (λ (v : HookedContexts H). v.hooks) u_is;
+  }
+
+  pub begun_hooked : (lives more : List Life) (hs is : List (Id × H)) (l : Life) (hook : H) → AreHooked (life_ties lives) hs → more ≡ lives ++ l ∷ [] → is ≡ hs ++ (l.ctx, hook) ∷ []
+      → AreHooked (life_ties more) is
+  begun_hooked lives more hs is l hook hooked more_is is_is =
+      subst (λ ls. AreHooked ls is) (sym (ap life_ties more_is ∙ map_push life_tie lives l))
+      (still_hooked (life_ties lives ++ life_tie l ∷ []) (hs ++ (l.ctx, hook) ∷ []) is is_is (hooked_more (life_ties lives) hs (life_tie l) hook hooked))
+
+  pub takes_one : (u : HookedContexts H) (x y : ContextsValue) (ps qs : List (Peer H)) (lives more : List Life) (hs is : List (Id × H)) (l : Life) (hook : H)
+      → hooked x (stock_ties ps) (hooks_of (life_ties lives) hs) ≡ u → stock_of l.id.conn (stock_ties ps) ≡ hook ∷ stock_of l.id.conn (stock_ties qs) → AreHooked (life_ties lives) hs
+      → more ≡ lives ++ l ∷ [] → is ≡ hs ++ (l.ctx, hook) ∷ [] → TakesHook l.id u (hooked y (stock_ties qs) (hooks_of (life_ties more) is))
+  takes_one u x y ps qs lives more hs is l hook u_is first hooked more_is is_is = record {
+    hook = hook;
+    first = sym (ap (λ (v : HookedContexts H). stock_of l.id.conn v.stocks) u_is) ∙ first;
+    hooks_are = ap (λ ls. hooks_of ls is) (ap life_ties more_is ∙ map_push life_tie lives l) ∙ ap (hooks_of (life_ties lives ++ life_tie l ∷ [])) is_is
+        ∙ hooks_more (life_ties lives) hs (life_tie l) hook hooked ∙ ap (λ (v : HookedContexts H). v.hooks ++ (l.id, hook) ∷ []) u_is;
+  }
+
+  pub gone_hooked : {V : Type 0} (ps : Peers) (lives left : List Life) (cs : List (CallContext V)) (hs is : List (Id × H)) (id : CallId) (x : Id) → AreTied ps (life_ties lives) cs → AreApart cs
+      → NoTwo same_id (life_ties lives) → AreHooked (life_ties lives) hs → ctx_for id (life_ties lives) ≡ Some x → left ≡ filter (λ l. not (is_call l.id id)) lives
+      → is ≡ filter (λ h. not (same h.0 x)) hs → AreHooked (life_ties left) is
+  gone_hooked ps lives left cs hs is id x tied apart calls hooked at left_is is_is =
+      subst (λ ls. AreHooked ls is) (sym (ap life_ties left_is ∙ filter_map_both (λ (t : CallId × Id). not (is_call t.0 id)) life_tie lives))
+      (still_hooked (filter (λ (t : CallId × Id). not (is_call t.0 id)) (life_ties lives)) (filter (λ (h : Id × H). not (same h.0 x)) hs) is is_is (hooks_less ps (life_ties lives) cs hs id x tied apart calls hooked at).0)
+
+  pub drops_one : {V : Type 0} (u : HookedContexts H) (y z : ContextsValue) (peers : List (Peer H)) (ps : Peers) (lives left : List Life) (cs : List (CallContext V)) (hs is : List (Id × H)) (id : CallId) (x : Id)
+      → hooked y (stock_ties peers) (hooks_of (life_ties lives) hs) ≡ u → AreTied ps (life_ties lives) cs → AreApart cs → NoTwo same_id (life_ties lives) → AreHooked (life_ties lives) hs
+      → ctx_for id (life_ties lives) ≡ Some x → left ≡ filter (λ l. not (is_call l.id id)) lives → is ≡ filter (λ h. not (same h.0 x)) hs
+      → DropsHook id u (hooked z (stock_ties peers) (hooks_of (life_ties left) is))
+  drops_one u y z peers ps lives left cs hs is id x u_is tied apart calls hooked at left_is is_is = record {
+    stocks_are = ap (λ (v : HookedContexts H). v.stocks) u_is;
+    hooks_are = ap (λ ls. hooks_of ls is) (ap life_ties left_is ∙ filter_map_both (λ (t : CallId × Id). not (is_call t.0 id)) life_tie lives)
+        ∙ ap (hooks_of (filter (λ (t : CallId × Id). not (is_call t.0 id)) (life_ties lives))) is_is ∙ (hooks_less ps (life_ties lives) cs hs id x tied apart calls hooked at).1
+        ∙ ap (λ (v : HookedContexts H). hooks_but id v.hooks) u_is;
+  }
+
+  pub drops_none : (u : HookedContexts H) (y : ContextsValue) (ss : Stocks H) (ls : Lives) (hs : List (Id × H)) (id : CallId) → hooked y ss (hooks_of ls hs) ≡ u → AreHooked ls hs
+      → ctx_for id ls ≡ None → DropsHook id u u
+  drops_none u y ss ls hs id u_is hooked none = record {
+    stocks_are = refl;
+    hooks_are = subst (λ (v : HookedContexts H). v.hooks ≡ hooks_but id v.hooks) u_is (no_hook_but id ls hs hooked (no_ctx_for id ls none));
+  }
+
+  pub calls_hook : {V : Type 0} (u : HookedContexts H) (y : ContextsValue) (ss : Stocks H) (ps : Peers) (ls : Lives) (cs : List (CallContext V)) (hs : List (Id × H)) (id : CallId) (x : Id) (hook : H)
+      → hooked y ss (hooks_of ls hs) ≡ u → AreTied ps ls cs → AreApart cs → AreHooked ls hs → ctx_for id ls ≡ Some x → hook_of id u.hooks ≡ Some hook → hook_for x hs ≡ Some hook
+  calls_hook u y ss ps ls cs hs id x hook u_is tied apart hooked at its = its_hook ps ls cs hs id x tied apart hooked at ∙ ap (λ (v : HookedContexts H). hook_of id v.hooks) u_is ∙ its
+
+  -- a connection goes of which no call has a context
+  pub drops_its : (u : HookedContexts H) (y z : ContextsValue) (peers left : List (Peer H)) (ls : Lives) (hs is : List (Id × H)) (number : ℕ) → hooked y (stock_ties peers) (hooks_of ls hs) ≡ u
+      → left ≡ filter (λ p. not (p.number == number)) peers → is ≡ hs → first_of number ls ≡ None → DropsHooks number u (hooked z (stock_ties left) (hooks_of ls is))
+  drops_its u y z peers left ls hs is number u_is left_is is_is none = record {
+    stocks_are = ap stock_ties left_is ∙ stocks_less number peers ∙ ap (λ (v : HookedContexts H). filter (λ s. not (s.0 == number)) v.stocks) u_is;
+    hooks_are = ap (hooks_of ls) is_is ∙ hooks_stay number ls hs none ∙ ap (λ (v : HookedContexts H). hooks_of_others number v.hooks) u_is;
+  }
+
+  no_peer : (number : ℕ) (peers : List (Peer H)) → ctx_of number (peer_ties peers) ≡ None → list_any (λ (s : ℕ × List H). s.0 == number) (stock_ties peers) ≡ false
+  no_peer number [] none = refl
+  no_peer number (p ∷ ps) none = ⊎_elim
+      (λ (y : (p.number == number) ≡ true). let bad : Some p.ctx ≡ None = rw y at none in cc)
+      (λ (n : (p.number == number) ≡ false). rw n (no_peer number ps (rw n at none)))
+      (cases_Bool (p.number == number))
+
+  pub drops_nothing : (u : HookedContexts H) (y : ContextsValue) (peers : List (Peer H)) (ls : Lives) (hs : List (Id × H)) (number : ℕ) → hooked y (stock_ties peers) (hooks_of ls hs) ≡ u
+      → ctx_of number (peer_ties peers) ≡ None → first_of number ls ≡ None → DropsHooks number u u
+  drops_nothing u y peers ls hs number u_is no_conn none = record {
+    stocks_are = subst (λ (v : HookedContexts H). v.stocks ≡ filter (λ s. not (s.0 == number)) v.stocks) u_is (stocks_stay number peers (no_peer number peers no_conn));
+    hooks_are = subst (λ (v : HookedContexts H). v.hooks ≡ hooks_of_others number v.hooks) u_is (hooks_stay number ls hs none);
+  }
+
+-- where a branch has its context, and where memory was refused, the hooks stay
+module _ {V H : Type 0} where
+  pub same_hooks_then : {A E : Type 0} (v w : WithHooks CancelledBy V H) (r : Result A E) (standing : AllContexts V) → IfOk r (λ _. w ≡ with_standing standing v) → OnErr r (w ≡ v) → w.hooks ≡ v.hooks
+  same_hooks_then v w (Ok a) standing made refused = ap (λ (y : WithHooks CancelledBy V H). y.hooks) made
+  same_hooks_then v w (Err e) standing made refused = ap (λ (y : WithHooks CancelledBy V H). y.hooks) refused
+
+  pub started_hooked : {A E : Type 0} (ls : Lives) (v w : WithHooks CancelledBy V H) (r : Result A E) (standing : AllContexts V) → IfOk r (λ _. w ≡ with_standing standing v) → OnErr r (w ≡ v)
+      → AreHooked ls v.hooks → AreHooked ls w.hooks
+  started_hooked ls v w r standing made refused hooked = still_hooked ls v.hooks w.hooks (same_hooks_then v w r standing made refused) hooked

@@ -1,0 +1,56 @@
+-- The least deadline of the contexts is the one by which they are due.
+use Rattle.std.proofs.Common.{◌≡◌, ℕ, ◌≤◌, refl, sym, ap, ◌∙◌, List, [], ◌∷◌, Option, Some, None, Bool, true, false, map, arith}
+use Rattle.std.specs.Prelude.{IfSome, ◌||◌, ◌&&◌, All, is_none, nat_le, if◌then◌else◌}
+use Rattle.std.specs.List.{list_any}
+use Rattle.std.specs.Option.{option_map_or}
+use Rattle.call_contexts.specs.Standing.{AreNoSooner, IsNoSooner, has_deadline}
+use Rattle.gateway_model.specs.Past.{is_due, least_of}
+use Rattle.gateway_replies.specs.Contexts.{AreTied, CallContext, Ended, LifeValue, Lives, Peers, TimedBranch, has_due, lives_of}
+use Rattle.gateway_replies.specs.Least.{branch_deadline, first_deadline, life_deadline}
+use Rattle.gateway_replies.proofs.ToldLemmas.{any_due, due_is}
+use Rattle.gateway_theory.specs.lemmas.Deadlines.{due_smaller}
+
+one_due : (m : ℕ) (ended : Ended) (d : Option ℕ) → is_due m (if is_none ended then d else None) ≡ (is_none ended && is_due m d)
+one_due m None d = refl
+one_due m (Some e) d = refl
+
+branches_due : (m : ℕ) (bs : List TimedBranch) → is_due m (least_of (map branch_deadline bs)) ≡ any_due m bs
+branches_due m [] = refl
+branches_due m (b ∷ bs) =
+    due_smaller m (branch_deadline b) (least_of (map branch_deadline bs))
+    ∙ ap (λ x. x || is_due m (least_of (map branch_deadline bs))) (one_due m b.ended (Some b.deadline))
+    ∙ ap (λ y. (is_none b.ended && nat_le b.deadline m) || y) (branches_due m bs)
+
+life_due : (m : ℕ) (l : LifeValue) → is_due m (life_deadline l) ≡ has_due m l
+life_due m l =
+    due_smaller m (if is_none l.ended then l.deadline else None) (least_of (map branch_deadline l.branches))
+    ∙ ap (λ x. x || is_due m (least_of (map branch_deadline l.branches))) (one_due m l.ended l.deadline)
+    ∙ ap (λ y. (is_none l.ended && is_due m l.deadline) || y) (branches_due m l.branches)
+
+lives_due : (m : ℕ) (ls : List LifeValue) → is_due m (first_deadline ls) ≡ list_any (has_due m) ls
+lives_due m [] = refl
+lives_due m (l ∷ ls) =
+    due_smaller m (life_deadline l) (first_deadline ls)
+    ∙ ap (λ x. x || is_due m (first_deadline ls)) (life_due m l)
+    ∙ ap (λ y. has_due m l || y) (lives_due m ls)
+
+-- two that each moment has reached alike are the same
+same_due : (a b : Option ℕ) → ((m : ℕ) → is_due m a ≡ is_due m b) → a ≡ b
+same_due None None alike = refl
+same_due None (Some b) alike = absurd (let at : false ≡ nat_le b b = alike b in grind (arith, at))
+same_due (Some a) None alike = absurd (let at : nat_le a a ≡ false = alike a in grind (arith, at))
+same_due (Some a) (Some b) alike =
+    let one : nat_le a a ≡ nat_le b a = alike a in
+    let other : nat_le a b ≡ nat_le b b = alike b in
+    ap (λ n. Some n) (grind (arith, one, other))
+
+due_as : (m : ℕ) (first : Option ℕ) → is_due m first ≡ option_map_or (λ at. nat_le at m) first false
+due_as m None = refl
+due_as m (Some at) = refl
+
+module _ {V : Type 0} where
+  pub first_is : (text : V → List ℕ) (ps : Peers) (ls : Lives) (cs : List (CallContext V)) (first : Option ℕ) → AreTied ps ls cs
+      → All (IsNoSooner first) cs → All (AreNoSooner first) cs → IfSome first (λ at. list_any (has_deadline at) cs ≡ true) → first ≡ first_deadline (lives_of text ls cs)
+  first_is text ps ls cs first tied all branches its =
+      same_due first (first_deadline (lives_of text ls cs))
+      (λ m. due_as m first ∙ due_is text ps ls cs m first tied all branches its ∙ sym (lives_due m (lives_of text ls cs)))

@@ -1,0 +1,14 @@
+//! Ends in memory, for tests and for whoever reads the contracts: a desk, streams, an inlet and a queue of replies, which
+//! tell what they were given.
+#![tactic(auto)]
+
+mod desk;
+mod inlet;
+mod replies;
+mod room;
+mod steps;
+
+pub use desk::MemoryDesk;
+pub use inlet::MemoryInlet;
+pub use replies::MemoryReplies;
+pub use steps::{Mark, StepReader, StepWriter};
