@@ -569,19 +569,21 @@ def case_idle_uploads(room):
     run, port = room.serve(b"[]", streams=66)
     with contextlib.ExitStack() as opened:
         began = time.monotonic()
-        streams = [opened.enter_context(client(port)) for _ in range(65)]
-        for stream in streams[:64]:
+        streams = [opened.enter_context(client(port)) for _ in range(64)]
+        for stream in streams:
             stream.sendall(LONG_HEAD)
             expect("the refusal", read_reply(stream)[0], "429")
         with client(port) as one_more:
             answers("a stream beside them", one_more)
-        streams[64].sendall(LONG_HEAD)
-        expect("the refusal of one more", read_reply(streams[64])[0], "429")
+        # opened only now: a 65th stream beside 64 that are open is closed without a byte
+        last = opened.enter_context(client(port))
+        last.sendall(LONG_HEAD)
+        expect("the refusal of one more", read_reply(last)[0], "429")
         # a stream that is cut resets what is still sent to it
         for _ in range(20):
             time.sleep(0.02)
             try:
-                streams[64].sendall(b"x")
+                last.sendall(b"x")
             except (BrokenPipeError, ConnectionResetError):
                 break
         else:
