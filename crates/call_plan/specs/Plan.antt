@@ -37,7 +37,7 @@ has_time b = is_branch_timeout b.timeout_ms
 abbrev pub is_well_formed : List ℕ → Option ℕ → List Branch → Bool
 is_well_formed path timeout branches = is_path path && is_timeout timeout && list_all has_target branches && list_all has_time branches
 
--- the time of its own that the branch of that number has, in milliseconds
+-- the timeout of the branch of that number, in milliseconds
 abbrev pub time_of : PlanRecord → ℕ → Option ℕ
 time_of p i = option_and_then (λ (b : Branch). b.timeout_ms) (slice_get p.branches i)
 

@@ -3,7 +3,7 @@ ghost use Rattle.connect_codec.specs.declared.answer.Outcome.{Outcome as Outcome
 ghost use Rattle.gateway_model.specs.declared.entry.ReplyEntry.{ReplyEntry};
 ghost use Rattle.gateway_theory.specs.Gateway.{is_broken_conn, is_ended, shown, next_reply, outs_of, untaken_of};
 ghost use Rattle.gateway_model.specs.Occurrence as concerning;
-ghost use Rattle.gateway_theory.specs.Serving.{TakesSome, WouldBegin, Breaks, BreaksBy, CountsCalls, FewCalls, IsDeaf, Keeps, KeepsBut, TakesOnly, TellsStep};
+ghost use Rattle.gateway_theory.specs.Serving.{TakesSome, WouldBegin, Breaks, BreaksBy, CountsCalls, FewCalls, NotListening, Keeps, KeepsBut, TakesOnly, TellsStep};
 ghost use Rattle.gateway_theory.specs.Refused.{RefusesOpening};
 ghost use Rattle.gateway_theory.specs.Least.{ends_any, least_deadline};
 ghost use Rattle.gateway_theory.specs.Tally.{tally_of};
@@ -69,7 +69,7 @@ impl<H: ReplyHook + Drop> Core<H> {
     {
         self.streams.serving_law();
         opening_law();
-        self.streams.open(stock)
+        self.streams.open_conn(stock)
     }
 
     /// Takes bytes of a connection's stream, at most up to the end of a request, and answers how many.
@@ -79,7 +79,7 @@ impl<H: ReplyHook + Drop> Core<H> {
         ensures one { TakesOneOf conn bytes.now result self.old }
         ensures tells { TellsStep conn self.old self.new result }
         ensures begins { result ≡ Err StepFault.Exhausted → WouldBegin conn bytes.now self.old }
-        ensures heard { OnOk result (IsDeaf conn self.new → ⊥) }
+        ensures listens { OnOk result (NotListening conn self.new → ⊥) }
         ensures counts { CountsCalls self.old self.new }
         ensures keeps { Keeps (λ c. c == conn) self.old self.new }
     {
@@ -152,7 +152,7 @@ impl<H: ReplyHook + Drop> Core<H> {
         ensures keeps { KeepsBut (λ c. false) (λ c. c == call.now.conn) (result.seen ∷ []) self.old self.new }
     {
         self.streams.serving_law();
-        self.streams.starve(call, branch)
+        self.streams.starved(call, branch)
     }
 
     /// Hands out the next job, in order of start.

@@ -1,8 +1,9 @@
 ghost use Rattle.std.specs.Prelude.{◌≡◌, ◌==◌, ◌<◌, ◌≤◌, ◌^◌, ◌∷◌, IfOk, IfErr, List, OnErr, false, true, not, filter, length, [], ℕ};
-ghost use Rattle.gateway_theory.specs.Ends.{is_stopped_in, noted};
+ghost use Rattle.http_pieces.specs.Reader.{is_over};
+ghost use Rattle.gateway_theory.specs.Ends.{is_broken_in, noted};
 ghost use Rattle.gateway_machine.specs.Linked.{IsNow};
 ghost use Rattle.gateway_theory.specs.Heads.{IsOfAll};
-ghost use Rattle.gateway_theory.specs.Gateway.{is_broken_conn, is_ended, outs_of, untaken_of};
+ghost use Rattle.gateway_theory.specs.Gateway.{stream_at, is_broken_conn, is_ended, outs_of, untaken_of};
 ghost use Rattle.gateway_theory.specs.Least.{ends_any, least_deadline};
 ghost use Rattle.gateway_theory.specs.Step.{moment_after};
 ghost use Rattle.gateway_model.specs.Past.{is_due};
@@ -11,7 +12,7 @@ ghost use Rattle.gateway_theory.specs.Results.{Forgets, NoneSpent, Starved};
 ghost use Rattle.gateway_machine.specs.Ended.{BranchEnds};
 ghost use Rattle.gateway_model.specs.declared.seen.Seen.{Seen};
 ghost use Rattle.gateway_theory.specs.Opens.{JobTaken};
-ghost use Rattle.gateway_theory.specs.Serving.{Breaks, BringsAt, Closes, Ends, FedTo, gateway_value, HangsUp, IsListening, IsPlaced, IsServing, ListensAt, Opens, ReadsAt, TakesReply};
+ghost use Rattle.gateway_theory.specs.Serving.{Breaks, BringsAt, IsBehindIf, Closes, Ends, FedTo, gateway_value, HangsUp, IsListening, IsPlaced, IsServing, ListensAt, Opens, ReadsAt, TakesReply};
 ghost use Rattle.gateway_theory.specs.Store.{MachineValue, broken_at, conn_at, machine_value};
 ghost use Rattle.gateway_theory.specs.Tally.{tally_of};
 
@@ -22,6 +23,7 @@ use gateway_machine::{Job, LinkedMachine};
 use gateway_model::{CallId, ConnId};
 use gateway_replies::{Reply, ReplyHook, Stock};
 use gateway_theory::{OpenError, StepFault, Tally, Took, Trigger};
+use http_pieces::laws::fresh_law;
 use http_pieces::{Request, State};
 use std::alloc::{AllocError, Global};
 use std::marker::Model;
@@ -49,7 +51,7 @@ pub(crate) struct Streams<H> {
 
 impl<H> Model for Streams<H> {
     ghost use Rattle.gateway_theory.specs.Gateway.{GatewayValue};
-    ghost use Rattle.gateway_theory.specs.Heads.{IsHeard};
+    ghost use Rattle.gateway_theory.specs.Heads.{HeadsAgree};
     ghost use Rattle.gateway_theory.specs.Serving.{gateway_value, IsServing};
 
     ghost Value = { GatewayValue };
@@ -57,7 +59,7 @@ impl<H> Model for Streams<H> {
     ghost view = { λ s. gateway_value s.plans s.machine s.streams.items s.opened s.begun s.tally };
 
     ghost invariant = { λ s. IsServing (gateway_value s.plans s.machine s.streams.items s.opened s.begun s.tally)
-        × IsHeard (gateway_value s.plans s.machine s.streams.items s.opened s.begun s.tally) };
+        × HeadsAgree (gateway_value s.plans s.machine s.streams.items s.opened s.begun s.tally) };
 }
 
 impl<H: ReplyHook + Drop> Streams<H> {
@@ -78,7 +80,7 @@ impl<H: ReplyHook + Drop> Streams<H> {
 
     /// Opens a connection with these hooks, and answers its number. A refusal is the first that applies of `Full`, `Exhausted`
     /// and `Memory`; it changes nothing, and the hooks come back.
-    pub(crate) fn open(&mut self, stock: Stock<H>) -> Result<ConnId, (Stock<H>, OpenError)>
+    pub(crate) fn open_conn(&mut self, stock: Stock<H>) -> Result<ConnId, (Stock<H>, OpenError)>
         ensures opens { IfOk result (Opens self.old self.new) }
         ensures refused { IfErr result (λ e. RefusesOpening e.1 self.old) }
         ensures back { IfErr result (λ e. e.0 ≡ stock) }
@@ -90,11 +92,12 @@ impl<H: ReplyHook + Drop> Streams<H> {
         if self.opened >= MOST_OPENINGS {
             return Err((stock, OpenError::Exhausted));
         }
+        fresh_law();
         let number = self.opened;
         let Ok(()) = self.streams.reserve(1) else {
             return Err((stock, OpenError::Memory));
         };
-        if let Err(stock) = self.machine.open(self.alloc, number, stock) {
+        if let Err(stock) = self.machine.open_conn(self.alloc, number, stock) {
             return Err((stock, OpenError::Memory));
         }
         self.streams.push_reserved(Stream::new(self.alloc, number));
@@ -129,7 +132,7 @@ impl<H: ReplyHook + Drop> Streams<H> {
         };
         self.streams[index].hang_up();
         self.machine.end_calls(self.alloc, &Trigger::HungUp(number));
-        if self.machine.is_stopped(number) {
+        if self.machine.is_broken(number) {
             return Err(StepFault::Memory);
         }
         Ok(())
@@ -142,7 +145,7 @@ impl<H: ReplyHook + Drop> Streams<H> {
             (record self.old.machine { moment = moment_after self.old.machine.moment moment }) self.old self.new }
         ensures broke { Breaks self.old self.new result }
     {
-        let moment = self.machine.tell(moment);
+        let moment = self.machine.take_moment(moment);
         self.end_calls(&Trigger::Reached(moment))
     }
 
@@ -182,7 +185,7 @@ impl<H: ReplyHook + Drop> Streams<H> {
     }
 
     /// A worker found no memory for what a branch ended with: where that counts, its connection breaks.
-    pub(crate) fn starve(&mut self, id: &CallId, branch: u32) -> Took
+    pub(crate) fn starved(&mut self, id: &CallId, branch: u32) -> Took
         ensures starved { (between : MachineValue) × Starved id.now branch self.old.machine between result
             × Forgets id.now between self.new.machine }
         ensures unknown { result.seen ≡ Seen.Unknown → self.new.machine ≡ self.old.machine }
@@ -190,7 +193,7 @@ impl<H: ReplyHook + Drop> Streams<H> {
         ensures tally { (before : List Seen) → self.old.tally ≡ tally_of before → self.new.tally ≡ tally_of (result.seen ∷ before) }
         ensures rest { self.new ≡ record self.old { machine = self.new.machine; tally = self.new.tally } }
     {
-        let took = self.machine.starve(id, branch);
+        let took = self.machine.starved(id, branch);
         self.tally.add(took.seen);
         took
     }
@@ -241,7 +244,7 @@ impl<H: ReplyHook + Drop> Streams<H> {
         ensures { result ≡ is_ended number self.now }
     {
         match self.place(number) {
-            Some(index) => self.machine.is_stopped(number)
+            Some(index) => self.machine.is_broken(number)
                 || (self.streams[index].is_done() && self.machine.is_idle(index)),
             None => true,
         }
@@ -261,7 +264,7 @@ impl<H: ReplyHook + Drop> Streams<H> {
     pub(crate) fn is_broken(&self, number: u64) -> bool
         ensures { result ≡ is_broken_conn number self.now }
     {
-        self.machine.is_stopped(number)
+        self.machine.is_broken(number)
     }
 
     /// How many branches of the call are out.
@@ -300,7 +303,7 @@ impl<H: ReplyHook + Drop> Streams<H> {
         if self.streams[index].has_hung_up() {
             return None;
         }
-        if self.machine.is_stopped(number) {
+        if self.machine.is_broken(number) {
             return None;
         }
         Some(index)
@@ -308,8 +311,12 @@ impl<H: ReplyHook + Drop> Streams<H> {
 
     /// The stream at that place takes bytes, at most up to the end of a request, and gives the request that they make whole.
     fn read(&mut self, index: usize, bytes: &[u8]) -> Result<(usize, Option<Request>), AllocError>
-        requires { index < length self.old.streams }
+        requires there { index < length self.old.streams }
+        requires on { (conn_at index self.old.machine.conns).broken ≡ false }
+        requires not_hung { (stream_at index self.old.streams).hung_up ≡ false }
+        requires going { is_over (stream_at index self.old.streams).reader.reading ≡ false }
         ensures ok { IfOk result (λ r. ReadsAt index r.0 r.1 bytes.now self.old self.new) }
+        ensures behind { IfOk result (λ r. IsBehindIf r.1 (conn_at index self.new.machine.conns) (stream_at index self.new.streams).reader) }
         ensures err { OnErr result (self.new ≡ self.old) }
     {
         self.streams[index].read(bytes)
@@ -326,7 +333,8 @@ impl<H: ReplyHook + Drop> Streams<H> {
     fn bring(&mut self, index: usize, request: Option<Request>) -> Result<(), StepFault>
         requires there { index < length self.old.streams }
         requires on { (conn_at index self.old.machine.conns).broken ≡ false }
-        requires heard { (conn_at index self.old.machine.conns).hung_up ≡ false }
+        requires not_hung { (conn_at index self.old.machine.conns).hung_up ≡ false }
+        requires behind { IsBehindIf request (conn_at index self.old.machine.conns) (stream_at index self.old.streams).reader }
         ensures { BringsAt index request self.old self.new result }
     {
         if let Some(request) = request {
@@ -335,7 +343,7 @@ impl<H: ReplyHook + Drop> Streams<H> {
                 .come(self.alloc, &self.plans, index, request, &mut self.begun);
         }
         if let State::Refused(refusal) = self.streams[index].state() {
-            return self.machine.stop(self.alloc, index, refusal);
+            return self.machine.refuse_stream(self.alloc, index, refusal);
         }
         Ok(())
     }

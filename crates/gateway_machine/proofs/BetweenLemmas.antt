@@ -18,7 +18,7 @@ use Rattle.gateway_model.specs.CallRecord.{CallRecord}
 use Rattle.gateway_theory.specs.Begins.{begins, begun_live, ends_first, first_ones, first_out}
 use Rattle.gateway_theory.specs.Conn.{ConnValue, added, next_of, without_first}
 use Rattle.gateway_replies.specs.Contexts.{ContextsValue, Ended, KeepsOthers, LifeValue, LivesApart, PeerValue, begun, TimedBranch, by_deadline, by_drain, closed, contexts_value, ended_peer, ending_at, ending_life, ends_of, event_of, finished, is_life, is_peer, life_by, on_branches, opened, others, peer, with_branches, without}
-use Rattle.gateway_theory.specs.Ends.{CallsEnd, is_stopped_in}
+use Rattle.gateway_theory.specs.Ends.{CallsEnd, is_broken_in}
 use Rattle.gateway_theory.specs.Enters.{asking_at, entered_at}
 use Rattle.gateway_theory.specs.Machine.{is_full}
 use Rattle.gateway_theory.specs.Task.{TaskValue}
@@ -67,9 +67,9 @@ life_pushed moment id (m ∷ ms) l none its =
 -- a call that arrives ends by what its context tells
 pub first_event : (moment : ℕ) (id : CallId) (a : ArrivedCall) (x : ContextsValue) (d : Bool) → is_life id x.calls ≡ false → ends_of x id.conn ≡ by_drain d
     → event_for moment id (begun moment id a x) ≡ ends_first moment d a
-first_event moment id a x d fresh heard =
+first_event moment id a x d fresh not_hung =
     life_pushed moment id x.calls (life_by (option_or (ends_of x id.conn) (by_deadline moment a.deadline)) id a) fresh (call_itself id)
-    ∙ ap (λ e. event_of moment (option_or e (by_deadline moment a.deadline)) None) heard ∙ by d
+    ∙ ap (λ e. event_of moment (option_or e (by_deadline moment a.deadline)) None) not_hung ∙ by d
   where
     by : (d : Bool) → event_of moment (option_or (by_drain d) (by_deadline moment a.deadline)) None ≡ ends_first moment d a
     by true = refl
@@ -81,8 +81,8 @@ first_event moment id a x d fresh heard =
 -- a context that begins, and has not ended
 pub begun_on : (moment : ℕ) (id : CallId) (a : ArrivedCall) (x : ContextsValue) (d : Bool) → ends_of x id.conn ≡ by_drain d → ends_first moment d a ≡ None
     → begun moment id a x ≡ contexts_value x.drained x.conns (x.calls ++ life_by None id a ∷ [])
-begun_on moment id a x d heard none =
-    ap (λ e. contexts_value x.drained x.conns (x.calls ++ life_by (option_or e (by_deadline moment a.deadline)) id a ∷ [])) heard
+begun_on moment id a x d not_hung none =
+    ap (λ e. contexts_value x.drained x.conns (x.calls ++ life_by (option_or e (by_deadline moment a.deadline)) id a ∷ [])) not_hung
     ∙ ap (λ e. contexts_value x.drained x.conns (x.calls ++ life_by e id a ∷ [])) (by d none)
   where
     by : (d : Bool) → ends_first moment d a ≡ None → option_or (by_drain d) (by_deadline moment a.deadline) ≡ None
@@ -138,7 +138,7 @@ spent_dead k spent = by k.call.live refl
 module _ (e : ℕ → Ended) where
   pub ended_all_linked : (trigger : Trigger) (v w : MachineValue) (x : ContextsValue) → CallsEnd trigger v w → x ≡ linked_by e (over_by trigger) w → x ≡ linked_by e none_over w
   ended_all_linked trigger v w x ends is = is ∙ ap (contexts_value w.drained (linked_conns e w.conns))
-      (ap (linked_calls (over_by trigger)) ends.calls_are ∙ not_over trigger (λ id. is_stopped_in id.conn w.conns) v.calls ∙ ap (linked_calls none_over) (sym ends.calls_are))
+      (ap (linked_calls (over_by trigger)) ends.calls_are ∙ not_over trigger (λ id. is_broken_in id.conn w.conns) v.calls ∙ ap (linked_calls none_over) (sym ends.calls_are))
 
   pub closed_linked : (c : ℕ) (v w : MachineValue) (x y : ContextsValue) → x ≡ linked_by e none_over v → y ≡ closed c x
       → w ≡ machine_value v.moment v.drained (filter (λ (k : ConnValue). not (k.number == c)) v.conns) (map (given_up_if c) v.calls) v.jobs → y ≡ linked_by e none_over w

@@ -1,4 +1,4 @@
-pub mod HeardLemmas
+pub mod DrainLemmas
 pub mod DueLemmas
 pub mod TimedLemmas
 pub mod PeerLemmas
@@ -11,3 +11,4 @@ pub mod ResultLemmas
 pub mod EnterLemmas
 pub mod QuietLemmas
 mod LeastLemmas
+pub mod StockLemmas

@@ -9,7 +9,7 @@ use Rattle.gateway_model.specs.Past.{call_id, is_call}
 use Rattle.gateway_theory.specs.declared.trigger.Trigger.{Trigger}
 use Rattle.gateway_theory.specs.declared.trigger.Trigger.TheVariants.{Reached}
 use Rattle.gateway_theory.specs.Conn.{ConnValue}
-use Rattle.gateway_theory.specs.Ends.{CallsEnd, IsSettled, MayEnd, caused, ended_below, ended_call, ended_if, is_stopped_in, without_reply}
+use Rattle.gateway_theory.specs.Ends.{CallsEnd, IsSettled, MayEnd, caused, ended_below, ended_call, ended_if, is_broken_in, without_reply}
 use Rattle.gateway_theory.specs.Kept.{KeptValue}
 use Rattle.gateway_theory.specs.Machine.{slot_at}
 use Rattle.gateway_theory.specs.Step.{Live, Step, call_state, deadlines_in, kept}
@@ -55,7 +55,7 @@ none_end trigger v left settled = record {
   moment_is = refl;
   drained_is = refl;
   jobs_are = refl;
-  calls_are = map_same (λ k. without_reply (ended_below trigger (is_stopped_in k.id.conn v.conns) true k)) v.calls (λ j lt. one j lt (is_stopped_in (kept_at j v.calls).id.conn v.conns) refl);
+  calls_are = map_same (λ k. without_reply (ended_below trigger (is_broken_in k.id.conn v.conns) true k)) v.calls (λ j lt. one j lt (is_broken_in (kept_at j v.calls).id.conn v.conns) refl);
   numbers_are = refl;
   conns_are = λ c. same (conn_of c v.conns);
   breaks_are = λ c now before. let clash : true ≡ false = sym now ∙ before in absurd (cc);
@@ -65,8 +65,8 @@ none_end trigger v left settled = record {
     rests : (k : KeptValue) → k.reply ≡ None → without_reply k ≡ k
     rests k none = ap (λ r. record { id = k.id; call = k.call; reply = r }) (sym none)
 
-    one : (j : ℕ) → j < length v.calls → (b : Bool) → is_stopped_in (kept_at j v.calls).id.conn v.conns ≡ b → without_reply (ended_below trigger b true (kept_at j v.calls)) ≡ kept_at j v.calls
-    one j lt true stopped = ap (λ o. record { id = (kept_at j v.calls).id; call = call_state (kept_at j v.calls).call.out o; reply = None }) (sym (settled.none_live j stopped)) ∙ rests (kept_at j v.calls) (settled.no_reply j)
+    one : (j : ℕ) → j < length v.calls → (b : Bool) → is_broken_in (kept_at j v.calls).id.conn v.conns ≡ b → without_reply (ended_below trigger b true (kept_at j v.calls)) ≡ kept_at j v.calls
+    one j lt true broken = ap (λ o. record { id = (kept_at j v.calls).id; call = call_state (kept_at j v.calls).call.out o; reply = None }) (sym (settled.none_live j broken)) ∙ rests (kept_at j v.calls) (settled.no_reply j)
     one j lt false going = ap (λ (s : Step). record { id = (kept_at j v.calls).id; call = s.call; reply = None }) (left_call trigger (kept_at j v.calls) (all_at (IsLeft trigger) v.calls j lt left)) ∙ rests (kept_at j v.calls) (settled.no_reply j)
 
     or_none : (o : Option ReplyEntry) (b : Bool) (r : Option ReplyEntry) → r ≡ None → o ≡ option_or o (if b then None else r)

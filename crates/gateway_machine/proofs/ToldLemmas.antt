@@ -205,8 +205,8 @@ not_caused (HungUp c) id out l none = ⊎_elim
 not_caused Drained id out l none = cc
 
 -- of those that can be decided still, none has ended by it
-ended_one : (trigger : Trigger) (stopped : Bool) (k : KeptValue)
-    → lives_in (over_by trigger) (without_reply (ended_below trigger stopped true k)) ≡ lives_in none_over (without_reply (ended_below trigger stopped true k))
+ended_one : (trigger : Trigger) (broken : Bool) (k : KeptValue)
+    → lives_in (over_by trigger) (without_reply (ended_below trigger broken true k)) ≡ lives_in none_over (without_reply (ended_below trigger broken true k))
 ended_one trigger true k = refl
 ended_one trigger false k = by k.call.live refl
   where
@@ -218,9 +218,9 @@ ended_one trigger false k = by k.call.live refl
         on None q_is = rw (o_is, q_is) (ap (λ x. x ∷ []) (not_caused trigger k.id k.call.out l q_is))
         on (Some e) q_is = rw (o_is, q_is) refl
 
-pub not_over : (trigger : Trigger) (stop : CallId → Bool) (ks : List KeptValue)
-    → linked_calls (over_by trigger) (map (λ k. without_reply (ended_below trigger (stop k.id) true k)) ks) ≡ linked_calls none_over (map (λ k. without_reply (ended_below trigger (stop k.id) true k)) ks)
-not_over trigger stop [] = refl
-not_over trigger stop (k ∷ ks) =
-    ap (λ ls. ls ++ linked_calls (over_by trigger) (map (λ (m : KeptValue). without_reply (ended_below trigger (stop m.id) true m)) ks)) (ended_one trigger (stop k.id) k)
-    ∙ ap (λ ls. lives_in none_over (without_reply (ended_below trigger (stop k.id) true k)) ++ ls) (not_over trigger stop ks)
+pub not_over : (trigger : Trigger) (breaks : CallId → Bool) (ks : List KeptValue)
+    → linked_calls (over_by trigger) (map (λ k. without_reply (ended_below trigger (breaks k.id) true k)) ks) ≡ linked_calls none_over (map (λ k. without_reply (ended_below trigger (breaks k.id) true k)) ks)
+not_over trigger breaks [] = refl
+not_over trigger breaks (k ∷ ks) =
+    ap (λ ls. ls ++ linked_calls (over_by trigger) (map (λ (m : KeptValue). without_reply (ended_below trigger (breaks m.id) true m)) ks)) (ended_one trigger (breaks k.id) k)
+    ∙ ap (λ ls. lives_in none_over (without_reply (ended_below trigger (breaks k.id) true k)) ++ ls) (not_over trigger breaks ks)

@@ -1,5 +1,5 @@
 -- The contexts beside the machine: each connection that is open and not broken has one, and each call that can be decided.
-use Rattle.std.specs.Prelude.{◌≡◌, ⊤, ◌==◌, ℕ, zero, suc, Bool, true, false, if◌then◌else◌, length, not, All, List, [], ◌∷◌, ◌++◌, map, filter, Option, None, Some, option_map, option_to_list}
+use Rattle.std.specs.Prelude.{◌≡◌, ◌≤◌, ◌+◌, ⊤, ◌==◌, ℕ, zero, suc, Bool, true, false, if◌then◌else◌, length, not, All, List, [], ◌∷◌, ◌++◌, map, filter, Option, None, Some, option_map, option_to_list}
 use Rattle.std.specs.Option.{option_or}
 use Rattle.gateway_model.specs.declared.call_event.CallEvent.{CallEvent}
 use Rattle.gateway_theory.specs.declared.trigger.Trigger.TheVariants.{Reached, HungUp, Drained}
@@ -19,7 +19,9 @@ use Rattle.connect_codec.specs.declared.answer.Outcome.TheVariants.{Answer, Fail
 use Rattle.gateway_model.specs.Past.{deadline_from}
 use Rattle.gateway_theory.specs.Begins.{begun_live, first_out}
 use Rattle.gateway_theory.specs.Step.{Live, Step, call_state, deadlines_in, ended_by, is_last_answer, kept}
-use Rattle.gateway_theory.specs.Store.{MachineValue}
+use Rattle.gateway_theory.specs.Store.{MachineValue, conn_of}
+use Rattle.gateway_replies.specs.Hooks.{Stocks, stock_in}
+use Rattle.http_pieces.specs.Request.{most_requests}
 
 -- the contexts of the connections that are not broken; what ended each is told by its number
 abbrev pub linked_conns : (ℕ → Ended) → List ConnValue → List PeerValue
@@ -98,7 +100,7 @@ abbrev pub IsLinkedWith : (ℕ → Ended) → CallId → Option CallRecord → C
 IsLinkedWith ends id None c v = c ≡ linked_by ends none_over v
 IsLinkedWith ends id (Some call) c v = (is_life id c.calls ≡ true) × (without id c ≡ linked_by ends none_over v)
 
--- what comes of a request: its answer, which leaves no context, or its call, which has one, as have its first branches that have a time of their own
+-- what comes of a request: its answer, which leaves no context, or its call, which has one, as have its first branches that have a timeout
 abbrev pub ComesWith : Arriving → CallId → ℕ → ContextsValue → ContextsValue → Type 0
 ComesWith (Answered reply) id moment v w = w ≡ v
 ComesWith (Begins a) id moment v w = w ≡ contexts_value v.drained v.conns (v.calls ++ life_in none_over id (first_out a) (begun_live moment id a) ∷ [])
@@ -126,13 +128,19 @@ passed_on moment branch (Fail error) k c = c
 passed_on moment branch (Answer body) k c = passed_by moment branch k.id k.call.live c
 
 -- a connection whose peer has not hung up has ended where all were drained, and by nothing else
-abbrev pub Hears : ContextsValue → Head → Type 0
-Hears c h = h.hung_up ≡ false → ends_of c h.number ≡ by_drain c.drained
+abbrev pub EndsOnlyByDrain : ContextsValue → Head → Type 0
+EndsOnlyByDrain c h = h.hung_up ≡ false → ends_of c h.number ≡ by_drain c.drained
+
+-- each connection that is not broken has a hook for each request that may still come
+abbrev pub AreStocked : {H : Type 0} → Stocks H → List ConnValue → Type 0
+AreStocked ss conns =
+    (number : ℕ) (k : ConnValue) (stock : List _) → conn_of number conns ≡ Some k → k.broken ≡ false → stock_in number ss ≡ Some stock
+    → most_requests ≤ length stock + (k.taken + length k.slots)
 
 -- the contexts of a machine between two events
 pub record IsLinked (c : ContextsValue) (v : MachineValue) : Type 0 where
   pub are : c ≡ linked c v
-  pub heard : All (Hears c) (conn_heads v.conns)
+  pub only_by_drain : All (EndsOnlyByDrain c) (conn_heads v.conns)
 
 -- it ends no call, and nothing is to be noted
 pub record EndsNone (trigger : Trigger) (v : MachineValue) : Type 0 where

@@ -1,8 +1,10 @@
 //! The machine with its contexts.
 ghost use Rattle.std.specs.Prelude.{◌≡◌, ◌<◌, ◌==◌, IfErr, IfOk, None as Nothing, OnErr, OnOk, [], false, length, not, true, ℕ};
 ghost use Rattle.std.specs.List.{count_by};
+ghost use Rattle.http_pieces.specs.Request.{most_requests};
 ghost use Rattle.gateway_model.specs.Arrival.{arrival_of};
-ghost use Rattle.gateway_theory.specs.Ends.{AreApart, CallsEnd, IsSettled, is_stopped_in, noted};
+ghost use Rattle.gateway_theory.specs.Conn.{next_of};
+ghost use Rattle.gateway_theory.specs.Ends.{AreApart, CallsEnd, IsSettled, is_broken_in, noted};
 ghost use Rattle.gateway_theory.specs.Enters.{arriving_at, entered_at};
 ghost use Rattle.gateway_theory.specs.Gateway.{are_all_there};
 ghost use Rattle.gateway_machine.specs.Ended.{BranchEnds};
@@ -42,14 +44,14 @@ pub struct LinkedMachine<H> {
 
 impl<H> Model for LinkedMachine<H> {
     ghost use Rattle.std.specs.Prelude.{◌≡◌};
-    ghost use Rattle.gateway_machine.specs.Linked.{IsLinked};
+    ghost use Rattle.gateway_machine.specs.Linked.{AreStocked, IsLinked};
     ghost use Rattle.gateway_theory.specs.Store.{MachineValue};
 
     ghost Value = { MachineValue };
 
     ghost view = { λ l. l.machine };
 
-    ghost invariant = { λ l. IsLinked l.contexts.standing l.machine };
+    ghost invariant = { λ l. IsLinked l.contexts.standing l.machine × AreStocked l.contexts.stocks l.machine.conns };
 }
 
 impl<H: ReplyHook + Drop> LinkedMachine<H> {
@@ -64,13 +66,14 @@ impl<H: ReplyHook + Drop> LinkedMachine<H> {
     }
 
     /// Opens a connection of that number with these hooks. Where memory is refused they come back.
-    pub fn open(&mut self, alloc: Global, number: u64, stock: Stock<H>) -> Result<(), Stock<H>>
+    pub fn open_conn(&mut self, alloc: Global, number: u64, stock: Stock<H>) -> Result<(), Stock<H>>
         requires { conn_of number self.old.conns ≡ Nothing }
         ensures ok { OnOk result (self.new ≡ opened_as number self.old) }
         ensures back { IfErr result (λ back. back ≡ stock) }
         ensures err { OnErr result (self.new ≡ self.old) }
     {
-        self.machine.open(alloc, &mut self.contexts, number, stock)
+        self.machine
+            .open_conn(alloc, &mut self.contexts, number, stock)
     }
 
     /// A request comes on the connection at that place, which breaks where memory is refused, and where a call would begin and as
@@ -84,8 +87,9 @@ impl<H: ReplyHook + Drop> LinkedMachine<H> {
         begun: &mut u64,
     ) -> Result<(), StepFault>
         requires there { index < length self.old.conns }
+        requires room { (next_of (conn_at index self.old.conns)).request < most_requests }
         requires on { (conn_at index self.old.conns).broken ≡ false }
-        requires heard { (conn_at index self.old.conns).hung_up ≡ false }
+        requires not_hung { (conn_at index self.old.conns).hung_up ≡ false }
         requires orderly { IsOrderly self.old }
         ensures { IsMade index (Coming.Request request (arrival_of plans.now request)) begun.old self.old begun.new self.new result }
     {
@@ -94,13 +98,20 @@ impl<H: ReplyHook + Drop> LinkedMachine<H> {
     }
 
     /// The stream of the connection at that place is refused; the connection breaks where memory is.
-    pub fn stop(&mut self, alloc: Global, index: usize, refusal: Refusal) -> Result<(), StepFault>
-        requires { index < length self.old.conns }
+    pub fn refuse_stream(
+        &mut self,
+        alloc: Global,
+        index: usize,
+        refusal: Refusal,
+    ) -> Result<(), StepFault>
+        requires there { index < length self.old.conns }
+        requires room { (next_of (conn_at index self.old.conns)).request < most_requests }
         ensures ok { OnOk result (self.new ≡ entered_at index (arriving_at index (Coming.Refused refusal) self.old) self.old) }
         ensures err { OnErr result (self.new ≡ broken_at (conn_at index self.old.conns).number self.old) }
         ensures fault { IfErr result (λ f. f ≡ fault.Memory) }
     {
-        self.machine.stop(alloc, &mut self.contexts, index, refusal)
+        self.machine
+            .refuse_stream(alloc, &mut self.contexts, index, refusal)
     }
 
     /// Takes note of what may end calls, tells the contexts, and ends all calls whose contexts this has ended: their replies go into
@@ -152,13 +163,13 @@ impl<H: ReplyHook + Drop> LinkedMachine<H> {
     }
 
     /// A worker found no memory for what a branch ended with: where that counts, its connection breaks.
-    pub fn starve(&mut self, id: &CallId, branch: u32) -> Took
+    pub fn starved(&mut self, id: &CallId, branch: u32) -> Took
         requires { IsOrderly self.old }
         ensures taken { (between : MachineValue) × Starved id.now branch self.old between result × Forgets id.now between self.new }
         ensures unknown { result.seen ≡ Seen.Unknown → self.new ≡ self.old }
         ensures none_spent { (result.seen ≡ Seen.Unknown → ⊥) → NoneSpent id.now self.new.calls }
     {
-        self.machine.starve(&mut self.contexts, id, branch)
+        self.machine.starved(&mut self.contexts, id, branch)
     }
 
     /// The connection of that number breaks.
@@ -176,11 +187,11 @@ impl<H: ReplyHook + Drop> LinkedMachine<H> {
     }
 
     /// Takes a moment, in milliseconds, and answers the greatest so far.
-    pub fn tell(&mut self, moment: u64) -> u64
+    pub fn take_moment(&mut self, moment: u64) -> u64
         ensures greatest { result ≡ moment_after self.old.moment moment }
         ensures told { self.new ≡ record self.old { moment = moment_after self.old.moment moment } }
     {
-        self.machine.tell(moment)
+        self.machine.take_moment(moment)
     }
 
     /// Hands out the next job, in order of start.
@@ -206,10 +217,10 @@ impl<H: ReplyHook + Drop> LinkedMachine<H> {
     }
 
     /// Whether the connection of that number is open and broken.
-    pub fn is_stopped(&self, number: u64) -> bool
-        ensures { result ≡ is_stopped_in number self.now.conns }
+    pub fn is_broken(&self, number: u64) -> bool
+        ensures { result ≡ is_broken_in number self.now.conns }
     {
-        self.machine.is_stopped(number)
+        self.machine.is_broken(number)
     }
 
     /// How many replies of the connection at that place can be taken.

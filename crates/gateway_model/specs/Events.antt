@@ -62,7 +62,7 @@ IsRising [] = ⊤
 IsRising (p ∷ []) = ⊤
 IsRising (p ∷ q ∷ places) = (p < q) × IsRising (q ∷ places)
 
--- these are the places of the openings that succeeded, of which entry number c is connection c
+-- these are the places of the openings that succeeded, of which number c is connection c
 pub record IsOpened (opened : List ℕ) (events : Before) : Type 0 where
   pub rising : IsRising opened
   pub openings : (place : ℕ) → succeeds opened place ≡ true → OpensAt opened events place

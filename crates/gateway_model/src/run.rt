@@ -8,7 +8,7 @@ use thiserror::Error;
 /// What a run came to.
 #[derive(Debug, Drop)]
 pub struct Run {
-    /// The places, in the list of events, of the openings that succeeded. The entry number c is connection c.
+    /// The places, in the list of events, of the openings that succeeded. Number c of them is connection c.
     pub opened: Vec<u64>,
     /// The bytes queued for each connection.
     pub queued: Vec<Bytes>,

@@ -1,12 +1,13 @@
 -- The hooks of connections and of calls, beside their contexts.
-use Rattle.std.proofs.Common.{◌≡◌, ℕ, ◌<◌, zero, suc, refl, sym, ap, ◌∙◌, List, [], ◌∷◌, ◌++◌, Option, Some, None, true, false, ⊎_elim, subst, map, length, arith}
-use Rattle.std.specs.Prelude.{IfNone, IfOk, IfSome, OnErr, Result, Ok, Err, ◌==◌, ◌||◌, not, if◌then◌else◌, filter, slice_set, slice_index_or}
+use Rattle.std.proofs.Common.{◌≡◌, ℕ, ◌<◌, zero, suc, refl, sym, ap, ◌∙◌, List, [], ◌∷◌, ◌++◌, Option, Some, None, true, false, ⊎_elim, inl, inr, subst, map, length, arith}
+use Rattle.std.specs.Prelude.{◌⊎◌, IfNone, IfOk, IfSome, OnErr, Result, Ok, Err, ◌==◌, ◌||◌, not, if◌then◌else◌, filter, slice_set, slice_index_or}
 use Rattle.std.specs.List.{list_any}
-use Rattle.std.proofs.lemmas.Bool.{cases_Bool, eqb-true}
+use Rattle.std.proofs.lemmas.Bool.{cases_Bool, eqb-true, or_parts}
 use Rattle.std.proofs.lemmas.List.{map_push}
 use Rattle.std.proofs.lemmas.Option.{same_Some}
 use Rattle.context_tree.specs.Context.{Id, same}
 use Rattle.call_contexts.specs.Standing.{AreApart, WithHooks, with_standing, hook_for, is_call as is_standing}
+use Rattle.http_pieces.specs.Request.{most_requests}
 use Rattle.gateway_model.specs.declared.id.CallId.{CallId}
 use Rattle.gateway_model.specs.Past.{is_call}
 use Rattle.gateway_theory.specs.lemmas.Cases.{all_stay, sym_eqb}
@@ -15,7 +16,7 @@ use Rattle.gateway_replies.specs.declared.contexts.peer.Peer.{Peer}
 use Rattle.gateway_replies.specs.declared.contexts.cancelled.CancelledBy.{CancelledBy}
 use Rattle.gateway_replies.specs.declared.contexts.life.Life.{Life}
 use Rattle.gateway_replies.specs.Contexts.{AllContexts, AreTied, CallContext, ContextsValue, Lives, NoTwo, Peers, ctx_for, ctx_of, first_of, same_id}
-use Rattle.gateway_replies.specs.Hooks.{BringsHooks, DropsHook, DropsHooks, HookedContexts, Hooks, KeepsHooks, KeepsStocks, Stocks, TakesHook, hook_of, hooked, hooks_but, hooks_of_others, stock_of}
+use Rattle.gateway_replies.specs.Hooks.{BringsHooks, DropsHook, DropsHooks, HookedContexts, Hooks, KeepsHooks, KeepsStocks, Stocks, TakesHook, hook_of, hooked, hooks_but, hooks_of_others, stock_in, stock_of}
 use Rattle.gateway_replies.specs.Ties.{AreHooked, Takes, hooks_of, life_tie, life_ties, peer_ties, stock_tie, stock_ties}
 use Rattle.gateway_replies.proofs.ListLemmas.{any_map, filter_map_both, same_itself, same_true}
 use Rattle.gateway_replies.proofs.PeerLemmas.{first_same, rest_same}
@@ -163,7 +164,7 @@ module _ {H : Type 0} where
 
   -- the one at that place has other hooks then
   pub stock_set : (number i : ℕ) (ps : List (Peer H)) (p q : Peer H) → i < length ps → p ≡ slice_index_or ps i p → (p.number == number) ≡ true → q.number ≡ p.number → AreOthers number i ps
-      → (stock_of number (stock_ties ps) ≡ p.stock) × (stock_of number (stock_ties (slice_set ps i q)) ≡ q.stock) × KeepsStocks number (stock_ties ps) (stock_ties (slice_set ps i q))
+      → (stock_of number (stock_ties ps) ≡ p.stock.items) × (stock_of number (stock_ties (slice_set ps i q)) ≡ q.stock.items) × KeepsStocks number (stock_ties ps) (stock_ties (slice_set ps i q))
   stock_set number i [] p q low is its same others = absurd (omega (arith, low))
   stock_set number zero (r ∷ ps) p q low is its same others = (
     ap (λ (z : Peer H). stock_of number (stock_ties (z ∷ ps))) (sym is) ∙ rw its refl,
@@ -178,17 +179,17 @@ module _ {H : Type 0} where
       let rest = stock_set number i ps p q (omega (arith, low)) is its same others.1 in (
         rw others.0 rest.0,
         rw others.0 rest.1,
-        λ other ne. ap (λ s. if r.number == other then r.stock else s) (rest.2 other ne),
+        λ other ne. ap (λ s. if r.number == other then r.stock.items else s) (rest.2 other ne),
       )
 
-  set_same : (i : ℕ) (ps : List (Peer H)) (p q : Peer H) → p ≡ slice_index_or ps i p → q.number ≡ p.number → q.stock ≡ p.stock → stock_ties (slice_set ps i q) ≡ stock_ties ps
+  set_same : (i : ℕ) (ps : List (Peer H)) (p q : Peer H) → p ≡ slice_index_or ps i p → q.number ≡ p.number → q.stock.items ≡ p.stock.items → stock_ties (slice_set ps i q) ≡ stock_ties ps
   set_same i [] p q is number_is stock_is = refl
-  set_same zero (r ∷ ps) p q is number_is stock_is = ap (λ n. (n, q.stock) ∷ stock_ties ps) number_is ∙ ap (λ s. (p.number, s) ∷ stock_ties ps) stock_is ∙ ap (λ (z : Peer H). stock_ties (z ∷ ps)) is
+  set_same zero (r ∷ ps) p q is number_is stock_is = ap (λ n. (n, q.stock.items) ∷ stock_ties ps) number_is ∙ ap (λ s. (p.number, s) ∷ stock_ties ps) stock_is ∙ ap (λ (z : Peer H). stock_ties (z ∷ ps)) is
   set_same (suc i) (r ∷ ps) p q is number_is stock_is = ap (λ ss. stock_tie r ∷ ss) (set_same i ps p q is number_is stock_is)
 
   -- the first hook of the one at that place is taken
   pub taken_at : (number i : ℕ) (ps : List (Peer H)) (p q : Peer H) (r : Option H) → i < length ps → p ≡ slice_index_or ps i p → (p.number == number) ≡ true → q.number ≡ p.number
-      → AreOthers number i ps → IfSome r (λ h. p.stock ≡ h ∷ q.stock) → IfNone r ((p.stock ≡ []) × (q.stock ≡ [])) → Takes number r (stock_ties ps) (stock_ties (slice_set ps i q))
+      → AreOthers number i ps → IfSome r (λ h. p.stock.items ≡ h ∷ q.stock.items) → IfNone r ((p.stock.items ≡ []) × (q.stock.items ≡ [])) → Takes number r (stock_ties ps) (stock_ties (slice_set ps i q))
   taken_at number i ps p q (Some hook) low is its same others first none =
       let set = stock_set number i ps p q low is its same others in (
         set.0 ∙ first ∙ ap (λ s. hook ∷ s) (sym set.1),
@@ -211,6 +212,65 @@ module _ {H : Type 0} where
   pub stocks_stay : (number : ℕ) (ps : List (Peer H)) → list_any (λ (s : ℕ × List H). s.0 == number) (stock_ties ps) ≡ false → stock_ties ps ≡ filter (λ s. not (s.0 == number)) (stock_ties ps)
   stocks_stay number ps none = sym (all_stay (λ (s : ℕ × List H). s.0 == number) (stock_ties ps) none)
 
+-- ---- a connection's stock, if it has one
+
+module _ {H : Type 0} where
+  stock_is : (number : ℕ) (ss : Stocks H) (stock : List H) → stock_in number ss ≡ Some stock → stock_of number ss ≡ stock
+  stock_is number [] stock is = absurd (let clash : None ≡ Some stock = is in cc)
+  stock_is number (s ∷ ss) stock is = ⊎_elim
+      (λ (y : (s.0 == number) ≡ true). rw y (same_Some s.1 stock (rw y at is)))
+      (λ (n : (s.0 == number) ≡ false). rw n (stock_is number ss stock (rw n at is)))
+      (cases_Bool (s.0 == number))
+
+  pub no_stock_in : (number : ℕ) (ps : List (Peer H)) → ctx_of number (peer_ties ps) ≡ None → stock_in number (stock_ties ps) ≡ None
+  no_stock_in number [] none = refl
+  no_stock_in number (p ∷ ps) none = ⊎_elim
+      (λ (y : (p.number == number) ≡ true). absurd (let clash : Some p.ctx ≡ None = rw y at none in cc))
+      (λ (n : (p.number == number) ≡ false). rw n (no_stock_in number ps (rw n at none)))
+      (cases_Bool (p.number == number))
+
+  pub has_stock : (number : ℕ) (ps : List (Peer H)) (x : Id) → ctx_of number (peer_ties ps) ≡ Some x → stock_in number (stock_ties ps) ≡ Some (stock_of number (stock_ties ps))
+  has_stock number [] x is = absurd (let clash : None ≡ Some x = is in cc)
+  has_stock number (p ∷ ps) x is = ⊎_elim
+      (λ (y : (p.number == number) ≡ true). rw y refl)
+      (λ (n : (p.number == number) ≡ false). rw n (has_stock number ps x (rw n at is)))
+      (cases_Bool (p.number == number))
+
+  -- connections with the same contexts have stocks alike
+  there_too : (number : ℕ) (ps qs : List (Peer H)) (stock : List H) → peer_ties qs ≡ peer_ties ps → stock_in number (stock_ties qs) ≡ Some stock
+      → stock_in number (stock_ties ps) ≡ Some (stock_of number (stock_ties ps))
+  there_too number ps qs stock ties is = by_ctx (ctx_of number (peer_ties ps)) refl
+    where
+      by_ctx : (o : Option Id) → ctx_of number (peer_ties ps) ≡ o → stock_in number (stock_ties ps) ≡ Some (stock_of number (stock_ties ps))
+      by_ctx (Some x) o_is = has_stock number ps x o_is
+      by_ctx None o_is = absurd (let clash : Some stock ≡ None = sym is ∙ no_stock_in number qs (ap (ctx_of number) ties ∙ o_is) in cc)
+
+  pub takes_at_most : (number : ℕ) (r : Option H) (ps qs : List (Peer H)) → peer_ties qs ≡ peer_ties ps → Takes number r (stock_ties ps) (stock_ties qs) → (other : ℕ) (stock : List H)
+      → stock_in other (stock_ties qs) ≡ Some stock
+      → (stock_in other (stock_ties ps) ≡ Some stock) ⊎ ((other ≡ number) × ((hook : H) × (stock_in other (stock_ties ps) ≡ Some (hook ∷ stock))))
+  takes_at_most number None ps qs ties takes other stock is = inl (ap (stock_in other) (sym takes.1) ∙ is)
+  takes_at_most number (Some hook) ps qs ties takes other stock is = ⊎_elim
+      (λ (y : (other == number) ≡ true).
+      let e : other ≡ number = eqb-true other number y in
+      let left : stock_of number (stock_ties qs) ≡ stock = ap (λ n. stock_of n (stock_ties qs)) (sym e) ∙ stock_is other (stock_ties qs) stock is in
+      inr (e, (hook, there_too other ps qs stock ties is ∙ ap Some (ap (λ n. stock_of n (stock_ties ps)) e ∙ takes.0 ∙ ap (λ s. hook ∷ s) left))))
+      (λ (n : (other == number) ≡ false). inl (there_too other ps qs stock ties is ∙ ap Some (sym (takes.1 other n) ∙ stock_is other (stock_ties qs) stock is)))
+      (cases_Bool (other == number))
+
+  -- a connection that is not there has none
+  pub no_stock_yet : (number : ℕ) (ps : List (Peer H)) → list_any (λ (p : ℕ × Id). p.0 == number) (peer_ties ps) ≡ false → stock_in number (stock_ties ps) ≡ None
+  no_stock_yet number [] none = refl
+  no_stock_yet number (p ∷ ps) none =
+      let two = or_parts (p.number == number) (list_any (λ (q : ℕ × Id). q.0 == number) (peer_ties ps)) none in
+      rw two.0 (no_stock_yet number ps two.1)
+
+  pub takes_most : (u : HookedContexts H) (x : ContextsValue) (ps qs : List (Peer H)) (hs : Hooks H) (number : ℕ) (r : Option H) → hooked x (stock_ties ps) hs ≡ u → peer_ties qs ≡ peer_ties ps
+      → Takes number r (stock_ties ps) (stock_ties qs) → (other : ℕ) (stock : List H) → stock_in other (stock_ties qs) ≡ Some stock
+      → (stock_in other u.stocks ≡ Some stock) ⊎ ((other ≡ number) × ((hook : H) × (stock_in other u.stocks ≡ Some (hook ∷ stock))))
+  takes_most u x ps qs hs number r u_is ties takes other stock there =
+      subst (λ (v : HookedContexts H). (stock_in other v.stocks ≡ Some stock) ⊎ ((other ≡ number) × ((hook : H) × (stock_in other v.stocks ≡ Some (hook ∷ stock))))) u_is
+      (takes_at_most number r ps qs ties takes other stock there)
+
 -- ---- what becomes of them, as the code keeps them
 
 module _ {H : Type 0} where
@@ -224,10 +284,14 @@ module _ {H : Type 0} where
     hooks_are = ap (hooks_of ls) e ∙ ap (λ (v : HookedContexts H). v.hooks) u_is;
   }
 
-  pub brings : (u : HookedContexts H) (x y : ContextsValue) (ps more : List (Peer H)) (p : Peer H) (ls : Lives) (hs is : List (Id × H)) → hooked x (stock_ties ps) (hooks_of ls hs) ≡ u → is ≡ hs
-      → more ≡ ps ++ p ∷ [] → BringsHooks p.number p.stock u (hooked y (stock_ties more) (hooks_of ls is))
-  brings u x y ps more p ls hs is u_is e more_is = record {
-    stocks_are = ap stock_ties more_is ∙ map_push stock_tie ps p ∙ ap (λ (v : HookedContexts H). v.stocks ++ (p.number, p.stock) ∷ []) u_is;
+  pub brings : (u : HookedContexts H) (x y : ContextsValue) (ps more : List (Peer H)) (p : Peer H) (stock : List H) (ls : Lives) (hs is : List (Id × H)) → hooked x (stock_ties ps) (hooks_of ls hs) ≡ u → is ≡ hs
+      → more ≡ ps ++ p ∷ [] → p.stock.items ≡ stock → length stock ≡ most_requests → stock_in p.number (stock_ties ps) ≡ None
+      → BringsHooks p.number stock u (hooked y (stock_ties more) (hooks_of ls is))
+  brings u x y ps more p stock ls hs is u_is e more_is stock_is full new = record {
+    full = full;
+    none = ap (λ (v : HookedContexts H). stock_in p.number v.stocks) (sym u_is) ∙ new;
+    stocks_are = ap stock_ties more_is ∙ map_push stock_tie ps p ∙ ap (λ (v : HookedContexts H). v.stocks ++ (p.number, p.stock.items) ∷ []) u_is
+        ∙ ap (λ s. u.stocks ++ (p.number, s) ∷ []) stock_is;
     hooks_are = ap (hooks_of ls) e ∙ ap (λ (v : HookedContexts H). v.hooks) u_is;
   }
 

@@ -1,5 +1,6 @@
 -- The contexts with their hooks: those that each open connection brought and has not used, and those of its calls.
-use Rattle.std.specs.Prelude.{◌≡◌, ◌⊎◌, ◌==◌, ℕ, false, not, if◌then◌else◌, List, [], ◌∷◌, ◌++◌, filter, Option, None, Some}
+use Rattle.std.specs.Prelude.{◌≡◌, ◌⊎◌, ◌==◌, ℕ, false, not, if◌then◌else◌, length, List, [], ◌∷◌, ◌++◌, filter, Option, None, Some}
+use Rattle.http_pieces.specs.Request.{most_requests}
 use Rattle.gateway_model.specs.declared.id.CallId.{CallId}
 use Rattle.gateway_model.specs.Past.{is_call}
 use Rattle.gateway_replies.specs.Contexts.{ContextsValue, no_contexts}
@@ -30,6 +31,11 @@ module _ {H : Type 0} where
   stock_of number [] = []
   stock_of number (s ∷ ss) = if s.0 == number then s.1 else stock_of number ss
 
+  -- the same, if it has a stock
+  abbrev pub stock_in : ℕ → Stocks H → Option (List H)
+  stock_in number [] = None
+  stock_in number (s ∷ ss) = if s.0 == number then Some s.1 else stock_in number ss
+
   -- the hook of the call
   abbrev pub hook_of : CallId → Hooks H → Option H
   hook_of id [] = None
@@ -49,8 +55,10 @@ module _ {H : Type 0} where
     pub stocks_are : w.stocks ≡ v.stocks
     pub hooks_are : w.hooks ≡ v.hooks
 
-  -- a connection brings its hooks
+  -- a connection brings its hooks, one for each request that it may make
   pub record BringsHooks (number : ℕ) (stock : List H) (v w : HookedContexts H) : Type 0 where
+    pub full : length stock ≡ most_requests
+    pub none : stock_in number v.stocks ≡ None
     pub stocks_are : w.stocks ≡ v.stocks ++ (number, stock) ∷ []
     pub hooks_are : w.hooks ≡ v.hooks
 
@@ -59,6 +67,15 @@ module _ {H : Type 0} where
     pub hook : H
     pub first : stock_of id.conn v.stocks ≡ hook ∷ stock_of id.conn w.stocks
     pub hooks_are : w.hooks ≡ v.hooks ++ (id, hook) ∷ []
+
+  -- no stock changes, though some may go
+  abbrev pub StocksStay : HookedContexts H → HookedContexts H → Type 0
+  StocksStay v w = (number : ℕ) (stock : List H) → stock_in number w.stocks ≡ Some stock → stock_in number v.stocks ≡ Some stock
+
+  -- the connection of that number loses at most its first hook, and no other stock changes, though some may go
+  abbrev pub TakesAtMostOne : ℕ → HookedContexts H → HookedContexts H → Type 0
+  TakesAtMostOne number v w = (other : ℕ) (stock : List H) → stock_in other w.stocks ≡ Some stock
+      → (stock_in other v.stocks ≡ Some stock) ⊎ ((other ≡ number) × ((hook : H) × (stock_in other v.stocks ≡ Some (hook ∷ stock))))
 
   -- the stocks of other connections stay
   abbrev pub KeepsStocks : ℕ → Stocks H → Stocks H → Type 0

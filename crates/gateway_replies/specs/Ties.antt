@@ -24,7 +24,7 @@ module _ {H : Type 0} where
 
   -- a connection's number, with the hooks that it has not used
   abbrev pub stock_tie : Peer H → ℕ × List H
-  stock_tie p = (p.number, p.stock)
+  stock_tie p = (p.number, p.stock.items)
 
   abbrev pub stock_ties : List (Peer H) → Stocks H
   stock_ties peers = map stock_tie peers

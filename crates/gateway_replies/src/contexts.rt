@@ -5,20 +5,20 @@ mod deadline;
 mod life;
 mod peer;
 
-ghost use Rattle.std.specs.Prelude.{All, ◌≡◌, ◌==◌, IfErr, IfOk, None as Nothing, OnErr, OnOk, Some as Just, filter, false, not, option_map, true};
+ghost use Rattle.std.specs.Prelude.{All, ◌≡◌, ◌==◌, [], IfErr, IfOk, None as Nothing, OnErr, OnOk, Some as Just, filter, false, not, option_map, true};
 ghost use Rattle.std.specs.Arc.{arc_value};
 ghost use Rattle.std.specs.List.{list_any};
 ghost use Rattle.gateway_replies.specs.Contexts.{IsNotDue, KeepsOthers, LivesApart, begun, closed, ctx_for, ctx_of, ending_life, event_of, finished, first_life, first_of, has_due, is_life, is_peer, no_contexts, opened, started, told, without, without_calls, without_first};
 ghost use Rattle.gateway_model.specs.Duty.{MeetsDuty};
 ghost use Rattle.gateway_model.specs.Past.{is_call};
 ghost use Rattle.gateway_model.specs.declared.id.CallId.{CallId as AnyCall};
-ghost use Rattle.gateway_replies.specs.Hooks.{BringsHooks, DropsHook, DropsHooks, KeepsHooks, KeepsStocks, MayLoseHook, TakesHook, hook_of, hooks_of_others, none_hooked};
+ghost use Rattle.gateway_replies.specs.Hooks.{BringsHooks, DropsHook, DropsHooks, KeepsHooks, KeepsStocks, MayLoseHook, TakesAtMostOne, TakesHook, hook_of, hooks_of_others, none_hooked, stock_in};
 ghost use Rattle.gateway_replies.specs.Ties.{Takes, life_ties, peer_ties, stock_ties};
 
 use crate::arrived_call::ArrivedCall;
 use crate::contexts::cancelled::CancelledBy;
 use crate::contexts::life::Life;
-use crate::contexts::peer::Peer;
+use crate::contexts::peer::{Peer, take_first};
 use crate::hook::ReplyHook;
 use crate::stock::Stock;
 use call_contexts::CallContexts;
@@ -84,6 +84,7 @@ impl<H: ReplyHook + Drop> Contexts<H> {
         let Ok(ctx) = self.contexts.open() else {
             return Err(stock);
         };
+        let stock = stock.into_hooks();
         self.peers.push_reserved(Peer { number, ctx, stock });
         Ok(())
     }
@@ -92,11 +93,13 @@ impl<H: ReplyHook + Drop> Contexts<H> {
     pub fn begin(&mut self, id: &CallId, asked: &ArrivedCall, now: u64) -> Result<(), AllocError>
         requires known { is_peer id.now.conn self.old.standing.conns ≡ true }
         requires fresh { is_life id.now self.old.standing.calls ≡ false }
+        requires stocked { stock_in id.now.conn self.old.stocks ≡ Just [] → ⊥ }
         ensures ok { OnOk result (self.new.standing ≡ begun now id.now asked.now self.old.standing) }
         ensures hook { OnOk result (TakesHook id.now self.old self.new) }
         ensures others { KeepsStocks id.now.conn self.old.stocks self.new.stocks }
         ensures err { OnErr result (self.new.standing ≡ self.old.standing) }
         ensures lost { OnErr result (MayLoseHook id.now.conn self.old self.new) }
+        ensures takes { TakesAtMostOne id.now.conn self.old self.new }
     {
         self.lives.reserve(1)?;
         let request_id = shared(&asked.request_id)?;
@@ -104,7 +107,7 @@ impl<H: ReplyHook + Drop> Contexts<H> {
             unreachable!();
         };
         let Some(hook) = take_hook(&mut self.peers, id.conn.number()) else {
-            return Err(AllocError);
+            unreachable!();
         };
         let Ok(ctx) = self
             .contexts
@@ -316,7 +319,7 @@ fn take_hook<H>(peers: &mut Vec<Peer<H>>, number: u64) -> Option<H>
 {
     for index in 0..peers.len() {
         if peers[index].number == number {
-            return peers[index].stock.take();
+            return take_first(&mut peers[index].stock);
         }
     }
     None

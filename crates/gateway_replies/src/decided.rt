@@ -27,6 +27,7 @@ pub fn reply_to<H: ReplyHook + Drop>(
     ensures reply { IfOk result (λ reply. reply ≡ reply_with id (ReplyEntry.Call call)) }
     ensures gone { OnOk result (contexts.new.standing ≡ without id contexts.old.standing) }
     ensures others { OnErr result (KeepsOthers id.conn contexts.old.standing contexts.new.standing) }
+    ensures stocks { contexts.new.stocks ≡ contexts.old.stocks }
 {
     let bytes = bytes_of(alloc, contexts, &id, &call)?;
     Ok(Reply::of_call(id, call, bytes))
@@ -43,6 +44,7 @@ fn bytes_of<H: ReplyHook + Drop>(
     ensures bytes { IfOk result (λ bytes. bytes ≡ (call_reply call.now).bytes) }
     ensures gone { OnOk result (contexts.new.standing ≡ without id.now contexts.old.standing) }
     ensures others { OnErr result (KeepsOthers id.now.conn contexts.old.standing contexts.new.standing) }
+    ensures stocks { contexts.new.stocks ≡ contexts.old.stocks }
 {
     match last_ending(alloc, call)? {
         Some(ending) => contexts.end(id, ending),

@@ -1,4 +1,4 @@
-ghost use Rattle.std.specs.Prelude.{◌≡◌, ◌∷◌, ◌==◌, [], length, is_ok, IfOk, IfErr, IfSome, IfNone};
+ghost use Rattle.std.specs.Prelude.{◌≡◌, ◌==◌, length, is_ok, IfOk, IfErr};
 ghost use Rattle.http_pieces.specs.Request.{most_requests};
 
 use std::marker::Model;
@@ -13,11 +13,14 @@ pub struct Stock<H> {
 }
 
 impl<H> Model for Stock<H> {
-    ghost use Rattle.std.specs.Prelude.{List};
+    ghost use Rattle.std.specs.Prelude.{◌≡◌, List, length};
+    ghost use Rattle.http_pieces.specs.Request.{most_requests};
 
     ghost Value = { List H };
 
     ghost view = { λ s. s.hooks.items };
+
+    ghost invariant = { λ s. length s.hooks.items ≡ most_requests };
 }
 
 impl<H> Stock<H> {
@@ -34,14 +37,11 @@ impl<H> Stock<H> {
         }
     }
 
-    /// Takes the first hook.
-    pub(crate) fn take(&mut self) -> Option<H>
-        ensures first { IfSome result (λ hook. self.old ≡ hook ∷ self.new) }
-        ensures none { IfNone result ((self.old ≡ []) × (self.new ≡ [])) }
+    /// Its hooks, of which there are 100.
+    pub(crate) fn into_hooks(self) -> Vec<H>
+        ensures all { result.items ≡ self }
+        ensures full { length self ≡ most_requests }
     {
-        if self.hooks.is_empty() {
-            return None;
-        }
-        Some(self.hooks.remove(0))
+        self.hooks
     }
 }

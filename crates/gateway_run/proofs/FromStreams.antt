@@ -39,8 +39,8 @@ came_onto conn place [] past = sym (append-nil (came_on conn (occurrences past))
 came_onto conn place (o ∷ os) past =
     came_onto conn place os ((place, o) ∷ past) ∙ append_assoc (came_on conn (occurrences past)) (option_to_list (coming_on conn o)) (gained_on conn os)
 
-entries_gained : (c conn : ℕ) (xs : List Coming) → gained_on conn (map (Comes c) xs) ≡ (if c == conn then xs else [])
-entries_gained c conn [] = by_test (c == conn)
+comings_gained : (c conn : ℕ) (xs : List Coming) → gained_on conn (map (Comes c) xs) ≡ (if c == conn then xs else [])
+comings_gained c conn [] = by_test (c == conn)
   where
     nothing : List Coming
     nothing = []
@@ -48,7 +48,7 @@ entries_gained c conn [] = by_test (c == conn)
     by_test : (b : Bool) → nothing ≡ (if b then nothing else nothing)
     by_test true = refl
     by_test false = refl
-entries_gained c conn (x ∷ xs) = by_test (c == conn) (entries_gained c conn xs)
+comings_gained c conn (x ∷ xs) = by_test (c == conn) (comings_gained c conn xs)
   where
     by_test : (b : Bool) → gained_on conn (map (Comes c) xs) ≡ (if b then xs else [])
         → option_to_list (if b then Some x else None) ++ gained_on conn (map (Comes c) xs) ≡ (if b then x ∷ xs else [])
@@ -133,7 +133,7 @@ module _ (laws : StreamLaws) (plans : List PlanRecord) (opened : List ℕ) (conn
       let read : Requests 0 (stream opened conn before ++ bytes) given ending =
       subst (λ b. Requests 0 (stream opened conn before ++ (if b then bytes else [])) given ending) here r in
       ap (λ xs. came_on conn (occurrences past) ++ gained_on conn xs) os_is
-      ∙ ap (λ xs. came_on conn (occurrences past) ++ xs) (entries_gained conn conn gained ∙ ap (λ b. if b then gained else []) here)
+      ∙ ap (λ xs. came_on conn (occurrences past) ++ xs) (comings_gained conn conn gained ∙ ap (λ b. if b then gained else []) here)
       ∙ gains bytes gained given ending g read
   own_piece false bytes os given ending none r =
       ap (λ xs. came_on conn (occurrences past) ++ gained_on conn xs) none ∙ append-nil (came_on conn (occurrences past)) ∙ was given ending r
@@ -145,7 +145,7 @@ module _ (laws : StreamLaws) (plans : List PlanRecord) (opened : List ℕ) (conn
       by_listening : (b : Bool)
           → MatchBool b ((gained : List Coming) × Gains plans (stream opened c before) (stream opened c before ++ bytes) gained × (os ≡ map (Comes c) gained)) (os ≡ [])
           → gained_on conn os ≡ []
-      by_listening true (gained, g, os_is) = ap (gained_on conn) os_is ∙ entries_gained c conn gained ∙ ap (λ b. if b then gained else []) other
+      by_listening true (gained, g, os_is) = ap (gained_on conn) os_is ∙ comings_gained c conn gained ∙ ap (λ b. if b then gained else []) other
       by_listening false none = ap (gained_on conn) none
 
   at_event : (e : Event) (os : List Occurrence) (given : List HttpRequest) (ending : StreamEnd) → OccursAt plans opened e before os

@@ -17,7 +17,7 @@ use Rattle.gateway_theory.specs.Served.{QueueIs, Served, with_reply}
 use Rattle.gateway_theory.specs.Serving.{TakesOnly}
 use Rattle.gateway_model.specs.Starts.{Placed, job_started}
 use Rattle.gateway_theory.specs.Store.{conn_of}
-use Rattle.gateway_run.specs.Log.{BrokeSo, Collects, absent, gathers, HasRun, LogValue, Took, flag_at, is_flagged, is_open_conn, log_with, queue_at}
+use Rattle.gateway_run.specs.Log.{BrokeSo, Collects, absent, gathers, HasRun, LogValue, TookReplies, flag_at, is_flagged, is_open_conn, log_with, queue_at}
 use Rattle.gateway_model.specs.Run.{bytes_of}
 use Rattle.gateway_run.proofs.CoreLaws.{StandingLaws}
 use Rattle.gateway_run.proofs.Flags.{or_false_right, set_here, set_other}
@@ -36,7 +36,7 @@ only_then n u v w a b = record {
 }
 
 -- one reply more, or none
-pub took_none : (n : ℕ) (v : GatewayValue) → Took n [] v v
+pub took_none : (n : ℕ) (v : GatewayValue) → TookReplies n [] v v
 took_none n v = record {
   only = record { plans_are = refl; opened_is = refl; begun_is = refl; tally_is = refl; jobs_are = refl; open_are = λ c. refl; broken_are = λ c. refl; others_are = λ c ne. refl };
   untaken_are = refl;
@@ -47,10 +47,10 @@ took_none n v = record {
     same c true es = sym (append-nil es)
     same c false es = refl
 
-pub took_more : (n : ℕ) (entries : List ReplyEntry) (reply : Option ReplyValue) (u v w : GatewayValue) → Took n entries u v
+pub took_more : (n : ℕ) (entries : List ReplyEntry) (reply : Option ReplyValue) (u v w : GatewayValue) → TookReplies n entries u v
     → ((opened : List ℕ) (es : Before) (taken : ℕ → List ReplyEntry) (handed : List JobValue) → Served v opened es taken handed → Served w opened es (with_reply n reply taken) handed)
     → untaken_of n v ≡ option_to_list (option_map (λ (r : ReplyValue). r.entry) reply) ++ untaken_of n w → TakesOnly n v w
-    → Took n (entries ++ option_to_list (option_map (λ (r : ReplyValue). r.entry) reply)) u w
+    → TookReplies n (entries ++ option_to_list (option_map (λ (r : ReplyValue). r.entry) reply)) u w
 took_more n entries reply u v w t stands first only = record {
   only = only_then n u v w t.only only;
   untaken_are = t.untaken_are ∙ ap (λ xs. entries ++ xs) first ∙ sym (append_assoc entries (option_to_list (option_map (λ (r : ReplyValue). r.entry) reply)) (untaken_of n w));
@@ -139,7 +139,7 @@ module _ (standing : StandingLaws) (gathered : ℕ → Bool) (n : ℕ) (v w : Ga
               let size = h.queued_size in omega (arith, lt, same, count, size, beyond))
           by_it false false e x = absurd (cc)
 
-  module _ (lt : n < length log.queued) (t : Took n (untaken_of n v) v w) where
+  module _ (lt : n < length log.queued) (t : TookReplies n (untaken_of n v) v w) where
     abbrev next : LogValue
     next = log_with n (bytes_of (untaken_of n v)) (is_broken_conn n v) log
 

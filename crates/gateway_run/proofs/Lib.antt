@@ -4,7 +4,7 @@ pub mod Scripts
 pub mod Existence
 pub mod Flags
 pub mod Sublists
-pub mod Hearing
+pub mod Listening
 pub mod Gathering
 pub mod RunSteps
 pub mod WholeLemmas

@@ -94,12 +94,12 @@ none_begins (Err Exhausted) none is = none refl
 none_begins (Err Memory) none is = cc
 
 pub conn_told : (H : Type 0) (n : ℕ) (answer : Result ⊤ StepFault) (w : GatewayValue) → (v : GatewayValue) → TellsStep n v w answer → TellsConn n (done_of {H = H} answer) v w
-conn_told H n (Ok all) w v tells = (tells.unbroken, λ deaf. let clash : Ok all ≡ Err Gone = tells.gone.1 deaf in absurd (cc))
+conn_told H n (Ok all) w v tells = (tells.unbroken, λ not_listening. let clash : Ok all ≡ Err Gone = tells.gone.1 not_listening in absurd (cc))
 conn_told H n (Err Gone) w v tells = (tells.gone.0 refl, tells.unchanged refl)
 conn_told H n (Err Exhausted) w v tells =
     let told = tells.exhausted refl in
-    (told.0, told.1, λ deaf. let clash : Err Exhausted ≡ Err Gone = tells.gone.1 deaf in absurd (cc))
-conn_told H n (Err Memory) w v tells = (tells.broke refl, λ deaf. let clash : Err Memory ≡ Err Gone = tells.gone.1 deaf in absurd (cc))
+    (told.0, told.1, λ not_listening. let clash : Err Exhausted ≡ Err Gone = tells.gone.1 not_listening in absurd (cc))
+conn_told H n (Err Memory) w v tells = (tells.broke refl, λ not_listening. let clash : Err Memory ≡ Err Gone = tells.gone.1 not_listening in absurd (cc))
 
 pub opening_told : (H : Type 0) (answer : Result ℕ (List H × OpenError)) (v w : GatewayValue) → IfOk answer (λ conn. conn ≡ v.opened)
     → IfErr answer (λ e. RefusesOpening e.1 v) → OnErr answer (w ≡ v)

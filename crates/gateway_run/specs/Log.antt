@@ -36,7 +36,7 @@ flag_at c log = slice_index_or log.broke c false
 -- ---- what is taken
 
 -- these replies of the connection were taken, and nothing else changed
-pub record Took (n : ℕ) (entries : List ReplyEntry) (v w : GatewayValue) : Type 0 where
+pub record TookReplies (n : ℕ) (entries : List ReplyEntry) (v w : GatewayValue) : Type 0 where
   pub only : TakesOnly n v w
   pub untaken_are : untaken_of n v ≡ entries ++ untaken_of n w
   pub served : (opened : List ℕ) (es : Before) (taken : ℕ → List ReplyEntry) (handed : List JobValue) → Served v opened es taken handed
@@ -49,7 +49,7 @@ log_with n bytes broken log = record log { queued = slice_set log.queued n (queu
 -- what is queued for a connection was taken, if it was opened
 pub data Collects (n : ℕ) (v w : GatewayValue) (log later : LogValue) : Type 0 where
   absent : length log.queued ≤ n → w ≡ v → later ≡ log → Collects n v w log later
-  gathers : n < length log.queued → Took n (untaken_of n v) v w → later ≡ log_with n (bytes_of (untaken_of n v)) (is_broken_conn n v) log → Collects n v w log later
+  gathers : n < length log.queued → TookReplies n (untaken_of n v) v w → later ≡ log_with n (bytes_of (untaken_of n v)) (is_broken_conn n v) log → Collects n v w log later
 
 -- all jobs were taken
 pub record StartsAll (place : ℕ) (v w : GatewayValue) (log later : LogValue) : Type 0 where

@@ -18,7 +18,7 @@ use Rattle.gateway_theory.specs.Refused.{RefusesOpening}
 use Rattle.gateway_theory.specs.declared.fault.StepFault.{StepFault}
 use Rattle.gateway_theory.specs.declared.fault.StepFault.TheVariants.{Exhausted, Gone, Memory}
 use Rattle.gateway_theory.specs.Gateway.{GatewayValue, is_broken_conn}
-use Rattle.gateway_theory.specs.Serving.{Breaks, IsDeaf, most_begun}
+use Rattle.gateway_theory.specs.Serving.{Breaks, NotListening, most_begun}
 use Rattle.gateway_run.specs.Log.{Collects, LogValue, log_value}
 use Rattle.gateway_run.specs.declared.stepping.Stepped.{Stepped}
 use Rattle.gateway_run.specs.declared.stepping.Stepped.TheVariants.{Broke, Done, Fault, NotOpened, Opened, Saw}
@@ -71,10 +71,10 @@ TellsOpening _ v w = ⊥
 -- a step of a connection of which nothing is taken any more changes nothing, and is told so exactly there; want of memory, and of numbers
 -- for calls, is told exactly where the connection broke
 abbrev pub TellsConn : {H : Type 0} → ℕ → Stepped H → GatewayValue → GatewayValue → Type 0
-TellsConn conn Done v w = (is_broken_conn conn w ≡ false) × (IsDeaf conn v → ⊥)
-TellsConn conn (Fault Gone) v w = IsDeaf conn v × (w ≡ v)
-TellsConn conn (Fault Exhausted) v w = (is_broken_conn conn w ≡ true) × (most_begun ≤ w.begun) × (IsDeaf conn v → ⊥)
-TellsConn conn (Fault Memory) v w = (is_broken_conn conn w ≡ true) × (IsDeaf conn v → ⊥)
+TellsConn conn Done v w = (is_broken_conn conn w ≡ false) × (NotListening conn v → ⊥)
+TellsConn conn (Fault Gone) v w = NotListening conn v × (w ≡ v)
+TellsConn conn (Fault Exhausted) v w = (is_broken_conn conn w ≡ true) × (most_begun ≤ w.begun) × (NotListening conn v → ⊥)
+TellsConn conn (Fault Memory) v w = (is_broken_conn conn w ≡ true) × (NotListening conn v → ⊥)
 TellsConn conn _ v w = ⊥
 
 -- that a connection broke is told exactly where one did

@@ -1,6 +1,6 @@
 ghost use Rattle.std.specs.Prelude.{◌≡◌, ◌++◌, ◌∷◌, OnOk, [], false};
 ghost use Rattle.gateway_theory.specs.Gateway.{untaken_of};
-ghost use Rattle.gateway_run.specs.Log.{Collects, StartsAll, Took, log_value};
+ghost use Rattle.gateway_run.specs.Log.{Collects, StartsAll, TookReplies, log_value};
 ghost use Rattle.gateway_model.specs.Run.{bytes_of};
 
 use gateway_core::{ConnId, Core, ReplyHook};
@@ -105,7 +105,7 @@ fn take_replies<H: ReplyHook + Drop>(
     conn: ConnId,
     bytes: &mut Bytes,
 ) -> Result<(), AllocError>
-    ensures took { OnOk result (Took conn (untaken_of conn core.old) core.old core.new) }
+    ensures took { OnOk result (TookReplies conn (untaken_of conn core.old) core.old core.new) }
     ensures bytes { OnOk result (bytes.new ≡ bytes.old ++ bytes_of (untaken_of conn core.old)) }
 {
     while let Some(reply) = core.take_reply(conn) {

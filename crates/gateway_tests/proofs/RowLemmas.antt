@@ -37,16 +37,16 @@ front_more f g stays k (suc n) a all here =
 abbrev get_reply : ℕ → ReplyBytes
 get_reply k = reply_of (bare_reply 405 (closes (get_request k))) (closes (get_request k))
 
-gets_entries : (n : ℕ) → arrivals 0 (marked (after_gets n)) ≡ n
+gets_arrivals : (n : ℕ) → arrivals 0 (marked (after_gets n)) ≡ n
 unfolding after_gets
-gets_entries zero = refl
-gets_entries (suc n) = ap suc (gets_entries n)
+gets_arrivals zero = refl
+gets_arrivals (suc n) = ap suc (gets_arrivals n)
 
 -- the next one has not come
 not_come : (n k : ℕ) → n ≤ k → came (call_id 0 k) (marked (after_gets n)) ≡ None
 unfolding after_gets
 not_come zero k le = ⊎_elim (λ (first : (0 == k) ≡ true). rw first refl) (λ (later : (0 == k) ≡ false). rw later refl) (cases_Bool (0 == k))
-not_come (suc n) k le = rw (not_come n k (omega (arith, le)), ne_eqb (arrivals 0 (marked (after_gets n))) k (λ same. omega (arith, le, same, gets_entries n))) refl
+not_come (suc n) k le = rw (not_come n k (omega (arith, le)), ne_eqb (arrivals 0 (marked (after_gets n))) k (λ same. omega (arith, le, same, gets_arrivals n))) refl
 
 -- what a request is answered by stays
 abbrev pub EntryStays : Type 0
@@ -61,7 +61,7 @@ gets_queued stays (suc n) =
     let e : ReplyEntry = Judging (Bare 405) (closes (get_request n)) in
     let f : ℕ → Option ReplyEntry = λ k. entry (call_id 0 k) past in
     let g : ℕ → Option ReplyEntry = λ k. entry (call_id 0 k) (m ∷ past) in
-    let count : arrivals 0 past ≡ n = gets_entries n in
+    let count : arrivals 0 past ≡ n = gets_arrivals n in
     let none : came (call_id 0 n) past ≡ None = not_come n n (omega arith) in
     let here : g n ≡ Some e = rw (none, eq-eqb (arrivals 0 past) n count) refl in
     let before : front (map f (range_with_len 0 n)) ≡ map (λ k. Judging (Bare 405) (closes (get_request k))) (range_with_len 0 n) =

@@ -1,4 +1,4 @@
-//! The worked rows of branches with a time of their own: what the definitions give for them. The functions do nothing.
+//! The worked rows of branches with a timeout: what the definitions give for them. The functions do nothing.
 ghost use Rattle.std.specs.Prelude.{◌≡◌, ℕ, ◌+◌, ◌^◌, ◌∷◌, [], ◌++◌, length, codes, true, false, None, Some, option_map};
 ghost use Rattle.error_document.specs.declared.code.Code.{Code};
 ghost use Rattle.gateway_model.specs.CallRecord.{CallRecord};

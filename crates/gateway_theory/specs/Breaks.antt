@@ -16,8 +16,8 @@ use Rattle.gateway_theory.specs.Fate.{Unbroken, BrokenAt, still_out, Fate, is_br
 use Rattle.gateway_model.specs.Concerns.{breaks_at, concerns}
 
 -- the connection is broken, or breaks now
-abbrev pub is_stopped : (ℕ → Bool) → (ℕ → Fate) → ℕ → Bool
-is_stopped breaks fates c = is_broken (fates c) || breaks c
+abbrev pub is_broken_after : (ℕ → Bool) → (ℕ → Fate) → ℕ → Bool
+is_broken_after breaks fates c = is_broken (fates c) || breaks c
 
 -- a call that stays, but for the branch that a result is of
 pub record CallStays (id : CallId) (o : Occurrence) (old new : CallState) : Type 0 where
@@ -27,17 +27,17 @@ pub record ConnStays (old new : ConnState) : Type 0 where
   pub taken_is : new.taken ≡ old.taken
   pub slots_are : new.slots ≡ old.slots
 
--- a call, where its connection stops
+-- a call, where its connection breaks
 abbrev pub CallAfter : Bool → CallId → Occurrence → CallState → CallState → CallState → Type 0
 CallAfter true id o old new stepped = CallStays id o old new
 CallAfter false id o old new stepped = new ≡ stepped
 
--- a connection, where it stops
+-- a connection, where it breaks
 abbrev pub ConnOn : Bool → Occurrence → MachineState → ℕ → ConnState → ConnState → Type 0
 ConnOn true o s c old new = ConnStays old new
 ConnOn false o s c old new = ConnAfter o s c old new
 
--- a connection, where it stops, or something comes on it
+-- a connection, where it breaks, or something comes on it
 abbrev pub ConnBy : Bool → Bool → Option ReplyEntry → ConnState → ConnState → Type 0
 ConnBy true comes reply old new = ConnStays old new
 ConnBy false comes reply old new = new ≡ (if comes then with_slot reply old else old)
@@ -50,18 +50,18 @@ AreConcerned breaks fates o os = (c : ℕ) → is_broken (fates c) ≡ false →
 pub record AfterBreaks (breaks : ℕ → Bool) (fates : ℕ → Fate) (o : Occurrence) (s t : MachineState) : Type 0 where
   pub moment_is : t.moment ≡ max s.moment (moment_of o)
   pub drained_is : t.drained ≡ (is_drain o || s.drained)
-  pub calls_are : (id : CallId) → CallAfter (is_stopped breaks fates id.conn) id o (s.calls id) (t.calls id) (step_of id o s).call
-  pub conns_are : (c : ℕ) → ConnOn (is_stopped breaks fates c) o s c (s.conns c) (t.conns c)
-  pub jobs_are : t.jobs ≡ s.jobs ++ (if is_stopped breaks fates (starting_conn o) then [] else starting o s)
+  pub calls_are : (id : CallId) → CallAfter (is_broken_after breaks fates id.conn) id o (s.calls id) (t.calls id) (step_of id o s).call
+  pub conns_are : (c : ℕ) → ConnOn (is_broken_after breaks fates c) o s c (s.conns c) (t.conns c)
+  pub jobs_are : t.jobs ≡ s.jobs ++ (if is_broken_after breaks fates (starting_conn o) then [] else starting o s)
 
 -- the machine after something came on that connection's stream
-pub record EntryBreaks (breaks : ℕ → Bool) (fates : ℕ → Fate) (c : ℕ) (x : Coming) (s t : MachineState) : Type 0 where
+pub record ComingBreaks (breaks : ℕ → Bool) (fates : ℕ → Fate) (c : ℕ) (x : Coming) (s t : MachineState) : Type 0 where
   pub moment_is : t.moment ≡ s.moment
   pub drained_is : t.drained ≡ s.drained
-  pub calls_are : (id : CallId) → CallAfter (is_stopped breaks fates id.conn) id (Comes c x) (s.calls id) (t.calls id)
+  pub calls_are : (id : CallId) → CallAfter (is_broken_after breaks fates id.conn) id (Comes c x) (s.calls id) (t.calls id)
       (if is_call (next_id c s) id then (arriving c x s).call else s.calls id)
-  pub conns_are : (d : ℕ) → ConnBy (is_stopped breaks fates d) (d == c) (arriving c x s).reply (s.conns d) (t.conns d)
-  pub jobs_are : t.jobs ≡ s.jobs ++ (if is_stopped breaks fates c then [] else (arriving c x s).jobs)
+  pub conns_are : (d : ℕ) → ConnBy (is_broken_after breaks fates d) (d == c) (arriving c x s).reply (s.conns d) (t.conns d)
+  pub jobs_are : t.jobs ≡ s.jobs ++ (if is_broken_after breaks fates c then [] else (arriving c x s).jobs)
 
 -- the machine after memory was refused to a piece of that connection's stream that brings no request
 pub record AfterRefusal (c : ℕ) (s t : MachineState) : Type 0 where
@@ -94,9 +94,9 @@ pub record GivenUp (breaks : ℕ → Bool) (s u : MachineState) : Type 0 where
   pub conns_are : (c : ℕ) → u.conns c ≡ s.conns c
   pub calls_are : (id : CallId) → u.calls id ≡ (if breaks id.conn then call_state (s.calls id).out None else s.calls id)
 
--- no call of a connection that stops can be decided
+-- no call of a connection that breaks can be decided
 abbrev pub NoneLive : (ℕ → Bool) → MachineState → Type 0
-NoneLive stopped s = (id : CallId) → stopped id.conn ≡ true → (s.calls id).live ≡ None
+NoneLive broken s = (id : CallId) → broken id.conn ≡ true → (s.calls id).live ≡ None
 
 -- the same over events with their places: what is queued is all of the past before an occurrence of one of them, which concerned
 -- the connection; or memory was refused to a piece that brought no request

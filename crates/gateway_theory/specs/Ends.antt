@@ -12,7 +12,7 @@ use Rattle.gateway_model.specs.Past.{ArrivedCall, due_by, is_call, call_id, clos
 use Rattle.gateway_theory.specs.Step.{CallState, Live, Step, call_state, deadlines_in, kept, ended_by, step}
 use Rattle.gateway_theory.specs.Kept.{KeptValue}
 use Rattle.gateway_theory.specs.Conn.{ConnValue}
-use Rattle.gateway_theory.specs.Machine.{ConnState, is_entry, slot_at, starting}
+use Rattle.gateway_theory.specs.Machine.{ConnState, is_coming, slot_at, starting}
 use Rattle.gateway_theory.specs.Replies.{reply_with}
 use Rattle.gateway_theory.specs.Store.{MachineValue, machine, machine_value, call_at, conn_of, kept_at, given_up, broken_at, filled_in, hung_at, numbers}
 
@@ -57,10 +57,10 @@ settled_at i s = record s {
 -- ---- all calls
 
 -- the connection is open and broken
-abbrev pub is_stopped_in : ℕ → List ConnValue → Bool
-is_stopped_in c conns = option_map_or (λ k. k.broken) (conn_of c conns) false
+abbrev pub is_broken_in : ℕ → List ConnValue → Bool
+is_broken_in c conns = option_map_or (λ k. k.broken) (conn_of c conns) false
 
--- a call whose connection stopped is given up; another is ended, once it was passed
+-- a call whose connection broke is given up; another is ended, once it was passed
 abbrev pub ended_below : Trigger → Bool → Bool → KeptValue → KeptValue
 ended_below trigger true passed k = given_up k
 ended_below trigger false true k = ended_kept trigger k
@@ -88,14 +88,14 @@ pub record EndedBelow (trigger : Trigger) (i : ℕ) (v u : MachineValue) : Type 
   pub numbers_are : numbers u.conns ≡ numbers v.conns
   pub conns_are : (c : ℕ) → MayBreak (conn_of c v.conns) (conn_of c u.conns)
   pub size_is : length u.calls ≡ length v.calls
-  pub calls_are : (j : ℕ) → kept_at j u.calls ≡ ended_below trigger (is_stopped_in (kept_at j v.calls).id.conn u.conns) (nat_lt j i) (kept_at j v.calls)
-  pub breaks_are : (c : ℕ) → is_stopped_in c u.conns ≡ true → is_stopped_in c v.conns ≡ false → EndsOn trigger c v.calls
+  pub calls_are : (j : ℕ) → kept_at j u.calls ≡ ended_below trigger (is_broken_in (kept_at j v.calls).id.conn u.conns) (nat_lt j i) (kept_at j v.calls)
+  pub breaks_are : (c : ℕ) → is_broken_in c u.conns ≡ true → is_broken_in c v.conns ≡ false → EndsOn trigger c v.calls
 
 -- between two occurrences: no reply waits for its slot, no call of a broken connection can be decided, and each call that can be
 -- decided has its connection
 pub record IsSettled (v : MachineValue) : Type 0 where
   pub no_reply : (j : ℕ) → (kept_at j v.calls).reply ≡ None
-  pub none_live : (j : ℕ) → is_stopped_in (kept_at j v.calls).id.conn v.conns ≡ true → (kept_at j v.calls).call.live ≡ None
+  pub none_live : (j : ℕ) → is_broken_in (kept_at j v.calls).id.conn v.conns ≡ true → (kept_at j v.calls).call.live ≡ None
   pub has_conn : (j : ℕ) → is_some (kept_at j v.calls).call.live ≡ true → is_some (conn_of (kept_at j v.calls).id.conn v.conns) ≡ true
 
 -- no two calls have one id
@@ -152,10 +152,10 @@ pub record CallsEnd (trigger : Trigger) (v w : MachineValue) : Type 0 where
   pub moment_is : w.moment ≡ v.moment
   pub drained_is : w.drained ≡ v.drained
   pub jobs_are : w.jobs ≡ v.jobs
-  pub calls_are : w.calls ≡ map (λ k. without_reply (ended_below trigger (is_stopped_in k.id.conn w.conns) true k)) v.calls
+  pub calls_are : w.calls ≡ map (λ k. without_reply (ended_below trigger (is_broken_in k.id.conn w.conns) true k)) v.calls
   pub numbers_are : numbers w.conns ≡ numbers v.conns
   pub conns_are : (c : ℕ) → MayEnd trigger v.calls (conn_of c v.conns) (conn_of c w.conns)
-  pub breaks_are : (c : ℕ) → is_stopped_in c w.conns ≡ true → is_stopped_in c v.conns ≡ false → EndsOn trigger c v.calls
+  pub breaks_are : (c : ℕ) → is_broken_in c w.conns ≡ true → is_broken_in c v.conns ≡ false → EndsOn trigger c v.calls
 
 -- what may end calls is noted: the drain, or that the peer of a connection hung up
 abbrev pub noted : Trigger → MachineValue → MachineValue
@@ -167,7 +167,7 @@ noted Drained v = record v { drained = true }
 
 -- the calls end by the trigger as they do at the occurrence
 pub record EndsBy (o : Occurrence) (trigger : Trigger) (s v : MachineValue) : Type 0 where
-  pub plain : is_entry o ≡ false
+  pub plain : is_coming o ≡ false
   pub no_closing : (d : ℕ) → closing_occurs d o ≡ false
   pub no_result : (id : CallId) (i : ℕ) → is_result_of id i o ≡ false
   pub no_start : (closed : ℕ → ConnState) → starting o (machine closed s) ≡ []

@@ -19,7 +19,7 @@ use Rattle.gateway_model.specs.Occurrence.{Occurrence, Coming, Comes, Request, R
 use Rattle.gateway_theory.specs.Arrivals.{calls_arrived, calls_in}
 use Rattle.gateway_theory.specs.Orderly.{FatesAre}
 use Rattle.gateway_theory.specs.Store.{MachineValue, call_at, machine, conn_of}
-use Rattle.gateway_theory.specs.Ends.{is_stopped_in}
+use Rattle.gateway_theory.specs.Ends.{is_broken_in}
 use Rattle.gateway_model.specs.Known.{Shown}
 use Rattle.gateway_model.specs.Past.{call_id}
 use Rattle.gateway_model.specs.Queue.{front}
@@ -114,12 +114,12 @@ pub record HasCome (k : ConnValue) (reader : ReaderValue) (text : List ℕ) : Ty
   pub came : k.taken + length k.slots ≡ length given + refusals reader.reading
 
 -- pieces of the stream are taken
-abbrev pub goes_on : ConnValue → StreamValue → Bool
-goes_on k s = not k.broken && not s.hung_up
+abbrev pub is_listening : ConnValue → StreamValue → Bool
+is_listening k s = not k.broken && not s.hung_up
 
 abbrev pub StreamsStand : GatewayValue → (ℕ → List ℕ) → Type 0
 StreamsStand v texts =
-    (c : ℕ) (k : ConnValue) (s : StreamValue) → conn_of c v.machine.conns ≡ Some k → stream_of c v.streams ≡ Some s → goes_on k s ≡ true → HasCome k s.reader (texts c)
+    (c : ℕ) (k : ConnValue) (s : StreamValue) → conn_of c v.machine.conns ≡ Some k → stream_of c v.streams ≡ Some s → is_listening k s ≡ true → HasCome k s.reader (texts c)
 
 -- of the connections that were not opened yet there is nothing
 pub record Unopened (v : GatewayValue) (closed : ℕ → ConnState) (fates : ℕ → Fate) (c : ℕ) : Type 0 where
@@ -148,7 +148,7 @@ with_bytes c bytes texts d = if d == c then texts d ++ bytes else texts d
 
 -- the connection is open and broken
 abbrev pub is_broken_conn : ℕ → GatewayValue → Bool
-is_broken_conn c v = is_stopped_in c v.machine.conns
+is_broken_conn c v = is_broken_in c v.machine.conns
 
 -- the replies of the connection that can be taken
 abbrev pub untaken_of : ℕ → GatewayValue → List ReplyEntry

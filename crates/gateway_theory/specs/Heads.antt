@@ -29,8 +29,8 @@ noted_heads (HungUp conn) heads = map (hung_head conn) heads
 noted_heads Drained heads = heads
 
 -- the connections and the streams tell the same
-abbrev pub IsHeard : GatewayValue → Type 0
-IsHeard v = conn_heads v.machine.conns ≡ stream_heads v.streams
+abbrev pub HeadsAgree : GatewayValue → Type 0
+HeadsAgree v = conn_heads v.machine.conns ≡ stream_heads v.streams
 
 -- what may end calls of all connections
 abbrev pub IsOfAll : Trigger → Type 0

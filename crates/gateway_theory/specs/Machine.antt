@@ -35,9 +35,9 @@ abbrev pub step_of : CallId → Occurrence → MachineState → Step
 step_of id o s = step s.moment id o (s.calls id)
 
 -- something comes on a stream
-abbrev pub is_entry : Occurrence → Bool
-is_entry (Comes c x) = true
-is_entry o = false
+abbrev pub is_coming : Occurrence → Bool
+is_coming (Comes c x) = true
+is_coming o = false
 
 -- the jobs that start at an occurrence that is no request
 abbrev pub starting : Occurrence → MachineState → List JobValue

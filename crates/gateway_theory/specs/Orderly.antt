@@ -15,7 +15,7 @@ pub record IsInOrder (conns : List ConnValue) (k : KeptValue) : Type 0 where
   -- its reply is in its slot, once it is there
   pub no_reply : k.reply ≡ None
   -- a call that can be decided has its connection, which is not broken
-  pub goes_on : is_some k.call.live ≡ true → (c : ConnValue) × (conn_of k.id.conn conns ≡ Some c) × (c.broken ≡ false)
+  pub on_unbroken : is_some k.call.live ≡ true → (c : ConnValue) × (conn_of k.id.conn conns ≡ Some c) × (c.broken ≡ false)
   -- it came on its connection
   pub came : (c : ConnValue) → conn_of k.id.conn conns ≡ Some c → k.id.request < c.taken + length c.slots
 

@@ -6,10 +6,10 @@ use Rattle.http_pieces.specs.Requests.{StreamEnd, Requests}
 use Rattle.gateway_model.specs.declared.entry.ReplyEntry.{ReplyEntry}
 use Rattle.gateway_theory.specs.declared.fault.StepFault.{StepFault}
 use Rattle.gateway_theory.specs.Conn.{ConnValue}
-use Rattle.gateway_theory.specs.Ends.{is_stopped_in}
+use Rattle.gateway_theory.specs.Ends.{is_broken_in}
 use Rattle.gateway_model.specs.Events.{Before, Gains, Occurs, connections, hung_up, is_open, stream, succeeds}
 use Rattle.gateway_model.specs.declared.event.Event.TheVariants.{Piece}
-use Rattle.gateway_theory.specs.Gateway.{GatewayStands, GatewayValue, StreamValue, goes_on, stream_of}
+use Rattle.gateway_theory.specs.Gateway.{GatewayStands, GatewayValue, StreamValue, is_listening, stream_of}
 use Rattle.gateway_model.specs.Job.{JobValue}
 use Rattle.gateway_model.specs.Occurrence.{Coming}
 use Rattle.gateway_theory.specs.Replies.{ReplyValue}
@@ -28,7 +28,7 @@ pub record HasConns (v : GatewayValue) (opened : List ℕ) (events : Before) : T
   -- of one that is broken nobody asks any more whether its peer hung up
   pub hung_are : (c : ℕ) (k : ConnValue) (s : StreamValue) → conn_of c v.machine.conns ≡ Some k → stream_of c v.streams ≡ Some s → k.broken ≡ false → s.hung_up ≡ hung_up opened c events
   -- of one whose pieces are taken the text was read
-  pub reads_are : (c : ℕ) (k : ConnValue) (s : StreamValue) → conn_of c v.machine.conns ≡ Some k → stream_of c v.streams ≡ Some s → goes_on k s ≡ true
+  pub reads_are : (c : ℕ) (k : ConnValue) (s : StreamValue) → conn_of c v.machine.conns ≡ Some k → stream_of c v.streams ≡ Some s → is_listening k s ≡ true
       → (given : List HttpRequest) × HasRead s.reader (stream opened c events) given
 
 -- it stands for what occurs by them, where these replies and jobs were taken
@@ -49,7 +49,7 @@ with_reply n reply taken c = if c == n then taken c ++ option_to_list (option_ma
 abbrev pub ServedFed : ℕ → List ℕ → GatewayValue → List ℕ → Before → (ℕ → List ReplyEntry) → List JobValue → Result ℕ StepFault → Type 0
 ServedFed n bytes w opened es taken handed (Ok m) = Served w opened (Piece n (take m bytes) ∷ es) taken handed
 ServedFed n bytes w opened es taken handed (Err fault) =
-    Served w opened (Piece n bytes ∷ es) taken handed ⊎ ((m : ℕ) × (is_stopped_in n w.machine.conns ≡ true) × Served w opened (Piece n (take m bytes) ∷ es) taken handed)
+    Served w opened (Piece n bytes ∷ es) taken handed ⊎ ((m : ℕ) × (is_broken_in n w.machine.conns ≡ true) × Served w opened (Piece n (take m bytes) ∷ es) taken handed)
 
 -- ---- a piece that is fed in parts
 

@@ -2,7 +2,8 @@
 use Rattle.std.specs.List.{count_by}
 use Rattle.std.specs.Option.{option_map_or}
 use Rattle.std.specs.Prelude.{◌≡◌, ◌↔◌, ◌⊎◌, ⊤, ℕ, ◌+◌, ◌^◌, ◌<◌, ◌≤◌, IfErr, OnErr, OnOk, Bool, true, false, ◌&&◌, not, nat_lt, if◌then◌else◌, ◌==◌, All, List, [], ◌∷◌, ◌++◌, take, map, filter, length, Option, None, Some, is_none, is_some, Result, Ok, Err, slice_set}
-use Rattle.http_pieces.specs.Reader.{Reading, HasRead, Stopped, Waiting, after_request, ending_after, is_over}
+use Rattle.http_pieces.specs.Reader.{Reading, ReaderValue, HasRead, Stopped, Waiting, after_request, ending_after, is_over}
+use Rattle.http_pieces.specs.declared.refusal.Refusal.{Refusal}
 use Rattle.http_pieces.specs.Request.{HttpRequest}
 use Rattle.http_pieces.specs.Requests.{Requests}
 use Rattle.call_plan.specs.Plan.{PlanRecord}
@@ -12,7 +13,7 @@ use Rattle.gateway_model.specs.declared.seen.Seen.{Seen}
 use Rattle.gateway_theory.specs.declared.trigger.Trigger.{Trigger}
 use Rattle.gateway_theory.specs.declared.trigger.Trigger.TheVariants.{HungUp}
 use Rattle.gateway_theory.specs.Conn.{ConnValue}
-use Rattle.gateway_theory.specs.Ends.{CallsEnd, is_stopped_in}
+use Rattle.gateway_theory.specs.Ends.{CallsEnd, is_broken_in}
 use Rattle.gateway_model.specs.Arrival.{arrival_of}
 use Rattle.gateway_model.specs.Known.{is_of}
 use Rattle.gateway_model.specs.declared.entry.ReplyEntry.{ReplyEntry}
@@ -21,7 +22,7 @@ use Rattle.gateway_model.specs.Events.{Before, Occurs, most_open}
 use Rattle.gateway_model.specs.Concerns.{concerns}
 use Rattle.gateway_model.specs.Occurrence.{Coming, Occurrence, Request, Refused}
 use Rattle.gateway_theory.specs.Arrivals.{calls_in}
-use Rattle.gateway_theory.specs.Gateway.{Feeds, GatewayValue, StreamValue, calls_with, goes_on, is_broken_conn, is_waiting, new_stream, stream_at, stream_of, untaken_of}
+use Rattle.gateway_theory.specs.Gateway.{Feeds, GatewayValue, StreamValue, calls_with, is_listening, is_broken_conn, is_waiting, new_stream, refusals, stream_at, stream_of, untaken_of}
 use Rattle.gateway_model.specs.Job.{JobValue}
 use Rattle.gateway_theory.specs.Kept.{KeptValue}
 use Rattle.gateway_theory.specs.Opens.{closed_at, opened_as, ReplyTaken}
@@ -54,8 +55,33 @@ undecided k = count_by is_none k.slots
 abbrev pub FewCalls : List ConnValue → Type 0
 FewCalls conns = (c : ℕ) (k : ConnValue) → conn_of c conns ≡ Some k → k.broken ≡ false → undecided k ≤ most_calls
 
+-- the text of a stream was read, and no more has come on its connection than it brought
+pub record HasBrought (k : ConnValue) (reader : ReaderValue) : Type 0 where
+  pub text : List ℕ
+  pub given : List HttpRequest
+  pub reads : HasRead reader text given
+  pub came : k.taken + length k.slots ≤ length given + refusals reader.reading
+
+-- so it is of each stream that goes on
+abbrev pub StreamsBring : GatewayValue → Type 0
+StreamsBring v =
+    (c : ℕ) (k : ConnValue) (s : StreamValue) → conn_of c v.machine.conns ≡ Some k → stream_of c v.streams ≡ Some s → is_listening k s ≡ true → HasBrought k s.reader
+
+-- less has come on the connection than its stream brought
+pub record IsBehind (k : ConnValue) (reader : ReaderValue) : Type 0 where
+  pub text : List ℕ
+  pub given : List HttpRequest
+  pub reads : HasRead reader text given
+  pub came : k.taken + length k.slots < length given + refusals reader.reading
+
+-- so it is where a request was taken of it, or where it was refused
+abbrev pub IsBehindIf : Option HttpRequest → ConnValue → ReaderValue → Type 0
+IsBehindIf (Some q) k reader = IsBehind k reader
+IsBehindIf None k reader = (r : Refusal) → reader.reading ≡ Stopped r → IsBehind k reader
+
 -- the machine is orderly, has a stream for each connection, in the same order, of which no request waits, and nothing of connections
--- that were not opened yet; no more connections are open, and no more requests of one are undecided, than may be
+-- that were not opened yet; no more connections are open, and no more requests of one are undecided, than may be, and no more have come
+-- than streams brought
 pub record IsServing (v : GatewayValue) : Type 0 where
   pub orderly : IsOrderly v.machine
   pub numbers_are : map (λ s. s.number) v.streams ≡ numbers v.machine.conns
@@ -64,6 +90,7 @@ pub record IsServing (v : GatewayValue) : Type 0 where
   pub no_call : (c : ℕ) → v.opened ≤ c → NoCallOf c v.machine.calls
   pub few_streams : length v.streams ≤ most_open
   pub few_calls : FewCalls v.machine.conns
+  pub brought : StreamsBring v
 
 -- the connection of that number opened
 pub record Opens (v w : GatewayValue) (number : ℕ) : Type 0 where
@@ -93,11 +120,11 @@ pub record ListensAt (number : ℕ) (v : GatewayValue) (i : ℕ) : Type 0 where
   pub on : (stream_at i v.streams).hung_up ≡ false
 
 -- a stream of that number is not there, or no pieces of it are taken
-abbrev pub IsDeaf : ℕ → GatewayValue → Type 0
-IsDeaf number v = (k : ConnValue) (s : StreamValue) → conn_of number v.machine.conns ≡ Some k → stream_of number v.streams ≡ Some s → goes_on k s ≡ false
+abbrev pub NotListening : ℕ → GatewayValue → Type 0
+NotListening number v = (k : ConnValue) (s : StreamValue) → conn_of number v.machine.conns ≡ Some k → stream_of number v.streams ≡ Some s → is_listening k s ≡ false
 
 abbrev pub IsListening : ℕ → GatewayValue → Option ℕ → Type 0
-IsListening number v None = IsDeaf number v
+IsListening number v None = NotListening number v
 IsListening number v (Some i) = ListensAt number v i
 
 -- ---- pieces
@@ -134,14 +161,14 @@ pub record ReadsAt (i n : ℕ) (request : Option HttpRequest) (bytes : List ℕ)
   pub rest : w ≡ record v { streams = slice_set v.streams i stream }
 
 -- the refusal of a stream came on the connection at that place, if the stream was refused
-abbrev pub StopsBy : ℕ → Reading → MachineValue → MachineValue → Type 0
-StopsBy i (Stopped r) v w = Enters i (Refused r) v w
-StopsBy i _ v w = w ≡ v
+abbrev pub RefusesBy : ℕ → Reading → MachineValue → MachineValue → Type 0
+RefusesBy i (Stopped r) v w = Enters i (Refused r) v w
+RefusesBy i _ v w = w ≡ v
 
 -- a request came on the connection at that place, or what else its stream has come to
 abbrev pub ComesBy : List PlanRecord → ℕ → Option HttpRequest → Reading → MachineValue → MachineValue → Type 0
 ComesBy plans i (Some q) reading v w = Enters i (Request q (arrival_of plans q)) v w
-ComesBy plans i None reading v w = StopsBy i reading v w
+ComesBy plans i None reading v w = RefusesBy i reading v w
 
 -- what comes on the connection at that place begins a call
 abbrev pub begins_at : ℕ → Coming → MachineValue → Bool
@@ -188,8 +215,8 @@ pub record IsMade (i : ℕ) (x : Coming) (begun : ℕ) (v : MachineValue) (begun
 
 pub record BringsAt (i : ℕ) (request : Option HttpRequest) (v w : GatewayValue) (result : Result ⊤ StepFault) : Type 0 where
   pub comes : ComesBy v.plans i request (stream_at i v.streams).reader.reading v.machine w.machine
-  pub fine : OnOk result (is_stopped_in (conn_at i v.machine.conns).number w.machine.conns ≡ false)
-  pub stopped : OnErr result (is_stopped_in (conn_at i v.machine.conns).number w.machine.conns ≡ true)
+  pub fine : OnOk result (is_broken_in (conn_at i v.machine.conns).number w.machine.conns ≡ false)
+  pub broken : OnErr result (is_broken_in (conn_at i v.machine.conns).number w.machine.conns ≡ true)
   pub fault : IfErr result (λ f. IsFault f w.begun (begins_by v.plans i request v.machine))
   pub counts : CountsCalls v w
   pub bound : w.begun ≤ v.begun + calls_with v.plans request
@@ -203,7 +230,7 @@ pub record TakesSome (given taken : ℕ) : Type 0 where
 -- what bytes of a stream come to
 pub data FedTo (number : ℕ) (bytes : List ℕ) (v w : GatewayValue) (result : Result ℕ StepFault) : Type 0 where
   -- none are taken
-  unheard : IsDeaf number v → result ≡ Err Gone → w ≡ v → FedTo number bytes v w result
+  not_fed : NotListening number v → result ≡ Err Gone → w ≡ v → FedTo number bytes v w result
   -- the stream has ended, and they are dropped
   dropped : (i : ℕ) → ListensAt number v i → is_over (stream_at i v.streams).reader.reading ≡ true → result ≡ Ok (length bytes) → w ≡ v → FedTo number bytes v w result
   -- the reader found no memory
@@ -213,7 +240,7 @@ pub data FedTo (number : ℕ) (bytes : List ℕ) (v w : GatewayValue) (result : 
   came : (i n : ℕ) → ListensAt number v i → is_over (stream_at i v.streams).reader.reading ≡ false → Feeds i n bytes v w
       → n ≤ length bytes → (0 < length bytes → 0 < n) → (request : Option HttpRequest) → IsWhole n bytes (stream_at i v.streams) request
       → (fault : StepFault) → IsFault fault w.begun (begins_by v.plans i request v.machine) → CountsCalls v w
-      → result ≡ (if is_stopped_in number w.machine.conns then Err fault else Ok n) → FedTo number bytes v w result
+      → result ≡ (if is_broken_in number w.machine.conns then Err fault else Ok n) → FedTo number bytes v w result
 
 -- ---- what else is done
 
@@ -224,11 +251,11 @@ without_more i streams = slice_set streams i (record (stream_at i streams) { hun
 -- the peer of a connection hangs up
 pub data HangsUp (number : ℕ) (v w : GatewayValue) (result : Result ⊤ StepFault) : Type 0 where
   -- no piece of its stream is taken any more
-  silent : IsDeaf number v → result ≡ Err Gone → w ≡ v → HangsUp number v w result
+  unnoticed : NotListening number v → result ≡ Err Gone → w ≡ v → HangsUp number v w result
   -- its calls end, or it breaks
   hung : (i : ℕ) → ListensAt number v i → CallsEnd (HungUp number) v.machine w.machine
       → w ≡ record v { machine = w.machine; streams = without_more i v.streams }
-      → result ≡ (if is_stopped_in number w.machine.conns then Err Memory else Ok tt) → HangsUp number v w result
+      → result ≡ (if is_broken_in number w.machine.conns then Err Memory else Ok tt) → HangsUp number v w result
 
 -- calls end of the machine, to which what ends them was told
 pub record Ends (trigger : Trigger) (told : MachineValue) (v w : GatewayValue) : Type 0 where
@@ -237,8 +264,8 @@ pub record Ends (trigger : Trigger) (told : MachineValue) (v w : GatewayValue) :
 
 -- a connection breaks in the step, or none does
 abbrev pub Breaks : GatewayValue → GatewayValue → Bool → Type 0
-Breaks v w true = (c : ℕ) × (is_stopped_in c w.machine.conns ≡ true) × (is_stopped_in c v.machine.conns ≡ false)
-Breaks v w false = (c : ℕ) → is_stopped_in c w.machine.conns ≡ true → is_stopped_in c v.machine.conns ≡ true
+Breaks v w true = (c : ℕ) × (is_broken_in c w.machine.conns ≡ true) × (is_broken_in c v.machine.conns ≡ false)
+Breaks v w false = (c : ℕ) → is_broken_in c w.machine.conns ≡ true → is_broken_in c v.machine.conns ≡ true
 
 -- the connection of that number closes, if it is open
 abbrev pub Closes : ℕ → GatewayValue → GatewayValue → Bool → Type 0
@@ -281,7 +308,7 @@ Keeps breaks v w = KeepsBut (λ c. false) breaks [] v w
 
 -- what a step tells of a connection by its answer
 pub record TellsStep {A : Type 0} (c : ℕ) (v w : GatewayValue) (result : Result A StepFault) : Type 0 where
-  pub gone : (result ≡ Err Gone) ↔ IsDeaf c v
+  pub gone : (result ≡ Err Gone) ↔ NotListening c v
   pub unchanged : result ≡ Err Gone → w ≡ v
   pub broke : result ≡ Err Memory → is_broken_conn c w ≡ true
   pub exhausted : result ≡ Err Exhausted → (is_broken_conn c w ≡ true) × (most_begun ≤ w.begun)

@@ -111,7 +111,7 @@ pub record TellsTook (id : CallId) (branch : ℕ) (outcome : Outcome) (took : To
 -- occurred, and of no other
 pub record IsWanted (id : CallId) (v : GatewayValue) (wanted : Bool) : Type 0 where
   pub kept : wanted ≡ is_some (call_at id v.machine.calls).live
-  pub stopped : is_whole id.conn (shown v) ≡ false → wanted ≡ false
+  pub broken : is_whole id.conn (shown v) ≡ false → wanted ≡ false
   pub by_events : (opened : List ℕ) (es : Before) (taken : ℕ → List ReplyEntry) (handed : List JobValue) (occurred : List Placed)
       → Served v opened es taken handed → Occurs v.plans opened es occurred → is_whole id.conn (shown v) ≡ true
       → wanted ≡ is_live id (marked (occurrences occurred))

@@ -15,7 +15,7 @@ pub mod BeginsLemmas
 pub mod SlotLemmas
 pub mod MachineLemmas
 pub mod FateLemmas
-pub mod EntryFates
+pub mod ComingFates
 pub mod RefusalFates
 pub mod SeenLemmas
 pub mod Taking
@@ -38,7 +38,7 @@ pub mod EnterSteps
 pub mod OpenSteps
 pub mod OrderLemmas
 pub mod OrderSteps
-pub mod StarveSteps
+pub mod StarvedSteps
 pub mod Concerned
 pub mod FeedLemmas
 pub mod FeedSteps
@@ -48,6 +48,7 @@ pub mod GatewayEnds
 pub mod GatewayOpens
 pub mod ServingLemmas
 pub mod BringLemmas
+pub mod BroughtLemmas
 pub mod BreakLemmas
 pub mod EventLemmas
 pub mod CutLemmas
@@ -70,7 +71,7 @@ pub mod SeenResults
 pub mod OpenCount
 pub mod LaterOpenings
 pub mod HeadLemmas
-pub mod HeardLemmas
+pub mod NotedLemmas
 pub mod Knowing
 pub mod Telling
 pub mod OneAtATime

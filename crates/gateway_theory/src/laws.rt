@@ -52,7 +52,7 @@ pub fn uncounted_law()
 
 /// Results of a branch that is not out change nothing, however many they are.
 pub fn unknown_law()
-    ensures judged_stays { (id : CallId) (branch : ℕ) (outcome : Outcome) (occurred : List Occurrence) → how_seen id branch (marked occurred) ≡ Seen.Unknown
+    ensures seen_stays { (id : CallId) (branch : ℕ) (outcome : Outcome) (occurred : List Occurrence) → how_seen id branch (marked occurred) ≡ Seen.Unknown
         → (n : ℕ) (other : CallId) (i : ℕ) → how_seen other i (marked (replicate n (Result id branch outcome) ++ occurred)) ≡ how_seen other i (marked occurred) }
     ensures replies_stay { (id : CallId) (branch : ℕ) (outcome : Outcome) (occurred : List Occurrence) → how_seen id branch (marked occurred) ≡ Seen.Unknown
         → (n conn : ℕ) → replies conn (marked (replicate n (Result id branch outcome) ++ occurred)) ≡ replies conn (marked occurred) }

@@ -13,13 +13,13 @@ use Rattle.gateway_model.specs.Known.{is_of}
 use Rattle.gateway_theory.specs.Gateway.{GatewayValue, is_broken_conn, untaken_of}
 use Rattle.gateway_model.specs.Job.{JobValue}
 use Rattle.gateway_theory.specs.Served.{Served, ServedUpTo}
-use Rattle.gateway_theory.specs.Serving.{CountsCalls, IsDeaf, Keeps, TellsStep, most_begun}
+use Rattle.gateway_theory.specs.Serving.{CountsCalls, NotListening, Keeps, TellsStep, most_begun}
 use Rattle.gateway_theory.specs.Store.{MachineValue}
 
--- nothing was fed yet, or the connection is heard, and was
-pub data Hearing (conn : ℕ) (v w : GatewayValue) : Type 0 where
-  first : w ≡ v → Hearing conn v w
-  later : (IsDeaf conn w → ⊥) → (IsDeaf conn v → ⊥) → Hearing conn v w
+-- nothing was fed yet, or the connection listens, and did
+pub data Listening (conn : ℕ) (v w : GatewayValue) : Type 0 where
+  first : w ≡ v → Listening conn v w
+  later : (NotListening conn w → ⊥) → (NotListening conn v → ⊥) → Listening conn v w
 
 -- what was fed, with what is left, is the piece
 pub record Delivery (conn : ℕ) (piece rest : List ℕ) (v w : GatewayValue) : Type 0 where
@@ -28,7 +28,7 @@ pub record Delivery (conn : ℕ) (piece rest : List ℕ) (v w : GatewayValue) : 
   pub served : (opened : List ℕ) (es : Before) (taken : ℕ → List ReplyEntry) (handed : List JobValue) → Served v opened es taken handed → ServedUpTo conn done w opened es taken handed
   pub keeps : Keeps (λ c. c == conn) v w
   pub counts : CountsCalls v w
-  pub hears : Hearing conn v w
+  pub listening : Listening conn v w
 
 abbrev pub Begins : Type 0
 Begins = (n : ℕ) (v : GatewayValue) (opened : List ℕ) (es : Before) (taken : ℕ → List ReplyEntry) (handed : List JobValue) → Served v opened es taken handed → ServedUpTo n [] v opened es taken handed
@@ -72,7 +72,7 @@ begun begins conn piece v = record {
   served = λ opened es taken handed h. begins conn v opened es taken handed h;
   keeps = keeps_still (λ c. c == conn) v;
   counts = counts_still v;
-  hears = first refl;
+  listening = first refl;
 }
 
 pub keeps_then : (breaks : ℕ → Bool) (u v w : GatewayValue) → Keeps breaks u v → Keeps breaks v w → CountsCalls u w → Keeps breaks u w
@@ -97,28 +97,28 @@ keeps_then breaks u v w a b counts = record {
     by_middle c true m_is now before = a.broken_are c m_is before
     by_middle c false m_is now before = b.broken_are c now m_is
 
-pub at_first : (conn : ℕ) (u v : GatewayValue) → Hearing conn u v → (IsDeaf conn v → ⊥) → IsDeaf conn u → ⊥
-at_first conn u v (first same) was deaf = was (subst (IsDeaf conn) (sym same) deaf)
-at_first conn u v (later now before) was deaf = before deaf
+pub at_first : (conn : ℕ) (u v : GatewayValue) → Listening conn u v → (NotListening conn v → ⊥) → NotListening conn u → ⊥
+at_first conn u v (first same) was not_listening = was (subst (NotListening conn) (sym same) not_listening)
+at_first conn u v (later now before) was not_listening = before not_listening
 
-pub deaf_at_first : (conn : ℕ) (u v : GatewayValue) → Hearing conn u v → IsDeaf conn v → (v ≡ u) × IsDeaf conn u
-deaf_at_first conn u v (first same) deaf = (same, subst (IsDeaf conn) same deaf)
-deaf_at_first conn u v (later now before) deaf = absurd (now deaf)
+pub not_listening_at_first : (conn : ℕ) (u v : GatewayValue) → Listening conn u v → NotListening conn v → (v ≡ u) × NotListening conn u
+not_listening_at_first conn u v (first same) not_listening = (same, subst (NotListening conn) same not_listening)
+not_listening_at_first conn u v (later now before) not_listening = absurd (now not_listening)
 
-pub deaf_now : (conn : ℕ) (u v : GatewayValue) → Hearing conn u v → IsDeaf conn u → IsDeaf conn v
-deaf_now conn u v (first same) deaf = subst (IsDeaf conn) (sym same) deaf
-deaf_now conn u v (later now before) deaf = absurd (before deaf)
+pub not_listening_now : (conn : ℕ) (u v : GatewayValue) → Listening conn u v → NotListening conn u → NotListening conn v
+not_listening_now conn u v (first same) not_listening = subst (NotListening conn) (sym same) not_listening
+not_listening_now conn u v (later now before) not_listening = absurd (before not_listening)
 
 abbrev fault_in : {A : Type 0} → Result A StepFault → StepFault
 fault_in (Ok a) = Gone
 fault_in (Err fault) = fault
 
 -- what is answered of the piece, by what was of its last part
-pub gone_so : {A B : Type 0} (conn : ℕ) (u v : GatewayValue) (fed : Result A StepFault) (r : Result B StepFault) (fault : StepFault) → Hearing conn u v → fed ≡ Err fault → r ≡ Err fault
-    → (fed ≡ Err Gone) ↔ IsDeaf conn v → (r ≡ Err Gone) ↔ IsDeaf conn u
+pub gone_so : {A B : Type 0} (conn : ℕ) (u v : GatewayValue) (fed : Result A StepFault) (r : Result B StepFault) (fault : StepFault) → Listening conn u v → fed ≡ Err fault → r ≡ Err fault
+    → (fed ≡ Err Gone) ↔ NotListening conn v → (r ≡ Err Gone) ↔ NotListening conn u
 gone_so {A} {B} conn u v fed r fault h fed_is r_is gone = (
-  λ e. (deaf_at_first conn u v h (gone.0 (fed_is ∙ ap (λ f. err_a f) (ap fault_in (sym r_is ∙ e))))).1,
-  λ deaf. r_is ∙ ap (λ f. err_b f) (ap fault_in (sym fed_is ∙ gone.1 (deaf_now conn u v h deaf))),
+  λ e. (not_listening_at_first conn u v h (gone.0 (fed_is ∙ ap (λ f. err_a f) (ap fault_in (sym r_is ∙ e))))).1,
+  λ not_listening. r_is ∙ ap (λ f. err_b f) (ap fault_in (sym fed_is ∙ gone.1 (not_listening_now conn u v h not_listening))),
 )
   where
     err_a : StepFault → Result A StepFault
@@ -131,8 +131,8 @@ gone_so {A} {B} conn u v fed r fault h fed_is r_is gone = (
 pub fault_same : {A B : Type 0} (fed : Result A StepFault) (r : Result B StepFault) (fault other : StepFault) → fed ≡ Err fault → r ≡ Err fault → r ≡ Err other → fed ≡ Err other
 fault_same fed r fault other fed_is r_is e = fed_is ∙ ap (λ f. Err f) (ap fault_in (sym r_is ∙ e))
 
-pub heard_ok : (conn : ℕ) (v : GatewayValue) (fed : Result ℕ StepFault) (n : ℕ) → fed ≡ Ok n → (fed ≡ Err Gone) ↔ IsDeaf conn v → IsDeaf conn v → ⊥
-heard_ok conn v fed n is gone deaf = let clash : Ok n ≡ Err Gone = sym is ∙ gone.1 deaf in cc
+pub listening_ok : (conn : ℕ) (v : GatewayValue) (fed : Result ℕ StepFault) (n : ℕ) → fed ≡ Ok n → (fed ≡ Err Gone) ↔ NotListening conn v → NotListening conn v → ⊥
+listening_ok conn v fed n is gone not_listening = let clash : Ok n ≡ Err Gone = sym is ∙ gone.1 not_listening in cc
 
 pub from_err : {T : Type 0} (r : Result T StepFault) (f : StepFault) → IsErr r → IsErrAnd r (λ e. e ≡ f) → r ≡ Err f
 from_err (Ok t) f bad same = absurd (cc)
@@ -140,14 +140,14 @@ from_err (Err e) f bad same = ap Err same
 
 pub fed_on : (conn n : ℕ) (piece rest : List ℕ) (u v w : GatewayValue) → Delivery conn piece rest u v
     → ((fed : List ℕ) (opened : List ℕ) (es : Before) (taken : ℕ → List ReplyEntry) (handed : List JobValue) → ServedUpTo conn fed v opened es taken handed → ServedUpTo conn (fed ++ take n rest) w opened es taken handed)
-    → Keeps (λ c. c == conn) v w → CountsCalls v w → (IsDeaf conn v → ⊥) → (IsDeaf conn w → ⊥) → Delivery conn piece (drop n rest) u w
+    → Keeps (λ c. c == conn) v w → CountsCalls v w → (NotListening conn v → ⊥) → (NotListening conn w → ⊥) → Delivery conn piece (drop n rest) u w
 fed_on conn n piece rest u v w d stands keeps counts was now = record {
   done = d.done ++ take n rest;
   whole = append_assoc d.done (take n rest) (drop n rest) ∙ ap (λ xs. d.done ++ xs) (take-append-drop n rest) ∙ d.whole;
   served = λ opened es taken handed h. stands d.done opened es taken handed (d.served opened es taken handed h);
   keeps = keeps_then (λ c. c == conn) u v w d.keeps keeps (counts_then u v w d.counts counts);
   counts = counts_then u v w d.counts counts;
-  hears = later now (at_first conn u v d.hears was);
+  listening = later now (at_first conn u v d.listening was);
 }
 
 pub fed_whole : (conn : ℕ) (piece rest : List ℕ) (v w : GatewayValue) → Delivery conn piece rest v w → rest ≡ []
@@ -177,19 +177,19 @@ empty_rest n rest e =
 
 -- ---- what the piece tells, by what its last part does
 
-pub fault_tells : {A B : Type 0} (conn : ℕ) (u v w : GatewayValue) (fed : Result A StepFault) (r : Result B StepFault) (fault : StepFault) → Hearing conn u v → fed ≡ Err fault → r ≡ Err fault
+pub fault_tells : {A B : Type 0} (conn : ℕ) (u v w : GatewayValue) (fed : Result A StepFault) (r : Result B StepFault) (fault : StepFault) → Listening conn u v → fed ≡ Err fault → r ≡ Err fault
     → TellsStep conn v w fed → TellsStep conn u w r
 fault_tells conn u v w fed r fault h fed_is r_is tells = record {
   gone = gone_so conn u v fed r fault h fed_is r_is tells.gone;
-  unchanged = λ e. let gone = fault_same fed r fault Gone fed_is r_is e in tells.unchanged gone ∙ (deaf_at_first conn u v h (tells.gone.0 gone)).0;
+  unchanged = λ e. let gone = fault_same fed r fault Gone fed_is r_is e in tells.unchanged gone ∙ (not_listening_at_first conn u v h (tells.gone.0 gone)).0;
   broke = λ e. tells.broke (fault_same fed r fault Memory fed_is r_is e);
   exhausted = λ e. tells.exhausted (fault_same fed r fault Exhausted fed_is r_is e);
   unbroken = subst (λ x. OnOk x (is_broken_conn conn w ≡ false)) (sym r_is) tt;
 }
 
-pub whole_tells : {B : Type 0} (conn n : ℕ) (u v w : GatewayValue) (fed : Result ℕ StepFault) (b : B) → Hearing conn u v → fed ≡ Ok n → TellsStep conn v w fed → TellsStep conn u w (Ok b)
+pub whole_tells : {B : Type 0} (conn n : ℕ) (u v w : GatewayValue) (fed : Result ℕ StepFault) (b : B) → Listening conn u v → fed ≡ Ok n → TellsStep conn v w fed → TellsStep conn u w (Ok b)
 whole_tells conn n u v w fed b h fed_is tells = record {
-  gone = (λ e. absurd (let clash = e in cc), λ deaf. absurd (at_first conn u v h (heard_ok conn v fed n fed_is tells.gone) deaf));
+  gone = (λ e. absurd (let clash = e in cc), λ not_listening. absurd (at_first conn u v h (listening_ok conn v fed n fed_is tells.gone) not_listening));
   unchanged = λ e. absurd (let clash = e in cc);
   broke = λ e. absurd (let clash = e in cc);
   exhausted = λ e. absurd (let clash = e in cc);

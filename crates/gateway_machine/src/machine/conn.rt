@@ -1,4 +1,5 @@
 ghost use Rattle.std.specs.Prelude.{◌≡◌, ◌+◌, ◌<◌, ◌==◌, length, IfOk, IfSome, OnErr, [], false, if◌then◌else◌, option_map, is_some};
+ghost use Rattle.http_pieces.specs.Request.{most_requests};
 ghost use Rattle.gateway_theory.specs.Conn.{added, entry_in, filled, next_of, without_first, conn_value};
 ghost use Rattle.gateway_theory.specs.Machine.{is_full, slot_at};
 ghost use Rattle.gateway_theory.specs.Gateway.{are_all_there};
@@ -14,9 +15,6 @@ use std::marker::Model;
 
 /// Undecided calls that a connection may have.
 const MOST_CALLS: usize = 8;
-
-/// Requests that a connection may make.
-const MOST_REQUESTS: u64 = 100;
 
 /// An open connection: how many of its replies were taken, and a slot for each request behind them.
 #[derive(Drop)]
@@ -126,14 +124,12 @@ impl Conn {
 
     /// A slot for its next request.
     pub(crate) fn add(&mut self, reply: Option<Reply>) -> Result<(), AllocError>
-        requires { IfSome reply (λ r. r.id ≡ next_of self.old) }
+        requires its { IfSome reply (λ r. r.id ≡ next_of self.old) }
+        // a stream brings no more: its reader ends behind the last
+        requires room { (next_of self.old).request < most_requests }
         ensures ok { IfOk result (λ _. self.new ≡ added (entry_in reply) self.old) }
         ensures err { OnErr result (self.new ≡ self.old) }
     {
-        // A stream brings no more: its reader ends behind the last.
-        if self.taken + self.slots.len() as u64 >= MOST_REQUESTS {
-            return Err(AllocError);
-        }
         self.slots.push_back(reply)?;
         Ok(())
     }

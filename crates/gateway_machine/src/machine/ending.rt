@@ -2,6 +2,7 @@ ghost use Rattle.std.specs.Prelude.{◌≡◌, ◌<◌, ℕ, length};
 ghost use Rattle.gateway_theory.specs.declared.trigger.Trigger.{Trigger as AnyTrigger};
 ghost use Rattle.gateway_machine.specs.Linked.{IsNow, Over, linked, linked_by, over_by};
 ghost use Rattle.gateway_replies.specs.Contexts.{Ended, ends_of};
+ghost use Rattle.gateway_replies.specs.Hooks.{StocksStay};
 ghost use Rattle.gateway_theory.specs.Heads.{conn_heads};
 ghost use Rattle.gateway_theory.specs.Ends.{AreApart, CallsEnd, EndedAt, IsSettled, settled_at, SettledBelow};
 
@@ -24,6 +25,7 @@ impl Machine {
             → contexts.old.standing ≡ linked_by ends (over_by trigger) self.old → EndedAt trigger index self.old self.new }
         ensures linked { (ends : ℕ → Ended) (trigger : AnyTrigger) → IsNow trigger self.old.moment
             → contexts.old.standing ≡ linked_by ends (over_by trigger) self.old → contexts.new.standing ≡ linked_by ends (over_by trigger) self.new }
+        ensures stocks { StocksStay contexts.old contexts.new }
     {
         contexts.apart_law();
         let moment = self.moment;
@@ -58,6 +60,7 @@ impl Machine {
         ensures ended { CallsEnd trigger.now self.old self.new }
         ensures linked { contexts.new.standing ≡ linked contexts.old.standing self.new }
         ensures heads { conn_heads self.new.conns ≡ conn_heads self.old.conns }
+        ensures stocks { StocksStay contexts.old contexts.new }
     {
         for index in 0..self.calls.len() {
             self.end_call(alloc, contexts, index);

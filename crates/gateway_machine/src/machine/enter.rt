@@ -1,9 +1,11 @@
 ghost use Rattle.std.specs.Prelude.{[], ◌≡◌, ◌+◌, ◌<◌, ◌≤◌, ◌++◌, ◌^◌, Some, None as Nothing, IfErr, IfOk, OnOk, OnErr, false, true, length, map};
 ghost use Rattle.std.specs.VecDeque.{deque_capacity};
 ghost use Rattle.gateway_model.specs.Arrival.{arrival_of};
+ghost use Rattle.http_pieces.specs.Request.{most_requests};
 ghost use Rattle.gateway_theory.specs.Begins.{begins};
 ghost use Rattle.gateway_theory.specs.Conn.{next_of};
 ghost use Rattle.gateway_replies.specs.Contexts.{KeepsOthers, by_drain, ends_of, is_life};
+ghost use Rattle.gateway_replies.specs.Hooks.{StocksStay, TakesAtMostOne, stock_in};
 ghost use Rattle.gateway_theory.specs.Enters.{arriving_at, asking_at, entered_at, Enters};
 ghost use Rattle.gateway_machine.specs.Comes.{ComesTo};
 ghost use Rattle.gateway_theory.specs.Task.{job_at};
@@ -47,12 +49,15 @@ impl Machine {
         begun: &mut u64,
     ) -> Result<(), StepFault>
         requires there { index < length self.old.conns }
+        requires room { (next_of (conn_at index self.old.conns)).request < most_requests }
         requires on { (conn_at index self.old.conns).broken ≡ false }
-        requires heard { ends_of contexts.old.standing (conn_at index self.old.conns).number ≡ by_drain self.old.drained }
+        requires not_hung { ends_of contexts.old.standing (conn_at index self.old.conns).number ≡ by_drain self.old.drained }
         requires fresh { is_life (next_of (conn_at index self.old.conns)) contexts.old.standing.calls ≡ false }
+        requires stocked { stock_in (conn_at index self.old.conns).number contexts.old.stocks ≡ Some [] → ⊥ }
         requires linked { contexts.old.standing ≡ linked contexts.old.standing self.old }
         ensures made { IsMade index (Coming.Request request (arrival_of plans.now request)) begun.old self.old begun.new self.new result }
         ensures linked { contexts.new.standing ≡ linked contexts.old.standing self.new }
+        ensures stocks { TakesAtMostOne (conn_at index self.old.conns).number contexts.old contexts.new }
     {
         let came = self.take_in(alloc, contexts, plans, index, request, begun);
         if came.is_err() {
@@ -63,7 +68,7 @@ impl Machine {
     }
 
     /// The stream of the connection at that place is refused; the connection breaks where memory is.
-    pub(crate) fn stop<H: ReplyHook + Drop>(
+    pub(crate) fn refuse_stream<H: ReplyHook + Drop>(
         &mut self,
         alloc: Global,
         contexts: &mut Contexts<H>,
@@ -71,18 +76,20 @@ impl Machine {
         refusal: Refusal,
     ) -> Result<(), StepFault>
         requires there { index < length self.old.conns }
+        requires room { (next_of (conn_at index self.old.conns)).request < most_requests }
         requires linked { contexts.old.standing ≡ linked contexts.old.standing self.old }
         ensures ok { OnOk result (self.new ≡ entered_at index (arriving_at index (Coming.Refused refusal) self.old) self.old) }
         ensures err { OnErr result (self.new ≡ broken_at (conn_at index self.old.conns).number self.old) }
         ensures fault { IfErr result (λ f. f ≡ fault.Memory) }
         ensures linked { contexts.new.standing ≡ linked contexts.old.standing self.new }
+        ensures stocks { StocksStay contexts.old contexts.new }
     {
-        let stopped = self.refuse(alloc, index, refusal);
-        if stopped.is_err() {
+        let refused = self.refuse(alloc, index, refusal);
+        if refused.is_err() {
             let number = self.conns[index].number;
             self.break_conn(contexts, number);
         }
-        stopped
+        refused
     }
 
     /// A request comes on the connection at that place: it is answered at once, or begins a call. At a fault nothing changes.
@@ -96,15 +103,18 @@ impl Machine {
         begun: &mut u64,
     ) -> Result<(), StepFault>
         requires there { index < length self.old.conns }
+        requires room { (next_of (conn_at index self.old.conns)).request < most_requests }
         requires on { (conn_at index self.old.conns).broken ≡ false }
-        requires heard { ends_of contexts.old.standing (conn_at index self.old.conns).number ≡ by_drain self.old.drained }
+        requires not_hung { ends_of contexts.old.standing (conn_at index self.old.conns).number ≡ by_drain self.old.drained }
         requires fresh { is_life (next_of (conn_at index self.old.conns)) contexts.old.standing.calls ≡ false }
+        requires stocked { stock_in (conn_at index self.old.conns).number contexts.old.stocks ≡ Some [] → ⊥ }
         requires linked { contexts.old.standing ≡ linked contexts.old.standing self.old }
         ensures ok { OnOk result (self.new
             ≡ entered_at index (arriving_at index (Coming.Request request (arrival_of plans.now request)) self.old) self.old) }
         ensures linked { OnOk result (contexts.new.standing ≡ linked contexts.old.standing self.new) }
         ensures err { OnErr result (self.new ≡ self.old) }
         ensures others { OnErr result (IsLinkedBut (ends_of contexts.old.standing) (conn_at index self.old.conns).number contexts.new.standing self.new) }
+        ensures stocks { TakesAtMostOne (conn_at index self.old.conns).number contexts.old contexts.new }
         ensures fault { IfErr result (λ f. IsFault f begun.new
             (begins_at index (Coming.Request request (arrival_of plans.now request)) self.old)) }
         ensures grows { begun.old ≤ begun.new }
@@ -127,7 +137,8 @@ impl Machine {
         asked: ArrivedCall,
         begun: &mut u64,
     ) -> Result<(), StepFault>
-        requires { index < length self.old.conns }
+        requires there { index < length self.old.conns }
+        requires room { (next_of (conn_at index self.old.conns)).request < most_requests }
         ensures ok { OnOk result (self.new
             ≡ entered_at index (begins self.old.moment Nothing (next_of (conn_at index self.old.conns)) asked) self.old) }
         ensures err { OnErr result (self.new ≡ self.old) }
@@ -154,13 +165,15 @@ impl Machine {
     ) -> Result<Arriving, AllocError>
         requires there { index < length self.now.conns }
         requires on { (conn_at index self.now.conns).broken ≡ false }
-        requires heard { ends_of contexts.old.standing (conn_at index self.now.conns).number ≡ by_drain self.now.drained }
+        requires not_hung { ends_of contexts.old.standing (conn_at index self.now.conns).number ≡ by_drain self.now.drained }
         requires fresh { is_life (next_of (conn_at index self.now.conns)) contexts.old.standing.calls ≡ false }
+        requires stocked { stock_in (conn_at index self.now.conns).number contexts.old.stocks ≡ Some [] → ⊥ }
         requires linked { contexts.old.standing ≡ linked contexts.old.standing self.now }
         ensures ok { IfOk result (λ arriving. ComesTo arriving (next_of (conn_at index self.now.conns)) self.now.moment
             (arriving_at index (Coming.Request request (arrival_of plans.now request)) self.now)) }
         ensures contexts { IfOk result (λ arriving. ComesWith arriving (next_of (conn_at index self.now.conns)) self.now.moment contexts.old.standing contexts.new.standing) }
         ensures others { OnErr result (KeepsOthers (conn_at index self.now.conns).number contexts.old.standing contexts.new.standing) }
+        ensures stocks { TakesAtMostOne (conn_at index self.now.conns).number contexts.old contexts.new }
     {
         timeout_law();
         let plan = match target_path(&request) {
@@ -204,12 +217,14 @@ impl Machine {
     ) -> Result<Arriving, AllocError>
         requires there { index < length self.now.conns }
         requires on { (conn_at index self.now.conns).broken ≡ false }
-        requires heard { ends_of contexts.old.standing (conn_at index self.now.conns).number ≡ by_drain self.now.drained }
+        requires not_hung { ends_of contexts.old.standing (conn_at index self.now.conns).number ≡ by_drain self.now.drained }
         requires fresh { is_life (next_of (conn_at index self.now.conns)) contexts.old.standing.calls ≡ false }
+        requires stocked { stock_in (conn_at index self.now.conns).number contexts.old.stocks ≡ Some [] → ⊥ }
         requires linked { contexts.old.standing ≡ linked contexts.old.standing self.now }
         ensures ok { IfOk result (λ arriving. ComesTo arriving (next_of (conn_at index self.now.conns)) self.now.moment (asking_at index asked self.now)) }
         ensures contexts { IfOk result (λ arriving. ComesWith arriving (next_of (conn_at index self.now.conns)) self.now.moment contexts.old.standing contexts.new.standing) }
         ensures others { OnErr result (KeepsOthers (conn_at index self.now.conns).number contexts.old.standing contexts.new.standing) }
+        ensures stocks { TakesAtMostOne (conn_at index self.now.conns).number contexts.old contexts.new }
     {
         let conn = &self.conns[index];
         if conn.is_full() {
@@ -232,7 +247,8 @@ impl Machine {
 
     /// The stream of the connection at that place is refused.
     fn refuse(&mut self, alloc: Global, index: usize, refusal: Refusal) -> Result<(), StepFault>
-        requires { index < length self.old.conns }
+        requires there { index < length self.old.conns }
+        requires room { (next_of (conn_at index self.old.conns)).request < most_requests }
         ensures ok { OnOk result (self.new ≡ entered_at index (arriving_at index (Coming.Refused refusal) self.old) self.old) }
         ensures err { OnErr result (self.new ≡ self.old) }
         ensures fault { IfErr result (λ f. f ≡ fault.Memory) }
@@ -245,6 +261,7 @@ impl Machine {
     /// What comes on the connection at that place is answered at once.
     fn answer(&mut self, index: usize, reply: Reply) -> Result<(), AllocError>
         requires opened { index < length self.old.conns }
+        requires room { (next_of (conn_at index self.old.conns)).request < most_requests }
         requires its { reply.id ≡ next_of (conn_at index self.old.conns) }
         ensures ok { OnOk result (self.new ≡ entered_at index (step_to gone (Some reply.entry) []) self.old) }
         ensures err { OnErr result (self.new ≡ self.old) }
@@ -259,7 +276,8 @@ impl Machine {
         index: usize,
         asked: ArrivedCall,
     ) -> Result<(), AllocError>
-        requires { index < length self.old.conns }
+        requires there { index < length self.old.conns }
+        requires room { (next_of (conn_at index self.old.conns)).request < most_requests }
         ensures ok { OnOk result (self.new
             ≡ entered_at index (begins self.old.moment Nothing (next_of (conn_at index self.old.conns)) asked) self.old) }
         ensures err { OnErr result (self.new ≡ self.old) }

@@ -36,7 +36,7 @@ pub struct Kept {
 
 /// What comes of a result of a branch.
 #[derive(Drop)]
-pub struct Taken {
+pub struct AfterResult {
     /// The record of the call, if the result decided it.
     pub(crate) decided: Option<CallRecord>,
     /// The branch that starts in the other's place.
@@ -125,6 +125,7 @@ impl Kept {
         ensures ok { OnOk result (contexts.new.standing ≡ passed_on moment branch outcome.now self.now contexts.old.standing) }
         ensures err { OnErr result (contexts.new.standing ≡ contexts.old.standing) }
         ensures live { OnErr result (is_some self.now.call.live ≡ true) }
+        ensures stocks { contexts.new.stocks ≡ contexts.old.stocks }
     {
         match (&self.live, outcome) {
             (Some(live), Outcome::Answer(_)) => {
@@ -148,7 +149,7 @@ impl Kept {
     }
 
     /// A result of a branch that is out, at this moment. It needs no memory.
-    pub(crate) fn take_result(&mut self, branch: u32, outcome: Outcome, moment: u64) -> Taken
+    pub(crate) fn take_result(&mut self, branch: u32, outcome: Outcome, moment: u64) -> AfterResult
         requires out { has_out self.old.call branch ≡ true }
         requires moment { moment ≤ 2 ^ 62 }
         ensures { IsStep moment self.old self.new result.decided result.next (result_on moment branch outcome (slice_set self.old.call.out branch false) self.old.call.live) }
@@ -158,12 +159,12 @@ impl Kept {
         match (live, outcome) {
             (None, _) => {
                 self.group.done(Err(()));
-                Taken::nothing()
+                AfterResult::nothing()
             }
             (Some(live), Outcome::Fail(error)) => {
                 self.group.clear_queue();
                 self.group.done(Err(()));
-                Taken {
+                AfterResult {
                     decided: Some(live.end(CallEvent::Failed(branch, error))),
                     next: None,
                 }
@@ -173,7 +174,7 @@ impl Kept {
                 live.start(&next, moment);
                 let answer = CallEvent::Answer(branch, body);
                 if live.is_last_answer() {
-                    return Taken {
+                    return AfterResult {
                         decided: Some(live.end(answer)),
                         next,
                     };
@@ -181,7 +182,7 @@ impl Kept {
                 mark_out(&mut self.out, &next);
                 live.keep(answer);
                 self.live = Some(live);
-                Taken {
+                AfterResult {
                     decided: None,
                     next,
                 }
@@ -190,7 +191,7 @@ impl Kept {
     }
 
     /// A branch comes back, of a call that can't be decided any more.
-    pub(crate) fn come_back(&mut self, branch: u32)
+    pub(crate) fn give_back(&mut self, branch: u32)
         requires out { has_out self.old.call branch ≡ true }
         requires over { self.old.call.live ≡ Nothing }
         ensures { self.new ≡ back_kept branch self.old }
@@ -220,6 +221,7 @@ impl Kept {
         ensures others { OnErr result (KeepsOthers self.old.id.conn contexts.old.standing contexts.new.standing) }
         ensures refused { OnErr result ((is_some (ends_with (event_for moment self.old.id contexts.old.standing) self.old.call.out self.old.call.live).reply ≡ true)
             × (self.new ≡ unanswered self.old)) }
+        ensures stocks { contexts.new.stocks ≡ contexts.old.stocks }
     {
         let Some(live) = self.live.take() else {
             return Ok(());
@@ -255,11 +257,11 @@ impl Kept {
     }
 }
 
-impl Taken {
-    fn nothing() -> Taken
+impl AfterResult {
+    fn nothing() -> AfterResult
         ensures { result ≡ record { decided = Nothing; next = Nothing } }
     {
-        Taken {
+        AfterResult {
             decided: None,
             next: None,
         }

@@ -1,6 +1,7 @@
 ghost use Rattle.std.specs.Prelude.{◌≡◌, ◌<◌, ◌==◌, IfErr, IsTrue, None as Nothing, OnOk, OnErr, length, map, filter, not, is_some};
 ghost use Rattle.gateway_theory.specs.Opens.{closed_at, opened_as, JobTaken, ReplyTaken};
 ghost use Rattle.gateway_machine.specs.Linked.{linked};
+ghost use Rattle.gateway_replies.specs.Hooks.{BringsHooks, StocksStay};
 ghost use Rattle.gateway_theory.specs.Store.{call_at, conn_of};
 
 use crate::job::Job;
@@ -12,7 +13,7 @@ use std::alloc::Global;
 
 impl Machine {
     /// Opens a connection of that number, with its context and these hooks. Where memory is refused they come back.
-    pub(crate) fn open<H: ReplyHook + Drop>(
+    pub(crate) fn open_conn<H: ReplyHook + Drop>(
         &mut self,
         alloc: Global,
         contexts: &mut Contexts<H>,
@@ -25,6 +26,8 @@ impl Machine {
         ensures back { IfErr result (λ back. back ≡ stock) }
         ensures err { OnErr result (self.new ≡ self.old) }
         ensures linked { contexts.new.standing ≡ linked contexts.old.standing self.new }
+        ensures hooks { OnOk result (BringsHooks number stock contexts.old contexts.new) }
+        ensures same { OnErr result (contexts.new ≡ contexts.old) }
     {
         if self.conns.reserve(1).is_err() {
             return Err(stock);
@@ -39,6 +42,7 @@ impl Machine {
         requires { contexts.old.standing ≡ linked contexts.old.standing self.old }
         ensures closed { self.new ≡ closed_at number self.old }
         ensures linked { contexts.new.standing ≡ linked contexts.old.standing self.new }
+        ensures stocks { StocksStay contexts.old contexts.new }
     {
         contexts.close(number);
         give_up(&mut self.calls, number);

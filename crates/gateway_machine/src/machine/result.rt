@@ -6,6 +6,7 @@ ghost use Rattle.gateway_theory.specs.Task.{job_at};
 ghost use Rattle.gateway_machine.specs.Ended.{BranchEnds};
 ghost use Rattle.gateway_machine.specs.Linked.{IsLinkedWith, linked, linked_by, none_over};
 ghost use Rattle.gateway_replies.specs.Contexts.{Ended, ends_of};
+ghost use Rattle.gateway_replies.specs.Hooks.{StocksStay};
 ghost use Rattle.gateway_theory.specs.Orderly.{IsOrderly};
 ghost use Rattle.gateway_theory.specs.Results.{back_at, DecidedBy, Forgets, NoneSpent, Starved};
 ghost use Rattle.gateway_theory.specs.Step.{has_out};
@@ -37,6 +38,7 @@ impl Machine {
         requires { contexts.old.standing ≡ linked contexts.old.standing self.old }
         ensures taken { BranchEnds id.now branch outcome self.old self.new result }
         ensures linked { contexts.new.standing ≡ linked contexts.old.standing self.new }
+        ensures stocks { StocksStay contexts.old contexts.new }
     {
         let Some(index) = self.find(id) else {
             return Took::unknown();
@@ -50,7 +52,7 @@ impl Machine {
             .pass_on(contexts, branch, &outcome, self.moment)
             .is_err()
         {
-            return self.come_back(contexts, id, branch);
+            return self.drop_result(contexts, id, branch);
         }
         let seen = self.calls[index].seen();
         let taken = self.calls[index].take_result(branch, outcome, self.moment);
@@ -74,6 +76,7 @@ impl Machine {
         ensures unknown { result.seen ≡ Seen.Unknown → self.new ≡ self.old }
         ensures none_spent { (result.seen ≡ Seen.Unknown → ⊥) → NoneSpent id.now self.new.calls }
         ensures linked { contexts.new.standing ≡ linked contexts.old.standing self.new }
+        ensures stocks { StocksStay contexts.old contexts.new }
     {
         let took = self.result(alloc, contexts, id, branch, outcome);
         self.forget_unless(took.seen, id);
@@ -81,7 +84,7 @@ impl Machine {
     }
 
     /// A worker found no memory for what a branch ended with: where that counts, its connection breaks.
-    pub(crate) fn starve<H: ReplyHook + Drop>(
+    pub(crate) fn starved<H: ReplyHook + Drop>(
         &mut self,
         contexts: &mut Contexts<H>,
         id: &CallId,
@@ -93,14 +96,15 @@ impl Machine {
         ensures unknown { result.seen ≡ Seen.Unknown → self.new ≡ self.old }
         ensures none_spent { (result.seen ≡ Seen.Unknown → ⊥) → NoneSpent id.now self.new.calls }
         ensures linked { contexts.new.standing ≡ linked contexts.old.standing self.new }
+        ensures stocks { StocksStay contexts.old contexts.new }
     {
-        let took = self.come_back(contexts, id, branch);
+        let took = self.drop_result(contexts, id, branch);
         self.forget_unless(took.seen, id);
         took
     }
 
-    /// A branch comes back with nothing: where that counts, its connection breaks.
-    fn come_back<H: ReplyHook + Drop>(
+    /// The result of a branch is dropped for want of memory: where it counts, its connection breaks.
+    fn drop_result<H: ReplyHook + Drop>(
         &mut self,
         contexts: &mut Contexts<H>,
         id: &CallId,
@@ -109,6 +113,7 @@ impl Machine {
         requires { contexts.old.standing ≡ linked contexts.old.standing self.old }
         ensures taken { Starved id.now branch self.old self.new result }
         ensures linked { contexts.new.standing ≡ linked contexts.old.standing self.new }
+        ensures stocks { StocksStay contexts.old contexts.new }
     {
         let Some(index) = self.find(id) else {
             return Took::unknown();
@@ -133,6 +138,7 @@ impl Machine {
         requires { contexts.old.standing ≡ linked contexts.old.standing self.old }
         ensures broken { self.new ≡ (if broke then broken_at number self.old else self.old) }
         ensures linked { contexts.new.standing ≡ linked contexts.old.standing self.new }
+        ensures stocks { StocksStay contexts.old contexts.new }
     {
         if broke {
             self.break_conn(contexts, number);
@@ -147,7 +153,7 @@ impl Machine {
         ensures back { self.new ≡ back_at index branch self.old }
         ensures linked { (ends : ℕ → Ended) → linked_by ends none_over self.new ≡ linked_by ends none_over self.old }
     {
-        self.calls[index].come_back(branch);
+        self.calls[index].give_back(branch);
     }
 
     /// Forgets the call as `forget` does, unless the result was of no branch that was out.
@@ -190,6 +196,7 @@ impl Machine {
         requires { IsLinkedWith (ends_of contexts.old.standing) id.now decided contexts.old.standing self.old }
         ensures decided { DecidedBy id.now decided self.old self.new result }
         ensures linked { contexts.new.standing ≡ linked contexts.old.standing self.new }
+        ensures stocks { StocksStay contexts.old contexts.new }
     {
         let Some(decided) = decided else {
             return false;

@@ -2,8 +2,9 @@ ghost use Rattle.std.specs.Prelude.{◌≡◌, ◌==◌, ◌<◌, false, not, tr
 ghost use Rattle.std.specs.List.{count_by};
 ghost use Rattle.gateway_theory.specs.Gateway.{are_all_there};
 ghost use Rattle.gateway_model.specs.Queue.{front};
-ghost use Rattle.gateway_theory.specs.Ends.{is_stopped_in, noted};
+ghost use Rattle.gateway_theory.specs.Ends.{is_broken_in, noted};
 ghost use Rattle.gateway_replies.specs.Contexts.{closed};
+ghost use Rattle.gateway_replies.specs.Hooks.{StocksStay};
 ghost use Rattle.gateway_theory.specs.Step.{moment_after};
 ghost use Rattle.gateway_theory.specs.Store.{IsFound, call_at, conn_at, broken_at, broken_count, broken_if, given_up_if, fill_first, filled_in, hung_if, machine_value};
 
@@ -67,7 +68,7 @@ impl Machine {
     }
 
     /// Takes a moment, in milliseconds, and answers the greatest so far.
-    pub(crate) fn tell(&mut self, moment: u64) -> u64
+    pub(crate) fn take_moment(&mut self, moment: u64) -> u64
         ensures greatest { result ≡ moment_after self.old.moment moment }
         ensures told { self.new ≡ record self.old { moment = moment_after self.old.moment moment } }
     {
@@ -87,9 +88,9 @@ impl Machine {
     }
 
     /// Whether the connection of that number is open and broken.
-    #[tactic(auto, using(gateway_theory::specs::lemmas::StoreLemmas::none_stopped))]
-    pub(crate) fn is_stopped(&self, number: u64) -> bool
-        ensures { result ≡ is_stopped_in number self.now.conns }
+    #[tactic(auto, using(gateway_theory::specs::lemmas::StoreLemmas::absent_not_broken))]
+    pub(crate) fn is_broken(&self, number: u64) -> bool
+        ensures { result ≡ is_broken_in number self.now.conns }
     {
         for index in 0..self.conns.len() {
             if self.conns[index].is_of(number) {
@@ -152,6 +153,7 @@ impl Machine {
     )
         ensures broken { self.new ≡ broken_at number self.old }
         ensures closed { contexts.new.standing ≡ closed number contexts.old.standing }
+        ensures stocks { StocksStay contexts.old contexts.new }
     {
         contexts.close(number);
         give_up(&mut self.calls, number);

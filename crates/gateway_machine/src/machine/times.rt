@@ -33,6 +33,7 @@ pub fn start_branch<H: ReplyHook + Drop>(
     requires later { IfSome deadline (λ at. moment < at) }
     ensures ok { OnOk result (contexts.new.standing ≡ branch_started id.now branch deadline contexts.old.standing) }
     ensures err { OnErr result (contexts.new.standing ≡ contexts.old.standing) }
+    ensures stocks { contexts.new.stocks ≡ contexts.old.stocks }
 {
     match deadline {
         Some(at) => contexts.start(id, branch, at, moment),
@@ -51,6 +52,7 @@ pub fn start_first<H: ReplyHook + Drop>(
     requires moment { moment ≤ 2 ^ 62 }
     ensures ok { OnOk result (contexts.new.standing ≡ first_started id.now moment asked.now.plan (first_ones asked.now) contexts.old.standing) }
     ensures others { KeepsOthers id.now.conn contexts.old.standing contexts.new.standing }
+    ensures stocks { contexts.new.stocks ≡ contexts.old.stocks }
 {
     let plan = &asked.plan;
     let first = plan.branches().len().min(plan.limit() as usize);

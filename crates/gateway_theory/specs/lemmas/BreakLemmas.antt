@@ -6,7 +6,7 @@ use Rattle.std.proofs.lemmas.Bool.{ltb-true, ltb-false}
 use Rattle.std.proofs.lemmas.List.{length-map}
 use Rattle.gateway_theory.specs.declared.trigger.Trigger.{Trigger}
 use Rattle.gateway_theory.specs.Conn.{ConnValue}
-use Rattle.gateway_theory.specs.Ends.{CallsEnd, MayEnd, is_stopped_in}
+use Rattle.gateway_theory.specs.Ends.{CallsEnd, MayEnd, is_broken_in}
 use Rattle.gateway_theory.specs.Gateway.{GatewayValue}
 use Rattle.gateway_theory.specs.Orderly.{ConnsApart}
 use Rattle.gateway_theory.specs.Serving.{Breaks}
@@ -93,11 +93,11 @@ number_at (suc j) (x ∷ a) (y ∷ b) same = number_at j a b (ap (λ (ns : List 
     rest [] = []
     rest (n ∷ ns) = ns
 
-stopped_same : (c : ℕ) (a b : List ConnValue) → numbers a ≡ numbers b → ((j : ℕ) → j < length b → (conn_at j a).broken ≡ true → (conn_at j b).broken ≡ true) → is_stopped_in c a ≡ true → is_stopped_in c b ≡ true
-stopped_same c [] b same still on = absurd (cc)
-stopped_same c (x ∷ a) [] same still on = absurd (cc)
-stopped_same c (x ∷ a) (y ∷ b) same still on =
-    by_it (x.number == c) refl on (stopped_same c a b (ap (λ (ns : List ℕ). rest ns) same) (λ j lt. still (suc j) (omega (arith, lt))))
+broken_same : (c : ℕ) (a b : List ConnValue) → numbers a ≡ numbers b → ((j : ℕ) → j < length b → (conn_at j a).broken ≡ true → (conn_at j b).broken ≡ true) → is_broken_in c a ≡ true → is_broken_in c b ≡ true
+broken_same c [] b same still on = absurd (cc)
+broken_same c (x ∷ a) [] same still on = absurd (cc)
+broken_same c (x ∷ a) (y ∷ b) same still on =
+    by_it (x.number == c) refl on (broken_same c a b (ap (λ (ns : List ℕ). rest ns) same) (λ j lt. still (suc j) (omega (arith, lt))))
   where
     rest : List ℕ → List ℕ
     rest [] = []
@@ -107,13 +107,13 @@ stopped_same c (x ∷ a) (y ∷ b) same still on =
     number = sym (ap (λ (ns : List ℕ). slice_index_or ns 0 0) same)
 
     by_it : (b' : Bool) → (x.number == c) ≡ b' → option_map_or (λ (k : ConnValue). k.broken) (if x.number == c then Some x else conn_of c a) false ≡ true
-        → (is_stopped_in c a ≡ true → is_stopped_in c b ≡ true)
+        → (is_broken_in c a ≡ true → is_broken_in c b ≡ true)
         → option_map_or (λ (k : ConnValue). k.broken) (if y.number == c then Some y else conn_of c b) false ≡ true
     by_it true e x_on later =
         let here : x.broken ≡ true = sym (ap (λ t. option_map_or (λ (k : ConnValue). k.broken) (if t then Some x else conn_of c a) false) e) ∙ x_on in
         ap (λ t. option_map_or (λ (k : ConnValue). k.broken) (if t then Some y else conn_of c b) false) (ap (λ n. n == c) number ∙ e) ∙ still 0 (omega arith) here
     by_it false e x_on later =
-        let there : is_stopped_in c a ≡ true = sym (ap (λ t. option_map_or (λ (k : ConnValue). k.broken) (if t then Some x else conn_of c a) false) e) ∙ x_on in
+        let there : is_broken_in c a ≡ true = sym (ap (λ t. option_map_or (λ (k : ConnValue). k.broken) (if t then Some x else conn_of c a) false) e) ∙ x_on in
         ap (λ t. option_map_or (λ (k : ConnValue). k.broken) (if t then Some y else conn_of c b) false) (ap (λ n. n == c) number ∙ e) ∙ later there
 
 pub ends_breaks : (trigger : Trigger) (v w : GatewayValue) (b : Bool) → ConnsApart v.machine.conns → ConnsApart w.machine.conns → CallsEnd trigger v.machine w.machine
@@ -127,18 +127,18 @@ ends_breaks trigger v w b apart then_apart e b_is = by_count (nat_lt (broken_cou
     counts = counted v.machine.conns w.machine.conns size
         (still_broken trigger v.machine w.machine apart then_apart size (λ j. number_at j w.machine.conns v.machine.conns e.numbers_are) e)
 
-    stopped_of : (j : ℕ) (conns : List ConnValue) → j < length conns → ConnsApart conns → is_stopped_in (conn_at j conns).number conns ≡ (conn_at j conns).broken
-    stopped_of j conns lt a = ap (λ o. option_map_or (λ (k : ConnValue). k.broken) o false) (conn_found j conns lt a)
+    broken_of : (j : ℕ) (conns : List ConnValue) → j < length conns → ConnsApart conns → is_broken_in (conn_at j conns).number conns ≡ (conn_at j conns).broken
+    broken_of j conns lt a = ap (λ o. option_map_or (λ (k : ConnValue). k.broken) o false) (conn_found j conns lt a)
 
     by_count : (t : Bool) → nat_lt (broken_count v.machine.conns) (broken_count w.machine.conns) ≡ t → b ≡ nat_lt (broken_count v.machine.conns) (broken_count w.machine.conns) → Breaks v w b
     by_count true x b_now =
         let m = counts.more (ltb-true (broken_count v.machine.conns) (broken_count w.machine.conns) x) in
         subst (Breaks v w) (sym (b_now ∙ x)) (
           (conn_at m.0 v.machine.conns).number,
-          ap (λ n. is_stopped_in n w.machine.conns) (sym (number_at m.0 w.machine.conns v.machine.conns e.numbers_are))
-              ∙ stopped_of m.0 w.machine.conns (let lt = m.1.0 in omega (arith, lt, size)) then_apart ∙ m.1.2,
-          stopped_of m.0 v.machine.conns m.1.0 apart ∙ m.1.1,
+          ap (λ n. is_broken_in n w.machine.conns) (sym (number_at m.0 w.machine.conns v.machine.conns e.numbers_are))
+              ∙ broken_of m.0 w.machine.conns (let lt = m.1.0 in omega (arith, lt, size)) then_apart ∙ m.1.2,
+          broken_of m.0 v.machine.conns m.1.0 apart ∙ m.1.1,
         )
     by_count false x b_now =
-        subst (Breaks v w) (sym (b_now ∙ x)) (λ c on. stopped_same c w.machine.conns v.machine.conns e.numbers_are
+        subst (Breaks v w) (sym (b_now ∙ x)) (λ c on. broken_same c w.machine.conns v.machine.conns e.numbers_are
         (counts.same (ltb-false (broken_count v.machine.conns) (broken_count w.machine.conns) x)) on)

@@ -11,7 +11,7 @@ use Rattle.gateway_theory.specs.declared.fault.StepFault.{StepFault}
 use Rattle.gateway_theory.specs.Enters.{Enters}
 use Rattle.gateway_theory.specs.Gateway.{Brings, Feeds, GatewayValue, StreamValue, calls_brought, calls_with, is_waiting, stream_at}
 use Rattle.gateway_model.specs.Occurrence.{Refused}
-use Rattle.gateway_theory.specs.Serving.{gateway_value, BringsAt, ComesBy, MayTake, ReadsAt, ReadsOn, StopsBy}
+use Rattle.gateway_theory.specs.Serving.{gateway_value, BringsAt, ComesBy, MayTake, ReadsAt, ReadsOn, RefusesBy}
 use Rattle.gateway_theory.specs.Store.{MachineValue}
 use Rattle.gateway_theory.specs.lemmas.ServingLemmas.{IsRead}
 
@@ -77,20 +77,20 @@ unread_at (Err e) i t v err = ap (λ s. gateway_value v.plans v.machine (slice_s
 
 -- ---- what it came to
 
-pub stops_by : (i : ℕ) (refusal : Refusal) (r : Reading) (v m : MachineValue) → state_of r ≡ state.Refused refusal → Enters i (Refused refusal) v m → StopsBy i r v m
-stops_by i refusal (Partial left) v m e enters = absurd (cc)
-stops_by i refusal (Waiting q) v m e enters = absurd (cc)
-stops_by i refusal (Stopped x) v m e enters = subst (λ y. Enters i (Refused y) v m) (sym (by_state e)) enters
+pub refuses_by : (i : ℕ) (refusal : Refusal) (r : Reading) (v m : MachineValue) → state_of r ≡ state.Refused refusal → Enters i (Refused refusal) v m → RefusesBy i r v m
+refuses_by i refusal (Partial left) v m e enters = absurd (cc)
+refuses_by i refusal (Waiting q) v m e enters = absurd (cc)
+refuses_by i refusal (Stopped x) v m e enters = subst (λ y. Enters i (Refused y) v m) (sym (by_state e)) enters
   where
     by_state : state.Refused x ≡ state.Refused refusal → x ≡ refusal
     by_state f = cc
-stops_by i refusal Done v m e enters = absurd (cc)
+refuses_by i refusal Done v m e enters = absurd (cc)
 
-pub stops_none : (i : ℕ) (r : Reading) (v m : MachineValue) → ((refusal : Refusal) → state_of r ≡ state.Refused refusal → ⊥) → m ≡ v → StopsBy i r v m
-stops_none i (Partial left) v m stops same = same
-stops_none i (Waiting q) v m stops same = same
-stops_none i (Stopped x) v m stops same = absurd (stops x refl)
-stops_none i Done v m stops same = same
+pub refuses_none : (i : ℕ) (r : Reading) (v m : MachineValue) → ((refusal : Refusal) → state_of r ≡ state.Refused refusal → ⊥) → m ≡ v → RefusesBy i r v m
+refuses_none i (Partial left) v m refuses same = same
+refuses_none i (Waiting q) v m refuses same = same
+refuses_none i (Stopped x) v m refuses same = absurd (refuses x refl)
+refuses_none i Done v m refuses same = same
 
 -- ---- both
 
@@ -104,9 +104,9 @@ fed i n request bytes u v w result lt p b = at_once (subst (λ (x : GatewayValue
     brought : (q : Option HttpRequest) (s t : StreamValue) (m : MachineValue) → MayTake q s t → ComesBy u.plans i q t.reader.reading u.machine m
         → Brings u.plans i s.reader.reading s.reader t.reader u.machine m
     brought None s t m takes comes =
-        by_reading s.reader.reading refl (subst (λ (x : StreamValue). StopsBy i x.reader.reading u.machine m) takes.0 comes)
+        by_reading s.reader.reading refl (subst (λ (x : StreamValue). RefusesBy i x.reader.reading u.machine m) takes.0 comes)
       where
-        by_reading : (r : Reading) → s.reader.reading ≡ r → StopsBy i r u.machine m → Brings u.plans i r s.reader t.reader u.machine m
+        by_reading : (r : Reading) → s.reader.reading ≡ r → RefusesBy i r u.machine m → Brings u.plans i r s.reader t.reader u.machine m
         by_reading (Partial left) e x = (ap (λ (y : StreamValue). y.reader) takes.0, x)
         by_reading (Waiting q) e x = absurd (let clash : true ≡ false = sym (ap (λ y. is_waiting y) e) ∙ takes.1 in cc)
         by_reading (Stopped r) e x = (ap (λ (y : StreamValue). y.reader) takes.0, x)

@@ -13,16 +13,16 @@ use Rattle.gateway_model.specs.declared.id.CallId.{CallId}
 use Rattle.gateway_model.specs.Arrival.{Arrival, Asks, Judged, arrival_of}
 use Rattle.gateway_theory.specs.Begins.{arrive, begins}
 use Rattle.gateway_theory.specs.Conn.{ConnValue, added}
-use Rattle.gateway_theory.specs.Ends.{is_stopped_in}
+use Rattle.gateway_theory.specs.Ends.{is_broken_in}
 use Rattle.gateway_theory.specs.Enters.{Enters, arriving_at, entered_at}
 use Rattle.gateway_theory.specs.Gateway.{GatewayValue, stream_at}
 use Rattle.gateway_model.specs.Occurrence.{Coming, Request, Refused}
 use Rattle.gateway_theory.specs.Arrivals.{calls_in}
 use Rattle.gateway_model.specs.Past.{ArrivedCall}
-use Rattle.gateway_theory.specs.Serving.{gateway_value, IsWhole, begins_by, BringsAt, ReadsAt, CountsCalls, IsFault, IsMade, IsServing, StopsBy}
+use Rattle.gateway_theory.specs.Serving.{gateway_value, IsWhole, begins_by, BringsAt, ReadsAt, CountsCalls, IsFault, IsMade, IsServing, RefusesBy}
 use Rattle.gateway_theory.specs.Step.{Step}
 use Rattle.gateway_theory.specs.Store.{MachineValue, broken_at, conn_at, conn_of, given_up_if}
-use Rattle.gateway_theory.specs.lemmas.EndLemmas.{stopped_now}
+use Rattle.gateway_theory.specs.lemmas.EndLemmas.{just_broken}
 use Rattle.gateway_theory.specs.lemmas.StoreMore.{conn_found, conn_set}
 
 -- a request by which a call begins asked for one
@@ -43,26 +43,26 @@ module _ (i : ℕ) (v : GatewayValue) (serving : IsServing v) (there : i < lengt
   found : conn_of k.number v.machine.conns ≡ Some k
   found = conn_found i v.machine.conns there serving.orderly.conns_apart
 
-  unbroken : is_stopped_in k.number v.machine.conns ≡ false
+  unbroken : is_broken_in k.number v.machine.conns ≡ false
   unbroken = ap (λ o. option_map_or (λ (y : ConnValue). y.broken) o false) found ∙ on
 
   module _ (x : Coming) (m : MachineValue) where
-    still_on : (result : Result ⊤ StepFault) → OnOk result (m ≡ entered_at i (arriving_at i x v.machine) v.machine) → OnOk result (is_stopped_in k.number m.conns ≡ false)
-    still_on (Ok done) e = ap (λ (y : MachineValue). is_stopped_in k.number y.conns) e
+    still_on : (result : Result ⊤ StepFault) → OnOk result (m ≡ entered_at i (arriving_at i x v.machine) v.machine) → OnOk result (is_broken_in k.number m.conns ≡ false)
+    still_on (Ok done) e = ap (λ (y : MachineValue). is_broken_in k.number y.conns) e
         ∙ ap (λ o. option_map_or (λ (y : ConnValue). y.broken) o false) (conn_set k.number i (added (arriving_at i x v.machine).reply k) v.machine.conns there serving.orderly.conns_apart refl
         ∙ ap (λ b. if b then Some (added (arriving_at i x v.machine).reply k) else conn_of k.number v.machine.conns) (eq-eqb k.number k.number refl)) ∙ on
     still_on (Err fault) e = tt
 
-    now_off : (result : Result ⊤ StepFault) → OnErr result (m ≡ broken_at k.number v.machine) → OnErr result (is_stopped_in k.number m.conns ≡ true)
+    now_off : (result : Result ⊤ StepFault) → OnErr result (m ≡ broken_at k.number v.machine) → OnErr result (is_broken_in k.number m.conns ≡ true)
     now_off (Ok done) e = tt
-    now_off (Err fault) e = ap (λ (y : MachineValue). is_stopped_in k.number y.conns) e ∙ stopped_now k.number k.number v.machine.conns (eq-eqb k.number k.number refl) (ap (λ o. is_some o) found)
+    now_off (Err fault) e = ap (λ (y : MachineValue). is_broken_in k.number y.conns) e ∙ just_broken k.number k.number v.machine.conns (eq-eqb k.number k.number refl) (ap (λ o. is_some o) found)
 
   pub brings_request : (q : HttpRequest) (m : MachineValue) (begun : ℕ) (result : Result ⊤ StepFault) → IsMade i (Request q (arrival_of v.plans q)) v.begun v.machine begun m result
       → BringsAt i (Some q) v (gateway_value v.plans m v.streams v.opened begun v.tally) result
   brings_request q m begun result made = record {
     comes = enters_by i (Request q (arrival_of v.plans q)) v.machine m result made.ok made.err;
     fine = still_on (Request q (arrival_of v.plans q)) m result made.ok;
-    stopped = now_off (Request q (arrival_of v.plans q)) m result made.err;
+    broken = now_off (Request q (arrival_of v.plans q)) m result made.err;
     fault = made.fault;
     counts = record { grows = made.grows; sum_is = made.sum_is; few = made.few };
     bound = made.bound;
@@ -86,23 +86,23 @@ module _ (i : ℕ) (v : GatewayValue) (serving : IsServing v) (there : i < lengt
   memory_fault begun begins (Err fault) e = inl e
 
   pub brings_refusal : (refusal : Refusal) (m : MachineValue) (result : Result ⊤ StepFault) → OnOk result (m ≡ entered_at i (arriving_at i (Refused refusal) v.machine) v.machine)
-      → OnErr result (m ≡ broken_at k.number v.machine) → IfErr result (λ f. f ≡ Memory) → (Enters i (Refused refusal) v.machine m → StopsBy i (stream_at i v.streams).reader.reading v.machine m)
+      → OnErr result (m ≡ broken_at k.number v.machine) → IfErr result (λ f. f ≡ Memory) → (Enters i (Refused refusal) v.machine m → RefusesBy i (stream_at i v.streams).reader.reading v.machine m)
       → BringsAt i None v (gateway_value v.plans m v.streams v.opened v.begun v.tally) result
-  brings_refusal refusal m result ok err memory stops = record {
-    comes = stops (enters_by i (Refused refusal) v.machine m result ok err);
+  brings_refusal refusal m result ok err memory refuses = record {
+    comes = refuses (enters_by i (Refused refusal) v.machine m result ok err);
     fine = still_on (Refused refusal) m result ok;
-    stopped = now_off (Refused refusal) m result err;
+    broken = now_off (Refused refusal) m result err;
     fault = memory_fault v.begun false result memory;
     counts = none_begun m (same_size refusal m result ok err);
     bound = omega arith;
     rest = refl;
   }
 
-  pub brings_nothing : StopsBy i (stream_at i v.streams).reader.reading v.machine v.machine → BringsAt i None v v (Ok tt)
-  brings_nothing stops = record {
-    comes = stops;
+  pub brings_nothing : RefusesBy i (stream_at i v.streams).reader.reading v.machine v.machine → BringsAt i None v v (Ok tt)
+  brings_nothing refuses = record {
+    comes = refuses;
     fine = unbroken;
-    stopped = tt;
+    broken = tt;
     fault = tt;
     counts = record { grows = omega arith; sum_is = refl; few = λ more. absurd (omega (arith, more)) };
     bound = omega arith;

@@ -12,7 +12,7 @@ use Rattle.gateway_model.specs.declared.id.CallId.{CallId}
 use Rattle.gateway_theory.specs.declared.trigger.Trigger.{Trigger}
 use Rattle.gateway_theory.specs.Breaks.{AreConcerned}
 use Rattle.gateway_theory.specs.Conn.{ConnValue, added, state_of}
-use Rattle.gateway_theory.specs.Ends.{AreApart, CallsEnd, ended_call, is_stopped_in}
+use Rattle.gateway_theory.specs.Ends.{AreApart, CallsEnd, ended_call, is_broken_in}
 use Rattle.gateway_theory.specs.Enters.{arriving_at, entered_at, Enters}
 use Rattle.gateway_theory.specs.Fate.{Fate, Unbroken, BrokenAt, is_broken}
 use Rattle.gateway_model.specs.Concerns.{concerns}
@@ -28,9 +28,9 @@ use Rattle.gateway_model.specs.declared.entry.ReplyEntry.{ReplyEntry}
 use Rattle.gateway_theory.specs.Results.{back_at, result_at, ResultTaken, Starved}
 use Rattle.gateway_theory.specs.Step.{CallState, Live, Step, has_out, result_on, step}
 use Rattle.gateway_theory.specs.Store.{MachineValue, machine, call_at, conn_at, conn_of, conn_state, kept_at, broken_at, broken_if, IsFound}
-use Rattle.gateway_theory.specs.lemmas.EndLemmas.{fills_in, stopped_then}
+use Rattle.gateway_theory.specs.lemmas.EndLemmas.{fills_in, broken_then}
 use Rattle.gateway_theory.specs.lemmas.LimitLemmas.{same_call}
-use Rattle.gateway_theory.specs.lemmas.ResultSteps.{fills_stop, step_here}
+use Rattle.gateway_theory.specs.lemmas.ResultSteps.{fills_broken, step_here}
 use Rattle.gateway_theory.specs.lemmas.StoreLemmas.{call_found, call_itself}
 use Rattle.gateway_theory.specs.lemmas.StoreMore.{conn_found, conn_set}
 use Rattle.gateway_theory.specs.lemmas.Unconcerned.{nothing_of}
@@ -60,20 +60,20 @@ replied s closed fates taken handed os o id h on replies =
     (ap (λ n. is_some (step n id o (call_at id s.calls)).reply) (sym h.moment_is) ∙ replies)
 
 -- a connection that is not broken by its fate is not broken
-pub not_stopped : (c : ℕ) (conns : List ConnValue) (fates : ℕ → Fate) → FatesAre fates conns → is_broken (fates c) ≡ false → is_stopped_in c conns ≡ false
-not_stopped c conns fates are on = by_conn (conn_of c conns) refl
+pub not_broken : (c : ℕ) (conns : List ConnValue) (fates : ℕ → Fate) → FatesAre fates conns → is_broken (fates c) ≡ false → is_broken_in c conns ≡ false
+not_broken c conns fates are on = by_conn (conn_of c conns) refl
   where
-    by_conn : (o : Option ConnValue) → conn_of c conns ≡ o → is_stopped_in c conns ≡ false
+    by_conn : (o : Option ConnValue) → conn_of c conns ≡ o → is_broken_in c conns ≡ false
     by_conn None e = ap (λ o. option_map_or (λ (k : ConnValue). k.broken) o false) e
     by_conn (Some k) e = ap (λ o. option_map_or (λ (k : ConnValue). k.broken) o false) e ∙ are c k e ∙ on
 
 pub ends_concern : (o : Occurrence) (trigger : Trigger) (s v w : MachineValue) (closed : ℕ → ConnState) (fates : ℕ → Fate) (taken : ℕ → List ReplyEntry) (handed : List JobValue) (os : List Occurrence)
     → v.conns ≡ s.conns → v.calls ≡ s.calls → ((id : CallId) (c : CallState) → step s.moment id o c ≡ ended_call trigger id c)
     → IsOrderly s → FatesAre fates s.conns → FatedStands (machine closed s) fates taken handed os → CallsEnd trigger v w
-    → AreConcerned (λ c. is_stopped_in c w.conns) fates o os
-ends_concern o trigger s v w closed fates taken handed os conns_are calls_are steps orderly are h e = λ c on stops.
-    let before : is_stopped_in c v.conns ≡ false = ap (λ ks. is_stopped_in c ks) conns_are ∙ not_stopped c s.conns fates are on in
-    let ends = e.breaks_are c stops before in
+    → AreConcerned (λ c. is_broken_in c w.conns) fates o os
+ends_concern o trigger s v w closed fates taken handed os conns_are calls_are steps orderly are h e = λ c on breaks.
+    let before : is_broken_in c v.conns ≡ false = ap (λ ks. is_broken_in c ks) conns_are ∙ not_broken c s.conns fates are on in
+    let ends = e.breaks_are c breaks before in
     let within : ends.place < length s.calls = subst (λ ks. ends.place < length ks) calls_are ends.within in
     let k : KeptValue = kept_at ends.place s.calls in
     let here : kept_at ends.place v.calls ≡ k = ap (λ ks. kept_at ends.place ks) calls_are in
@@ -86,28 +86,28 @@ ends_concern o trigger s v w closed fates taken handed os conns_are calls_are st
     ∙ replied s closed fates taken handed os o k.id h (ap (λ n. is_broken (fates n)) conn_is ∙ on) replies
 
 -- a connection that is broken afterwards, where one broke
-pub which_broke : (n c : ℕ) (conns new : List ConnValue) → is_stopped_in c new ≡ true → is_stopped_in c conns ≡ false → ((c == n) ≡ false → is_stopped_in c new ≡ is_stopped_in c conns) → c ≡ n
-which_broke n c conns new stops before others = ⊎_elim
+pub which_broke : (n c : ℕ) (conns new : List ConnValue) → is_broken_in c new ≡ true → is_broken_in c conns ≡ false → ((c == n) ≡ false → is_broken_in c new ≡ is_broken_in c conns) → c ≡ n
+which_broke n c conns new breaks before others = ⊎_elim
     (λ (its : (c == n) ≡ true). eqb-true c n its)
-    (λ (ne : (c == n) ≡ false). absurd (let clash : true ≡ false = sym stops ∙ others ne ∙ before in cc))
+    (λ (ne : (c == n) ≡ false). absurd (let clash : true ≡ false = sym breaks ∙ others ne ∙ before in cc))
     (cases_Bool (c == n))
 
 -- ---- results
 
 pub result_concern : (id : CallId) (branch : ℕ) (outcome : Outcome) (v w : MachineValue) (took : Took) (closed : ℕ → ConnState) (fates : ℕ → Fate) (taken : ℕ → List ReplyEntry) (handed : List JobValue)
     (os : List Occurrence) → FatesAre fates v.conns → FatedStands (machine closed v) fates taken handed os → ResultTaken id branch outcome v w took
-    → AreConcerned (λ c. is_stopped_in c w.conns) fates (Result id branch outcome) os
-result_concern id branch outcome v w took closed fates taken handed os are h (inl n) = λ c on stops.
-    absurd (let clash : true ≡ false = sym stops ∙ ap (λ (x : MachineValue). is_stopped_in c x.conns) n.2 ∙ not_stopped c v.conns fates are on in cc)
-result_concern id branch outcome v w took closed fates taken handed os are h (inr (i, f, out, seen, its, inl went)) = λ c on stops.
-    absurd (let same : is_stopped_in c w.conns ≡ is_stopped_in c v.conns = ap (λ (x : MachineValue). is_stopped_in c x.conns) went.1
-    ∙ fills_stop (kept_at i v.calls).id (result_at i branch outcome v).reply (conn_of c v.conns) _ (fills_in (kept_at i v.calls).id (result_at i branch outcome v).reply v.conns c) in
-    let clash : true ≡ false = sym stops ∙ same ∙ not_stopped c v.conns fates are on in cc)
-result_concern id branch outcome v w took closed fates taken handed os are h (inr (i, f, out, seen, its, inr broke)) = λ c on stops.
+    → AreConcerned (λ c. is_broken_in c w.conns) fates (Result id branch outcome) os
+result_concern id branch outcome v w took closed fates taken handed os are h (inl n) = λ c on breaks.
+    absurd (let clash : true ≡ false = sym breaks ∙ ap (λ (x : MachineValue). is_broken_in c x.conns) n.2 ∙ not_broken c v.conns fates are on in cc)
+result_concern id branch outcome v w took closed fates taken handed os are h (inr (i, f, out, seen, its, inl went)) = λ c on breaks.
+    absurd (let same : is_broken_in c w.conns ≡ is_broken_in c v.conns = ap (λ (x : MachineValue). is_broken_in c x.conns) went.1
+    ∙ fills_broken (kept_at i v.calls).id (result_at i branch outcome v).reply (conn_of c v.conns) _ (fills_in (kept_at i v.calls).id (result_at i branch outcome v).reply v.conns c) in
+    let clash : true ≡ false = sym breaks ∙ same ∙ not_broken c v.conns fates are on in cc)
+result_concern id branch outcome v w took closed fates taken handed os are h (inr (i, f, out, seen, its, inr broke)) = λ c on breaks.
     let its : (kept_at i v.calls).id ≡ id = same_call (kept_at i v.calls).id id f.1 in
     let conns_are : w.conns ≡ map (broken_if (kept_at i v.calls).id.conn) v.conns = ap (λ (x : MachineValue). x.conns) broke.3 in
-    let c_is : c ≡ (kept_at i v.calls).id.conn = which_broke (kept_at i v.calls).id.conn c v.conns w.conns stops (not_stopped c v.conns fates are on)
-    (λ ne. ap (λ ks. is_stopped_in c ks) conns_are ∙ stopped_then c (kept_at i v.calls).id.conn v.conns ne) in
+    let c_is : c ≡ (kept_at i v.calls).id.conn = which_broke (kept_at i v.calls).id.conn c v.conns w.conns breaks (not_broken c v.conns fates are on)
+    (λ ne. ap (λ ks. is_broken_in c ks) conns_are ∙ broken_then c (kept_at i v.calls).id.conn v.conns ne) in
     let same : c ≡ id.conn = c_is ∙ ap (λ (x : CallId). x.conn) its in
     let found : call_at id v.calls ≡ (kept_at i v.calls).call = call_found id v.calls i f in
     let step_is : step v.moment id (Result id branch outcome) (call_at id v.calls) ≡ result_at i branch outcome v =
@@ -118,21 +118,21 @@ result_concern id branch outcome v w took closed fates taken handed os are h (in
 
 pub starved_concern : (id : CallId) (branch : ℕ) (outcome : Outcome) (v w : MachineValue) (took : Took) (closed : ℕ → ConnState) (fates : ℕ → Fate) (taken : ℕ → List ReplyEntry) (handed : List JobValue)
     (os : List Occurrence) → FatesAre fates v.conns → FatedStands (machine closed v) fates taken handed os → Starved id branch v w took
-    → AreConcerned (λ c. is_stopped_in c w.conns) fates (Result id branch outcome) os
-starved_concern id branch outcome v w took closed fates taken handed os are h (inl n) = λ c on stops.
-    absurd (let clash : true ≡ false = sym stops ∙ ap (λ (x : MachineValue). is_stopped_in c x.conns) n.2 ∙ not_stopped c v.conns fates are on in cc)
-starved_concern id branch outcome v w took closed fates taken handed os are h (inr (i, f, out, seen, broke, w_is)) = λ c on stops. by_live c on stops (kept_at i v.calls).call.live refl
+    → AreConcerned (λ c. is_broken_in c w.conns) fates (Result id branch outcome) os
+starved_concern id branch outcome v w took closed fates taken handed os are h (inl n) = λ c on breaks.
+    absurd (let clash : true ≡ false = sym breaks ∙ ap (λ (x : MachineValue). is_broken_in c x.conns) n.2 ∙ not_broken c v.conns fates are on in cc)
+starved_concern id branch outcome v w took closed fates taken handed os are h (inr (i, f, out, seen, broke, w_is)) = λ c on breaks. by_live c on breaks (kept_at i v.calls).call.live refl
   where
-    by_live : (c : ℕ) → is_broken (fates c) ≡ false → is_stopped_in c w.conns ≡ true → (l : Option Live) → (kept_at i v.calls).call.live ≡ l → concerns c (Result id branch outcome) (marked os) ≡ true
-    by_live c on stops None e = absurd (
-        let same : is_stopped_in c w.conns ≡ is_stopped_in c v.conns =
-        ap (λ (x : MachineValue). is_stopped_in c x.conns) (w_is ∙ ap (λ (x : Option Live). back_at i branch (if is_some x then broken_at id.conn v else v)) e) in
-        let clash : true ≡ false = sym stops ∙ same ∙ not_stopped c v.conns fates are on in cc)
-    by_live c on stops (Some l) e =
+    by_live : (c : ℕ) → is_broken (fates c) ≡ false → is_broken_in c w.conns ≡ true → (l : Option Live) → (kept_at i v.calls).call.live ≡ l → concerns c (Result id branch outcome) (marked os) ≡ true
+    by_live c on breaks None e = absurd (
+        let same : is_broken_in c w.conns ≡ is_broken_in c v.conns =
+        ap (λ (x : MachineValue). is_broken_in c x.conns) (w_is ∙ ap (λ (x : Option Live). back_at i branch (if is_some x then broken_at id.conn v else v)) e) in
+        let clash : true ≡ false = sym breaks ∙ same ∙ not_broken c v.conns fates are on in cc)
+    by_live c on breaks (Some l) e =
         let conns_are : w.conns ≡ map (broken_if id.conn) v.conns =
         ap (λ (x : MachineValue). x.conns) (w_is ∙ ap (λ (x : Option Live). back_at i branch (if is_some x then broken_at id.conn v else v)) e) in
-        let same : c ≡ id.conn = which_broke id.conn c v.conns w.conns stops (not_stopped c v.conns fates are on)
-        (λ ne. ap (λ ks. is_stopped_in c ks) conns_are ∙ stopped_then c id.conn v.conns ne) in
+        let same : c ≡ id.conn = which_broke id.conn c v.conns w.conns breaks (not_broken c v.conns fates are on)
+        (λ ne. ap (λ ks. is_broken_in c ks) conns_are ∙ broken_then c id.conn v.conns ne) in
         let found : call_at id v.calls ≡ (kept_at i v.calls).call = call_found id v.calls i f in
         let failure : Outcome = Fail (plain_error Internal []) in
         let step_is : step v.moment id (Result id branch failure) (call_at id v.calls) ≡ result_on v.moment branch failure (slice_set (kept_at i v.calls).call.out branch false) (Some l) =
@@ -155,8 +155,8 @@ open_unclosed n k v closed fates taken handed os opened_is on h = by_fate (fates
 
 pub enter_concern : (i : ℕ) (x : Coming) (v w : MachineValue) (closed : ℕ → ConnState) (fates : ℕ → Fate) (taken : ℕ → List ReplyEntry) (handed : List JobValue) (os : List Occurrence)
     → i < length v.conns → IsOrderly v → FatesAre fates v.conns → FatedStands (machine closed v) fates taken handed os → Enters i x v w
-    → AreConcerned (λ c. is_stopped_in c w.conns) fates (Comes (conn_at i v.conns).number x) os
-enter_concern i x v w closed fates taken handed os lt orderly are h enters = λ c on stops. by_way c on stops enters
+    → AreConcerned (λ c. is_broken_in c w.conns) fates (Comes (conn_at i v.conns).number x) os
+enter_concern i x v w closed fates taken handed os lt orderly are h enters = λ c on breaks. by_way c on breaks enters
   where
     n : ℕ
     n = (conn_at i v.conns).number
@@ -164,18 +164,18 @@ enter_concern i x v w closed fates taken handed os lt orderly are h enters = λ 
     found : conn_of n v.conns ≡ Some (conn_at i v.conns)
     found = conn_found i v.conns lt orderly.conns_apart
 
-    same_stop : (c : ℕ) → w ≡ entered_at i (arriving_at i x v) v → is_stopped_in c w.conns ≡ is_stopped_in c v.conns
-    same_stop c e = ap (λ (m : MachineValue). is_stopped_in c m.conns) e
+    same_broken : (c : ℕ) → w ≡ entered_at i (arriving_at i x v) v → is_broken_in c w.conns ≡ is_broken_in c v.conns
+    same_broken c e = ap (λ (m : MachineValue). is_broken_in c m.conns) e
         ∙ ap (λ o. option_map_or (λ (k : ConnValue). k.broken) o false) (conn_set c i (added (arriving_at i x v).reply (conn_at i v.conns)) v.conns lt orderly.conns_apart refl)
         ∙ ⊎_elim
         (λ (its : (c == n) ≡ true). rw its (sym (ap (λ o. option_map_or (λ (k : ConnValue). k.broken) o false) (ap (λ m. conn_of m v.conns) (eqb-true c n its) ∙ found))))
         (λ (ne : (c == n) ≡ false). rw ne refl)
         (cases_Bool (c == n))
 
-    by_way : (c : ℕ) → is_broken (fates c) ≡ false → is_stopped_in c w.conns ≡ true → Enters i x v w → concerns c (Comes n x) (marked os) ≡ true
-    by_way c on stops (inl e) = absurd (let clash : true ≡ false = sym stops ∙ same_stop c e ∙ not_stopped c v.conns fates are on in cc)
-    by_way c on stops (inr e) =
+    by_way : (c : ℕ) → is_broken (fates c) ≡ false → is_broken_in c w.conns ≡ true → Enters i x v w → concerns c (Comes n x) (marked os) ≡ true
+    by_way c on breaks (inl e) = absurd (let clash : true ≡ false = sym breaks ∙ same_broken c e ∙ not_broken c v.conns fates are on in cc)
+    by_way c on breaks (inr e) =
         let conns_are : w.conns ≡ map (broken_if n) v.conns = ap (λ (m : MachineValue). m.conns) e in
-        let same : c ≡ n = which_broke n c v.conns w.conns stops (not_stopped c v.conns fates are on) (λ ne. ap (λ ks. is_stopped_in c ks) conns_are ∙ stopped_then c n v.conns ne) in
+        let same : c ≡ n = which_broke n c v.conns w.conns breaks (not_broken c v.conns fates are on) (λ ne. ap (λ ks. is_broken_in c ks) conns_are ∙ broken_then c n v.conns ne) in
         let opened_is : is_closed n (marked os) ≡ false = open_unclosed n (conn_at i v.conns) v closed fates taken handed os found (ap (λ m. is_broken (fates m)) (sym same) ∙ on) h in
         ap (λ m. concerns m (Comes n x) (marked os)) same ∙ rw (eq-eqb n n refl, opened_is) refl

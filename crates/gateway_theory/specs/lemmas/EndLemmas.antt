@@ -16,7 +16,7 @@ use Rattle.gateway_theory.specs.Kept.{KeptValue}
 use Rattle.gateway_theory.specs.Conn.{ConnValue, fill_at, filled}
 use Rattle.gateway_theory.specs.Replies.{ReplyValue, reply_with}
 use Rattle.gateway_theory.specs.Store.{MachineValue, call_at, conn_of, kept_at, no_call, given_up, given_up_if, broken_conn, broken_if, broken_at, fill_first, filled_in, numbers}
-use Rattle.gateway_theory.specs.Ends.{caused, ended_if, ended_call, ended_kept, EndedAt, without_reply, settled_at, is_stopped_in, ended_below, MayBreak, EndsOn, EndedBelow, IsSettled, AreApart, reply_in, MayTakeIn, SettledBelow, MayEnd, CallsEnd}
+use Rattle.gateway_theory.specs.Ends.{caused, ended_if, ended_call, ended_kept, EndedAt, without_reply, settled_at, is_broken_in, ended_below, MayBreak, EndsOn, EndedBelow, IsSettled, AreApart, reply_in, MayTakeIn, SettledBelow, MayEnd, CallsEnd}
 use Rattle.gateway_theory.specs.lemmas.Cases.{or_none}
 use Rattle.gateway_theory.specs.lemmas.LimitLemmas.{same_call}
 use Rattle.gateway_theory.specs.lemmas.StoreLemmas.{conn_broken, conn_filled, Fills, untouched, filled_fills}
@@ -42,7 +42,7 @@ not_live : (trigger : Trigger) (id : CallId) (out : List Bool) (live : Option Li
 not_live trigger id out None e = absurd (cc)
 not_live trigger id out (Some l) e = refl
 
-pub id_below : (trigger : Trigger) (stopped passed : Bool) (k : KeptValue) → (ended_below trigger stopped passed k).id ≡ k.id
+pub id_below : (trigger : Trigger) (broken passed : Bool) (k : KeptValue) → (ended_below trigger broken passed k).id ≡ k.id
 id_below trigger true passed k = refl
 id_below trigger false true k = refl
 id_below trigger false false k = refl
@@ -69,14 +69,14 @@ break_one d c conns = subst (λ o. MayBreak (conn_of d conns) o) (sym (conn_brok
     by_it true (Some k) = (refl, λ e. refl)
     by_it false o = stays_same o
 
--- whether a connection is stopped, where one broke
-pub stopped_then : (d c : ℕ) (conns : List ConnValue) → (d == c) ≡ false → is_stopped_in d (map (broken_if c) conns) ≡ is_stopped_in d conns
-stopped_then d c conns ne =
+-- whether a connection is broken, where one broke
+pub broken_then : (d c : ℕ) (conns : List ConnValue) → (d == c) ≡ false → is_broken_in d (map (broken_if c) conns) ≡ is_broken_in d conns
+broken_then d c conns ne =
     let same : (if d == c then option_map broken_conn (conn_of d conns) else conn_of d conns) ≡ conn_of d conns = rw ne refl in
     ap (λ o. option_map_or (λ (k : ConnValue). k.broken) o false) (conn_broken d c conns ∙ same)
 
-pub stopped_now : (d c : ℕ) (conns : List ConnValue) → (d == c) ≡ true → is_some (conn_of d conns) ≡ true → is_stopped_in d (map (broken_if c) conns) ≡ true
-stopped_now d c conns it there =
+pub just_broken : (d c : ℕ) (conns : List ConnValue) → (d == c) ≡ true → is_some (conn_of d conns) ≡ true → is_broken_in d (map (broken_if c) conns) ≡ true
+just_broken d c conns it there =
     let same : (if d == c then option_map broken_conn (conn_of d conns) else conn_of d conns) ≡ option_map broken_conn (conn_of d conns) = rw it refl in
     ap (λ o. option_map_or (λ (k : ConnValue). k.broken) o false) (conn_broken d c conns ∙ same) ∙ by_it (conn_of d conns) there
   where
@@ -132,13 +132,13 @@ ends_start trigger v s = record {
   numbers_are = refl;
   conns_are = λ c. stays_same (conn_of c v.conns);
   size_is = refl;
-  calls_are = λ j. rw (le-ltb j 0 (omega arith)) (by_stop j (is_stopped_in (kept_at j v.calls).id.conn v.conns) refl);
+  calls_are = λ j. rw (le-ltb j 0 (omega arith)) (by_broken j (is_broken_in (kept_at j v.calls).id.conn v.conns) refl);
   breaks_are = λ c yes_now no_before. absurd (let clash : true ≡ false = sym yes_now ∙ no_before in cc);
 }
   where
-    by_stop : (j : ℕ) (b : Bool) → is_stopped_in (kept_at j v.calls).id.conn v.conns ≡ b → kept_at j v.calls ≡ ended_below trigger b false (kept_at j v.calls)
-    by_stop j true b_is = given_same (kept_at j v.calls) (s.no_reply j) (s.none_live j b_is)
-    by_stop j false b_is = refl
+    by_broken : (j : ℕ) (b : Bool) → is_broken_in (kept_at j v.calls).id.conn v.conns ≡ b → kept_at j v.calls ≡ ended_below trigger b false (kept_at j v.calls)
+    by_broken j true b_is = given_same (kept_at j v.calls) (s.no_reply j) (s.none_live j b_is)
+    by_broken j false b_is = refl
 
 lt_more : (i j : ℕ) → (j ≡ i → ⊥) → nat_lt j i ≡ nat_lt j (i + 1)
 lt_more i j ne =
@@ -166,15 +166,15 @@ ended_one trigger i v u t h lt t_is = subst (λ x. EndedBelow trigger (i + 1) v 
   conns_are = h.conns_are;
   size_is = length-set u.calls i (ended_kept trigger (kept_at i u.calls)) ∙ h.size_is;
   calls_are = λ j. ⊎_elim (λ (here : j ≡ i).
-      subst (λ n. kept_at n (slice_set u.calls i (ended_kept trigger (kept_at i u.calls))) ≡ ended_below trigger (is_stopped_in (kept_at n v.calls).id.conn u.conns) (nat_lt n (i + 1)) (kept_at n v.calls))
+      subst (λ n. kept_at n (slice_set u.calls i (ended_kept trigger (kept_at i u.calls))) ≡ ended_below trigger (is_broken_in (kept_at n v.calls).id.conn u.conns) (nat_lt n (i + 1)) (kept_at n v.calls))
       (sym here)
       (get_or-set_same u.calls i (ended_kept trigger (kept_at i u.calls)) no_call lt
-      ∙ ap (ended_kept trigger) (h.calls_are i ∙ ap (λ b. ended_below trigger (is_stopped_in (kept_at i v.calls).id.conn u.conns) b (kept_at i v.calls)) (le-ltb i i (omega arith)))
-      ∙ at_place trigger (is_stopped_in (kept_at i v.calls).id.conn u.conns) (kept_at i v.calls)
-      ∙ ap (λ b. ended_below trigger (is_stopped_in (kept_at i v.calls).id.conn u.conns) b (kept_at i v.calls)) (sym (lt-ltb i (i + 1) (omega arith)))))
+      ∙ ap (ended_kept trigger) (h.calls_are i ∙ ap (λ b. ended_below trigger (is_broken_in (kept_at i v.calls).id.conn u.conns) b (kept_at i v.calls)) (le-ltb i i (omega arith)))
+      ∙ at_place trigger (is_broken_in (kept_at i v.calls).id.conn u.conns) (kept_at i v.calls)
+      ∙ ap (λ b. ended_below trigger (is_broken_in (kept_at i v.calls).id.conn u.conns) b (kept_at i v.calls)) (sym (lt-ltb i (i + 1) (omega arith)))))
       (λ (ne : j ≡ i → ⊥).
       get_or-set_other u.calls i j (ended_kept trigger (kept_at i u.calls)) no_call ne ∙ h.calls_are j
-      ∙ ap (λ b. ended_below trigger (is_stopped_in (kept_at j v.calls).id.conn u.conns) b (kept_at j v.calls)) (lt_more i j ne))
+      ∙ ap (λ b. ended_below trigger (is_broken_in (kept_at j v.calls).id.conn u.conns) b (kept_at j v.calls)) (lt_more i j ne))
       (cases_eq j i);
   breaks_are = h.breaks_are;
 })
@@ -208,13 +208,13 @@ broke_one trigger i v u t h s lt ends t_is = subst (λ x. EndedBelow trigger (i 
     k = kept_at i v.calls
 
     id_is : (j : ℕ) → (kept_at j u.calls).id ≡ (kept_at j v.calls).id
-    id_is j = ap (λ (x : KeptValue). x.id) (h.calls_are j) ∙ id_below trigger (is_stopped_in (kept_at j v.calls).id.conn u.conns) (nat_lt j i) (kept_at j v.calls)
+    id_is j = ap (λ (x : KeptValue). x.id) (h.calls_are j) ∙ id_below trigger (is_broken_in (kept_at j v.calls).id.conn u.conns) (nat_lt j i) (kept_at j v.calls)
 
-    -- it was not stopped, since it ends
-    going : is_stopped_in k.id.conn u.conns ≡ false
-    going = by_it (is_stopped_in k.id.conn u.conns) refl
+    -- it was not broken, since it ends
+    going : is_broken_in k.id.conn u.conns ≡ false
+    going = by_it (is_broken_in k.id.conn u.conns) refl
       where
-        by_it : (b : Bool) → is_stopped_in k.id.conn u.conns ≡ b → is_stopped_in k.id.conn u.conns ≡ false
+        by_it : (b : Bool) → is_broken_in k.id.conn u.conns ≡ b → is_broken_in k.id.conn u.conns ≡ false
         by_it false b_is = b_is
         by_it true b_is = absurd (let given : kept_at i u.calls ≡ given_up k = h.calls_are i ∙ ap (λ b. ended_below trigger b (nat_lt i i) k) b_is in
             let clash : false ≡ true = sym (ap (λ (x : KeptValue). is_some (ended_call trigger x.id x.call).reply) given) ∙ ends in cc)
@@ -233,24 +233,24 @@ broke_one trigger i v u t h s lt ends t_is = subst (λ x. EndedBelow trigger (i 
         ∙ some_still (conn_of k.id.conn v.conns) (conn_of k.id.conn u.conns) (h.conns_are k.id.conn) (s.has_conn i (not_live trigger k.id k.call.out k.call.live ends_then))
 
     by_conn : (j : ℕ) → (((kept_at j v.calls).id.conn == c) ≡ true) ⊎ (((kept_at j v.calls).id.conn == c) ≡ false)
-        → given_up_if c (kept_at j u.calls) ≡ ended_below trigger (is_stopped_in (kept_at j v.calls).id.conn (map (broken_if c) u.conns)) (nat_lt j (i + 1)) (kept_at j v.calls)
+        → given_up_if c (kept_at j u.calls) ≡ ended_below trigger (is_broken_in (kept_at j v.calls).id.conn (map (broken_if c) u.conns)) (nat_lt j (i + 1)) (kept_at j v.calls)
     by_conn j (inl it) =
         let here : is_some (conn_of (kept_at j v.calls).id.conn u.conns) ≡ true = ap (λ n. is_some (conn_of n u.conns)) (eqb-true (kept_at j v.calls).id.conn c it) ∙ there in
-        let stop : is_stopped_in (kept_at j v.calls).id.conn (map (broken_if c) u.conns) ≡ true = stopped_now (kept_at j v.calls).id.conn c u.conns it here in
+        let breaks : is_broken_in (kept_at j v.calls).id.conn (map (broken_if c) u.conns) ≡ true = just_broken (kept_at j v.calls).id.conn c u.conns it here in
         ap (λ b. if b then given_up (kept_at j u.calls) else kept_at j u.calls) (ap (λ (x : CallId). x.conn == c) (id_is j) ∙ it)
-        ∙ ap given_up (h.calls_are j) ∙ given_below trigger (is_stopped_in (kept_at j v.calls).id.conn u.conns) (nat_lt j i) (kept_at j v.calls)
-        ∙ ap (λ b. ended_below trigger b (nat_lt j (i + 1)) (kept_at j v.calls)) (sym stop)
+        ∙ ap given_up (h.calls_are j) ∙ given_below trigger (is_broken_in (kept_at j v.calls).id.conn u.conns) (nat_lt j i) (kept_at j v.calls)
+        ∙ ap (λ b. ended_below trigger b (nat_lt j (i + 1)) (kept_at j v.calls)) (sym breaks)
     by_conn j (inr ne) =
         let other : j ≡ i → ⊥ = λ same. let clash : true ≡ false = sym (eq-eqb (kept_at j v.calls).id.conn c (ap (λ n. (kept_at n v.calls).id.conn) same ∙ c_is)) ∙ ne in cc in
         ap (λ b. if b then given_up (kept_at j u.calls) else kept_at j u.calls) (ap (λ (x : CallId). x.conn == c) (id_is j) ∙ ne)
         ∙ h.calls_are j
-        ∙ ap (λ b. ended_below trigger b (nat_lt j i) (kept_at j v.calls)) (sym (stopped_then (kept_at j v.calls).id.conn c u.conns ne))
-        ∙ ap (λ b. ended_below trigger (is_stopped_in (kept_at j v.calls).id.conn (map (broken_if c) u.conns)) b (kept_at j v.calls)) (lt_more i j other)
+        ∙ ap (λ b. ended_below trigger b (nat_lt j i) (kept_at j v.calls)) (sym (broken_then (kept_at j v.calls).id.conn c u.conns ne))
+        ∙ ap (λ b. ended_below trigger (is_broken_in (kept_at j v.calls).id.conn (map (broken_if c) u.conns)) b (kept_at j v.calls)) (lt_more i j other)
 
-    by_which : (d : ℕ) → is_stopped_in d (map (broken_if c) u.conns) ≡ true → is_stopped_in d v.conns ≡ false → ((d == c) ≡ true) ⊎ ((d == c) ≡ false) → EndsOn trigger d v.calls
+    by_which : (d : ℕ) → is_broken_in d (map (broken_if c) u.conns) ≡ true → is_broken_in d v.conns ≡ false → ((d == c) ≡ true) ⊎ ((d == c) ≡ false) → EndsOn trigger d v.calls
     by_which d now_so before_not (inl it) =
         record { place = i; within = omega (arith, lt, h.size_is); its = c_is ∙ sym (eqb-true d c it); ends = ends_then }
-    by_which d now_so before_not (inr ne) = h.breaks_are d (sym (stopped_then d c u.conns ne) ∙ now_so) before_not
+    by_which d now_so before_not (inr ne) = h.breaks_are d (sym (broken_then d c u.conns ne) ∙ now_so) before_not
 
 pub ends_next : (trigger : Trigger) (i : ℕ) (v u t : MachineValue) → EndedBelow trigger i v u → IsSettled v → i < length u.calls → EndedAt trigger i u t → EndedBelow trigger (i + 1) v t
 ends_next trigger i v u t h s lt (inl t_is) = ended_one trigger i v u t h lt t_is
@@ -380,28 +380,28 @@ no_others id (k ∷ calls) f ids none =
     let not_it : is_call (f k).id id ≡ false = ap (λ x. is_call x id) (ids k) ∙ none 0 (omega arith) in
     rw not_it (no_others id calls f ids (λ j lt. none (suc j) (omega (arith, lt))))
 
--- the reply of a call that ends, unless its connection stopped
+-- the reply of a call that ends, unless its connection broke
 reply_of : (trigger : Trigger) (b : Bool) (k : KeptValue) → k.reply ≡ None
     → (ended_below trigger b true k).reply ≡ (if b then None else (ended_call trigger k.id k.call).reply)
 reply_of trigger true k none = refl
 reply_of trigger false k none = ap (λ r. option_or (ended_call trigger k.id k.call).reply r) none ∙ or_none (ended_call trigger k.id k.call).reply
 
-replies_are : (trigger : Trigger) (stop : ℕ → Bool) (id : CallId) (calls : List KeptValue) → AreApart calls → ((j : ℕ) → (kept_at j calls).reply ≡ None)
-    → reply_in id (map (λ k. ended_below trigger (stop k.id.conn) true k) calls) ≡ (if stop id.conn then None else (ended_call trigger id (call_at id calls)).reply)
-replies_are trigger stop id [] apart none = cond_both (stop id.conn) None None (λ x. None ≡ x) (λ _. refl) (λ _. refl)
-replies_are trigger stop id (k ∷ calls) apart none =
+replies_are : (trigger : Trigger) (breaks : ℕ → Bool) (id : CallId) (calls : List KeptValue) → AreApart calls → ((j : ℕ) → (kept_at j calls).reply ≡ None)
+    → reply_in id (map (λ k. ended_below trigger (breaks k.id.conn) true k) calls) ≡ (if breaks id.conn then None else (ended_call trigger id (call_at id calls)).reply)
+replies_are trigger breaks id [] apart none = cond_both (breaks id.conn) None None (λ x. None ≡ x) (λ _. refl) (λ _. refl)
+replies_are trigger breaks id (k ∷ calls) apart none =
     ap (λ x. option_or (if is_call x id then (f k).reply else None) (reply_in id (map f calls))) (ids k)
-    ∙ by_it (replies_are trigger stop id calls (λ i j lt le. apart (suc i) (suc j) (omega (arith, lt)) (omega (arith, le))) (λ j. none (suc j))) (is_call k.id id) refl
+    ∙ by_it (replies_are trigger breaks id calls (λ i j lt le. apart (suc i) (suc j) (omega (arith, lt)) (omega (arith, le))) (λ j. none (suc j))) (is_call k.id id) refl
   where
     f : KeptValue → KeptValue
-    f k = ended_below trigger (stop k.id.conn) true k
+    f k = ended_below trigger (breaks k.id.conn) true k
 
     ids : (k : KeptValue) → (f k).id ≡ k.id
-    ids k = id_below trigger (stop k.id.conn) true k
+    ids k = id_below trigger (breaks k.id.conn) true k
 
-    by_it : reply_in id (map f calls) ≡ (if stop id.conn then None else (ended_call trigger id (call_at id calls)).reply) → (b : Bool) → is_call k.id id ≡ b
+    by_it : reply_in id (map f calls) ≡ (if breaks id.conn then None else (ended_call trigger id (call_at id calls)).reply) → (b : Bool) → is_call k.id id ≡ b
         → option_or (if is_call k.id id then (f k).reply else None) (reply_in id (map f calls))
-        ≡ (if stop id.conn then None else (ended_call trigger id (if is_call k.id id then k.call else call_at id calls)).reply)
+        ≡ (if breaks id.conn then None else (ended_call trigger id (if is_call k.id id then k.call else call_at id calls)).reply)
     by_it rec true b_is =
         let same : k.id ≡ id = same_call k.id id b_is in
         let others : reply_in id (map f calls) ≡ None = no_others id calls f ids (λ j lt.
@@ -409,18 +409,18 @@ replies_are trigger stop id (k ∷ calls) apart none =
         let there : (kept_at j calls).id ≡ id = same_call (kept_at j calls).id id it in
         let clash : true ≡ false = sym b_is ∙ ap (λ x. is_call k.id x) (sym there) ∙ apart 0 (suc j) (omega arith) (omega (arith, lt)) in cc))
         (λ (e : is_call (kept_at j calls).id id ≡ false). e) (cases_Bool (is_call (kept_at j calls).id id))) in
-        rw (b_is, others) (or_none (f k).reply ∙ reply_of trigger (stop k.id.conn) k (none 0)
-        ∙ ap (λ (x : CallId). if stop x.conn then None else (ended_call trigger x k.call).reply) same)
+        rw (b_is, others) (or_none (f k).reply ∙ reply_of trigger (breaks k.id.conn) k (none 0)
+        ∙ ap (λ (x : CallId). if breaks x.conn then None else (ended_call trigger x k.call).reply) same)
     by_it rec false b_is = rw b_is rec
 
-abbrev stopped_by : Option ConnValue → Bool
-stopped_by o = option_map_or (λ (k : ConnValue). k.broken) o false
+abbrev is_broken_there : Option ConnValue → Bool
+is_broken_there o = option_map_or (λ (k : ConnValue). k.broken) o false
 
-takes_stop : (calls : List KeptValue) (a b : Option ConnValue) → MayTakeIn calls a b → stopped_by b ≡ stopped_by a
-takes_stop calls None None m = refl
-takes_stop calls None (Some l) m = absurd m
-takes_stop calls (Some k) None m = absurd m
-takes_stop calls (Some k) (Some l) m = m.broken_is
+takes_broken : (calls : List KeptValue) (a b : Option ConnValue) → MayTakeIn calls a b → is_broken_there b ≡ is_broken_there a
+takes_broken calls None None m = refl
+takes_broken calls None (Some l) m = absurd m
+takes_broken calls (Some k) None m = absurd m
+takes_broken calls (Some k) (Some l) m = m.broken_is
 
 conn_ends : (trigger : Trigger) (calls ended : List KeptValue) (a b c : Option ConnValue) → MayBreak a b → MayTakeIn ended b c
     → ((k l : ConnValue) (j : ℕ) → a ≡ Some k → c ≡ Some l → reply_in (call_id k.number (k.taken + j)) ended
@@ -455,36 +455,36 @@ ends_all trigger i n v u w s apart h all g done = record {
   moment_is = g.moment_is ∙ h.moment_is;
   drained_is = g.drained_is ∙ h.drained_is;
   jobs_are = g.jobs_are ∙ h.jobs_are;
-  calls_are = ext_get_or no_call w.calls (map (λ k. without_reply (ended_below trigger (is_stopped_in k.id.conn w.conns) true k)) v.calls)
-      (g.size_is ∙ h.size_is ∙ sym (length-map v.calls (λ k. without_reply (ended_below trigger (is_stopped_in k.id.conn w.conns) true k))))
+  calls_are = ext_get_or no_call w.calls (map (λ k. without_reply (ended_below trigger (is_broken_in k.id.conn w.conns) true k)) v.calls)
+      (g.size_is ∙ h.size_is ∙ sym (length-map v.calls (λ k. without_reply (ended_below trigger (is_broken_in k.id.conn w.conns) true k))))
       (λ j lt. g.calls_are j ∙ ap (λ b. if b then without_reply (kept_at j u.calls) else kept_at j u.calls) (lt-ltb j n (omega (arith, lt, done)))
       ∙ ap without_reply (at_end j (omega (arith, lt, g.size_is)))
-      ∙ ap (λ b. without_reply (ended_below trigger b true (kept_at j v.calls))) (sym (stops (kept_at j v.calls).id.conn))
-      ∙ sym (get_or-map (λ k. without_reply (ended_below trigger (is_stopped_in k.id.conn w.conns) true k)) v.calls j no_call no_call (omega (arith, lt, g.size_is, h.size_is))));
+      ∙ ap (λ b. without_reply (ended_below trigger b true (kept_at j v.calls))) (sym (breaks (kept_at j v.calls).id.conn))
+      ∙ sym (get_or-map (λ k. without_reply (ended_below trigger (is_broken_in k.id.conn w.conns) true k)) v.calls j no_call no_call (omega (arith, lt, g.size_is, h.size_is))));
   numbers_are = g.numbers_are ∙ h.numbers_are;
   conns_are = λ c. conn_ends trigger v.calls u.calls (conn_of c v.conns) (conn_of c u.conns) (conn_of c w.conns) (h.conns_are c) (takes c)
       (λ k l j k_is l_is.
       let here : k.number ≡ c = open_number c v.conns k k_is in
       ap (λ calls. reply_in (call_id k.number (k.taken + j)) calls) ended
-      ∙ replies_are trigger (λ d. is_stopped_in d u.conns) (call_id k.number (k.taken + j)) v.calls apart s.no_reply
+      ∙ replies_are trigger (λ d. is_broken_in d u.conns) (call_id k.number (k.taken + j)) v.calls apart s.no_reply
       ∙ ap (λ b. if b then None else (ended_call trigger (call_id k.number (k.taken + j)) (call_at (call_id k.number (k.taken + j)) v.calls)).reply)
-      (ap (λ d. is_stopped_in d u.conns) here ∙ sym (stops c) ∙ ap (λ o. stopped_by o) l_is));
-  breaks_are = λ c now_so before_not. h.breaks_are c (sym (stops c) ∙ now_so) before_not;
+      (ap (λ d. is_broken_in d u.conns) here ∙ sym (breaks c) ∙ ap (λ o. is_broken_there o) l_is));
+  breaks_are = λ c now_so before_not. h.breaks_are c (sym (breaks c) ∙ now_so) before_not;
 }
   where
     takes : (c : ℕ) → MayTakeIn u.calls (conn_of c u.conns) (conn_of c w.conns)
     takes c = subst (λ calls. MayTakeIn calls (conn_of c u.conns) (conn_of c w.conns)) (take_all n u.calls (omega (arith, done, g.size_is))) (g.conns_are c)
 
-    stops : (c : ℕ) → is_stopped_in c w.conns ≡ is_stopped_in c u.conns
-    stops c = takes_stop u.calls (conn_of c u.conns) (conn_of c w.conns) (takes c)
+    breaks : (c : ℕ) → is_broken_in c w.conns ≡ is_broken_in c u.conns
+    breaks c = takes_broken u.calls (conn_of c u.conns) (conn_of c w.conns) (takes c)
 
-    at_end : (j : ℕ) → j < length u.calls → kept_at j u.calls ≡ ended_below trigger (is_stopped_in (kept_at j v.calls).id.conn u.conns) true (kept_at j v.calls)
-    at_end j lt = h.calls_are j ∙ ap (λ b. ended_below trigger (is_stopped_in (kept_at j v.calls).id.conn u.conns) b (kept_at j v.calls)) (lt-ltb j i (omega (arith, lt, all)))
+    at_end : (j : ℕ) → j < length u.calls → kept_at j u.calls ≡ ended_below trigger (is_broken_in (kept_at j v.calls).id.conn u.conns) true (kept_at j v.calls)
+    at_end j lt = h.calls_are j ∙ ap (λ b. ended_below trigger (is_broken_in (kept_at j v.calls).id.conn u.conns) b (kept_at j v.calls)) (lt-ltb j i (omega (arith, lt, all)))
 
-    ended : u.calls ≡ map (λ k. ended_below trigger (is_stopped_in k.id.conn u.conns) true k) v.calls
-    ended = ext_get_or no_call u.calls (map (λ k. ended_below trigger (is_stopped_in k.id.conn u.conns) true k) v.calls)
-        (h.size_is ∙ sym (length-map v.calls (λ k. ended_below trigger (is_stopped_in k.id.conn u.conns) true k)))
-        (λ j lt. at_end j lt ∙ sym (get_or-map (λ k. ended_below trigger (is_stopped_in k.id.conn u.conns) true k) v.calls j no_call no_call (omega (arith, lt, h.size_is))))
+    ended : u.calls ≡ map (λ k. ended_below trigger (is_broken_in k.id.conn u.conns) true k) v.calls
+    ended = ext_get_or no_call u.calls (map (λ k. ended_below trigger (is_broken_in k.id.conn u.conns) true k) v.calls)
+        (h.size_is ∙ sym (length-map v.calls (λ k. ended_below trigger (is_broken_in k.id.conn u.conns) true k)))
+        (λ j lt. at_end j lt ∙ sym (get_or-map (λ k. ended_below trigger (is_broken_in k.id.conn u.conns) true k) v.calls j no_call no_call (omega (arith, lt, h.size_is))))
 
 -- behind all of them one more makes no difference
 pub settles_end : (i : ℕ) (u w : MachineValue) → SettledBelow i u w → length u.calls ≤ i → SettledBelow (length u.calls) u w

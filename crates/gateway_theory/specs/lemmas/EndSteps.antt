@@ -6,9 +6,9 @@ use Rattle.std.proofs.lemmas.Bool.{cond_both, cases_Bool}
 use Rattle.std.proofs.lemmas.List.{ext_get_or}
 use Rattle.gateway_model.specs.declared.id.CallId.{CallId}
 use Rattle.gateway_theory.specs.declared.trigger.Trigger.{Trigger}
-use Rattle.gateway_theory.specs.Breaks.{is_stopped, CallStays, ConnStays, CallAfter, ConnOn, AfterBreaks}
+use Rattle.gateway_theory.specs.Breaks.{is_broken_after, CallStays, ConnStays, CallAfter, ConnOn, AfterBreaks}
 use Rattle.gateway_theory.specs.Conn.{ConnValue, state_of}
-use Rattle.gateway_theory.specs.Ends.{ended_if, ended_call, without_reply, is_stopped_in, ended_below, ConnEnds, MayEnd, CallsEnd}
+use Rattle.gateway_theory.specs.Ends.{ended_if, ended_call, without_reply, is_broken_in, ended_below, ConnEnds, MayEnd, CallsEnd}
 use Rattle.gateway_theory.specs.Fate.{Fate, is_broken, starting_conn}
 use Rattle.gateway_theory.specs.Kept.{KeptValue}
 use Rattle.gateway_theory.specs.Machine.{ConnState, MachineState, ConnAfter, slot_at, step_of, starting}
@@ -22,9 +22,9 @@ use Rattle.gateway_theory.specs.lemmas.LimitLemmas.{same_call}
 
 -- ---- the calls
 
--- a call that ended, unless its connection stopped
+-- a call that ended, unless its connection broke
 abbrev after_of : Trigger → Bool → CallId → CallState → CallState
-after_of trigger stop id c = if stop then call_state c.out None else (ended_call trigger id c).call
+after_of trigger breaks id c = if breaks then call_state c.out None else (ended_call trigger id c).call
 
 call_below : (trigger : Trigger) (b : Bool) (k : KeptValue) → (without_reply (ended_below trigger b true k)).call ≡ after_of trigger b k.id k.call
 call_below trigger true k = refl
@@ -34,18 +34,18 @@ after_gone : (trigger : Trigger) (b : Bool) (id : CallId) → gone ≡ after_of 
 after_gone trigger true id = refl
 after_gone trigger false id = refl
 
-pub call_ended : (trigger : Trigger) (stop : ℕ → Bool) (id : CallId) (calls : List KeptValue)
-    → call_at id (map (λ k. without_reply (ended_below trigger (stop k.id.conn) true k)) calls) ≡ after_of trigger (stop id.conn) id (call_at id calls)
-call_ended trigger stop id [] = after_gone trigger (stop id.conn) id
-call_ended trigger stop id (k ∷ calls) =
-    ap (λ x. if is_call x id then (f k).call else call_at id (map f calls)) (id_below trigger (stop k.id.conn) true k)
+pub call_ended : (trigger : Trigger) (breaks : ℕ → Bool) (id : CallId) (calls : List KeptValue)
+    → call_at id (map (λ k. without_reply (ended_below trigger (breaks k.id.conn) true k)) calls) ≡ after_of trigger (breaks id.conn) id (call_at id calls)
+call_ended trigger breaks id [] = after_gone trigger (breaks id.conn) id
+call_ended trigger breaks id (k ∷ calls) =
+    ap (λ x. if is_call x id then (f k).call else call_at id (map f calls)) (id_below trigger (breaks k.id.conn) true k)
     ∙ ⊎_elim (λ (here : is_call k.id id ≡ true).
-    rw here (call_below trigger (stop k.id.conn) k ∙ ap (λ (x : CallId). after_of trigger (stop x.conn) x k.call) (same_call k.id id here)))
-    (λ (there : is_call k.id id ≡ false). rw there (call_ended trigger stop id calls))
+    rw here (call_below trigger (breaks k.id.conn) k ∙ ap (λ (x : CallId). after_of trigger (breaks x.conn) x k.call) (same_call k.id id here)))
+    (λ (there : is_call k.id id ≡ false). rw there (call_ended trigger breaks id calls))
     (cases_Bool (is_call k.id id))
   where
     f : KeptValue → KeptValue
-    f k = without_reply (ended_below trigger (stop k.id.conn) true k)
+    f k = without_reply (ended_below trigger (breaks k.id.conn) true k)
 
 outs_after : (trigger : Trigger) (b : Bool) (id : CallId) (c : CallState) (i : ℕ) → has_out (after_of trigger b id c) i ≡ has_out c i
 outs_after trigger true id c i = refl
@@ -53,7 +53,7 @@ outs_after trigger false id c i = ap (λ o. has_out (call_state o None) i) (out_
 
 -- ---- the connections
 
--- a connection that stopped keeps its slots
+-- a connection that broke keeps its slots
 stays : (trigger : Trigger) (calls : List KeptValue) (k l : ConnValue) → ConnEnds trigger calls k l → l.broken ≡ true → ConnStays (state_of k) (state_of l)
 stays trigger calls k l e broke = record {
   taken_is = e.taken_is;
@@ -63,11 +63,11 @@ stays trigger calls k l e broke = record {
       ∙ or_none (slot_at j k.slots));
 }
 
--- a connection that did not stop has the replies of its calls
-goes_on : (o : Occurrence) (trigger : Trigger) (s : MachineState) (calls : List KeptValue) (c : ℕ) (k l : ConnValue) → ConnEnds trigger calls k l → k.number ≡ c → l.broken ≡ false
+-- a connection that did not break has the replies of its calls
+has_replies : (o : Occurrence) (trigger : Trigger) (s : MachineState) (calls : List KeptValue) (c : ℕ) (k l : ConnValue) → ConnEnds trigger calls k l → k.number ≡ c → l.broken ≡ false
     → ((d : ℕ) → closing_occurs d o ≡ false) → ((id : CallId) → (step_of id o s).reply ≡ (ended_call trigger id (call_at id calls)).reply)
     → ConnAfter o s c (state_of k) (state_of l)
-goes_on o trigger s calls c k l e number on no_closing steps = record {
+has_replies o trigger s calls c k l e number on no_closing steps = record {
   taken_is = e.taken_is;
   closed_is = ap (λ b. b || false) (sym (no_closing c));
   size_is = e.size_is;
@@ -86,19 +86,19 @@ still o s c k no_closing none = record {
   each = λ j lt. sym (ap (λ r. option_or (slot_at j k.slots) r) (none (k.taken + j)) ∙ or_none (slot_at j k.slots));
 }
 
-conn_after : (o : Occurrence) (trigger : Trigger) (s : MachineState) (calls : List KeptValue) (c : ℕ) (closed : ConnState) (a b : Option ConnValue) (broken stop : Bool)
-    → MayEnd trigger calls a b → ((k : ConnValue) → a ≡ Some k → (k.number ≡ c) × (k.broken ≡ broken)) → stop ≡ option_map_or (λ (l : ConnValue). l.broken) b false
+conn_after : (o : Occurrence) (trigger : Trigger) (s : MachineState) (calls : List KeptValue) (c : ℕ) (closed : ConnState) (a b : Option ConnValue) (broken breaks : Bool)
+    → MayEnd trigger calls a b → ((k : ConnValue) → a ≡ Some k → (k.number ≡ c) × (k.broken ≡ broken)) → breaks ≡ option_map_or (λ (l : ConnValue). l.broken) b false
     → ((d : ℕ) → closing_occurs d o ≡ false) → ((id : CallId) → (step_of id o s).reply ≡ (ended_call trigger id (call_at id calls)).reply)
     → (a ≡ None → (j : ℕ) → (step_of (call_id c j) o s).reply ≡ None)
-    → ConnOn (broken || stop) o s c (option_map_or state_of a closed) (option_map_or state_of b closed)
-conn_after o trigger s calls c closed None None true stop m its stop_is no_closing steps none = record { taken_is = refl; slots_are = refl }
-conn_after o trigger s calls c closed None None false stop m its stop_is no_closing steps none = rw stop_is (still o s c closed no_closing (none refl))
-conn_after o trigger s calls c closed None (Some l) broken stop m its stop_is no_closing steps none = absurd m
-conn_after o trigger s calls c closed (Some k) None broken stop m its stop_is no_closing steps none = absurd m
-conn_after o trigger s calls c closed (Some k) (Some l) true stop m its stop_is no_closing steps none = stays trigger calls k l m (m.stays_broken (its k refl).1)
-conn_after o trigger s calls c closed (Some k) (Some l) false true m its stop_is no_closing steps none = stays trigger calls k l m (sym stop_is)
-conn_after o trigger s calls c closed (Some k) (Some l) false false m its stop_is no_closing steps none =
-    goes_on o trigger s calls c k l m (its k refl).0 (sym stop_is) no_closing steps
+    → ConnOn (broken || breaks) o s c (option_map_or state_of a closed) (option_map_or state_of b closed)
+conn_after o trigger s calls c closed None None true breaks m its breaks_is no_closing steps none = record { taken_is = refl; slots_are = refl }
+conn_after o trigger s calls c closed None None false breaks m its breaks_is no_closing steps none = rw breaks_is (still o s c closed no_closing (none refl))
+conn_after o trigger s calls c closed None (Some l) broken breaks m its breaks_is no_closing steps none = absurd m
+conn_after o trigger s calls c closed (Some k) None broken breaks m its breaks_is no_closing steps none = absurd m
+conn_after o trigger s calls c closed (Some k) (Some l) true breaks m its breaks_is no_closing steps none = stays trigger calls k l m (m.stays_broken (its k refl).1)
+conn_after o trigger s calls c closed (Some k) (Some l) false true m its breaks_is no_closing steps none = stays trigger calls k l m (sym breaks_is)
+conn_after o trigger s calls c closed (Some k) (Some l) false false m its breaks_is no_closing steps none =
+    has_replies o trigger s calls c k l m (its k refl).0 (sym breaks_is) no_closing steps
 
 -- ---- the machine
 
@@ -107,9 +107,9 @@ stays_by o trigger b id old new no_result new_is = record {
   outs_are = λ i. ap (λ c. has_out c i) new_is ∙ outs_after trigger b id old i ∙ sym (ap (λ r. has_out old i && not r) (no_result i) ∙ and_true (has_out old i));
 }
 
-call_after : (o : Occurrence) (trigger : Trigger) (broken stop : Bool) (id : CallId) (old new stepped : CallState) → ((i : ℕ) → is_result_of id i o ≡ false) → new ≡ after_of trigger stop id old
-    → (stop ≡ false → after_of trigger stop id old ≡ stepped) → CallAfter (broken || stop) id o old new stepped
-call_after o trigger true stop id old new stepped no_result new_is same = stays_by o trigger stop id old new no_result new_is
+call_after : (o : Occurrence) (trigger : Trigger) (broken breaks : Bool) (id : CallId) (old new stepped : CallState) → ((i : ℕ) → is_result_of id i o ≡ false) → new ≡ after_of trigger breaks id old
+    → (breaks ≡ false → after_of trigger breaks id old ≡ stepped) → CallAfter (broken || breaks) id o old new stepped
+call_after o trigger true breaks id old new stepped no_result new_is same = stays_by o trigger breaks id old new no_result new_is
 call_after o trigger false true id old new stepped no_result new_is same = stays_by o trigger true id old new no_result new_is
 call_after o trigger false false id old new stepped no_result new_is same = new_is ∙ same refl
 
@@ -119,7 +119,7 @@ pub ends_breaks : (o : Occurrence) (trigger : Trigger) (s v w : MachineValue) (c
     → ((id : CallId) (c : CallState) → step s.moment id o c ≡ ended_call trigger id c)
     → v ≡ machine_value (max s.moment (moment_of o)) (is_drain o || s.drained) s.conns s.calls s.jobs
     → HasFates fates s → CallsEnd trigger v w
-    → AfterBreaks (λ c. is_stopped_in c w.conns) fates o (machine closed s) (machine closed w)
+    → AfterBreaks (λ c. is_broken_in c w.conns) fates o (machine closed s) (machine closed w)
 ends_breaks o trigger s v w closed fates no_closing no_result no_start steps v_is f ends = by_parts (subst (λ x. CallsEnd trigger x w) v_is ends)
   where
     u : MachineValue
@@ -135,17 +135,17 @@ ends_breaks o trigger s v w closed fates no_closing no_result no_start steps v_i
     same id true e = absurd (cc)
     same id false e = ap (λ (x : Step). x.call) (sym (steps id (call_at id s.calls)))
 
-    by_parts : CallsEnd trigger u w → AfterBreaks (λ c. is_stopped_in c w.conns) fates o (machine closed s) (machine closed w)
+    by_parts : CallsEnd trigger u w → AfterBreaks (λ c. is_broken_in c w.conns) fates o (machine closed s) (machine closed w)
     by_parts e = record {
       moment_is = e.moment_is;
       drained_is = e.drained_is;
-      calls_are = λ id. call_after o trigger (is_broken (fates id.conn)) (is_stopped_in id.conn w.conns) id (call_at id s.calls) (call_at id w.calls)
+      calls_are = λ id. call_after o trigger (is_broken (fates id.conn)) (is_broken_in id.conn w.conns) id (call_at id s.calls) (call_at id w.calls)
           (step_of id o (machine closed s)).call (no_result id)
-          (ap (call_at id) e.calls_are ∙ call_ended trigger (λ c. is_stopped_in c w.conns) id s.calls)
-          (same id (is_stopped_in id.conn w.conns));
-      conns_are = λ c. conn_after o trigger (machine closed s) s.calls c (closed c) (conn_of c s.conns) (conn_of c w.conns) (is_broken (fates c)) (is_stopped_in c w.conns) (e.conns_are c)
+          (ap (call_at id) e.calls_are ∙ call_ended trigger (λ c. is_broken_in c w.conns) id s.calls)
+          (same id (is_broken_in id.conn w.conns));
+      conns_are = λ c. conn_after o trigger (machine closed s) s.calls c (closed c) (conn_of c s.conns) (conn_of c w.conns) (is_broken (fates c)) (is_broken_in c w.conns) (e.conns_are c)
           (λ k k_is. (open_number c s.conns k k_is, f.open_are c k k_is)) refl no_closing replies
           (λ shut j. none_of (call_id c j) shut);
       jobs_are = e.jobs_are ∙ sym (append-nil s.jobs)
-          ∙ ap (λ js. s.jobs ++ js) (sym (cond_both (is_stopped (λ c. is_stopped_in c w.conns) fates (starting_conn o)) [] (starting o (machine closed s)) (λ js. js ≡ []) (λ _. refl) (λ _. no_start)));
+          ∙ ap (λ js. s.jobs ++ js) (sym (cond_both (is_broken_after (λ c. is_broken_in c w.conns) fates (starting_conn o)) [] (starting o (machine closed s)) (λ js. js ≡ []) (λ _. refl) (λ _. no_start)));
     }

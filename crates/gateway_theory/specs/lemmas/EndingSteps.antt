@@ -8,7 +8,7 @@ use Rattle.gateway_model.specs.declared.id.CallId.{CallId}
 use Rattle.gateway_theory.specs.declared.trigger.Trigger.{Trigger}
 use Rattle.gateway_theory.specs.declared.trigger.Trigger.TheVariants.{Reached, HungUp as HangsUp, Drained}
 use Rattle.gateway_theory.specs.Conn.{ConnValue}
-use Rattle.gateway_theory.specs.Ends.{CallsEnd, EndsBy, MayEnd, ended_below, ended_if, is_stopped_in, without_reply}
+use Rattle.gateway_theory.specs.Ends.{CallsEnd, EndsBy, MayEnd, ended_below, ended_if, is_broken_in, without_reply}
 use Rattle.gateway_theory.specs.Fate.{Fate, Unbroken, BrokenAt, fate_after, fates_after, is_broken}
 use Rattle.gateway_theory.specs.Fated.{FatedStands}
 use Rattle.gateway_model.specs.Job.{JobValue}
@@ -72,10 +72,10 @@ module _ (o : Occurrence) (trigger : Trigger) (s v w : MachineValue) (closed : �
   calls_are = ap (λ (m : MachineValue). m.calls) by.machine_is
 
   abbrev pub fates_then : ℕ → Fate
-  fates_then = fates_after (λ c. is_stopped_in c w.conns) o os fates
+  fates_then = fates_after (λ c. is_broken_in c w.conns) o os fates
 
   pub ending_stands : FatedStands (machine closed w) fates_then taken handed (o ∷ os)
-  ending_stands = fated_after o (λ c. is_stopped_in c w.conns) (machine closed s) (machine closed w) fates taken handed os by.plain h
+  ending_stands = fated_after o (λ c. is_broken_in c w.conns) (machine closed s) (machine closed w) fates taken handed os by.plain h
       (ends_concern o trigger s v w closed fates taken handed os conns_are calls_are by.steps orderly are h e)
       (ends_breaks o trigger s v w closed fates by.no_closing by.no_result (by.no_start closed) by.steps by.machine_is (has_fates fates s orderly are) e)
 
@@ -117,12 +117,12 @@ module _ (o : Occurrence) (trigger : Trigger) (s v w : MachineValue) (closed : �
   pub ending_none : (c : ℕ) → conn_of c s.conns ≡ None → is_broken (fates c) ≡ false → is_broken (fates_then c) ≡ false
   ending_none c none on = by_fate (fates c) on
     where
-      by_fate : (f : Fate) → is_broken f ≡ false → is_broken (fate_after (is_stopped_in c w.conns) o os f) ≡ false
+      by_fate : (f : Fate) → is_broken f ≡ false → is_broken (fate_after (is_broken_in c w.conns) o os f) ≡ false
       by_fate Unbroken x = ap (λ y. is_broken (fate_after (option_map_or (λ (k : ConnValue). k.broken) y false) o os Unbroken)) (none_before c none)
       by_fate (BrokenAt since at older) x = absurd (cc)
 
   pub ending_calls : (c : ℕ) → All (λ (k : KeptValue). (k.id.conn == c) ≡ false) s.calls → All (λ (k : KeptValue). (k.id.conn == c) ≡ false) w.calls
   ending_calls c all = subst (All (λ (k : KeptValue). (k.id.conn == c) ≡ false)) (sym e.calls_are)
-      (All-map (λ (k : KeptValue). (k.id.conn == c) ≡ false) (λ k. without_reply (ended_below trigger (is_stopped_in k.id.conn w.conns) true k)) v.calls
-      (λ j d lt. ap (λ (x : CallId). x.conn == c) (id_below trigger (is_stopped_in (slice_index_or v.calls j d).id.conn w.conns) true (slice_index_or v.calls j d))
+      (All-map (λ (k : KeptValue). (k.id.conn == c) ≡ false) (λ k. without_reply (ended_below trigger (is_broken_in k.id.conn w.conns) true k)) v.calls
+      (λ j d lt. ap (λ (x : CallId). x.conn == c) (id_below trigger (is_broken_in (slice_index_or v.calls j d).id.conn w.conns) true (slice_index_or v.calls j d))
       ∙ subst (All (λ (k : KeptValue). (k.id.conn == c) ≡ false)) (sym calls_are) all j d lt))

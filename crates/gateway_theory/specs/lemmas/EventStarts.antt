@@ -64,8 +64,8 @@ all_started c id m past e = by_call (call id (m ∷ past))
 abbrev StartsOn : ℕ → Occurrence → Type 0
 StartsOn c o = (m : Mark) (past : Past) → filter (is_of c) (jobs_by o m past) ≡ jobs_by o m past
 
-entry_starts : (c : ℕ) (x : Coming) → StartsOn c (occurs.Comes c x)
-entry_starts c x m past = all_started c (call_id c (arrivals c past)) m past (eq-eqb c c refl)
+coming_starts : (c : ℕ) (x : Coming) → StartsOn c (occurs.Comes c x)
+coming_starts c x m past = all_started c (call_id c (arrivals c past)) m past (eq-eqb c c refl)
 
 result_starts : (id : CallId) (i : ℕ) (r : Outcome) → StartsOn id.conn (occurs.Result id i r)
 result_starts id i r m past = all_started id.conn id m past (eq-eqb id.conn id.conn refl)
@@ -82,14 +82,14 @@ once_on : (b : Bool) (c : ℕ) (o : Occurrence) → StartsOn c o → AllOn c (on
 once_on true c o h past = one_on c o h past
 once_on false c o h past = refl
 
-entries_on : (c : ℕ) (xs : List Coming) → AllOn c (map (occurs.Comes c) xs)
-entries_on c [] past = refl
-entries_on c (x ∷ xs) past =
+comings_on : (c : ℕ) (xs : List Coming) → AllOn c (map (occurs.Comes c) xs)
+comings_on c [] past = refl
+comings_on c (x ∷ xs) past =
     let o : Occurrence = occurs.Comes c x in
     let here : List JobValue = jobs_by o (mark_of (marked past) o) (marked past) in
     filter-append (is_of c) here (jobs_behind (map (occurs.Comes c) xs) (o ∷ past))
-    ∙ ap (λ js. js ++ filter (is_of c) (jobs_behind (map (occurs.Comes c) xs) (o ∷ past))) (entry_starts c x (mark_of (marked past) o) (marked past))
-    ∙ ap (λ js. here ++ js) (entries_on c xs (o ∷ past))
+    ∙ ap (λ js. js ++ filter (is_of c) (jobs_behind (map (occurs.Comes c) xs) (o ∷ past))) (coming_starts c x (mark_of (marked past) o) (marked past))
+    ∙ ap (λ js. here ++ js) (comings_on c xs (o ∷ past))
 
 -- the connection of whose calls an event starts branches
 abbrev pub conn_of_event : Event → ℕ
@@ -102,7 +102,7 @@ at_on plans opened Opening es os at = subst (AllOn 0) (sym at) (once_on (succeed
 at_on plans opened (Piece conn bytes) es os at = by_it (listens opened conn es) at
   where
     by_it : (b : Bool) → MatchBool b ((gained : List Coming) × Gains plans (stream opened conn es) (stream opened conn es ++ bytes) gained × (os ≡ map (occurs.Comes conn) gained)) (os ≡ []) → AllOn conn os
-    by_it true (gained, gains, is) = subst (AllOn conn) (sym is) (entries_on conn gained)
+    by_it true (gained, gains, is) = subst (AllOn conn) (sym is) (comings_on conn gained)
     by_it false is = subst (AllOn conn) (sym is) (λ p. refl)
 at_on plans opened (HangUp conn) es os at = subst (AllOn 0) (sym at) (once_on (listens opened conn es) 0 (occurs.HangUp conn) (λ m p. refl))
 at_on plans opened (Moment m) es os at = subst (AllOn 0) (sym at) (one_on 0 (occurs.Moment m) (λ k p. refl))
@@ -130,11 +130,11 @@ uncounted id of i r p closed = ⊎_elim
     none false b d = refl
 
 quiet_shut : (c k : ℕ) (o : Occurrence) (os : List Occurrence) → IsShutTo c o os → Quiet (call_id c k) (mark_of (marked os) o) (marked os)
-quiet_shut c k o os (no_entry, inl closed) = by_what o refl
+quiet_shut c k o os (no_coming, inl closed) = by_what o refl
   where
     plain : ((q : CallId) → is_answer_to q o ≡ false) → Quiet (call_id c k) (mark_of (marked os) o) (marked os)
     plain no_answer = record {
-      no_entry = no_entry;
+      no_coming = no_coming;
       no_answer = ap (λ b. counts o (marked os) && b) (no_answer (call_id c k)) ∙ and_false (counts o (marked os));
       no_event = rw closed refl;
     }
@@ -148,8 +148,8 @@ quiet_shut c k o os (no_entry, inl closed) = by_what o refl
     by_what (occurs.Moment m) e = plain (λ q. ap (is_answer_to q) e)
     by_what occurs.Drain e = plain (λ q. ap (is_answer_to q) e)
     by_what (occurs.Closing d) e = plain (λ q. ap (is_answer_to q) e)
-quiet_shut c k o os (no_entry, inr (d, is)) = subst (λ x. Quiet (call_id c k) (mark_of (marked os) x) (marked os)) (sym is) (record {
-  no_entry = refl;
+quiet_shut c k o os (no_coming, inr (d, is)) = subst (λ x. Quiet (call_id c k) (mark_of (marked os) x) (marked os)) (sym is) (record {
+  no_coming = refl;
   no_answer = refl;
   no_event =
       cond_both (is_closed c (marked os)) None
@@ -174,8 +174,8 @@ shut_queue c o os h =
     same_entries f g same (k ∷ ks) = rw (same k, same_entries f g same ks) refl
 
 shut_jobs : (c : ℕ) (o : Occurrence) (os : List Occurrence) → IsShutTo c o os → filter (is_of c) (jobs_by o (mark_of (marked os) o) (marked os)) ≡ []
-shut_jobs c o os (no_entry, inr (d, is)) = ap (λ x. filter (is_of c) (jobs_by x (mark_of (marked os) x) (marked os))) is
-shut_jobs c o os (no_entry, inl closed) = by_what o refl
+shut_jobs c o os (no_coming, inr (d, is)) = ap (λ x. filter (is_of c) (jobs_by x (mark_of (marked os) x) (marked os))) is
+shut_jobs c o os (no_coming, inl closed) = by_what o refl
   where
     other : (starting_conn o == c) ≡ false → filter (is_of c) (jobs_by o (mark_of (marked os) o) (marked os)) ≡ []
     other ne = none_by c o (mark_of (marked os) o) (marked os) ne
@@ -193,7 +193,7 @@ shut_jobs c o os (no_entry, inl closed) = by_what o refl
         none true false = refl
         none false b = refl
     by_what (occurs.Comes d x) e = other (ap (λ y. starting_conn y == c) e ∙ ne_eqb d c (λ same.
-        let clash : None ≡ Some x = sym (sym (ap (coming_on c) e) ∙ no_entry) ∙ ap (λ b. if b then Some x else None) (eq-eqb d c same) in absurd (cc)))
+        let clash : None ≡ Some x = sym (sym (ap (coming_on c) e) ∙ no_coming) ∙ ap (λ b. if b then Some x else None) (eq-eqb d c same) in absurd (cc)))
     by_what occurs.Opening e = ap (λ y. filter (is_of c) (jobs_by y (mark_of (marked os) y) (marked os))) e
     by_what (occurs.HangUp d) e = ap (λ y. filter (is_of c) (jobs_by y (mark_of (marked os) y) (marked os))) e
     by_what (occurs.Moment m) e = ap (λ y. filter (is_of c) (jobs_by y (mark_of (marked os) y) (marked os))) e
@@ -268,9 +268,9 @@ module _ (plans : List PlanRecord) (opened : List ℕ) (c : ℕ) (es : Before) (
   one_shut true o h = (h, tt)
   one_shut false o h = tt
 
-  entries_shut : (d : ℕ) (xs : List Coming) (us : List Occurrence) → (d == c) ≡ false → is_closed c (marked us) ≡ true → AllShut c (map (occurs.Comes d) xs) us
-  entries_shut d [] us ne closed = tt
-  entries_shut d (x ∷ xs) us ne closed = ((ap (λ b. if b then Some x else None) ne, inl closed), entries_shut d xs (occurs.Comes d x ∷ us) ne closed)
+  comings_shut : (d : ℕ) (xs : List Coming) (us : List Occurrence) → (d == c) ≡ false → is_closed c (marked us) ≡ true → AllShut c (map (occurs.Comes d) xs) us
+  comings_shut d [] us ne closed = tt
+  comings_shut d (x ∷ xs) us ne closed = ((ap (λ b. if b then Some x else None) ne, inl closed), comings_shut d xs (occurs.Comes d x ∷ us) ne closed)
 
   shut_at : (e : Event) (new : List Occurrence) → OccursAt plans opened e es new → (is_open opened c es ≡ true → is_closing_of c e ≡ true)
       → (is_open opened c es ≡ false → is_closed c (marked os) ≡ true) → AllShut c new os
@@ -298,7 +298,7 @@ module _ (plans : List PlanRecord) (opened : List ℕ) (c : ℕ) (es : Before) (
             where
               by_listens : (b : Bool) → listens opened d es ≡ b
                   → MatchBool b ((gained : List Coming) × Gains plans (stream opened d es) (stream opened d es ++ bytes) gained × (new ≡ map (occurs.Comes d) gained)) (new ≡ []) → AllShut c new os
-              by_listens true l (gained, gains, is) = subst (λ us. AllShut c us os) (sym is) (entries_shut d gained os
+              by_listens true l (gained, gains, is) = subst (λ us. AllShut c us os) (sym is) (comings_shut d gained os
                   (ne_eqb d c (λ same. let clash : false ≡ true = sym (ap (λ b. b && not (hung_up opened d es)) (ap (λ n. is_open opened n es) same ∙ y)) ∙ l in absurd (cc))) was)
               by_listens false l is = subst (λ us. AllShut c us os) (sym is) tt
           gone (HangUp d) at = subst (λ us. AllShut c us os) (sym at) (one_shut (listens opened d es) (occurs.HangUp d) (refl, inl was))

@@ -13,14 +13,14 @@ use Rattle.gateway_model.specs.Starts.{jobs_by}
 use Rattle.gateway_theory.specs.lemmas.Cases.{or_false}
 use Rattle.gateway_theory.specs.Step.{CallState, step}
 use Rattle.gateway_theory.specs.LiveStands.{CallStands, Stepped}
-use Rattle.gateway_theory.specs.Machine.{ConnState, MachineState, ConnAfter, slot_at, step_of, starting, is_entry}
+use Rattle.gateway_theory.specs.Machine.{ConnState, MachineState, ConnAfter, slot_at, step_of, starting, is_coming}
 use Rattle.gateway_theory.specs.Standing.{SlotsStand, ConnStands}
 use Rattle.gateway_theory.specs.lemmas.StepLemmas.{stepped}
-use Rattle.gateway_theory.specs.lemmas.MachineLemmas.{no_entering, entries_same, slots_after, each_slot}
+use Rattle.gateway_theory.specs.lemmas.MachineLemmas.{no_entering, arrivals_same, slots_after, each_slot}
 use Rattle.gateway_theory.specs.Fate.{Fate, Unbroken, BrokenAt, is_broken, is_broken_by, HasFate, fate_after, fates_after, has_result, starting_conn, jobs_fated}
 use Rattle.gateway_model.specs.Concerns.{concerns}
 use Rattle.gateway_theory.specs.Fated.{BrokenCall, CallFated, BrokenConn, ConnFated, FatedStands}
-use Rattle.gateway_theory.specs.Breaks.{is_stopped, CallStays, ConnStays, CallAfter, ConnOn, AreConcerned, AfterBreaks}
+use Rattle.gateway_theory.specs.Breaks.{is_broken_after, CallStays, ConnStays, CallAfter, ConnOn, AreConcerned, AfterBreaks}
 
 -- ---- truth values
 
@@ -87,7 +87,7 @@ breaks_conn c old new taken os h q = record {
 }
 
 -- an unbroken one at an occurrence that does not break it
-pub conn_goes : (c : ℕ) (o : Occurrence) (s : MachineState) (old new : ConnState) (taken : List ReplyEntry) (os : List Occurrence) → is_entry o ≡ false
+pub conn_goes : (c : ℕ) (o : Occurrence) (s : MachineState) (old new : ConnState) (taken : List ReplyEntry) (os : List Occurrence) → is_coming o ≡ false
     → s.moment ≡ now (marked os) → ((k : ℕ) → CallStands (call_id c k) (s.calls (call_id c k)) (marked os))
     → ConnStands c old taken (marked os) → ConnAfter o s c old new → ConnStands c new taken (marked (o ∷ os))
 conn_goes c o s old new taken os plain m_is calls h a =
@@ -97,7 +97,7 @@ conn_goes c o s old new taken os plain m_is calls h a =
       closed_is = a.closed_is ∙ ap (λ b. closing_occurs c o || b) h.closed_is;
       slots_stand =
           slots_after c (map Some taken ++ old.slots) (map Some taken ++ new.slots) (mark_of (marked os) o) (marked os) r h.slots_stand
-          (entries_same c o (marked os) plain)
+          (arrivals_same c o (marked os) plain)
           (length-append (map Some taken) new.slots ∙ ap (λ n. length (map Some taken) + n) a.size_is ∙ sym (length-append (map Some taken) old.slots))
           (each_slot taken old.slots new.slots r a.size_is
           (λ j lt. a.each j lt ∙ ap (λ n. option_or (slot_at j old.slots) (step_of (call_id c (n + j)) o s).reply) h.taken_is))
@@ -105,7 +105,7 @@ conn_goes c o s old new taken os plain m_is calls h a =
     }
 
 pub conn_then : (c : ℕ) (breaks : Bool) (o : Occurrence) (s : MachineState) (old new : ConnState) (taken : List ReplyEntry) (os : List Occurrence) (f : Fate)
-    → is_entry o ≡ false → s.moment ≡ now (marked os) → ((k : ℕ) → CallFated (call_id c k) (s.calls (call_id c k)) f os)
+    → is_coming o ≡ false → s.moment ≡ now (marked os) → ((k : ℕ) → CallFated (call_id c k) (s.calls (call_id c k)) f os)
     → ConnFated c old taken f os → ConnOn (is_broken f || breaks) o s c old new → ConnFated c new taken (fate_after breaks o os f) (o ∷ os)
 conn_then c true o s old new taken os Unbroken plain m_is calls h a = breaks_conn c old new taken os h a
 conn_then c false o s old new taken os Unbroken plain m_is calls h a = conn_goes c o s old new taken os plain m_is calls h a
@@ -125,7 +125,7 @@ broken_same n true o os Unbroken lt = lt-leb (length os) n lt
 broken_same n false o os Unbroken lt = refl
 broken_same n breaks o os (BrokenAt since at older) lt = refl
 
--- it has broken by now where it stops
+-- it has broken by now where it breaks
 broken_now : (c : ℕ) (breaks : Bool) (o : Occurrence) (os : List Occurrence) (f : Fate) → HasFate c f os
     → is_broken_by (length os) (fate_after breaks o os f) ≡ (is_broken f || breaks)
 broken_now c true o os Unbroken h = le-leb (length os) (length os) (omega arith)
@@ -143,21 +143,21 @@ jobs_same f g (o ∷ os) same =
 -- the jobs after one more occurrence
 pub jobs_then : (breaks : ℕ → Bool) (o : Occurrence) (os : List Occurrence) (fates : ℕ → Fate) → ((c : ℕ) → HasFate c (fates c) os)
     → jobs_fated (fates_after breaks o os fates) (o ∷ os)
-    ≡ jobs_fated fates os ++ (if is_stopped breaks fates (starting_conn o) then [] else jobs_by o (mark_of (marked os) o) (marked os))
+    ≡ jobs_fated fates os ++ (if is_broken_after breaks fates (starting_conn o) then [] else jobs_by o (mark_of (marked os) o) (marked os))
 jobs_then breaks o os fates h =
     ap (λ js. js ++ (if is_broken_by (length os) (fates_after breaks o os fates (starting_conn o)) then [] else jobs_by o (mark_of (marked os) o) (marked os)))
     (jobs_same (fates_after breaks o os fates) fates os (λ c n lt. broken_same n (breaks c) o os (fates c) lt))
     ∙ ap (λ b. jobs_fated fates os ++ (if b then [] else jobs_by o (mark_of (marked os) o) (marked os)))
     (broken_now (starting_conn o) (breaks (starting_conn o)) o os (fates (starting_conn o)) (h (starting_conn o)))
 
-jobs_now : (o : Occurrence) (breaks : Bool) (f : Fate) (s : MachineState) (os : List Occurrence) → is_entry o ≡ false → s.moment ≡ now (marked os)
+jobs_now : (o : Occurrence) (breaks : Bool) (f : Fate) (s : MachineState) (os : List Occurrence) → is_coming o ≡ false → s.moment ≡ now (marked os)
     → ((id : CallId) → id.conn ≡ starting_conn o → CallFated id (s.calls id) f os)
     → (if is_broken f || breaks then [] else starting o s) ≡ (if is_broken f || breaks then [] else jobs_by o (mark_of (marked os) o) (marked os))
 jobs_now o breaks (BrokenAt since at older) s os plain m_is calls = refl
 jobs_now o true Unbroken s os plain m_is calls = refl
 jobs_now o false Unbroken s os plain m_is calls = by_each o plain calls
   where
-    by_each : (o : Occurrence) → is_entry o ≡ false → ((id : CallId) → id.conn ≡ starting_conn o → CallStands id (s.calls id) (marked os))
+    by_each : (o : Occurrence) → is_coming o ≡ false → ((id : CallId) → id.conn ≡ starting_conn o → CallStands id (s.calls id) (marked os))
         → starting o s ≡ jobs_by o (mark_of (marked os) o) (marked os)
     by_each (Comes c x) e calls = absurd (cc)
     by_each (Result of i r) e calls =
@@ -171,7 +171,7 @@ jobs_now o false Unbroken s os plain m_is calls = by_each o plain calls
 -- ---- the machine
 
 pub fated_after : (o : Occurrence) (breaks : ℕ → Bool) (s t : MachineState) (fates : ℕ → Fate) (taken : ℕ → List ReplyEntry) (handed : List JobValue) (os : List Occurrence)
-    → is_entry o ≡ false → FatedStands s fates taken handed os → AreConcerned breaks fates o os → AfterBreaks breaks fates o s t
+    → is_coming o ≡ false → FatedStands s fates taken handed os → AreConcerned breaks fates o os → AfterBreaks breaks fates o s t
     → FatedStands t (fates_after breaks o os fates) taken handed (o ∷ os)
 fated_after o breaks s t fates taken handed os plain h concerned a = record {
   fates_are = λ c. fate_then c (breaks c) o os (fates c) (h.fates_are c) (concerned c);
@@ -184,8 +184,8 @@ fated_after o breaks s t fates taken handed os plain h concerned a = record {
       conn_then c (breaks c) o s (s.conns c) (t.conns c) (taken c) os (fates c) plain h.moment_is (λ k. h.calls_stand (call_id c k))
       (h.conns_stand c) (a.conns_are c);
   jobs_are = rw a.jobs_are
-      (sym (append_assoc handed s.jobs (if is_stopped breaks fates (starting_conn o) then [] else starting o s))
-      ∙ ap (λ js. js ++ (if is_stopped breaks fates (starting_conn o) then [] else starting o s)) h.jobs_are
+      (sym (append_assoc handed s.jobs (if is_broken_after breaks fates (starting_conn o) then [] else starting o s))
+      ∙ ap (λ js. js ++ (if is_broken_after breaks fates (starting_conn o) then [] else starting o s)) h.jobs_are
       ∙ ap (λ js. jobs_fated fates os ++ js)
       (jobs_now o (breaks (starting_conn o)) (fates (starting_conn o)) s os plain h.moment_is
       (λ id e. subst (λ c. CallFated id (s.calls id) (fates c) os) e (h.calls_stand id)))

@@ -13,7 +13,7 @@ use Rattle.gateway_model.specs.Job.{JobValue}
 use Rattle.gateway_model.specs.Occurrence.{Occurrence, Coming, Comes}
 use Rattle.gateway_model.specs.declared.id.CallId.{CallId}
 use Rattle.gateway_theory.specs.Conn.{next_of}
-use Rattle.gateway_theory.specs.Ends.{is_stopped_in}
+use Rattle.gateway_theory.specs.Ends.{is_broken_in}
 use Rattle.gateway_theory.specs.Enters.{kept_now}
 use Rattle.gateway_theory.specs.Fate.{Fate, Unbroken, BrokenAt, fate_after, fates_after, is_broken}
 use Rattle.gateway_theory.specs.Fated.{FatedStands}
@@ -24,7 +24,7 @@ use Rattle.gateway_theory.specs.Step.{Live}
 use Rattle.gateway_theory.specs.Store.{MachineValue, machine, conn_at, conn_of, broken_conn, given_up_if}
 use Rattle.gateway_theory.specs.lemmas.Concerned.{enter_concern, open_unclosed}
 use Rattle.gateway_theory.specs.lemmas.EnterSteps.{enter_breaks}
-use Rattle.gateway_theory.specs.lemmas.EntryFates.{fated_entry}
+use Rattle.gateway_theory.specs.lemmas.ComingFates.{fated_coming}
 use Rattle.gateway_theory.specs.lemmas.OpenSteps.{eqb_sym}
 use Rattle.gateway_theory.specs.lemmas.OrderLemmas.{broken_order, entered_order, fresh_next, has_fates, same_given, some_same}
 use Rattle.gateway_theory.specs.lemmas.OrderSteps.{fates_next}
@@ -127,26 +127,26 @@ module _ (i : ℕ) (x : Coming) (v w : MachineValue) (lt : i < length v.conns) (
   module _ (closed : ℕ → ConnState) (fates : ℕ → Fate) (taken : ℕ → List ReplyEntry) (handed : List JobValue) (os : List Occurrence) (are : FatesAre fates v.conns)
       (h : FatedStands (machine closed v) fates taken handed os) where
     abbrev pub later : ℕ → Fate
-    later = fates_after (λ c. is_stopped_in c w.conns) (Comes k.number x) os fates
+    later = fates_after (λ c. is_broken_in c w.conns) (Comes k.number x) os fates
 
     on_fate : is_broken (fates k.number) ≡ false
     on_fate = sym (are k.number k (conn_found i v.conns lt orderly.conns_apart)) ∙ unbroken
 
-    pub entry_stands : FatedStands (machine closed w) later taken handed (Comes k.number x ∷ os)
-    entry_stands = fated_entry k.number x (λ c. is_stopped_in c w.conns) (machine closed v) (machine closed w) fates taken handed os
+    pub coming_stands : FatedStands (machine closed w) later taken handed (Comes k.number x ∷ os)
+    coming_stands = fated_coming k.number x (λ c. is_broken_in c w.conns) (machine closed v) (machine closed w) fates taken handed os
         (λ _. open_unclosed k.number k v closed fates taken handed os (conn_found i v.conns lt orderly.conns_apart) on_fate h)
         h (enter_concern i x v w closed fates taken handed os lt orderly are h enters)
         (enter_breaks i x v closed fates lt orderly.conns_apart unbroken (fresh_next i v lt orderly) (has_fates fates v orderly are) w enters)
 
-    pub entry_fates : FatesAre later w.conns
-    entry_fates = fates_next (Comes k.number x) os fates w (λ c l l_is on. ⊎_elim
+    pub coming_fates : FatesAre later w.conns
+    coming_fates = fates_next (Comes k.number x) os fates w (λ c l l_is on. ⊎_elim
         (λ (its : (c == k.number) ≡ true). ap (λ n. is_broken (fates n)) (eqb-true c k.number its) ∙ on_fate)
         (λ (ne : (c == k.number) ≡ false). sym (are c l (sym (other_conn c ne) ∙ l_is)) ∙ on)
         (cases_Bool (c == k.number)))
 
     -- a connection that is not open does not break
-    pub entry_none : (c : ℕ) → conn_of c v.conns ≡ None → is_broken (fates c) ≡ false → (conn_of c w.conns ≡ None) × (is_broken (later c) ≡ false)
-    entry_none c none on = (none_then, by_fate (fates c) on)
+    pub coming_none : (c : ℕ) → conn_of c v.conns ≡ None → is_broken (fates c) ≡ false → (conn_of c w.conns ≡ None) × (is_broken (later c) ≡ false)
+    coming_none c none on = (none_then, by_fate (fates c) on)
       where
         apart : (c == k.number) ≡ false
         apart = ⊎_elim
@@ -156,6 +156,6 @@ module _ (i : ℕ) (x : Coming) (v w : MachineValue) (lt : i < length v.conns) (
         none_then : conn_of c w.conns ≡ None
         none_then = other_conn c apart ∙ none
 
-        by_fate : (f : Fate) → is_broken f ≡ false → is_broken (fate_after (is_stopped_in c w.conns) (Comes k.number x) os f) ≡ false
+        by_fate : (f : Fate) → is_broken f ≡ false → is_broken (fate_after (is_broken_in c w.conns) (Comes k.number x) os f) ≡ false
         by_fate Unbroken e = ap (λ o. is_broken (fate_after (option_map_or (λ (y : ConnValue). y.broken) o false) (Comes k.number x) os Unbroken)) none_then
         by_fate (BrokenAt since at older) e = absurd (cc)

@@ -13,13 +13,13 @@ use Rattle.gateway_theory.specs.Conn.{ConnValue, added}
 use Rattle.gateway_theory.specs.Enters.{Enters, arriving_at}
 use Rattle.gateway_model.specs.Events.{Gains, refusal_gained}
 use Rattle.gateway_theory.specs.Fated.{FatedStands}
-use Rattle.gateway_theory.specs.Gateway.{StreamValue, stream_at, stream_of, StreamsApart, GatewayValue, Brings, Feeds, calls_brought, refusals, is_waiting, HasCome, goes_on, StreamsStand, Unopened, GatewayStands, with_bytes}
+use Rattle.gateway_theory.specs.Gateway.{StreamValue, stream_at, stream_of, StreamsApart, GatewayValue, Brings, Feeds, calls_brought, refusals, is_waiting, HasCome, is_listening, StreamsStand, Unopened, GatewayStands, with_bytes}
 use Rattle.gateway_model.specs.Job.{JobValue}
 use Rattle.gateway_model.specs.Occurrence.{Occurrence, Coming, Comes, Request, Refused}
 use Rattle.gateway_theory.specs.Arrivals.{calls_arrived, calls_in}
 use Rattle.gateway_theory.specs.Orderly.{FatesAre, IsOrderly}
 use Rattle.gateway_theory.specs.Store.{MachineValue, machine, conn_at, conn_of}
-use Rattle.gateway_theory.specs.lemmas.FeedLemmas.{stream_found, stream_set, midway, other_conn, this_conn, calls_kept, later, entry_stands, entry_fates, entry_none}
+use Rattle.gateway_theory.specs.lemmas.FeedLemmas.{stream_found, stream_set, midway, other_conn, this_conn, calls_kept, later, coming_stands, coming_fates, coming_none}
 use Rattle.gateway_theory.specs.lemmas.OrderLemmas.{some_same}
 use Rattle.gateway_theory.specs.lemmas.StoreMore.{conn_found}
 
@@ -173,7 +173,7 @@ module _ (i n : ℕ) (bytes : List ℕ) (v w : GatewayValue) (texts : ℕ → Li
       → StreamsStand w (with_bytes c more texts)
   streams_then gained b others this = λ d l t l_is t_is going. by_conn d l t l_is t_is going (d == c) refl
     where
-      by_conn : (d : ℕ) (l : ConnValue) (t : StreamValue) → conn_of d w.machine.conns ≡ Some l → stream_of d w.streams ≡ Some t → goes_on l t ≡ true → (x : Bool) → (d == c) ≡ x
+      by_conn : (d : ℕ) (l : ConnValue) (t : StreamValue) → conn_of d w.machine.conns ≡ Some l → stream_of d w.streams ≡ Some t → is_listening l t ≡ true → (x : Bool) → (d == c) ≡ x
           → HasCome l t.reader (with_bytes c more texts d)
       by_conn d l t l_is t_is going true e =
           let t_now : record s { reader = f.new } ≡ t = some_same (sym (stream_then d ∙ ap (λ x. if x then Some (record s { reader = f.new }) else stream_of d v.streams) e) ∙ t_is) in
@@ -242,8 +242,8 @@ module _ (i n : ℕ) (bytes : List ℕ) (v w : GatewayValue) (texts : ℕ → Li
           record {
             closed = h.closed;
             fates = later i x v.machine w.machine within orderly unbroken enters h.closed h.fates taken handed os h.fates_are h.fated;
-            fated = entry_stands i x v.machine w.machine within orderly unbroken enters h.closed h.fates taken handed os h.fates_are h.fated;
-            fates_are = entry_fates i x v.machine w.machine within orderly unbroken enters h.closed h.fates taken handed os h.fates_are h.fated;
+            fated = coming_stands i x v.machine w.machine within orderly unbroken enters h.closed h.fates taken handed os h.fates_are h.fated;
+            fates_are = coming_fates i x v.machine w.machine within orderly unbroken enters h.closed h.fates taken handed os h.fates_are h.fated;
             streams_stand = streams_then (x ∷ []) b (λ d ne. other_conn i x v.machine w.machine within orderly unbroken enters d ne)
                 (λ l l_is. ⊎_elim (λ (broke : l.broken ≡ true). inl broke)
                 (λ (e : l ≡ added (arriving_at i x v.machine).reply k). inr (ap (λ (y : ConnValue). y.taken + length y.slots) e
@@ -259,8 +259,8 @@ module _ (i n : ℕ) (bytes : List ℕ) (v w : GatewayValue) (texts : ℕ → Li
               → Unopened w h.closed (later i x v.machine w.machine within orderly unbroken enters h.closed h.fates taken handed os h.fates_are h.fated) d
           still d u = record {
             state_is = u.state_is;
-            unbroken = (entry_none i x v.machine w.machine within orderly unbroken enters h.closed h.fates taken handed os h.fates_are h.fated d u.no_conn u.unbroken).1;
-            no_conn = (entry_none i x v.machine w.machine within orderly unbroken enters h.closed h.fates taken handed os h.fates_are h.fated d u.no_conn u.unbroken).0;
+            unbroken = (coming_none i x v.machine w.machine within orderly unbroken enters h.closed h.fates taken handed os h.fates_are h.fated d u.no_conn u.unbroken).1;
+            no_conn = (coming_none i x v.machine w.machine within orderly unbroken enters h.closed h.fates taken handed os h.fates_are h.fated d u.no_conn u.unbroken).0;
             no_stream_is = no_stream_then d (not_this d u.no_conn) u.no_stream_is;
             no_call = calls_kept i x v.machine w.machine within orderly unbroken enters d (not_this d u.no_conn) u.no_call;
           }

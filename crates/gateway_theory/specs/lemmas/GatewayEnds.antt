@@ -9,7 +9,7 @@ use Rattle.gateway_model.specs.declared.id.CallId.{CallId}
 use Rattle.gateway_theory.specs.declared.trigger.Trigger.{Trigger}
 use Rattle.gateway_theory.specs.Breaks.{AreConcerned}
 use Rattle.gateway_theory.specs.Conn.{ConnValue}
-use Rattle.gateway_theory.specs.Ends.{CallsEnd, EndsBy, is_stopped_in}
+use Rattle.gateway_theory.specs.Ends.{CallsEnd, EndsBy, is_broken_in}
 use Rattle.gateway_theory.specs.Fate.{Fate, fates_after}
 use Rattle.gateway_theory.specs.Gateway.{StreamValue, stream_of, GatewayValue, Unopened, GatewayStands}
 use Rattle.gateway_model.specs.Job.{JobValue}
@@ -19,7 +19,7 @@ use Rattle.gateway_model.specs.Occurrence.{Occurrence, Closing}
 use Rattle.gateway_theory.specs.Opens.{closed_at, closed_from, closed_with}
 use Rattle.gateway_theory.specs.Orderly.{IsOrderly}
 use Rattle.gateway_theory.specs.Store.{MachineValue, machine, conn_of, given_up_if}
-use Rattle.gateway_theory.specs.lemmas.Concerned.{not_stopped}
+use Rattle.gateway_theory.specs.lemmas.Concerned.{not_broken}
 use Rattle.gateway_theory.specs.lemmas.EndingSteps.{conn_before, ending_calls, ending_fates, ending_stands, none_before}
 use Rattle.gateway_theory.specs.lemmas.FateLemmas.{fated_after}
 use Rattle.gateway_theory.specs.lemmas.GatewaySteps.{Goes, NoCallOf, still_off, streams_go}
@@ -46,7 +46,7 @@ module _ (v w : GatewayValue) (texts : ℕ → List ℕ) (taken : ℕ → List R
   }
     where
       later : ℕ → Fate
-      later = fates_after (λ c. is_stopped_in c w.machine.conns) o os h.fates
+      later = fates_after (λ c. is_broken_in c w.machine.conns) o os h.fates
 
       g : Goes v.machine w.machine
       g = record {
@@ -72,7 +72,7 @@ module _ (v w : GatewayValue) (texts : ℕ → List ℕ) (taken : ℕ → List R
   closed_stands n k there w_is = record {
     closed = closed_with n v.machine.conns h.closed;
     fates = later;
-    fated = fated_after (Closing n) (λ c. is_stopped_in c w.machine.conns) (machine h.closed v.machine) (machine (closed_with n v.machine.conns h.closed) w.machine) h.fates taken handed os refl h.fated
+    fated = fated_after (Closing n) (λ c. is_broken_in c w.machine.conns) (machine h.closed v.machine) (machine (closed_with n v.machine.conns h.closed) w.machine) h.fates taken handed os refl h.fated
         concerned (close_breaks n v.machine w.machine h.closed h.fates k there (has_fates h.fates v.machine orderly h.fates_are) w_is);
     fates_are = fates_next (Closing n) os h.fates w.machine (λ c l l_is on. let x = g.back c l l_is on in sym (h.fates_are c x.0 x.1) ∙ x.2);
     streams_stand = streams_go v w texts g same h.streams_stand;
@@ -81,7 +81,7 @@ module _ (v w : GatewayValue) (texts : ℕ → List ℕ) (taken : ℕ → List R
   }
     where
       later : ℕ → Fate
-      later = fates_after (λ c. is_stopped_in c w.machine.conns) (Closing n) os h.fates
+      later = fates_after (λ c. is_broken_in c w.machine.conns) (Closing n) os h.fates
 
       conn_is : (c : ℕ) → conn_of c w.machine.conns ≡ (if c == n then None else conn_of c v.machine.conns)
       conn_is c = ap (λ (m : MachineValue). conn_of c m.conns) w_is ∙ conn_without c n v.machine.conns
@@ -100,14 +100,14 @@ module _ (v w : GatewayValue) (texts : ℕ → List ℕ) (taken : ℕ → List R
       }
 
       -- none breaks
-      concerned : AreConcerned (λ c. is_stopped_in c w.machine.conns) h.fates (Closing n) os
-      concerned c on stops = absurd (
-          let stop_is : is_stopped_in c w.machine.conns ≡ (if c == n then false else is_stopped_in c v.machine.conns) =
+      concerned : AreConcerned (λ c. is_broken_in c w.machine.conns) h.fates (Closing n) os
+      concerned c on breaks = absurd (
+          let breaks_is : is_broken_in c w.machine.conns ≡ (if c == n then false else is_broken_in c v.machine.conns) =
           ap (λ o. option_map_or (λ (y : ConnValue). y.broken) o false) (conn_is c)
-          ∙ cond_both (c == n) None (conn_of c v.machine.conns) (λ x. option_map_or (λ (y : ConnValue). y.broken) x false ≡ (if c == n then false else is_stopped_in c v.machine.conns))
-          (λ e. sym (ap (λ b. if b then false else is_stopped_in c v.machine.conns) e)) (λ e. sym (ap (λ b. if b then false else is_stopped_in c v.machine.conns) e)) in
-          let clash : true ≡ false = sym stops ∙ stop_is
-          ∙ cond_both (c == n) false (is_stopped_in c v.machine.conns) (λ x. x ≡ false) (λ _. refl) (λ _. not_stopped c v.machine.conns h.fates h.fates_are on) in cc)
+          ∙ cond_both (c == n) None (conn_of c v.machine.conns) (λ x. option_map_or (λ (y : ConnValue). y.broken) x false ≡ (if c == n then false else is_broken_in c v.machine.conns))
+          (λ e. sym (ap (λ b. if b then false else is_broken_in c v.machine.conns) e)) (λ e. sym (ap (λ b. if b then false else is_broken_in c v.machine.conns) e)) in
+          let clash : true ≡ false = sym breaks ∙ breaks_is
+          ∙ cond_both (c == n) false (is_broken_in c v.machine.conns) (λ x. x ≡ false) (λ _. refl) (λ _. not_broken c v.machine.conns h.fates h.fates_are on) in cc)
 
       still : (c : ℕ) → Unopened v h.closed h.fates c → Unopened w (closed_with n v.machine.conns h.closed) later c
       still c x = record {

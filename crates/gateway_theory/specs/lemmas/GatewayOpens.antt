@@ -7,10 +7,10 @@ use Rattle.std.proofs.lemmas.List.{length-drop}
 use Rattle.http_pieces.specs.Reader.{Partial, HasRead, reader_value}
 use Rattle.gateway_model.specs.declared.entry.ReplyEntry.{ReplyEntry}
 use Rattle.gateway_theory.specs.Conn.{ConnValue, conn_value, without_first}
-use Rattle.gateway_theory.specs.Ends.{is_stopped_in}
+use Rattle.gateway_theory.specs.Ends.{is_broken_in}
 use Rattle.gateway_theory.specs.Fate.{Fate, BrokenAt, fates_after, fates_refused, is_broken}
 use Rattle.gateway_theory.specs.Fated.{FatedStands}
-use Rattle.gateway_theory.specs.Gateway.{StreamValue, stream_of, new_stream, GatewayValue, HasCome, goes_on, Unopened, GatewayStands}
+use Rattle.gateway_theory.specs.Gateway.{StreamValue, stream_of, new_stream, GatewayValue, HasCome, is_listening, Unopened, GatewayStands}
 use Rattle.gateway_theory.specs.Task.{HandedJob}
 use Rattle.gateway_model.specs.Job.{JobValue}
 use Rattle.gateway_theory.specs.Kept.{KeptValue}
@@ -20,7 +20,7 @@ use Rattle.gateway_theory.specs.Orderly.{FatesAre, IsOrderly}
 use Rattle.gateway_theory.specs.Replies.{ReplyValue}
 use Rattle.gateway_theory.specs.Store.{MachineValue, machine, conn_at, conn_of, broken_at, broken_conn}
 use Rattle.gateway_theory.specs.lemmas.Cases.{or_none}
-use Rattle.gateway_theory.specs.lemmas.Concerned.{not_stopped, open_unclosed}
+use Rattle.gateway_theory.specs.lemmas.Concerned.{not_broken, open_unclosed}
 use Rattle.gateway_theory.specs.lemmas.FateLemmas.{fated_after}
 use Rattle.gateway_theory.specs.lemmas.GatewaySteps.{Goes, goes_broken, streams_go, still_off}
 use Rattle.gateway_theory.specs.lemmas.OpenSteps.{broken_refused, open_breaks, reply_handed}
@@ -46,8 +46,8 @@ module _ (v w : GatewayValue) (texts : ℕ → List ℕ) (taken : ℕ → List R
   opened_stands fresh no_text w_is streams_are opened_is begun_same = record {
     closed = h.closed;
     fates = later;
-    fated = fated_after Opening (λ c. is_stopped_in c w.machine.conns) (machine h.closed v.machine) (machine h.closed w.machine) h.fates taken handed os refl h.fated
-        (λ c on stops. absurd (let clash : true ≡ false = sym stops ∙ stop_is c ∙ not_stopped c v.machine.conns h.fates h.fates_are on in cc))
+    fated = fated_after Opening (λ c. is_broken_in c w.machine.conns) (machine h.closed v.machine) (machine h.closed w.machine) h.fates taken handed os refl h.fated
+        (λ c on breaks. absurd (let clash : true ≡ false = sym breaks ∙ breaks_is c ∙ not_broken c v.machine.conns h.fates h.fates_are on in cc))
         (open_breaks n v.machine w.machine h.closed h.fates new.no_conn new.state_is (has_fates h.fates v.machine orderly h.fates_are) w_is);
     fates_are = fates_next Opening os h.fates w.machine (λ c l l_is on. by_conn c l l_is on (conn_of c v.machine.conns) refl);
     streams_stand = λ c l t l_is t_is going. by_number c l t l_is t_is going (n == c) refl;
@@ -59,7 +59,7 @@ module _ (v w : GatewayValue) (texts : ℕ → List ℕ) (taken : ℕ → List R
       n = v.opened
 
       later : ℕ → Fate
-      later = fates_after (λ c. is_stopped_in c w.machine.conns) Opening os h.fates
+      later = fates_after (λ c. is_broken_in c w.machine.conns) Opening os h.fates
 
       new : Unopened v h.closed h.fates n
       new = h.unopened n (omega arith)
@@ -70,8 +70,8 @@ module _ (v w : GatewayValue) (texts : ℕ → List ℕ) (taken : ℕ → List R
       stream_is : (c : ℕ) → stream_of c w.streams ≡ option_or (stream_of c v.streams) (if n == c then Some (new_stream n) else None)
       stream_is c = ap (stream_of c) streams_are ∙ stream_added c (new_stream n) v.streams
 
-      stop_is : (c : ℕ) → is_stopped_in c w.machine.conns ≡ is_stopped_in c v.machine.conns
-      stop_is c = ap (λ o. option_map_or (λ (y : ConnValue). y.broken) o false) (conn_is c) ∙ by_it (conn_of c v.machine.conns) (n == c)
+      breaks_is : (c : ℕ) → is_broken_in c w.machine.conns ≡ is_broken_in c v.machine.conns
+      breaks_is c = ap (λ o. option_map_or (λ (y : ConnValue). y.broken) o false) (conn_is c) ∙ by_it (conn_of c v.machine.conns) (n == c)
         where
           by_it : (o : Option ConnValue) (b : Bool)
               → option_map_or (λ (y : ConnValue). y.broken) (option_or o (if b then Some (conn_value n 0 [] false false) else None)) false ≡ option_map_or (λ (y : ConnValue). y.broken) o false
@@ -91,7 +91,7 @@ module _ (v w : GatewayValue) (texts : ℕ → List ℕ) (taken : ℕ → List R
               let none : conn_of c w.machine.conns ≡ None = conn_is c ∙ ap (λ o. option_or o (if n == c then Some (conn_value n 0 [] false false) else None)) e ∙ ap (λ b. if b then Some (conn_value n 0 [] false false) else None) x in
               let clash : None ≡ Some l = sym none ∙ l_is in cc)
 
-      by_number : (c : ℕ) (l : ConnValue) (t : StreamValue) → conn_of c w.machine.conns ≡ Some l → stream_of c w.streams ≡ Some t → goes_on l t ≡ true → (b : Bool) → (n == c) ≡ b
+      by_number : (c : ℕ) (l : ConnValue) (t : StreamValue) → conn_of c w.machine.conns ≡ Some l → stream_of c w.streams ≡ Some t → is_listening l t ≡ true → (b : Bool) → (n == c) ≡ b
           → HasCome l t.reader (texts c)
       by_number c l t l_is t_is going true e =
           let same : c ≡ n = sym (eqb-true n c e) in

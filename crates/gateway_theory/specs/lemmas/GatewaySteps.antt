@@ -10,7 +10,7 @@ use Rattle.gateway_model.specs.declared.entry.ReplyEntry.{ReplyEntry}
 use Rattle.gateway_theory.specs.declared.fault.Took.{Took}
 use Rattle.gateway_model.specs.declared.id.CallId.{CallId}
 use Rattle.gateway_theory.specs.Conn.{ConnValue}
-use Rattle.gateway_theory.specs.Ends.{is_stopped_in}
+use Rattle.gateway_theory.specs.Ends.{is_broken_in}
 use Rattle.gateway_theory.specs.Fate.{Fate, Unbroken, BrokenAt, fate_after, fates_after, is_broken}
 use Rattle.gateway_theory.specs.Fated.{FatedStands}
 use Rattle.gateway_theory.specs.Gateway.{StreamValue, stream_of, GatewayValue, StreamsStand, Unopened, GatewayStands}
@@ -28,7 +28,7 @@ use Rattle.gateway_theory.specs.lemmas.FateLemmas.{fated_after}
 use Rattle.gateway_theory.specs.lemmas.OrderLemmas.{has_fates, same_given, some_same}
 use Rattle.gateway_theory.specs.lemmas.OrderSteps.{fates_next, filled_back}
 use Rattle.gateway_theory.specs.lemmas.ResultSteps.{result_breaks}
-use Rattle.gateway_theory.specs.lemmas.StarveSteps.{forgotten_stands, starved_breaks}
+use Rattle.gateway_theory.specs.lemmas.StarvedSteps.{forgotten_stands, starved_breaks}
 use Rattle.gateway_theory.specs.lemmas.StoreLemmas.{conn_broken}
 
 -- ---- what a step may do to connections and calls
@@ -132,10 +132,10 @@ goes_forgotten id v w (inr spent) = subst (Goes v) (sym spent.1) (record {
 -- ---- what the gateway stands for then
 
 pub still_off : (w : MachineValue) (o : Occurrence) (os : List Occurrence) (fates : ℕ → Fate) (c : ℕ) → conn_of c w.conns ≡ None → is_broken (fates c) ≡ false
-    → is_broken (fates_after (λ c. is_stopped_in c w.conns) o os fates c) ≡ false
+    → is_broken (fates_after (λ c. is_broken_in c w.conns) o os fates c) ≡ false
 still_off w o os fates c none on = by_fate (fates c) on
   where
-    by_fate : (f : Fate) → is_broken f ≡ false → is_broken (fate_after (is_stopped_in c w.conns) o os f) ≡ false
+    by_fate : (f : Fate) → is_broken f ≡ false → is_broken (fate_after (is_broken_in c w.conns) o os f) ≡ false
     by_fate Unbroken x = ap (λ y. is_broken (fate_after (option_map_or (λ (k : ConnValue). k.broken) y false) o os Unbroken)) none
     by_fate (BrokenAt since at older) x = absurd (cc)
 
@@ -162,13 +162,13 @@ module _ (id : CallId) (branch : ℕ) (outcome : Outcome) (v w : GatewayValue) (
     (streams_are : w.streams ≡ v.streams) (opened_is : w.opened ≡ v.opened) (begun_same : w.begun ≡ v.begun) (orderly : IsOrderly v.machine) (h : GatewayStands v texts taken handed os) where
   -- after a step that is this occurrence, and a call that is forgotten
   step_stands : (u : MachineValue) → Goes v.machine u → Forgets id u w.machine
-      → FatedStands (machine h.closed u) (fates_after (λ c. is_stopped_in c u.conns) (Result id branch outcome) os h.fates) taken handed (Result id branch outcome ∷ os)
+      → FatedStands (machine h.closed u) (fates_after (λ c. is_broken_in c u.conns) (Result id branch outcome) os h.fates) taken handed (Result id branch outcome ∷ os)
       → GatewayStands w texts taken handed (Result id branch outcome ∷ os)
   step_stands u g forgets stands = record {
     closed = h.closed;
-    fates = fates_after (λ c. is_stopped_in c u.conns) (Result id branch outcome) os h.fates;
-    fated = forgotten_stands id u w.machine h.closed (fates_after (λ c. is_stopped_in c u.conns) (Result id branch outcome) os h.fates) taken handed (Result id branch outcome ∷ os) forgets stands;
-    fates_are = subst (λ ks. FatesAre (fates_after (λ c. is_stopped_in c u.conns) (Result id branch outcome) os h.fates) ks) (sym conns_are)
+    fates = fates_after (λ c. is_broken_in c u.conns) (Result id branch outcome) os h.fates;
+    fated = forgotten_stands id u w.machine h.closed (fates_after (λ c. is_broken_in c u.conns) (Result id branch outcome) os h.fates) taken handed (Result id branch outcome ∷ os) forgets stands;
+    fates_are = subst (λ ks. FatesAre (fates_after (λ c. is_broken_in c u.conns) (Result id branch outcome) os h.fates) ks) (sym conns_are)
         (fates_next (Result id branch outcome) os h.fates u (λ c l l_is on. let k = g.back c l l_is on in sym (h.fates_are c k.0 k.1) ∙ k.2));
     streams_stand = streams_go v w texts whole (λ c t t_is on. ap (stream_of c) (sym streams_are) ∙ t_is) h.streams_stand;
     unopened = λ c le. still c (h.unopened c (subst (λ m. m ≤ c) opened_is le));
@@ -185,7 +185,7 @@ module _ (id : CallId) (branch : ℕ) (outcome : Outcome) (v w : GatewayValue) (
           by_way (inl e) = ap (λ (m : MachineValue). m.conns) e
           by_way (inr e) = ap (λ (m : MachineValue). m.conns) e.1
 
-      still : (c : ℕ) → Unopened v h.closed h.fates c → Unopened w h.closed (fates_after (λ c. is_stopped_in c u.conns) (Result id branch outcome) os h.fates) c
+      still : (c : ℕ) → Unopened v h.closed h.fates c → Unopened w h.closed (fates_after (λ c. is_broken_in c u.conns) (Result id branch outcome) os h.fates) c
       still c x = record {
         state_is = x.state_is;
         unbroken = still_off u (Result id branch outcome) os h.fates c (g.none c x.no_conn) x.unbroken;
@@ -196,12 +196,12 @@ module _ (id : CallId) (branch : ℕ) (outcome : Outcome) (v w : GatewayValue) (
 
   pub result_stands : (u : MachineValue) (took : Took) → ResultTaken id branch outcome v.machine u took → Forgets id u w.machine → GatewayStands w texts taken handed (Result id branch outcome ∷ os)
   result_stands u took r forgets = step_stands u (goes_result id branch outcome v.machine u took r) forgets
-      (fated_after (Result id branch outcome) (λ c. is_stopped_in c u.conns) (machine h.closed v.machine) (machine h.closed u) h.fates taken handed os refl h.fated
+      (fated_after (Result id branch outcome) (λ c. is_broken_in c u.conns) (machine h.closed v.machine) (machine h.closed u) h.fates taken handed os refl h.fated
       (result_concern id branch outcome v.machine u took h.closed h.fates taken handed os h.fates_are h.fated r)
       (result_breaks v.machine u h.closed h.fates id branch outcome took (has_fates h.fates v.machine orderly h.fates_are) r))
 
   pub starved_stands : (u : MachineValue) (took : Took) → Starved id branch v.machine u took → Forgets id u w.machine → GatewayStands w texts taken handed (Result id branch outcome ∷ os)
   starved_stands u took r forgets = step_stands u (goes_starved id branch v.machine u took r) forgets
-      (fated_after (Result id branch outcome) (λ c. is_stopped_in c u.conns) (machine h.closed v.machine) (machine h.closed u) h.fates taken handed os refl h.fated
+      (fated_after (Result id branch outcome) (λ c. is_broken_in c u.conns) (machine h.closed v.machine) (machine h.closed u) h.fates taken handed os refl h.fated
       (starved_concern id branch outcome v.machine u took h.closed h.fates taken handed os h.fates_are h.fated r)
       (starved_breaks id branch outcome v.machine u h.closed h.fates took (has_fates h.fates v.machine orderly h.fates_are) r))

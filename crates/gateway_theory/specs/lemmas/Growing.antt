@@ -274,7 +274,7 @@ grew_result id branch outcome v w took orderly (inr (i, f, out, seen, its, inl w
     s = result_at i branch outcome v
 
     on : is_some (kept_at i v.calls).call.live ≡ true → is_off (conn_of k_id.conn v.conns) ≡ false
-    on live = let k = (orderly.calls_are i no_call f.0).goes_on live in ap (λ o. is_off o) k.1 ∙ k.2
+    on live = let k = (orderly.calls_are i no_call f.0).on_unbroken live in ap (λ o. is_off o) k.1 ∙ k.2
 
     by_live : (c : ℕ) → is_off (conn_of c v.conns) ≡ true → (b : Bool) → is_some (kept_at i v.calls).call.live ≡ b → filter (is_of c) s.jobs ≡ []
     by_live c off false e = ap (filter (is_of c)) (jobs_first v.moment branch outcome _ (kept_at i v.calls).call.live e)

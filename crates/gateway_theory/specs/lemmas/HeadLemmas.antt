@@ -10,7 +10,7 @@ use Rattle.gateway_model.specs.declared.id.CallId.{CallId}
 use Rattle.gateway_theory.specs.declared.trigger.Trigger.{Trigger}
 use Rattle.gateway_theory.specs.declared.trigger.Trigger.TheVariants.{Reached, HungUp, Drained}
 use Rattle.gateway_theory.specs.Conn.{ConnValue, added, conn_value, fill_at, filled, without_first}
-use Rattle.gateway_theory.specs.Ends.{AreApart, CallsEnd, ConnEnds, EndedAt, IsSettled, MayEnd, is_stopped_in, noted, settled_at}
+use Rattle.gateway_theory.specs.Ends.{AreApart, CallsEnd, ConnEnds, EndedAt, IsSettled, MayEnd, is_broken_in, noted, settled_at}
 use Rattle.gateway_theory.specs.Enters.{Enters, arriving_at}
 use Rattle.gateway_theory.specs.Gateway.{StreamValue, StreamsApart, new_stream, stream_at}
 use Rattle.gateway_theory.specs.Heads.{Head, conn_heads, head, hung_head, noted_heads, stream_heads}
@@ -114,24 +114,24 @@ stream_heads_set (suc i) new (s ∷ streams) lt same hung = ap (λ hs. head s.nu
 -- ---- of both
 
 -- a connection and its stream tell the same
-pub heard_at : (i : ℕ) (conns : List ConnValue) (streams : List StreamValue) → conn_heads conns ≡ stream_heads streams → i < length conns
+pub agree_at : (i : ℕ) (conns : List ConnValue) (streams : List StreamValue) → conn_heads conns ≡ stream_heads streams → i < length conns
     → (conn_at i conns).hung_up ≡ (stream_at i streams).hung_up
-heard_at i [] streams same lt = absurd (omega (arith, lt))
-heard_at i (k ∷ conns) [] same lt = absurd (cc)
-heard_at zero (k ∷ conns) (s ∷ streams) same lt = ap first same
+agree_at i [] streams same lt = absurd (omega (arith, lt))
+agree_at i (k ∷ conns) [] same lt = absurd (cc)
+agree_at zero (k ∷ conns) (s ∷ streams) same lt = ap first same
   where
     first : List Head → Bool
     first [] = false
     first (h ∷ hs) = h.hung_up
-heard_at (suc i) (k ∷ conns) (s ∷ streams) same lt = heard_at i conns streams (ap rest same) (omega (arith, lt))
+agree_at (suc i) (k ∷ conns) (s ∷ streams) same lt = agree_at i conns streams (ap rest same) (omega (arith, lt))
   where
     rest : List Head → List Head
     rest [] = []
     rest (h ∷ hs) = hs
 
-pub opened_heard : (n : ℕ) (conns : List ConnValue) (streams : List StreamValue) → conn_heads conns ≡ stream_heads streams
+pub opened_agree : (n : ℕ) (conns : List ConnValue) (streams : List StreamValue) → conn_heads conns ≡ stream_heads streams
     → conn_heads (conns ++ conn_value n 0 [] false false ∷ []) ≡ stream_heads (streams ++ new_stream n ∷ [])
-opened_heard n conns streams same = map-append head_of conns (conn_value n 0 [] false false ∷ []) ∙ ap (λ hs. hs ++ head n false ∷ []) same
+opened_agree n conns streams same = map-append head_of conns (conn_value n 0 [] false false ∷ []) ∙ ap (λ hs. hs ++ head n false ∷ []) same
     ∙ sym (map-append (λ (s : StreamValue). head s.number s.hung_up) streams (new_stream n ∷ []))
 
 conns_left : (n : ℕ) (conns : List ConnValue) → conn_heads (filter (λ k. not (k.number == n)) conns) ≡ filter (λ h. not (h.number == n)) (conn_heads conns)
@@ -154,32 +154,32 @@ streams_left n (s ∷ streams) = by_it (not (s.number == n)) (streams_left n str
     by_it true rest = ap (λ hs. head s.number s.hung_up ∷ hs) rest
     by_it false rest = rest
 
-pub closed_heard : (n : ℕ) (conns : List ConnValue) (streams : List StreamValue) → conn_heads conns ≡ stream_heads streams
+pub closed_agree : (n : ℕ) (conns : List ConnValue) (streams : List StreamValue) → conn_heads conns ≡ stream_heads streams
     → conn_heads (filter (λ k. not (k.number == n)) conns) ≡ stream_heads (filter (λ s. not (s.number == n)) streams)
-closed_heard n conns streams same = conns_left n conns ∙ ap (filter (λ h. not (h.number == n))) same ∙ sym (streams_left n streams)
+closed_agree n conns streams same = conns_left n conns ∙ ap (filter (λ h. not (h.number == n))) same ∙ sym (streams_left n streams)
 
--- the others of the number are heard as before
-others_heard : (n : ℕ) (streams : List StreamValue) → ((j : ℕ) → j < length streams → (n == (stream_at j streams).number) ≡ false) → map (hung_head n) (stream_heads streams) ≡ stream_heads streams
-others_heard n [] none = refl
-others_heard n (s ∷ streams) none =
+-- the heads of other numbers stay
+others_agree : (n : ℕ) (streams : List StreamValue) → ((j : ℕ) → j < length streams → (n == (stream_at j streams).number) ≡ false) → map (hung_head n) (stream_heads streams) ≡ stream_heads streams
+others_agree n [] none = refl
+others_agree n (s ∷ streams) none =
     ap (λ b. (if b then head s.number true else head s.number s.hung_up) ∷ map (hung_head n) (stream_heads streams))
     (ne_eqb s.number n (λ same. let clash : true ≡ false = sym (eq-eqb n s.number (sym same)) ∙ none 0 (omega arith) in absurd (cc)))
-    ∙ ap (λ hs. head s.number s.hung_up ∷ hs) (others_heard n streams (λ j lt. none (suc j) (omega (arith, lt))))
+    ∙ ap (λ hs. head s.number s.hung_up ∷ hs) (others_agree n streams (λ j lt. none (suc j) (omega (arith, lt))))
 
-pub hung_heard : (n i : ℕ) (streams : List StreamValue) → i < length streams → (stream_at i streams).number ≡ n → StreamsApart streams
+pub hung_agree : (n i : ℕ) (streams : List StreamValue) → i < length streams → (stream_at i streams).number ≡ n → StreamsApart streams
     → map (hung_head n) (stream_heads streams) ≡ stream_heads (slice_set streams i (record (stream_at i streams) { hung_up = true }))
-hung_heard n i [] lt its apart = absurd (omega (arith, lt))
-hung_heard n zero (s ∷ streams) lt its apart =
+hung_agree n i [] lt its apart = absurd (omega (arith, lt))
+hung_agree n zero (s ∷ streams) lt its apart =
     ap (λ b. (if b then head s.number true else head s.number s.hung_up) ∷ map (hung_head n) (stream_heads streams)) (eq-eqb s.number n its)
-    ∙ ap (λ hs. head s.number true ∷ hs) (others_heard n streams (λ j lt_j. ap (λ m. m == (stream_at j streams).number) (sym its) ∙ apart 0 (suc j) (omega arith) (omega (arith, lt_j))))
-hung_heard n (suc i) (s ∷ streams) lt its apart =
+    ∙ ap (λ hs. head s.number true ∷ hs) (others_agree n streams (λ j lt_j. ap (λ m. m == (stream_at j streams).number) (sym its) ∙ apart 0 (suc j) (omega arith) (omega (arith, lt_j))))
+hung_agree n (suc i) (s ∷ streams) lt its apart =
     ap (λ b. (if b then head s.number true else head s.number s.hung_up) ∷ map (hung_head n) (stream_heads streams))
     (ap (λ m. s.number == m) (sym its) ∙ apart 0 (suc i) (omega arith) lt)
-    ∙ ap (λ hs. head s.number s.hung_up ∷ hs) (hung_heard n i streams (omega (arith, lt)) its (λ a b a_lt b_lt. apart (suc a) (suc b) (omega (arith, a_lt)) (omega (arith, b_lt))))
+    ∙ ap (λ hs. head s.number s.hung_up ∷ hs) (hung_agree n i streams (omega (arith, lt)) its (λ a b a_lt b_lt. apart (suc a) (suc b) (omega (arith, a_lt)) (omega (arith, b_lt))))
 
 -- ---- calls that end as the peer of their connection hangs up
 
-conn_hung : (c n : ℕ) (conns : List ConnValue) → conn_of c (map (hung_if n) conns) ≡ option_map (hung_if n) (conn_of c conns)
+pub conn_hung : (c n : ℕ) (conns : List ConnValue) → conn_of c (map (hung_if n) conns) ≡ option_map (hung_if n) (conn_of c conns)
 conn_hung c n [] = refl
 conn_hung c n (k ∷ conns) = ap (λ b. if b then Some (hung_if n k) else conn_of c (map (hung_if n) conns)) same ∙ by_it (k.number == c) (conn_hung c n conns)
   where
@@ -197,12 +197,12 @@ numbers_hung n (k ∷ conns) =
     ap (λ m. m ∷ numbers (map (hung_if n) conns)) (cond_both (k.number == n) (record k { hung_up = true }) k (λ x. x.number ≡ k.number) (λ _. refl) (λ _. refl))
     ∙ ap (λ ns. k.number ∷ ns) (numbers_hung n conns)
 
-stopped_hung : (n : ℕ) (conns : List ConnValue) (c : ℕ) → is_stopped_in c (map (hung_if n) conns) ≡ is_stopped_in c conns
-stopped_hung n conns c = ap (λ o. option_map_or (λ (k : ConnValue). k.broken) o false) (conn_hung c n conns) ∙ stops (conn_of c conns)
+broken_hung : (n : ℕ) (conns : List ConnValue) (c : ℕ) → is_broken_in c (map (hung_if n) conns) ≡ is_broken_in c conns
+broken_hung n conns c = ap (λ o. option_map_or (λ (k : ConnValue). k.broken) o false) (conn_hung c n conns) ∙ breaks (conn_of c conns)
   where
-    stops : (o : Option ConnValue) → option_map_or (λ (k : ConnValue). k.broken) (option_map (hung_if n) o) false ≡ option_map_or (λ (k : ConnValue). k.broken) o false
-    stops None = refl
-    stops (Some k) = cond_both (k.number == n) (record k { hung_up = true }) k (λ x. x.broken ≡ k.broken) (λ _. refl) (λ _. refl)
+    breaks : (o : Option ConnValue) → option_map_or (λ (k : ConnValue). k.broken) (option_map (hung_if n) o) false ≡ option_map_or (λ (k : ConnValue). k.broken) o false
+    breaks None = refl
+    breaks (Some k) = cond_both (k.number == n) (record k { hung_up = true }) k (λ x. x.broken ≡ k.broken) (λ _. refl) (λ _. refl)
 
 pub hung_ends : (n : ℕ) (v w : MachineValue) → CallsEnd (HungUp n) (hung_at n v) w → CallsEnd (HungUp n) v w
 hung_ends n v w e = record {
@@ -212,7 +212,7 @@ hung_ends n v w e = record {
   calls_are = e.calls_are;
   numbers_are = e.numbers_are ∙ numbers_hung n v.conns;
   conns_are = λ c. by_conn (conn_of c v.conns) (conn_of c w.conns) (subst (λ o. MayEnd (HungUp n) v.calls o (conn_of c w.conns)) (conn_hung c n v.conns) (e.conns_are c));
-  breaks_are = λ c now before. e.breaks_are c now (stopped_hung n v.conns c ∙ before);
+  breaks_are = λ c now before. e.breaks_are c now (broken_hung n v.conns c ∙ before);
 }
   where
     one : (b : Bool) (k l : ConnValue) → ConnEnds (HungUp n) v.calls (if b then record k { hung_up = true } else k) l → ConnEnds (HungUp n) v.calls k l
@@ -231,7 +231,7 @@ pub noted_settled : (trigger : Trigger) (v : MachineValue) → IsSettled v → I
 noted_settled (Reached now) v h = h
 noted_settled (HungUp n) v h = record {
   no_reply = h.no_reply;
-  none_live = λ j stopped. h.none_live j (sym (stopped_hung n v.conns (kept_at j v.calls).id.conn) ∙ stopped);
+  none_live = λ j broken. h.none_live j (sym (broken_hung n v.conns (kept_at j v.calls).id.conn) ∙ broken);
   has_conn = λ j live. ap (λ o. is_some o) (conn_hung (kept_at j v.calls).id.conn n v.conns) ∙ still (conn_of (kept_at j v.calls).id.conn v.conns) ∙ h.has_conn j live;
 }
   where

@@ -19,12 +19,12 @@ use Rattle.gateway_theory.specs.declared.trigger.Trigger.{Trigger}
 use Rattle.gateway_theory.specs.declared.trigger.Trigger.TheVariants.{HungUp}
 use Rattle.gateway_theory.specs.Breaks.{seen_by}
 use Rattle.gateway_theory.specs.Conn.{ConnValue, conn_value, without_first}
-use Rattle.gateway_theory.specs.Ends.{EndsBy, ended_if, is_stopped_in}
+use Rattle.gateway_theory.specs.Ends.{EndsBy, ended_if, is_broken_in}
 use Rattle.gateway_theory.specs.Enters.{Enters}
 use Rattle.gateway_model.specs.Events.{stream}
 use Rattle.gateway_theory.specs.Fate.{Fate, is_broken}
 use Rattle.gateway_model.specs.declared.entry.ReplyEntry.{ReplyEntry}
-use Rattle.gateway_theory.specs.Gateway.{Feeds, GatewayStands, GatewayValue, goes_on, is_broken_conn, next_reply, stream_at, stream_of, untaken_of}
+use Rattle.gateway_theory.specs.Gateway.{Feeds, GatewayStands, GatewayValue, is_listening, is_broken_conn, next_reply, stream_at, stream_of, untaken_of}
 use Rattle.gateway_theory.specs.Machine.{slot_at}
 use Rattle.gateway_model.specs.Past.{call_id}
 use Rattle.gateway_model.specs.Queue.{IsPrefixOf, front}
@@ -34,29 +34,29 @@ use Rattle.gateway_theory.specs.Opens.{JobTaken}
 use Rattle.gateway_theory.specs.Orderly.{FatesAre, IsOrderly}
 use Rattle.gateway_theory.specs.Replies.{ReplyValue}
 use Rattle.gateway_theory.specs.Results.{Forgets, ResultTaken, Starved, result_at}
-use Rattle.gateway_theory.specs.Serving.{IsWhole, TakesSome, WouldBegin, begins_by, BreaksBy, Closes, CountsCalls, IsFault, TellsStep, most_begun, Ends, FedTo, IsDeaf, came, dropped, unheard, unread, HangsUp, silent, hung, IsServing, Keeps, KeepsBut, ListensAt, Opens, TakesOnly, TakesReply, absent, taken}
+use Rattle.gateway_theory.specs.Serving.{IsWhole, TakesSome, WouldBegin, begins_by, BreaksBy, Closes, CountsCalls, IsFault, TellsStep, most_begun, Ends, FedTo, NotListening, came, dropped, not_fed, unread, HangsUp, unnoticed, hung, IsServing, Keeps, KeepsBut, ListensAt, Opens, TakesOnly, TakesReply, absent, taken}
 use Rattle.gateway_model.specs.Starts.{occurrences}
 use Rattle.gateway_theory.specs.Step.{CallState, Live, ended_by, has_out}
 use Rattle.gateway_theory.specs.Store.{MachineValue, broken_at, conn_at, conn_of, given_up_if, kept_at}
 use Rattle.gateway_theory.specs.Tally.{tally_of}
 use Rattle.gateway_theory.specs.lemmas.Cases.{or_none}
 use Rattle.gateway_theory.specs.lemmas.Concerned.{ends_concern, result_concern, starved_concern}
-use Rattle.gateway_theory.specs.lemmas.EndLemmas.{fills_in, stopped_now, stopped_then}
+use Rattle.gateway_theory.specs.lemmas.EndLemmas.{fills_in, just_broken, broken_then}
 use Rattle.gateway_theory.specs.lemmas.FeedLemmas.{other_conn, stream_found, stream_set}
 use Rattle.gateway_theory.specs.lemmas.Growing.{Grew, MayGrow, grew_broken, grew_ended, grew_entered, grew_forgotten, grew_result, grew_same, grew_starved, grew_then, is_off, off_then}
 use Rattle.gateway_theory.specs.lemmas.LimitLemmas.{same_call}
 use Rattle.gateway_theory.specs.lemmas.OrderLemmas.{some_same}
-use Rattle.gateway_theory.specs.lemmas.ResultSteps.{fills_stop}
+use Rattle.gateway_theory.specs.lemmas.ResultSteps.{fills_broken}
 use Rattle.gateway_theory.specs.lemmas.SeenResults.{forgotten_conns}
 use Rattle.gateway_theory.specs.lemmas.ServedPieces.{feeds_machine}
 use Rattle.gateway_theory.specs.lemmas.ServingLemmas.{conn_by_number, stream_by_number, streams_apart}
 use Rattle.gateway_theory.specs.lemmas.StoreMore.{conn_added, conn_found, conn_set, conn_without}
 
-broken_of : (c : ℕ) (conns : List ConnValue) (k : ConnValue) → conn_of c conns ≡ Some k → is_stopped_in c conns ≡ k.broken
+broken_of : (c : ℕ) (conns : List ConnValue) (k : ConnValue) → conn_of c conns ≡ Some k → is_broken_in c conns ≡ k.broken
 broken_of c conns k k_is = ap (λ o. option_map_or (λ (x : ConnValue). x.broken) o false) k_is
 
-abbrev is_stopped : Option ConnValue → Bool
-is_stopped o = option_map_or (λ (k : ConnValue). k.broken) o false
+abbrev is_broken_there : Option ConnValue → Bool
+is_broken_there o = option_map_or (λ (k : ConnValue). k.broken) o false
 
 abbrev waiting_of : Option ConnValue → List ReplyEntry
 waiting_of o = option_map_or (λ (k : ConnValue). front k.slots) o []
@@ -68,11 +68,11 @@ both_parts true true e = (refl, refl)
 both_parts true false e = absurd (cc)
 both_parts false b e = absurd (cc)
 
-stopped_then_on : (a b : Option ConnValue) → MayGrow a b → is_stopped a ≡ true → is_stopped b ≡ true
-stopped_then_on None None g e = absurd (cc)
-stopped_then_on None (Some l) g e = absurd g
-stopped_then_on (Some k) None g e = absurd g
-stopped_then_on (Some k) (Some l) g e = g.stays_broken e
+broken_stays : (a b : Option ConnValue) → MayGrow a b → is_broken_there a ≡ true → is_broken_there b ≡ true
+broken_stays None None g e = absurd (cc)
+broken_stays None (Some l) g e = absurd g
+broken_stays (Some k) None g e = absurd g
+broken_stays (Some k) (Some l) g e = g.stays_broken e
 
 waiting_stays : (a b : Option ConnValue) → MayGrow a b → IsPrefixOf (waiting_of a) (waiting_of b)
 waiting_stays None None g = ([], refl)
@@ -99,7 +99,7 @@ keeps_seen breaks seen v w plans_are opened_is begun_is tally_is g broken_are = 
   stays_silent = λ c silent.
       let p = both_parts (nat_lt c v.opened) (is_off (conn_of c v.machine.conns)) silent in
       rw (ap (nat_lt c) opened_is ∙ p.0, off_then (conn_of c v.machine.conns) (conn_of c w.machine.conns) (g.conns_are c) p.1) refl;
-  stays_broken = λ c other broken. stopped_then_on (conn_of c v.machine.conns) (conn_of c w.machine.conns) (g.conns_are c) broken;
+  stays_broken = λ c other broken. broken_stays (conn_of c v.machine.conns) (conn_of c w.machine.conns) (g.conns_are c) broken;
   broken_are = broken_are;
   replies_stay = λ c other. waiting_stays (conn_of c v.machine.conns) (conn_of c w.machine.conns) (g.conns_are c);
   no_replies = λ c other silent. waiting_same (conn_of c v.machine.conns) (conn_of c w.machine.conns) (g.conns_are c)
@@ -140,8 +140,8 @@ module _ (v w : GatewayValue) where
         let p = both_parts (nat_lt c v.opened) (is_off (conn_of c v.machine.conns)) silent in
         let lt : c < v.opened = ltb-true c v.opened p.0 in
         rw (lt-ltb c w.opened (let more = o.opened_is in omega (arith, lt, more)), ap (λ x. is_off x) (known c lt) ∙ p.1) refl;
-    stays_broken = λ c other broken. ap (λ x. is_stopped x) (conn_is c) ∙ by_stop c (conn_of c v.machine.conns) broken;
-    broken_are = λ c now before. absurd (let clash : true ≡ false = sym now ∙ ap (λ x. is_stopped x) (conn_is c) ∙ off c (conn_of c v.machine.conns) before in cc);
+    stays_broken = λ c other broken. ap (λ x. is_broken_there x) (conn_is c) ∙ by_broken c (conn_of c v.machine.conns) broken;
+    broken_are = λ c now before. absurd (let clash : true ≡ false = sym now ∙ ap (λ x. is_broken_there x) (conn_is c) ∙ off c (conn_of c v.machine.conns) before in cc);
     replies_stay = λ c other. subst (λ x. IsPrefixOf (waiting_of (conn_of c v.machine.conns)) (waiting_of x)) (sym (conn_is c)) (by_wait c (conn_of c v.machine.conns));
     no_replies = λ c other silent. ap (λ x. waiting_of x) (known c (ltb-true c v.opened (both_parts (nat_lt c v.opened) (is_off (conn_of c v.machine.conns)) silent).0));
     jobs = [];
@@ -161,12 +161,12 @@ module _ (v w : GatewayValue) where
       known : (c : ℕ) → c < v.opened → conn_of c w.machine.conns ≡ conn_of c v.machine.conns
       known c lt = conn_is c ∙ ap (λ b. option_or (conn_of c v.machine.conns) (if b then Some new else None)) (ne_eqb v.opened c (λ same. omega (arith, lt, same))) ∙ or_none (conn_of c v.machine.conns)
 
-      by_stop : (c : ℕ) (x : Option ConnValue) → is_stopped x ≡ true → is_stopped (option_or x (newest c)) ≡ true
-      by_stop c None e = absurd (cc)
-      by_stop c (Some k) e = e
+      by_broken : (c : ℕ) (x : Option ConnValue) → is_broken_there x ≡ true → is_broken_there (option_or x (newest c)) ≡ true
+      by_broken c None e = absurd (cc)
+      by_broken c (Some k) e = e
 
-      off : (c : ℕ) (x : Option ConnValue) → is_stopped x ≡ false → is_stopped (option_or x (newest c)) ≡ false
-      off c None e = cond_both (v.opened == c) (Some new) None (λ y. is_stopped y ≡ false) (λ _. refl) (λ _. refl)
+      off : (c : ℕ) (x : Option ConnValue) → is_broken_there x ≡ false → is_broken_there (option_or x (newest c)) ≡ false
+      off c None e = cond_both (v.opened == c) (Some new) None (λ y. is_broken_there y ≡ false) (λ _. refl) (λ _. refl)
       off c (Some k) e = e
 
       by_wait : (c : ℕ) (x : Option ConnValue) → IsPrefixOf (waiting_of x) (waiting_of (option_or x (newest c)))
@@ -202,8 +202,8 @@ closing_keeps n v w true x = record {
   stays_silent = λ c silent.
       let p = both_parts (nat_lt c v.opened) (is_off (conn_of c v.machine.conns)) silent in
       rw (ap (λ (y : GatewayValue). nat_lt c y.opened) x.1 ∙ p.0, ap (λ o. is_off o) (conn_is c) ∙ by_it c (c == n) p.1) refl;
-  stays_broken = λ c other stopped. ap (λ o. is_stopped o) (same c other) ∙ stopped;
-  broken_are = λ c now before. absurd (let clash : true ≡ false = sym now ∙ ap (λ o. is_stopped o) (conn_is c) ∙ still c (c == n) before in cc);
+  stays_broken = λ c other broken. ap (λ o. is_broken_there o) (same c other) ∙ broken;
+  broken_are = λ c now before. absurd (let clash : true ≡ false = sym now ∙ ap (λ o. is_broken_there o) (conn_is c) ∙ still c (c == n) before in cc);
   replies_stay = λ c other. ([], ap (λ o. waiting_of o) (same c other) ∙ sym (append-nil (untaken_of c v)));
   no_replies = λ c other silent. ap (λ o. waiting_of o) (same c other);
   jobs = [];
@@ -221,7 +221,7 @@ closing_keeps n v w true x = record {
     by_it c true e = refl
     by_it c false e = e
 
-    still : (c : ℕ) (b : Bool) → is_stopped (conn_of c v.machine.conns) ≡ false → is_stopped (if b then None else conn_of c v.machine.conns) ≡ false
+    still : (c : ℕ) (b : Bool) → is_broken_there (conn_of c v.machine.conns) ≡ false → is_broken_there (if b then None else conn_of c v.machine.conns) ≡ false
     still c true e = refl
     still c false e = e
 
@@ -234,7 +234,7 @@ was_open n v w true x = sym x.0
 module _ (n : ℕ) (bytes : List ℕ) (v w : GatewayValue) (serving : IsServing v) where
   -- what comes on the connection at that place breaks no other
   entered_breaks : (i : ℕ) (x : Coming) → ListensAt n v i → Enters i x v.machine w.machine → (c : ℕ) → (c == n) ≡ false → is_broken_conn c w ≡ is_broken_conn c v
-  entered_breaks i x l enters c ne = ap (λ o. is_stopped o) (other_conn i x v.machine w.machine l.conn_there serving.orderly l.unbroken enters c (ap (λ m. c == m) l.conn_is ∙ ne))
+  entered_breaks i x l enters c ne = ap (λ o. is_broken_there o) (other_conn i x v.machine w.machine l.conn_there serving.orderly l.unbroken enters c (ap (λ m. c == m) l.conn_is ∙ ne))
 
   fed_grew : (i m : ℕ) → ListensAt n v i → Feeds i m bytes v w → CountsCalls v w → Keeps (λ c. c == n) v w
   fed_grew i m l f counts = by_machine (feeds_machine i m bytes v w f)
@@ -245,17 +245,17 @@ module _ (n : ℕ) (bytes : List ℕ) (v w : GatewayValue) (serving : IsServing 
       by_machine : (w.machine ≡ v.machine) ⊎ ((x : Coming) × Enters i x v.machine w.machine) → Keeps (λ c. c == n) v w
       by_machine (inl e) = keeps_seen (λ c. c == n) [] v w f.plans_are f.opened_is none_begun (λ before e. f.tally_is ∙ e)
           (grew_same v.machine w.machine (ap (λ (y : MachineValue). y.conns) e) (ap (λ (y : MachineValue). y.jobs) e))
-          (only_breaks n v w (λ c ne. ap (λ (y : MachineValue). is_stopped_in c y.conns) e))
+          (only_breaks n v w (λ c ne. ap (λ (y : MachineValue). is_broken_in c y.conns) e))
       by_machine (inr (x, enters)) = keeps_seen (λ c. c == n) [] v w f.plans_are f.opened_is none_begun (λ before e. f.tally_is ∙ e)
           (grew_entered i x v.machine w.machine l.conn_there l.unbroken serving.orderly enters) (only_breaks n v w (entered_breaks i x l enters))
 
   pub fed_keeps : (r : std.Result ℕ StepFault) → FedTo n bytes v w r → Keeps (λ c. c == n) v w
-  fed_keeps r (unheard deaf r_is w_is) = keeps_all (λ c. c == n) v w w_is
+  fed_keeps r (not_fed not_listening r_is w_is) = keeps_all (λ c. c == n) v w w_is
   fed_keeps r (dropped i l over r_is w_is) = keeps_all (λ c. c == n) v w w_is
   fed_keeps r (unread i l going r_is w_is) = keeps_grew (λ c. c == n) v w (ap (λ (y : GatewayValue). y.plans) w_is) (ap (λ (y : GatewayValue). y.opened) w_is)
       (ap (λ (y : GatewayValue). y.begun) w_is) (ap (λ (y : GatewayValue). y.tally) w_is)
       (grew_broken n v.machine w.machine (ap (λ (y : GatewayValue). y.machine.conns) w_is) (ap (λ (y : GatewayValue). y.machine.jobs) w_is))
-      (only_breaks n v w (λ c ne. ap (λ (y : GatewayValue). is_broken_conn c y) w_is ∙ stopped_then c n v.machine.conns ne))
+      (only_breaks n v w (λ c ne. ap (λ (y : GatewayValue). is_broken_conn c y) w_is ∙ broken_then c n v.machine.conns ne))
   fed_keeps r (came i m l going f within moves q whole why is counts r_is) = fed_grew i m l f counts
 
   counts_same : w.begun ≡ v.begun → length w.machine.calls ≡ length v.machine.calls → CountsCalls v w
@@ -266,21 +266,21 @@ module _ (n : ℕ) (bytes : List ℕ) (v w : GatewayValue) (serving : IsServing 
   }
 
   pub fed_counts : (r : std.Result ℕ StepFault) → FedTo n bytes v w r → CountsCalls v w
-  fed_counts r (unheard deaf r_is w_is) = counts_same (ap (λ (y : GatewayValue). y.begun) w_is) (ap (λ (y : GatewayValue). length y.machine.calls) w_is)
+  fed_counts r (not_fed not_listening r_is w_is) = counts_same (ap (λ (y : GatewayValue). y.begun) w_is) (ap (λ (y : GatewayValue). length y.machine.calls) w_is)
   fed_counts r (dropped i l over r_is w_is) = counts_same (ap (λ (y : GatewayValue). y.begun) w_is) (ap (λ (y : GatewayValue). length y.machine.calls) w_is)
   fed_counts r (unread i l going r_is w_is) = counts_same (ap (λ (y : GatewayValue). y.begun) w_is)
       (ap (λ (y : GatewayValue). length y.machine.calls) w_is ∙ length-map v.machine.calls (given_up_if n))
   fed_counts r (came i m l going f within moves q whole why is counts r_is) = counts
 
   pub fed_takes : (r : std.Result ℕ StepFault) → FedTo n bytes v w r → IfOk r (TakesSome (length bytes))
-  fed_takes r (unheard deaf r_is w_is) = subst (λ x. IfOk x (TakesSome (length bytes))) (sym r_is) tt
+  fed_takes r (not_fed not_listening r_is w_is) = subst (λ x. IfOk x (TakesSome (length bytes))) (sym r_is) tt
   fed_takes r (dropped i l over r_is w_is) = subst (λ x. IfOk x (TakesSome (length bytes))) (sym r_is) (record { within = omega arith; moves = λ some. some })
   fed_takes r (unread i l going r_is w_is) = subst (λ x. IfOk x (TakesSome (length bytes))) (sym r_is) tt
-  fed_takes r (came i m l going f within moves q whole why is counts r_is) = subst (λ x. IfOk x (TakesSome (length bytes))) (sym r_is) (by_stop (is_stopped_in n w.machine.conns))
+  fed_takes r (came i m l going f within moves q whole why is counts r_is) = subst (λ x. IfOk x (TakesSome (length bytes))) (sym r_is) (by_broken (is_broken_in n w.machine.conns))
     where
-      by_stop : (b : Bool) → IfOk (if b then Err why else Ok m) (TakesSome (length bytes))
-      by_stop true = tt
-      by_stop false = record { within = within; moves = moves }
+      by_broken : (b : Bool) → IfOk (if b then Err why else Ok m) (TakesSome (length bytes))
+      by_broken true = tt
+      by_broken false = record { within = within; moves = moves }
 
   -- `Gone` at a connection whose pieces are taken would be an answer as it breaks
   pub not_gone : {A : Type 0} (b : Bool) (a : A) (why : StepFault) (begun : ℕ) (begins : Bool) (r : std.Result A StepFault) → IsFault why begun begins → r ≡ (if b then Err why else Ok a) → r ≡ Err Gone → ⊥
@@ -288,9 +288,9 @@ module _ (n : ℕ) (bytes : List ℕ) (v w : GatewayValue) (serving : IsServing 
   not_gone true a why begun begins r (inr is) e gone = let clash = sym gone ∙ e in let its = is.0 in cc
   not_gone false a why begun begins r is e gone = let clash = sym gone ∙ e in cc
 
-  stopped_by : {A : Type 0} (b : Bool) (a : A) (why fault : StepFault) (r : std.Result A StepFault) → r ≡ (if b then Err why else Ok a) → r ≡ Err fault → b ≡ true
-  stopped_by true a why fault r e at = refl
-  stopped_by false a why fault r e at = absurd (let clash = sym at ∙ e in cc)
+  broken_by : {A : Type 0} (b : Bool) (a : A) (why fault : StepFault) (r : std.Result A StepFault) → r ≡ (if b then Err why else Ok a) → r ≡ Err fault → b ≡ true
+  broken_by true a why fault r e at = refl
+  broken_by false a why fault r e at = absurd (let clash = sym at ∙ e in cc)
 
   exhausted_by : {A : Type 0} (b : Bool) (a : A) (why : StepFault) (begun : ℕ) (begins : Bool) (r : std.Result A StepFault) → IsFault why begun begins → r ≡ (if b then Err why else Ok a) → r ≡ Err Exhausted → most_begun ≤ begun
   exhausted_by true a why begun begins r (inl is) e at = absurd (let clash = sym at ∙ e in cc)
@@ -304,38 +304,38 @@ module _ (n : ℕ) (bytes : List ℕ) (v w : GatewayValue) (serving : IsServing 
   begins_then false a why begun begins r is e at = absurd (let clash = sym at ∙ e in cc)
 
   pub fed_gone : (r : std.Result ℕ StepFault) → FedTo n bytes v w r → r ≡ Err Gone → w ≡ v
-  fed_gone r (unheard deaf r_is w_is) gone = w_is
+  fed_gone r (not_fed not_listening r_is w_is) gone = w_is
   fed_gone r (dropped i l over r_is w_is) gone = w_is
   fed_gone r (unread i l going r_is w_is) gone = absurd (let clash = sym gone ∙ r_is in cc)
-  fed_gone r (came i m l going f within moves q whole why is counts r_is) gone = absurd (not_gone (is_stopped_in n w.machine.conns) m why w.begun (begins_by v.plans i q v.machine) r is r_is gone)
+  fed_gone r (came i m l going f within moves q whole why is counts r_is) gone = absurd (not_gone (is_broken_in n w.machine.conns) m why w.begun (begins_by v.plans i q v.machine) r is r_is gone)
 
   pub fed_memory : (r : std.Result ℕ StepFault) → FedTo n bytes v w r → r ≡ Err Memory → is_broken_conn n w ≡ true
-  fed_memory r (unheard deaf r_is w_is) memory = absurd (let clash = sym memory ∙ r_is in cc)
+  fed_memory r (not_fed not_listening r_is w_is) memory = absurd (let clash = sym memory ∙ r_is in cc)
   fed_memory r (dropped i l over r_is w_is) memory = absurd (let clash = sym memory ∙ r_is in cc)
   fed_memory r (unread i l going r_is w_is) memory = ap (λ (y : GatewayValue). is_broken_conn n y) w_is
-      ∙ stopped_now n n v.machine.conns (eq-eqb n n refl) (ap (λ o. is_some o) (ap (λ m. conn_of m v.machine.conns) (sym l.conn_is) ∙ conn_found i v.machine.conns l.conn_there serving.orderly.conns_apart))
-  fed_memory r (came i m l going f within moves q whole why is counts r_is) memory = stopped_by (is_stopped_in n w.machine.conns) m why Memory r r_is memory
+      ∙ just_broken n n v.machine.conns (eq-eqb n n refl) (ap (λ o. is_some o) (ap (λ m. conn_of m v.machine.conns) (sym l.conn_is) ∙ conn_found i v.machine.conns l.conn_there serving.orderly.conns_apart))
+  fed_memory r (came i m l going f within moves q whole why is counts r_is) memory = broken_by (is_broken_in n w.machine.conns) m why Memory r r_is memory
 
   pub fed_exhausted : (r : std.Result ℕ StepFault) → FedTo n bytes v w r → r ≡ Err Exhausted → (is_broken_conn n w ≡ true) × (most_begun ≤ w.begun)
-  fed_exhausted r (unheard deaf r_is w_is) e = absurd (let clash = sym e ∙ r_is in cc)
+  fed_exhausted r (not_fed not_listening r_is w_is) e = absurd (let clash = sym e ∙ r_is in cc)
   fed_exhausted r (dropped i l over r_is w_is) e = absurd (let clash = sym e ∙ r_is in cc)
   fed_exhausted r (unread i l going r_is w_is) e = absurd (let clash = sym e ∙ r_is in cc)
   fed_exhausted r (came i m l going f within moves q whole why is counts r_is) e =
-      (stopped_by (is_stopped_in n w.machine.conns) m why Exhausted r r_is e, exhausted_by (is_stopped_in n w.machine.conns) m why w.begun (begins_by v.plans i q v.machine) r is r_is e)
+      (broken_by (is_broken_in n w.machine.conns) m why Exhausted r r_is e, exhausted_by (is_broken_in n w.machine.conns) m why w.begun (begins_by v.plans i q v.machine) r is r_is e)
 
   pub fed_begins : (r : std.Result ℕ StepFault) → FedTo n bytes v w r → r ≡ Err Exhausted → WouldBegin n bytes v
-  fed_begins r (unheard deaf r_is w_is) e = absurd (let clash = sym e ∙ r_is in cc)
+  fed_begins r (not_fed not_listening r_is w_is) e = absurd (let clash = sym e ∙ r_is in cc)
   fed_begins r (dropped i l over r_is w_is) e = absurd (let clash = sym e ∙ r_is in cc)
   fed_begins r (unread i l going r_is w_is) e = absurd (let clash = sym e ∙ r_is in cc)
   fed_begins r (came i m l going f within moves q whole why is counts r_is) e =
-      by_request q whole (begins_then (is_stopped_in n w.machine.conns) m why w.begun (begins_by v.plans i q v.machine) r is r_is e)
+      by_request q whole (begins_then (is_broken_in n w.machine.conns) m why w.begun (begins_by v.plans i q v.machine) r is r_is e)
     where
       by_request : (q : Option HttpRequest) → IsWhole m bytes (stream_at i v.streams) q → begins_by v.plans i q v.machine ≡ true → WouldBegin n bytes v
       by_request None whole begins = absurd (cc)
       by_request (Some q) whole begins = record { index = i; conn_is = l.conn_is; read = m; request = q; whole = whole; begins = begins }
 
   pub hung_keeps : (r : std.Result ⊤ StepFault) → HangsUp n v w r → Keeps (λ c. c == n) v w
-  hung_keeps r (silent deaf r_is w_is) = keeps_all (λ c. c == n) v w w_is
+  hung_keeps r (unnoticed not_listening r_is w_is) = keeps_all (λ c. c == n) v w w_is
   hung_keeps r (hung i l ends rest r_is) = keeps_grew (λ c. c == n) v w (ap (λ (y : GatewayValue). y.plans) rest) (ap (λ (y : GatewayValue). y.opened) rest)
       (ap (λ (y : GatewayValue). y.begun) rest) (ap (λ (y : GatewayValue). y.tally) rest) (grew_ended (HungUp n) v.machine v.machine w.machine refl refl ends)
       (λ c now before. let e = ends.breaks_are c now before in
@@ -350,30 +350,30 @@ module _ (n : ℕ) (bytes : List ℕ) (v w : GatewayValue) (serving : IsServing 
           by_it false other x = absurd (cc)
 
   pub hung_gone : (r : std.Result ⊤ StepFault) → HangsUp n v w r → r ≡ Err Gone → w ≡ v
-  hung_gone r (silent deaf r_is w_is) gone = w_is
-  hung_gone r (hung i l ends rest r_is) gone = absurd (not_gone (is_stopped_in n w.machine.conns) tt Memory w.begun false r (inl refl) r_is gone)
+  hung_gone r (unnoticed not_listening r_is w_is) gone = w_is
+  hung_gone r (hung i l ends rest r_is) gone = absurd (not_gone (is_broken_in n w.machine.conns) tt Memory w.begun false r (inl refl) r_is gone)
 
   pub hung_memory : (r : std.Result ⊤ StepFault) → HangsUp n v w r → r ≡ Err Memory → is_broken_conn n w ≡ true
-  hung_memory r (silent deaf r_is w_is) memory = absurd (let clash = sym memory ∙ r_is in cc)
-  hung_memory r (hung i l ends rest r_is) memory = stopped_by (is_stopped_in n w.machine.conns) tt Memory Memory r r_is memory
+  hung_memory r (unnoticed not_listening r_is w_is) memory = absurd (let clash = sym memory ∙ r_is in cc)
+  hung_memory r (hung i l ends rest r_is) memory = broken_by (is_broken_in n w.machine.conns) tt Memory Memory r r_is memory
 
   -- no call begins by it
   pub hung_exhausted : (r : std.Result ⊤ StepFault) → HangsUp n v w r → r ≡ Err Exhausted → ⊥
-  hung_exhausted r (silent deaf r_is w_is) e = let clash = sym e ∙ r_is in cc
-  hung_exhausted r (hung i l ends rest r_is) e = by_stop (is_stopped_in n w.machine.conns) r_is
+  hung_exhausted r (unnoticed not_listening r_is w_is) e = let clash = sym e ∙ r_is in cc
+  hung_exhausted r (hung i l ends rest r_is) e = by_broken (is_broken_in n w.machine.conns) r_is
     where
-      by_stop : (b : Bool) → r ≡ (if b then Err Memory else Ok tt) → ⊥
-      by_stop true is = let clash = sym e ∙ is in cc
-      by_stop false is = let clash = sym e ∙ is in cc
+      by_broken : (b : Bool) → r ≡ (if b then Err Memory else Ok tt) → ⊥
+      by_broken true is = let clash = sym e ∙ is in cc
+      by_broken false is = let clash = sym e ∙ is in cc
 
 -- ---- calls that end, results, and what is taken
 
--- ---- whether it is heard
+-- ---- whether it listens
 
 module _ (n : ℕ) (v : GatewayValue) (serving : IsServing v) where
-  heard : (i : ℕ) → ListensAt n v i → IsDeaf n v → ⊥
-  heard i l deaf =
-      let off : goes_on (conn_at i v.machine.conns) (stream_at i v.streams) ≡ false = deaf (conn_at i v.machine.conns) (stream_at i v.streams)
+  listens_here : (i : ℕ) → ListensAt n v i → NotListening n v → ⊥
+  listens_here i l not_listening =
+      let off : is_listening (conn_at i v.machine.conns) (stream_at i v.streams) ≡ false = not_listening (conn_at i v.machine.conns) (stream_at i v.streams)
       (ap (λ m. conn_of m v.machine.conns) (sym l.conn_is) ∙ conn_found i v.machine.conns l.conn_there serving.orderly.conns_apart)
       (ap (λ m. stream_of m v.streams) (sym l.stream_is) ∙ stream_found i v.streams l.stream_there (streams_apart v serving)) in
       let clash : true ≡ false = sym (rw (l.unbroken, l.on) refl) ∙ off in cc
@@ -381,37 +381,37 @@ module _ (n : ℕ) (v : GatewayValue) (serving : IsServing v) where
   whole : (i : ℕ) → ListensAt n v i → is_broken_conn n v ≡ false
   whole i l = broken_of n v.machine.conns (conn_at i v.machine.conns) (ap (λ m. conn_of m v.machine.conns) (sym l.conn_is) ∙ conn_found i v.machine.conns l.conn_there serving.orderly.conns_apart) ∙ l.unbroken
 
-  pub fed_deaf : (bytes : List ℕ) (w : GatewayValue) (r : std.Result ℕ StepFault) → FedTo n bytes v w r → (r ≡ Err Gone) ↔ IsDeaf n v
-  fed_deaf bytes w r (unheard deaf r_is w_is) = (λ e. deaf, λ d. r_is)
-  fed_deaf bytes w r (dropped i l over r_is w_is) = (λ e. absurd (let clash = sym e ∙ r_is in cc), λ d. absurd (heard i l d))
-  fed_deaf bytes w r (unread i l going r_is w_is) = (λ e. absurd (let clash = sym e ∙ r_is in cc), λ d. absurd (heard i l d))
-  fed_deaf bytes w r (came i m l going f within moves q whole why is counts r_is) = (λ e. absurd (not_gone n bytes v w serving (is_stopped_in n w.machine.conns) m why w.begun (begins_by v.plans i q v.machine) r is r_is e), λ d. absurd (heard i l d))
+  pub fed_not_listening : (bytes : List ℕ) (w : GatewayValue) (r : std.Result ℕ StepFault) → FedTo n bytes v w r → (r ≡ Err Gone) ↔ NotListening n v
+  fed_not_listening bytes w r (not_fed not_listening r_is w_is) = (λ e. not_listening, λ d. r_is)
+  fed_not_listening bytes w r (dropped i l over r_is w_is) = (λ e. absurd (let clash = sym e ∙ r_is in cc), λ d. absurd (listens_here i l d))
+  fed_not_listening bytes w r (unread i l going r_is w_is) = (λ e. absurd (let clash = sym e ∙ r_is in cc), λ d. absurd (listens_here i l d))
+  fed_not_listening bytes w r (came i m l going f within moves q whole why is counts r_is) = (λ e. absurd (not_gone n bytes v w serving (is_broken_in n w.machine.conns) m why w.begun (begins_by v.plans i q v.machine) r is r_is e), λ d. absurd (listens_here i l d))
 
-  pub hung_deaf : (w : GatewayValue) (r : std.Result ⊤ StepFault) → HangsUp n v w r → (r ≡ Err Gone) ↔ IsDeaf n v
-  hung_deaf w r (silent deaf r_is w_is) = (λ e. deaf, λ d. r_is)
-  hung_deaf w r (hung i l ends rest r_is) = (λ e. absurd (not_gone n [] v w serving (is_stopped_in n w.machine.conns) tt Memory w.begun false r (inl refl) r_is e), λ d. absurd (heard i l d))
+  pub hung_not_listening : (w : GatewayValue) (r : std.Result ⊤ StepFault) → HangsUp n v w r → (r ≡ Err Gone) ↔ NotListening n v
+  hung_not_listening w r (unnoticed not_listening r_is w_is) = (λ e. not_listening, λ d. r_is)
+  hung_not_listening w r (hung i l ends rest r_is) = (λ e. absurd (not_gone n [] v w serving (is_broken_in n w.machine.conns) tt Memory w.begun false r (inl refl) r_is e), λ d. absurd (listens_here i l d))
 
   fine : {A : Type 0} (b : Bool) (a : A) (why : StepFault) (r : std.Result A StepFault) → r ≡ (if b then Err why else Ok a) → OnOk r (b ≡ false)
   fine true a why r e = subst (λ x. OnOk x (true ≡ false)) (sym e) tt
   fine false a why r e = subst (λ x. OnOk x (false ≡ false)) (sym e) refl
 
   pub fed_fine : (bytes : List ℕ) (w : GatewayValue) (r : std.Result ℕ StepFault) → FedTo n bytes v w r → OnOk r (is_broken_conn n w ≡ false)
-  fed_fine bytes w r (unheard deaf r_is w_is) = subst (λ x. OnOk x (is_broken_conn n w ≡ false)) (sym r_is) tt
+  fed_fine bytes w r (not_fed not_listening r_is w_is) = subst (λ x. OnOk x (is_broken_conn n w ≡ false)) (sym r_is) tt
   fed_fine bytes w r (dropped i l over r_is w_is) = subst (λ x. OnOk x (is_broken_conn n w ≡ false)) (sym r_is) (ap (λ (x : GatewayValue). is_broken_conn n x) w_is ∙ whole i l)
   fed_fine bytes w r (unread i l going r_is w_is) = subst (λ x. OnOk x (is_broken_conn n w ≡ false)) (sym r_is) tt
-  fed_fine bytes w r (came i m l going f within moves q whole why is counts r_is) = fine (is_stopped_in n w.machine.conns) m why r r_is
+  fed_fine bytes w r (came i m l going f within moves q whole why is counts r_is) = fine (is_broken_in n w.machine.conns) m why r r_is
 
   pub hung_fine : (w : GatewayValue) (r : std.Result ⊤ StepFault) → HangsUp n v w r → OnOk r (is_broken_conn n w ≡ false)
-  hung_fine w r (silent deaf r_is w_is) = subst (λ x. OnOk x (is_broken_conn n w ≡ false)) (sym r_is) tt
-  hung_fine w r (hung i l ends rest r_is) = fine (is_stopped_in n w.machine.conns) tt Memory r r_is
+  hung_fine w r (unnoticed not_listening r_is w_is) = subst (λ x. OnOk x (is_broken_conn n w ≡ false)) (sym r_is) tt
+  hung_fine w r (hung i l ends rest r_is) = fine (is_broken_in n w.machine.conns) tt Memory r r_is
 
 module _ (n : ℕ) (v w : GatewayValue) (serving : IsServing v) (then_serving : IsServing w) where
-  -- after bytes were taken it is heard as before
-  pub fed_heard : (bytes : List ℕ) (r : std.Result ℕ StepFault) → FedTo n bytes v w r → OnOk r (IsDeaf n w → ⊥)
-  fed_heard bytes r (unheard deaf r_is w_is) = subst (λ x. OnOk x (IsDeaf n w → ⊥)) (sym r_is) tt
-  fed_heard bytes r (dropped i l over r_is w_is) = subst (λ x. OnOk x (IsDeaf n w → ⊥)) (sym r_is) (λ deaf. heard n v serving i l (subst (IsDeaf n) w_is deaf))
-  fed_heard bytes r (unread i l going r_is w_is) = subst (λ x. OnOk x (IsDeaf n w → ⊥)) (sym r_is) tt
-  fed_heard bytes r (came i m l going f within moves q whole why is counts r_is) = by_stop (is_stopped_in n w.machine.conns) refl r_is
+  -- after bytes were taken it listens as before
+  pub fed_listens : (bytes : List ℕ) (r : std.Result ℕ StepFault) → FedTo n bytes v w r → OnOk r (NotListening n w → ⊥)
+  fed_listens bytes r (not_fed not_listening r_is w_is) = subst (λ x. OnOk x (NotListening n w → ⊥)) (sym r_is) tt
+  fed_listens bytes r (dropped i l over r_is w_is) = subst (λ x. OnOk x (NotListening n w → ⊥)) (sym r_is) (λ not_listening. listens_here n v serving i l (subst (NotListening n) w_is not_listening))
+  fed_listens bytes r (unread i l going r_is w_is) = subst (λ x. OnOk x (NotListening n w → ⊥)) (sym r_is) tt
+  fed_listens bytes r (came i m l going f within moves q whole why is counts r_is) = by_broken (is_broken_in n w.machine.conns) refl r_is
     where
       stream_is : stream_of n w.streams ≡ Some (record (stream_at i v.streams) { reader = f.new })
       stream_is = ap (stream_of n) f.streams_are ∙ stream_set n i (record (stream_at i v.streams) { reader = f.new }) v.streams l.stream_there (streams_apart v serving) refl
@@ -421,21 +421,21 @@ module _ (n : ℕ) (v w : GatewayValue) (serving : IsServing v) (then_serving : 
       there = conn_by_number n w.machine.conns ∙ ap (λ ns. list_any (λ m. m == n) ns) (sym then_serving.numbers_are)
           ∙ sym (stream_by_number n w.streams) ∙ ap (λ o. is_some o) stream_is
 
-      by_conn : (o : Option ConnValue) → conn_of n w.machine.conns ≡ o → is_stopped_in n w.machine.conns ≡ false → IsDeaf n w → ⊥
-      by_conn None o_is on deaf = let clash : true ≡ false = sym there ∙ ap (λ o. is_some o) o_is in cc
-      by_conn (Some k) o_is on deaf =
+      by_conn : (o : Option ConnValue) → conn_of n w.machine.conns ≡ o → is_broken_in n w.machine.conns ≡ false → NotListening n w → ⊥
+      by_conn None o_is on not_listening = let clash : true ≡ false = sym there ∙ ap (λ o. is_some o) o_is in cc
+      by_conn (Some k) o_is on not_listening =
           let unbroken : k.broken ≡ false = sym (broken_of n w.machine.conns k o_is) ∙ on in
-          let off : (not k.broken && not (stream_at i v.streams).hung_up) ≡ false = deaf k (record (stream_at i v.streams) { reader = f.new }) o_is stream_is in
+          let off : (not k.broken && not (stream_at i v.streams).hung_up) ≡ false = not_listening k (record (stream_at i v.streams) { reader = f.new }) o_is stream_is in
           let clash : true ≡ false = sym (rw (unbroken, l.on) refl) ∙ off in cc
 
-      by_stop : (b : Bool) → is_stopped_in n w.machine.conns ≡ b → r ≡ (if is_stopped_in n w.machine.conns then Err why else Ok m) → OnOk r (IsDeaf n w → ⊥)
-      by_stop true e its = subst (λ x. OnOk x (IsDeaf n w → ⊥)) (sym (its ∙ ap (λ b. if b then Err why else Ok m) e)) tt
-      by_stop false e its = subst (λ x. OnOk x (IsDeaf n w → ⊥)) (sym (its ∙ ap (λ b. if b then Err why else Ok m) e)) (by_conn (conn_of n w.machine.conns) refl e)
+      by_broken : (b : Bool) → is_broken_in n w.machine.conns ≡ b → r ≡ (if is_broken_in n w.machine.conns then Err why else Ok m) → OnOk r (NotListening n w → ⊥)
+      by_broken true e its = subst (λ x. OnOk x (NotListening n w → ⊥)) (sym (its ∙ ap (λ b. if b then Err why else Ok m) e)) tt
+      by_broken false e its = subst (λ x. OnOk x (NotListening n w → ⊥)) (sym (its ∙ ap (λ b. if b then Err why else Ok m) e)) (by_conn (conn_of n w.machine.conns) refl e)
 
 -- what a step tells
 pub fed_tells : (n : ℕ) (bytes : List ℕ) (v w : GatewayValue) → IsServing v → (r : std.Result ℕ StepFault) → FedTo n bytes v w r → TellsStep n v w r
 fed_tells n bytes v w serving r f = record {
-  gone = fed_deaf n v serving bytes w r f;
+  gone = fed_not_listening n v serving bytes w r f;
   unchanged = fed_gone n bytes v w serving r f;
   broke = fed_memory n bytes v w serving r f;
   exhausted = fed_exhausted n bytes v w serving r f;
@@ -444,7 +444,7 @@ fed_tells n bytes v w serving r f = record {
 
 pub hung_tells : (n : ℕ) (v w : GatewayValue) → IsServing v → (r : std.Result ⊤ StepFault) → HangsUp n v w r → TellsStep n v w r
 hung_tells n v w serving r h = record {
-  gone = hung_deaf n v serving w r h;
+  gone = hung_not_listening n v serving w r h;
   unchanged = hung_gone n [] v w serving r h;
   broke = hung_memory n [] v w serving r h;
   exhausted = λ e. absurd (hung_exhausted n [] v w serving r h e);
@@ -462,7 +462,7 @@ fate_before c fates v w are g now before = by_conn (conn_of c v.machine.conns) r
   where
     by_conn : (k : Option ConnValue) → conn_of c v.machine.conns ≡ k → (l : Option ConnValue) → conn_of c w.machine.conns ≡ l → MayGrow (conn_of c v.machine.conns) (conn_of c w.machine.conns) → is_broken (fates c) ≡ false
     by_conn (Some k) k_is l l_is m = sym (are c k k_is) ∙ sym (broken_of c v.machine.conns k k_is) ∙ before
-    by_conn None k_is None l_is m = absurd (let clash : true ≡ false = sym now ∙ ap (λ k. is_stopped k) l_is in cc)
+    by_conn None k_is None l_is m = absurd (let clash : true ≡ false = sym now ∙ ap (λ k. is_broken_there k) l_is in cc)
     by_conn None k_is (Some l) l_is m = absurd (subst (λ x. MayGrow x (Some l)) k_is (subst (λ y. MayGrow (conn_of c v.machine.conns) y) l_is m))
 
 -- a connection that breaks as calls end is one that this concerns
@@ -476,35 +476,35 @@ ended_concerns o trigger told v w serving by x = λ opened es taken handed occur
 
 module _ (id : CallId) (branch : ℕ) (u : MachineValue) (took : Took) (v w : GatewayValue) (orderly : IsOrderly v.machine) (rest : w ≡ record v { machine = w.machine; tally = w.tally }) (forgets : Forgets id u w.machine)
     (tally_is : (before : List Seen) → v.tally ≡ tally_of before → w.tally ≡ tally_of (took.seen ∷ before)) where
-  forgotten_stop : (c : ℕ) → is_broken_conn c w ≡ is_stopped_in c u.conns
-  forgotten_stop c = ap (is_stopped_in c) (forgotten_conns id u w.machine forgets)
+  forgotten_broken : (c : ℕ) → is_broken_conn c w ≡ is_broken_in c u.conns
+  forgotten_broken c = ap (is_broken_in c) (forgotten_conns id u w.machine forgets)
 
   pub result_keeps : (outcome : Outcome) → ResultTaken id branch outcome v.machine u took → KeepsBut (λ c. false) (λ c. c == id.conn) (took.seen ∷ []) v w
   result_keeps outcome r = keeps_seen (λ c. c == id.conn) (took.seen ∷ []) v w (ap (λ (y : GatewayValue). y.plans) rest) (ap (λ (y : GatewayValue). y.opened) rest)
       (λ few. ap (λ (y : GatewayValue). y.begun) rest) tally_is
       (grew_then v.machine u w.machine (grew_result id branch outcome v.machine u took orderly r) (grew_forgotten id u w.machine forgets))
-      (only_breaks id.conn v w (λ c ne. forgotten_stop c ∙ by_way c ne r))
+      (only_breaks id.conn v w (λ c ne. forgotten_broken c ∙ by_way c ne r))
     where
-      by_way : (c : ℕ) → (c == id.conn) ≡ false → ResultTaken id branch outcome v.machine u took → is_stopped_in c u.conns ≡ is_broken_conn c v
-      by_way c ne (inl n) = ap (λ (m : MachineValue). is_stopped_in c m.conns) n.2
-      by_way c ne (inr (i, f, out, seen, its, inl went)) = ap (λ (m : MachineValue). is_stopped_in c m.conns) went.1
-          ∙ fills_stop (kept_at i v.machine.calls).id (result_at i branch outcome v.machine).reply (conn_of c v.machine.conns) _
+      by_way : (c : ℕ) → (c == id.conn) ≡ false → ResultTaken id branch outcome v.machine u took → is_broken_in c u.conns ≡ is_broken_conn c v
+      by_way c ne (inl n) = ap (λ (m : MachineValue). is_broken_in c m.conns) n.2
+      by_way c ne (inr (i, f, out, seen, its, inl went)) = ap (λ (m : MachineValue). is_broken_in c m.conns) went.1
+          ∙ fills_broken (kept_at i v.machine.calls).id (result_at i branch outcome v.machine).reply (conn_of c v.machine.conns) _
           (fills_in (kept_at i v.machine.calls).id (result_at i branch outcome v.machine).reply v.machine.conns c)
-      by_way c ne (inr (i, f, out, seen, its, inr broke)) = ap (λ (m : MachineValue). is_stopped_in c m.conns) broke.3
-          ∙ stopped_then c (kept_at i v.machine.calls).id.conn v.machine.conns (ap (λ (x : CallId). c == x.conn) (same_call (kept_at i v.machine.calls).id id f.1) ∙ ne)
+      by_way c ne (inr (i, f, out, seen, its, inr broke)) = ap (λ (m : MachineValue). is_broken_in c m.conns) broke.3
+          ∙ broken_then c (kept_at i v.machine.calls).id.conn v.machine.conns (ap (λ (x : CallId). c == x.conn) (same_call (kept_at i v.machine.calls).id id f.1) ∙ ne)
 
   pub starved_keeps : Starved id branch v.machine u took → KeepsBut (λ c. false) (λ c. c == id.conn) (took.seen ∷ []) v w
   starved_keeps r = keeps_seen (λ c. c == id.conn) (took.seen ∷ []) v w (ap (λ (y : GatewayValue). y.plans) rest) (ap (λ (y : GatewayValue). y.opened) rest)
       (λ few. ap (λ (y : GatewayValue). y.begun) rest) tally_is
       (grew_then v.machine u w.machine (grew_starved id branch v.machine u took r) (grew_forgotten id u w.machine forgets))
-      (only_breaks id.conn v w (λ c ne. forgotten_stop c ∙ by_way c ne r))
+      (only_breaks id.conn v w (λ c ne. forgotten_broken c ∙ by_way c ne r))
     where
-      by_way : (c : ℕ) → (c == id.conn) ≡ false → Starved id branch v.machine u took → is_stopped_in c u.conns ≡ is_broken_conn c v
-      by_way c ne (inl n) = ap (λ (m : MachineValue). is_stopped_in c m.conns) n.2
-      by_way c ne (inr (i, f, out, seen, broke, u_is)) = ap (λ (m : MachineValue). is_stopped_in c m.conns) u_is ∙ by_live (is_some (kept_at i v.machine.calls).call.live)
+      by_way : (c : ℕ) → (c == id.conn) ≡ false → Starved id branch v.machine u took → is_broken_in c u.conns ≡ is_broken_conn c v
+      by_way c ne (inl n) = ap (λ (m : MachineValue). is_broken_in c m.conns) n.2
+      by_way c ne (inr (i, f, out, seen, broke, u_is)) = ap (λ (m : MachineValue). is_broken_in c m.conns) u_is ∙ by_live (is_some (kept_at i v.machine.calls).call.live)
         where
-          by_live : (b : Bool) → is_stopped_in c (if b then broken_at id.conn v.machine else v.machine).conns ≡ is_broken_conn c v
-          by_live true = stopped_then c id.conn v.machine.conns ne
+          by_live : (b : Bool) → is_broken_in c (if b then broken_at id.conn v.machine else v.machine).conns ≡ is_broken_conn c v
+          by_live true = broken_then c id.conn v.machine.conns ne
           by_live false = refl
 
 -- and so is one that breaks by a result
@@ -514,14 +514,14 @@ module _ (id : CallId) (branch : ℕ) (outcome : Outcome) (u : MachineValue) (to
       let stands : GatewayStands v (λ d. stream opened d es) taken handed (occurrences occurred) = h.stands occurred occurs in
       result_concern id branch outcome v.machine u took stands.closed stands.fates taken handed (occurrences occurred) stands.fates_are stands.fated r c
       (fate_before c stands.fates v w stands.fates_are (grew_then v.machine u w.machine (grew_result id branch outcome v.machine u took orderly r) (grew_forgotten id u w.machine forgets)) now before)
-      (sym (ap (is_stopped_in c) (forgotten_conns id u w.machine forgets)) ∙ now)
+      (sym (ap (is_broken_in c) (forgotten_conns id u w.machine forgets)) ∙ now)
 
   pub starved_concerns : Starved id branch v.machine u took → BreaksBy (Result id branch outcome) v w
   starved_concerns r = λ opened es taken handed occurred h occurs c now before.
       let stands : GatewayStands v (λ d. stream opened d es) taken handed (occurrences occurred) = h.stands occurred occurs in
       starved_concern id branch outcome v.machine u took stands.closed stands.fates taken handed (occurrences occurred) stands.fates_are stands.fated r c
       (fate_before c stands.fates v w stands.fates_are (grew_then v.machine u w.machine (grew_starved id branch v.machine u took r) (grew_forgotten id u w.machine forgets)) now before)
-      (sym (ap (is_stopped_in c) (forgotten_conns id u w.machine forgets)) ∙ now)
+      (sym (ap (is_broken_in c) (forgotten_conns id u w.machine forgets)) ∙ now)
 
 pub job_rest : (v w : GatewayValue) (job : Option HandedJob) → JobTaken v.machine w.machine job → w ≡ record v { machine = w.machine }
     → w ≡ record v { machine = record v.machine { jobs = w.machine.jobs } }

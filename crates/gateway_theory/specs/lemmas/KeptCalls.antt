@@ -27,7 +27,7 @@ use Rattle.gateway_theory.specs.Step.{CallState, Live}
 use Rattle.gateway_theory.specs.Store.{call_at, conn_of}
 use Rattle.gateway_theory.specs.lemmas.LimitLemmas.{count_less, out_started, outs_limit}
 use Rattle.gateway_theory.specs.lemmas.PastLemmas.{call_stays}
-use Rattle.gateway_theory.specs.lemmas.RecordLemmas.{Going, among_more, goes_on, lawful, same_follow}
+use Rattle.gateway_theory.specs.lemmas.RecordLemmas.{Going, among_more, none_decides, lawful, same_follow}
 use Rattle.gateway_theory.specs.lemmas.SlotLemmas.{count_take}
 use Rattle.gateway_theory.specs.lemmas.StandsLemmas.{last_is}
 
@@ -151,10 +151,10 @@ goes_behind r before e on = rw (last_is before e) (by_event e on)
     by_event HungUp on = absurd (cc)
     by_event Drained on = absurd (cc)
 
-ends_never : (r : CallRecord) (before es : List CallEvent) → goes_on r before es ≡ true → ends r before ≡ false → ends r (before ++ es) ≡ false
+ends_never : (r : CallRecord) (before es : List CallEvent) → none_decides r before es ≡ true → ends r before ≡ false → ends r (before ++ es) ≡ false
 ends_never r before [] on so_far = subst (λ xs. ends r xs ≡ false) (sym (append-nil before)) so_far
 ends_never r before (e ∷ es) on so_far =
-    let parts = and_parts (not (decides (answers_among before) (length r.plan.branches) e)) (goes_on r (before ++ e ∷ []) es) on in
+    let parts = and_parts (not (decides (answers_among before) (length r.plan.branches) e)) (none_decides r (before ++ e ∷ []) es) on in
     subst (λ xs. ends r xs ≡ false) (append_assoc before (e ∷ []) es) (ends_never r (before ++ e ∷ []) es parts.1 (goes_behind r before e parts.0))
 
 -- so it is of any call that can be decided

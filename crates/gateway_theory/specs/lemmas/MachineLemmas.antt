@@ -15,16 +15,16 @@ use Rattle.gateway_model.specs.Queue.{entry}
 use Rattle.gateway_theory.specs.lemmas.Unborn.{unborn}
 use Rattle.gateway_theory.specs.Step.{Live, call_state, kept, step}
 use Rattle.gateway_theory.specs.Begins.{arrive}
-use Rattle.gateway_theory.specs.Machine.{slot_at, is_entry}
+use Rattle.gateway_theory.specs.Machine.{slot_at, is_coming}
 use Rattle.gateway_theory.specs.Standing.{SlotsStand}
 
 -- ---- nothing comes on a stream
 
-pub no_entering : (id : CallId) (o : Occurrence) (past : Past) → is_entry o ≡ false → coming_now id (mark_of past o) past ≡ None
+pub no_entering : (id : CallId) (o : Occurrence) (past : Past) → is_coming o ≡ false → coming_now id (mark_of past o) past ≡ None
 no_entering id o past e =
     cond_both (arrivals id.conn past == id.request) (coming_on id.conn o) None (λ x. x ≡ None) (λ _. by_each o e) (λ _. refl)
   where
-    by_each : (o : Occurrence) → is_entry o ≡ false → coming_on id.conn o ≡ None
+    by_each : (o : Occurrence) → is_coming o ≡ false → coming_on id.conn o ≡ None
     by_each (Comes c x) e = absurd (cc)
     by_each Opening e = refl
     by_each (HangUp c) e = refl
@@ -33,14 +33,14 @@ no_entering id o past e =
     by_each Drain e = refl
     by_each (Closing c) e = refl
 
-pub entries_same : (c : ℕ) (o : Occurrence) (past : Past) → is_entry o ≡ false → arrivals c (mark_of past o ∷ past) ≡ arrivals c past
-entries_same c (Comes d x) past e = absurd (cc)
-entries_same c Opening past e = refl
-entries_same c (HangUp d) past e = refl
-entries_same c (Moment t) past e = refl
-entries_same c (Result of i r) past e = refl
-entries_same c Drain past e = refl
-entries_same c (Closing d) past e = refl
+pub arrivals_same : (c : ℕ) (o : Occurrence) (past : Past) → is_coming o ≡ false → arrivals c (mark_of past o ∷ past) ≡ arrivals c past
+arrivals_same c (Comes d x) past e = absurd (cc)
+arrivals_same c Opening past e = refl
+arrivals_same c (HangUp d) past e = refl
+arrivals_same c (Moment t) past e = refl
+arrivals_same c (Result of i r) past e = refl
+arrivals_same c Drain past e = refl
+arrivals_same c (Closing d) past e = refl
 
 -- what is behind the requests that came has no entry
 pub no_entry_yet : (c k : ℕ) (past : Past) → arrivals c past ≤ k → entry (call_id c k) past ≡ None

@@ -11,11 +11,11 @@ use Rattle.gateway_model.specs.Occurrence.{Coming}
 use Rattle.gateway_theory.specs.declared.fault.StepFault.{StepFault}
 use Rattle.gateway_theory.specs.Arrivals.{calls_in}
 use Rattle.gateway_theory.specs.Enters.{Enters}
-use Rattle.gateway_theory.specs.Ends.{is_stopped_in}
+use Rattle.gateway_theory.specs.Ends.{is_broken_in}
 use Rattle.gateway_theory.specs.Gateway.{Feeds, GatewayValue, calls_brought, no_stream, stream_at}
 use Rattle.gateway_theory.specs.RequestLaws.{RequestLaws}
 use Rattle.gateway_theory.specs.Served.{Served}
-use Rattle.gateway_theory.specs.Serving.{FedTo, IsServing, ListensAt, came, dropped, unheard, unread}
+use Rattle.gateway_theory.specs.Serving.{FedTo, IsServing, ListensAt, came, dropped, not_fed, unread}
 use Rattle.gateway_theory.specs.Told.{TakesOne}
 use Rattle.gateway_theory.specs.lemmas.EventLemmas.{gains_unique}
 use Rattle.gateway_theory.specs.lemmas.FeedLemmas.{midway}
@@ -75,17 +75,17 @@ module _ (laws : RequestLaws) (n : ℕ) (bytes : List ℕ) (v w : GatewayValue) 
 
   pub fed_one : (result : Result ℕ StepFault) → FedTo n bytes v w result → IfOk result (λ m. TakesOne v.plans text bytes m)
   fed_one (Err fault) f = tt
-  fed_one (Ok m) (unheard deaf r w_is) = absurd (cc)
+  fed_one (Ok m) (not_fed not_listening r w_is) = absurd (cc)
   fed_one (Ok m) (dropped i l over r w_is) = over_one i m l over (counted r)
     where
       counted : answer m ≡ answer (length bytes) → m ≡ length bytes
       counted e = cc
   fed_one (Ok m) (unread i l going r w_is) = absurd (cc)
-  fed_one (Ok m) (came i k l going f within moves q whole why is counts r) = by_stop (is_stopped_in n w.machine.conns) r
+  fed_one (Ok m) (came i k l going f within moves q whole why is counts r) = by_broken (is_broken_in n w.machine.conns) r
     where
       counted : answer m ≡ answer k → k ≡ m
       counted e = cc
 
-      by_stop : (b : Bool) → Ok m ≡ (if b then Err why else Ok k) → TakesOne v.plans text bytes m
-      by_stop true e = absurd (cc)
-      by_stop false e = subst (λ x. TakesOne v.plans text bytes x) (counted e) (on_one i k l going f)
+      by_broken : (b : Bool) → Ok m ≡ (if b then Err why else Ok k) → TakesOne v.plans text bytes m
+      by_broken true e = absurd (cc)
+      by_broken false e = subst (λ x. TakesOne v.plans text bytes x) (counted e) (on_one i k l going f)

@@ -7,7 +7,7 @@ use Rattle.gateway_model.specs.declared.entry.ReplyEntry.{ReplyEntry}
 use Rattle.gateway_model.specs.declared.id.CallId.{CallId}
 use Rattle.gateway_theory.specs.Breaks.{AfterBreaks, AfterRefusal, ConnStays, GivenUp}
 use Rattle.gateway_theory.specs.Conn.{ConnValue, conn_value, state_of, without_first}
-use Rattle.gateway_theory.specs.Ends.{is_stopped_in}
+use Rattle.gateway_theory.specs.Ends.{is_broken_in}
 use Rattle.gateway_theory.specs.Fate.{Fate}
 use Rattle.gateway_theory.specs.Fated.{FatedStands}
 use Rattle.gateway_model.specs.Job.{JobValue}
@@ -21,22 +21,22 @@ use Rattle.gateway_theory.specs.Step.{CallState, Live, Step, call_state, ended_l
 use Rattle.gateway_theory.specs.Store.{MachineValue, machine, call_at, conn_at, conn_of, conn_state, broken_at, broken_conn, HasFates}
 use Rattle.gateway_theory.specs.lemmas.Cases.{or_none}
 use Rattle.gateway_theory.specs.lemmas.GivingUp.{given_up}
-use Rattle.gateway_theory.specs.lemmas.ResultSteps.{given, eta_none, stop_none, none_broken}
+use Rattle.gateway_theory.specs.lemmas.ResultSteps.{given, eta_none, broken_not_live, none_broken}
 use Rattle.gateway_theory.specs.lemmas.StoreLemmas.{call_given_up, conn_broken}
 use Rattle.gateway_theory.specs.lemmas.StoreMore.{conn_added, conn_found, conn_set, conn_without}
 use Rattle.gateway_theory.specs.lemmas.Taking.{reply_taken}
 
--- the calls of stopped connections are given up, of which none could be decided
-given_call : (v : MachineValue) (fates : ℕ → Fate) (closed : ℕ → ConnState) (stop : ℕ → Bool) (id : CallId) → HasFates fates v → (stop id.conn ≡ true → is_stopped_in id.conn v.conns ≡ true)
-    → call_at id v.calls ≡ (given stop (machine closed v)).calls id
-given_call v fates closed stop id h same = by_stop (stop id.conn) refl
+-- the calls of broken connections are given up, of which none could be decided
+given_call : (v : MachineValue) (fates : ℕ → Fate) (closed : ℕ → ConnState) (breaks : ℕ → Bool) (id : CallId) → HasFates fates v → (breaks id.conn ≡ true → is_broken_in id.conn v.conns ≡ true)
+    → call_at id v.calls ≡ (given breaks (machine closed v)).calls id
+given_call v fates closed breaks id h same = by_broken (breaks id.conn) refl
   where
-    by_stop : (b : Bool) → stop id.conn ≡ b → call_at id v.calls ≡ (if stop id.conn then call_state (call_at id v.calls).out None else call_at id v.calls)
-    by_stop true b_is = rw b_is (eta_none (call_at id v.calls) (stop_none v fates id h (same b_is)))
-    by_stop false b_is = rw b_is refl
+    by_broken : (b : Bool) → breaks id.conn ≡ b → call_at id v.calls ≡ (if breaks id.conn then call_state (call_at id v.calls).out None else call_at id v.calls)
+    by_broken true b_is = rw b_is (eta_none (call_at id v.calls) (broken_not_live v fates id h (same b_is)))
+    by_broken false b_is = rw b_is refl
 
-all_given : (stop : ℕ → Bool) (m : MachineState) → GivenUp stop m (given stop m)
-all_given stop m = record { moment_is = refl; drained_is = refl; jobs_are = refl; conns_are = λ c. refl; calls_are = λ id. refl }
+all_given : (breaks : ℕ → Bool) (m : MachineState) → GivenUp breaks m (given breaks m)
+all_given breaks m = record { moment_is = refl; drained_is = refl; jobs_are = refl; conns_are = λ c. refl; calls_are = λ id. refl }
 
 -- ---- a connection closes
 
@@ -68,7 +68,7 @@ eqb_sym a b = ⊎_elim
     (cases_Bool (a == b))
 
 close_after : (n : ℕ) (v : MachineValue) (closed : ℕ → ConnState) (fates : ℕ → Fate) (k : ConnValue) → conn_of n v.conns ≡ Some k → HasFates fates v
-    → After (Closing n) (given (λ c. is_stopped_in c (closed_at n v).conns) (machine closed v)) (machine (closed_with n v.conns closed) (closed_at n v))
+    → After (Closing n) (given (λ c. is_broken_in c (closed_at n v).conns) (machine closed v)) (machine (closed_with n v.conns closed) (closed_at n v))
 close_after n v closed fates k opened_is h = record {
   moment_is = omega arith;
   drained_is = refl;
@@ -81,21 +81,21 @@ close_after n v closed fates k opened_is h = record {
     w = closed_at n v
 
     u : MachineState
-    u = given (λ c. is_stopped_in c (closed_at n v).conns) (machine closed v)
+    u = given (λ c. is_broken_in c (closed_at n v).conns) (machine closed v)
 
     conn_is : (c : ℕ) → conn_of c w.conns ≡ (if c == n then None else conn_of c v.conns)
     conn_is c = conn_without c n v.conns
 
     by_call : (id : CallId) (b : Bool) → (id.conn == n) ≡ b
         → (if id.conn == n then call_state (call_at id v.calls).out None else call_at id v.calls) ≡ (if n == id.conn then call_state (u.calls id).out None else u.calls id)
-    by_call id true e = rw (e, eqb_sym n id.conn ∙ e) (sym (by_stop (is_stopped_in id.conn w.conns) refl))
+    by_call id true e = rw (e, eqb_sym n id.conn ∙ e) (sym (by_broken (is_broken_in id.conn w.conns) refl))
       where
-        by_stop : (b : Bool) → is_stopped_in id.conn w.conns ≡ b
-            → call_state (if is_stopped_in id.conn w.conns then call_state (call_at id v.calls).out None else call_at id v.calls).out None ≡ call_state (call_at id v.calls).out None
-        by_stop true f = rw f refl
-        by_stop false f = rw f refl
-    by_call id false e = rw (e, eqb_sym n id.conn ∙ e) (given_call v fates closed (λ c. is_stopped_in c w.conns) id h
-        (λ stopped. ap (λ o. option_map_or (λ (y : ConnValue). y.broken) o false) (ap (λ b. if b then None else conn_of id.conn v.conns) (sym e) ∙ sym (conn_is id.conn)) ∙ stopped))
+        by_broken : (b : Bool) → is_broken_in id.conn w.conns ≡ b
+            → call_state (if is_broken_in id.conn w.conns then call_state (call_at id v.calls).out None else call_at id v.calls).out None ≡ call_state (call_at id v.calls).out None
+        by_broken true f = rw f refl
+        by_broken false f = rw f refl
+    by_call id false e = rw (e, eqb_sym n id.conn ∙ e) (given_call v fates closed (λ c. is_broken_in c w.conns) id h
+        (λ broken. ap (λ o. option_map_or (λ (y : ConnValue). y.broken) o false) (ap (λ b. if b then None else conn_of id.conn v.conns) (sym e) ∙ sym (conn_is id.conn)) ∙ broken))
 
     by_conn : (c : ℕ) (b : Bool) → (c == n) ≡ b → ConnAfter (Closing n) u c (conn_state closed v.conns c) (conn_state (closed_with n v.conns closed) w.conns c)
     by_conn c true e =
@@ -120,11 +120,11 @@ close_after n v closed fates k opened_is h = record {
             ∙ ap (λ m. option_map_or state_of (conn_of c v.conns) m) (ap (λ b. if b then closed_from (conn_of n v.conns) (closed c) else closed c) e)
 
 pub close_breaks : (n : ℕ) (v w : MachineValue) (closed : ℕ → ConnState) (fates : ℕ → Fate) (k : ConnValue) → conn_of n v.conns ≡ Some k → HasFates fates v → w ≡ closed_at n v
-    → AfterBreaks (λ c. is_stopped_in c w.conns) fates (Closing n) (machine closed v) (machine (closed_with n v.conns closed) w)
+    → AfterBreaks (λ c. is_broken_in c w.conns) fates (Closing n) (machine closed v) (machine (closed_with n v.conns closed) w)
 close_breaks n v w closed fates k opened_is h w_is =
-    subst (λ x. AfterBreaks (λ c. is_stopped_in c x.conns) fates (Closing n) (machine closed v) (machine (closed_with n v.conns closed) x)) (sym w_is)
-    (given_up (Closing n) (λ c. is_stopped_in c (closed_at n v).conns) fates (machine closed v) (given (λ c. is_stopped_in c (closed_at n v).conns) (machine closed v))
-    (machine (closed_with n v.conns closed) (closed_at n v)) refl (none_broken v fates closed h) (all_given (λ c. is_stopped_in c (closed_at n v).conns) (machine closed v))
+    subst (λ x. AfterBreaks (λ c. is_broken_in c x.conns) fates (Closing n) (machine closed v) (machine (closed_with n v.conns closed) x)) (sym w_is)
+    (given_up (Closing n) (λ c. is_broken_in c (closed_at n v).conns) fates (machine closed v) (given (λ c. is_broken_in c (closed_at n v).conns) (machine closed v))
+    (machine (closed_with n v.conns closed) (closed_at n v)) refl (none_broken v fates closed h) (all_given (λ c. is_broken_in c (closed_at n v).conns) (machine closed v))
     (close_after n v closed fates k opened_is h)).0
 
 -- ---- a connection opens
@@ -137,11 +137,11 @@ opening_step moment id c = by_live c.live refl
     by_live (Some l) e = ap (λ (x : Option Live). ended_live moment id Opening c.out x) e ∙ ap (λ (x : Option Live). kept (call_state c.out x)) (sym e)
 
 open_after : (n : ℕ) (v : MachineValue) (closed : ℕ → ConnState) (fates : ℕ → Fate) → conn_of n v.conns ≡ None → closed n ≡ new_conn → HasFates fates v
-    → After Opening (given (λ c. is_stopped_in c (opened_as n v).conns) (machine closed v)) (machine closed (opened_as n v))
+    → After Opening (given (λ c. is_broken_in c (opened_as n v).conns) (machine closed v)) (machine closed (opened_as n v))
 open_after n v closed fates none new h = record {
   moment_is = omega arith;
   drained_is = refl;
-  calls_are = λ id. given_call v fates closed (λ c. is_stopped_in c w.conns) id h (λ stopped. sym (stopped_same id.conn) ∙ stopped)
+  calls_are = λ id. given_call v fates closed (λ c. is_broken_in c w.conns) id h (λ broken. sym (broken_same id.conn) ∙ broken)
       ∙ ap (λ (x : Step). x.call) (sym (opening_step u.moment id (u.calls id)));
   conns_are = λ c. subst (λ m. ConnAfter Opening u c (conn_state closed v.conns c) m) (sym (state_is c (conn_of c v.conns) refl (cases_Bool (n == c))))
       (same_slots Opening u c (conn_state closed v.conns c) (conn_state closed v.conns c) refl refl refl
@@ -153,13 +153,13 @@ open_after n v closed fates none new h = record {
     w = opened_as n v
 
     u : MachineState
-    u = given (λ c. is_stopped_in c (opened_as n v).conns) (machine closed v)
+    u = given (λ c. is_broken_in c (opened_as n v).conns) (machine closed v)
 
     conn_is : (c : ℕ) → conn_of c w.conns ≡ option_or (conn_of c v.conns) (if n == c then Some (conn_value n 0 [] false false) else None)
     conn_is c = conn_added c (conn_value n 0 [] false false) v.conns
 
-    stopped_same : (c : ℕ) → is_stopped_in c w.conns ≡ is_stopped_in c v.conns
-    stopped_same c = ap (λ o. option_map_or (λ (y : ConnValue). y.broken) o false) (conn_is c) ∙ by_conn (conn_of c v.conns) (n == c)
+    broken_same : (c : ℕ) → is_broken_in c w.conns ≡ is_broken_in c v.conns
+    broken_same c = ap (λ o. option_map_or (λ (y : ConnValue). y.broken) o false) (conn_is c) ∙ by_conn (conn_of c v.conns) (n == c)
       where
         by_conn : (o : Option ConnValue) (b : Bool)
             → option_map_or (λ (y : ConnValue). y.broken) (option_or o (if b then Some (conn_value n 0 [] false false) else None)) false ≡ option_map_or (λ (y : ConnValue). y.broken) o false
@@ -179,11 +179,11 @@ open_after n v closed fates none new h = record {
         ∙ ap (λ b. if b then Some (conn_value n 0 [] false false) else None) ne ∙ sym o_is)
 
 pub open_breaks : (n : ℕ) (v w : MachineValue) (closed : ℕ → ConnState) (fates : ℕ → Fate) → conn_of n v.conns ≡ None → closed n ≡ new_conn → HasFates fates v → w ≡ opened_as n v
-    → AfterBreaks (λ c. is_stopped_in c w.conns) fates Opening (machine closed v) (machine closed w)
+    → AfterBreaks (λ c. is_broken_in c w.conns) fates Opening (machine closed v) (machine closed w)
 open_breaks n v w closed fates none new h w_is =
-    subst (λ x. AfterBreaks (λ c. is_stopped_in c x.conns) fates Opening (machine closed v) (machine closed x)) (sym w_is)
-    (given_up Opening (λ c. is_stopped_in c (opened_as n v).conns) fates (machine closed v) (given (λ c. is_stopped_in c (opened_as n v).conns) (machine closed v))
-    (machine closed (opened_as n v)) refl (none_broken v fates closed h) (all_given (λ c. is_stopped_in c (opened_as n v).conns) (machine closed v))
+    subst (λ x. AfterBreaks (λ c. is_broken_in c x.conns) fates Opening (machine closed v) (machine closed x)) (sym w_is)
+    (given_up Opening (λ c. is_broken_in c (opened_as n v).conns) fates (machine closed v) (given (λ c. is_broken_in c (opened_as n v).conns) (machine closed v))
+    (machine closed (opened_as n v)) refl (none_broken v fates closed h) (all_given (λ c. is_broken_in c (opened_as n v).conns) (machine closed v))
     (open_after n v closed fates none new h)).0
 
 -- ---- memory is refused to a piece that brings no request

@@ -10,7 +10,7 @@ use Rattle.std.proofs.lemmas.List.Kept.{AllPairs-filter}
 use Rattle.gateway_model.specs.declared.entry.ReplyEntry.{ReplyEntry}
 use Rattle.gateway_model.specs.declared.id.CallId.{CallId}
 use Rattle.gateway_theory.specs.Conn.{ConnValue, added, conn_value, next_of, without_first}
-use Rattle.gateway_theory.specs.Ends.{AreApart, IsSettled, is_stopped_in}
+use Rattle.gateway_theory.specs.Ends.{AreApart, IsSettled, is_broken_in}
 use Rattle.gateway_theory.specs.Enters.{entered_at, kept_now}
 use Rattle.gateway_theory.specs.Fate.{Fate}
 use Rattle.gateway_theory.specs.Kept.{KeptValue}
@@ -125,7 +125,7 @@ pub live_open : (v : MachineValue) (id : CallId) → All (IsInOrder v.conns) v.c
     → (c : ConnValue) × (conn_of id.conn v.conns ≡ Some c) × (c.broken ≡ false)
 live_open v id all = call_in v.conns id v.calls (λ c. is_some c.live ≡ true → (k : ConnValue) × (conn_of id.conn v.conns ≡ Some k) × (k.broken ≡ false)) all
     (λ e. absurd (cc))
-    (λ k h its live. subst (λ (x : CallId). (c : ConnValue) × (conn_of x.conn v.conns ≡ Some c) × (c.broken ≡ false)) its (h.goes_on live))
+    (λ k h its live. subst (λ (x : CallId). (c : ConnValue) × (conn_of x.conn v.conns ≡ Some c) × (c.broken ≡ false)) its (h.on_unbroken live))
 
 none_live : (o : Option Live) → (is_some o ≡ true → ⊥) → o ≡ None
 none_live None h = refl
@@ -145,12 +145,12 @@ has_fates fates v h are = record {
 pub settled : (v : MachineValue) → IsOrderly v → IsSettled v
 settled v h = record {
   no_reply = λ j. by_place j (λ k. k.reply ≡ None) refl (λ k o. o.no_reply);
-  none_live = λ j. by_place j (λ k. is_stopped_in k.id.conn v.conns ≡ true → k.call.live ≡ None) (λ _. refl)
-      (λ k o stopped. none_live k.call.live (λ live.
-      let c = o.goes_on live in
-      absurd (let clash : false ≡ true = sym c.2 ∙ ap (λ x. option_map_or (λ (y : ConnValue). y.broken) x false) (sym c.1) ∙ stopped in cc)));
+  none_live = λ j. by_place j (λ k. is_broken_in k.id.conn v.conns ≡ true → k.call.live ≡ None) (λ _. refl)
+      (λ k o broken. none_live k.call.live (λ live.
+      let c = o.on_unbroken live in
+      absurd (let clash : false ≡ true = sym c.2 ∙ ap (λ x. option_map_or (λ (y : ConnValue). y.broken) x false) (sym c.1) ∙ broken in cc)));
   has_conn = λ j. by_place j (λ k. is_some k.call.live ≡ true → is_some (conn_of k.id.conn v.conns) ≡ true) (λ e. absurd (cc))
-      (λ k o live. ap is_some (o.goes_on live).1);
+      (λ k o live. ap is_some (o.on_unbroken live).1);
 }
   where
     by_place : (j : ℕ) (P : KeptValue → Type 0) → P no_call → ((k : KeptValue) → IsInOrder v.conns k → P k) → P (kept_at j v.calls)
@@ -203,10 +203,10 @@ given_order n conns new k back same h = by_it (k.id.conn == n) refl
         omega (arith, less, size, gone_by)
 
     by_it : (b : Bool) → (k.id.conn == n) ≡ b → IsInOrder new (given_up_if n k)
-    by_it true e = rw e (record { no_reply = refl; goes_on = λ f. absurd (cc); came = low })
+    by_it true e = rw e (record { no_reply = refl; on_unbroken = λ f. absurd (cc); came = low })
     by_it false e = rw e (record {
       no_reply = h.no_reply;
-      goes_on = λ live. let c = h.goes_on live in (c.0, same k.id.conn e ∙ c.1, c.2);
+      on_unbroken = λ live. let c = h.on_unbroken live in (c.0, same k.id.conn e ∙ c.1, c.2);
       came = low;
     })
 
@@ -249,7 +249,7 @@ opened_order n v w none new w_is h = subst IsOrderly (sym w_is) (record {
     still : (k : KeptValue) → (k.id.conn == n) ≡ false → IsInOrder v.conns k → IsInOrder (v.conns ++ conn_value n 0 [] false false ∷ []) k
     still k ne o = record {
       no_reply = o.no_reply;
-      goes_on = λ live. let c = o.goes_on live in (c.0, same ∙ c.1, c.2);
+      on_unbroken = λ live. let c = o.on_unbroken live in (c.0, same ∙ c.1, c.2);
       came = λ c e. o.came c (sym same ∙ e);
     }
       where
@@ -290,7 +290,7 @@ entered_order i s v w lt unbroken w_is h = subst IsOrderly (sym w_is) (record {
         by_it : (b : Bool) → (x.id.conn == k.number) ≡ b → IsInOrder conns x
         by_it true e = record {
           no_reply = o.no_reply;
-          goes_on = λ live. (added s.reply k, now, unbroken);
+          on_unbroken = λ live. (added s.reply k, now, unbroken);
           came = λ c f.
               let same : added s.reply k ≡ c = some_same (sym now ∙ f) in
               let low : x.id.request < k.taken + length k.slots = o.came k (ap (λ n. conn_of n v.conns) (eqb-true x.id.conn k.number e) ∙ conn_found i v.conns lt h.conns_apart) in
@@ -302,7 +302,7 @@ entered_order i s v w lt unbroken w_is h = subst IsOrderly (sym w_is) (record {
             now = conn_is x.id.conn ∙ ap (λ b. if b then Some (added s.reply k) else conn_of x.id.conn v.conns) e
         by_it false e = record {
           no_reply = o.no_reply;
-          goes_on = λ live. let c = o.goes_on live in (c.0, now ∙ c.1, c.2);
+          on_unbroken = λ live. let c = o.on_unbroken live in (c.0, now ∙ c.1, c.2);
           came = λ c f. o.came c (sym now ∙ f);
         }
           where
@@ -315,7 +315,7 @@ entered_order i s v w lt unbroken w_is h = subst IsOrderly (sym w_is) (record {
     newborn : (r : Option ReplyEntry) → r ≡ None → (c : CallState) → IsInOrder conns (record { id = next_of k; call = c; reply = None })
     newborn r r_is c = record {
       no_reply = refl;
-      goes_on = λ live. (added s.reply k, here, unbroken);
+      on_unbroken = λ live. (added s.reply k, here, unbroken);
       came = λ x f. subst (λ (y : ConnValue). k.taken + length k.slots < y.taken + length y.slots) (some_same (sym here ∙ f))
           (let size : length (k.slots ++ s.reply ∷ []) ≡ length k.slots + 1 = length-append k.slots (s.reply ∷ []) in omega (arith, size));
     }
@@ -364,7 +364,7 @@ taken_order i v w lt some w_is h = subst IsOrderly (sym w_is) (record {
         by_it : (b : Bool) → (x.id.conn == k.number) ≡ b → IsInOrder conns x
         by_it true e = record {
           no_reply = o.no_reply;
-          goes_on = λ live. let c = o.goes_on live in
+          on_unbroken = λ live. let c = o.on_unbroken live in
               (without_first k, now, ap (λ (y : ConnValue). y.broken) (some_same (sym at_k ∙ c.1)) ∙ c.2);
           came = λ c f. subst (λ (y : ConnValue). x.id.request < y.taken + length y.slots) (some_same (sym now ∙ f))
               (let low : x.id.request < k.taken + length k.slots = o.came k at_k in
@@ -378,7 +378,7 @@ taken_order i v w lt some w_is h = subst IsOrderly (sym w_is) (record {
             at_k = ap (λ n. conn_of n v.conns) (eqb-true x.id.conn k.number e) ∙ found
         by_it false e = record {
           no_reply = o.no_reply;
-          goes_on = λ live. let c = o.goes_on live in (c.0, now ∙ c.1, c.2);
+          on_unbroken = λ live. let c = o.on_unbroken live in (c.0, now ∙ c.1, c.2);
           came = λ c f. o.came c (sym now ∙ f);
         }
           where

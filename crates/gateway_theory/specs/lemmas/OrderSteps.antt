@@ -10,7 +10,7 @@ use Rattle.gateway_model.specs.declared.id.CallId.{CallId}
 use Rattle.gateway_theory.specs.declared.trigger.Trigger.{Trigger}
 use Rattle.gateway_model.specs.declared.entry.ReplyEntry.{ReplyEntry}
 use Rattle.gateway_theory.specs.Conn.{ConnValue}
-use Rattle.gateway_theory.specs.Ends.{AreApart, CallsEnd, MayEnd, ended_below, ended_if, is_stopped_in, without_reply}
+use Rattle.gateway_theory.specs.Ends.{AreApart, CallsEnd, MayEnd, ended_below, ended_if, is_broken_in, without_reply}
 use Rattle.gateway_theory.specs.Fate.{Fate, Unbroken, BrokenAt, is_broken, fate_after, fates_after}
 use Rattle.gateway_theory.specs.Kept.{KeptValue}
 use Rattle.gateway_model.specs.Occurrence.{Occurrence}
@@ -36,18 +36,18 @@ by_numbers new conns same apart = same_numbers new conns size
 -- a connection that broke stays so: each that is not broken was not
 pub fates_next : (o : Occurrence) (os : List Occurrence) (fates : ℕ → Fate) (w : MachineValue)
     → ((c : ℕ) (k : ConnValue) → conn_of c w.conns ≡ Some k → k.broken ≡ false → is_broken (fates c) ≡ false)
-    → FatesAre (fates_after (λ c. is_stopped_in c w.conns) o os fates) w.conns
+    → FatesAre (fates_after (λ c. is_broken_in c w.conns) o os fates) w.conns
 fates_next o os fates w still = λ c k k_is. by_fate c k (fates c) refl (ap (λ x. option_map_or (λ (y : ConnValue). y.broken) x false) k_is) (still c k k_is)
   where
-    by_fate : (c : ℕ) (k : ConnValue) (f : Fate) → fates c ≡ f → is_stopped_in c w.conns ≡ k.broken → (k.broken ≡ false → is_broken (fates c) ≡ false)
-        → k.broken ≡ is_broken (fate_after (is_stopped_in c w.conns) o os (fates c))
-    by_fate c k Unbroken f_is stop_is on =
-        sym stop_is ∙ by_stop (is_stopped_in c w.conns) ∙ sym (ap (λ f. is_broken (fate_after (is_stopped_in c w.conns) o os f)) f_is)
+    by_fate : (c : ℕ) (k : ConnValue) (f : Fate) → fates c ≡ f → is_broken_in c w.conns ≡ k.broken → (k.broken ≡ false → is_broken (fates c) ≡ false)
+        → k.broken ≡ is_broken (fate_after (is_broken_in c w.conns) o os (fates c))
+    by_fate c k Unbroken f_is breaks_is on =
+        sym breaks_is ∙ by_broken (is_broken_in c w.conns) ∙ sym (ap (λ f. is_broken (fate_after (is_broken_in c w.conns) o os f)) f_is)
       where
-        by_stop : (b : Bool) → b ≡ is_broken (if b then BrokenAt [] (Some o) os else Unbroken)
-        by_stop true = refl
-        by_stop false = refl
-    by_fate c k (BrokenAt since at older) f_is stop_is on = by_broken k.broken refl ∙ sym (ap (λ f. is_broken (fate_after (is_stopped_in c w.conns) o os f)) f_is)
+        by_broken : (b : Bool) → b ≡ is_broken (if b then BrokenAt [] (Some o) os else Unbroken)
+        by_broken true = refl
+        by_broken false = refl
+    by_fate c k (BrokenAt since at older) f_is breaks_is on = by_broken k.broken refl ∙ sym (ap (λ f. is_broken (fate_after (is_broken_in c w.conns) o os f)) f_is)
       where
         by_broken : (b : Bool) → k.broken ≡ b → k.broken ≡ true
         by_broken true e = e
@@ -55,18 +55,18 @@ fates_next o os fates w still = λ c k k_is. by_fate c k (fates c) refl (ap (λ 
 
 -- ---- endings
 
-end_order : (trigger : Trigger) (stop : Bool) (conns new : List ConnValue) (k : KeptValue)
+end_order : (trigger : Trigger) (breaks : Bool) (conns new : List ConnValue) (k : KeptValue)
     → ((l : ConnValue) → conn_of k.id.conn new ≡ Some l → (x : ConnValue) × (conn_of k.id.conn conns ≡ Some x) × (l.taken ≡ x.taken) × (length l.slots ≡ length x.slots))
-    → ((x : ConnValue) → conn_of k.id.conn conns ≡ Some x → stop ≡ false → (l : ConnValue) × (conn_of k.id.conn new ≡ Some l) × (l.broken ≡ false))
-    → IsInOrder conns k → IsInOrder new (without_reply (ended_below trigger stop true k))
-end_order trigger stop conns new k back on h = record {
+    → ((x : ConnValue) → conn_of k.id.conn conns ≡ Some x → breaks ≡ false → (l : ConnValue) × (conn_of k.id.conn new ≡ Some l) × (l.broken ≡ false))
+    → IsInOrder conns k → IsInOrder new (without_reply (ended_below trigger breaks true k))
+end_order trigger breaks conns new k back on h = record {
   no_reply = refl;
-  goes_on = λ live. by_stop stop refl live;
+  on_unbroken = λ live. by_broken breaks refl live;
   came = λ l e.
-      let same : (ended_below trigger stop true k).id ≡ k.id = id_below trigger stop true k in
+      let same : (ended_below trigger breaks true k).id ≡ k.id = id_below trigger breaks true k in
       let x = back l (ap (λ (y : CallId). conn_of y.conn new) (sym same) ∙ e) in
       let low : k.id.request < x.0.taken + length x.0.slots = h.came x.0 x.1 in
-      let at_it : (ended_below trigger stop true k).id.request ≡ k.id.request = ap (λ (y : CallId). y.request) same in
+      let at_it : (ended_below trigger breaks true k).id.request ≡ k.id.request = ap (λ (y : CallId). y.request) same in
       let taken_is : l.taken ≡ x.0.taken = x.2 in
       let size : length l.slots ≡ length x.0.slots = x.3 in
       omega (arith, low, at_it, taken_is, size);
@@ -76,27 +76,27 @@ end_order trigger stop conns new k back on h = record {
     live_before id out None e = absurd (cc)
     live_before id out (Some l) e = refl
 
-    by_stop : (b : Bool) → stop ≡ b → is_some (without_reply (ended_below trigger stop true k)).call.live ≡ true
-        → (c : ConnValue) × (conn_of (ended_below trigger stop true k).id.conn new ≡ Some c) × (c.broken ≡ false)
-    by_stop true e live = absurd (let clash : is_some (given_up k).call.live ≡ true = ap (λ b. is_some (without_reply (ended_below trigger b true k)).call.live) (sym e) ∙ live in cc)
-    by_stop false e live =
-        let c = h.goes_on (live_before k.id k.call.out k.call.live (ap (λ b. is_some (without_reply (ended_below trigger b true k)).call.live) (sym e) ∙ live)) in
+    by_broken : (b : Bool) → breaks ≡ b → is_some (without_reply (ended_below trigger breaks true k)).call.live ≡ true
+        → (c : ConnValue) × (conn_of (ended_below trigger breaks true k).id.conn new ≡ Some c) × (c.broken ≡ false)
+    by_broken true e live = absurd (let clash : is_some (given_up k).call.live ≡ true = ap (λ b. is_some (without_reply (ended_below trigger b true k)).call.live) (sym e) ∙ live in cc)
+    by_broken false e live =
+        let c = h.on_unbroken (live_before k.id k.call.out k.call.live (ap (λ b. is_some (without_reply (ended_below trigger b true k)).call.live) (sym e) ∙ live)) in
         let l = on c.0 c.1 e in
-        (l.0, ap (λ (y : CallId). conn_of y.conn new) (id_below trigger stop true k) ∙ l.1, l.2)
+        (l.0, ap (λ (y : CallId). conn_of y.conn new) (id_below trigger breaks true k) ∙ l.1, l.2)
 
 pub ends_order : (trigger : Trigger) (v w : MachineValue) → CallsEnd trigger v w → IsOrderly v → IsOrderly w
 ends_order trigger v w e h = record {
   calls_are = subst (All (IsInOrder w.conns)) (sym e.calls_are) (All-map (IsInOrder w.conns) f v.calls
-      (λ j d lt. end_order trigger (is_stopped_in (slice_index_or v.calls j d).id.conn w.conns) v.conns w.conns (slice_index_or v.calls j d)
+      (λ j d lt. end_order trigger (is_broken_in (slice_index_or v.calls j d).id.conn w.conns) v.conns w.conns (slice_index_or v.calls j d)
       (λ l l_is. back (conn_of (slice_index_or v.calls j d).id.conn v.conns) (conn_of (slice_index_or v.calls j d).id.conn w.conns) l l_is (e.conns_are (slice_index_or v.calls j d).id.conn))
       (λ x x_is on. goes (conn_of (slice_index_or v.calls j d).id.conn v.conns) (conn_of (slice_index_or v.calls j d).id.conn w.conns) x x_is on (e.conns_are (slice_index_or v.calls j d).id.conn))
       (h.calls_are j d lt)));
-  apart = subst AreApart (sym e.calls_are) (ids_mapped f v.calls (λ k. id_below trigger (is_stopped_in k.id.conn w.conns) true k) h.apart);
+  apart = subst AreApart (sym e.calls_are) (ids_mapped f v.calls (λ k. id_below trigger (is_broken_in k.id.conn w.conns) true k) h.apart);
   conns_apart = by_numbers w.conns v.conns e.numbers_are h.conns_apart;
 }
   where
     f : KeptValue → KeptValue
-    f k = without_reply (ended_below trigger (is_stopped_in k.id.conn w.conns) true k)
+    f k = without_reply (ended_below trigger (is_broken_in k.id.conn w.conns) true k)
 
     back : (a b : Option ConnValue) (l : ConnValue) → b ≡ Some l → MayEnd trigger v.calls a b → (x : ConnValue) × (a ≡ Some x) × (l.taken ≡ x.taken) × (length l.slots ≡ length x.slots)
     back None None l l_is m = absurd (cc)
@@ -134,8 +134,8 @@ filled_on id reply (Some z) (Some y) x m x_is = (y, refl, m.broken_is ∙ ap (λ
 filled_still : (id : CallId) (reply : Option ReplyEntry) (conns : List ConnValue) (k : KeptValue) → IsInOrder conns k → IsInOrder (filled_in (option_map (reply_with id) reply) conns) k
 filled_still id reply conns k h = record {
   no_reply = h.no_reply;
-  goes_on = λ live.
-      let c = h.goes_on live in
+  on_unbroken = λ live.
+      let c = h.on_unbroken live in
       let l = filled_on id reply (conn_of k.id.conn conns) (conn_of k.id.conn (filled_in (option_map (reply_with id) reply) conns)) c.0 (fills_in id reply conns k.id.conn) c.1 in
       (l.0, l.1, l.2 ∙ c.2);
   came = λ l l_is.
@@ -170,7 +170,7 @@ set_order i new v w lt same no_reply live calls_is conns_is h = record {
     now : IsInOrder v.conns new
     now = record {
       no_reply = no_reply;
-      goes_on = λ l. let c = old.goes_on (live l) in (c.0, ap (λ (x : CallId). conn_of x.conn v.conns) same ∙ c.1, c.2);
+      on_unbroken = λ l. let c = old.on_unbroken (live l) in (c.0, ap (λ (x : CallId). conn_of x.conn v.conns) same ∙ c.1, c.2);
       came = λ c c_is.
           let low : (kept_at i v.calls).id.request < c.taken + length c.slots = old.came c (ap (λ (x : CallId). conn_of x.conn v.conns) (sym same) ∙ c_is) in
           let at_it : new.id.request ≡ (kept_at i v.calls).id.request = ap (λ (x : CallId). x.request) same in

@@ -72,8 +72,8 @@ front_grows f g stays k (suc n) (suc m) le =
     front_cons g k (f k) (map f (range_with_len (k + 1) n)) (map g (range_with_len (k + 1) m)) (stays k)
     (front_grows f g stays (k + 1) n m (omega arith))
 
-entries_grow : (conn : ℕ) (m : Mark) (past : Past) → arrivals conn past ≤ arrivals conn (m ∷ past)
-entries_grow conn m past =
+arrivals_grow : (conn : ℕ) (m : Mark) (past : Past) → arrivals conn past ≤ arrivals conn (m ∷ past)
+arrivals_grow conn m past =
     cond_both (is_some (coming_on conn m.what)) (suc (arrivals conn past)) (arrivals conn past) (λ n. arrivals conn past ≤ n)
     (λ _. omega arith) (λ _. omega arith)
 
@@ -81,7 +81,7 @@ entries_grow conn m past =
 pub queued_entries_grow : (conn : ℕ) (m : Mark) (past : Past) → IsPrefixOf (queued_entries conn past) (queued_entries conn (m ∷ past))
 queued_entries_grow conn m past =
     front_grows (λ k. entry (call_id conn k) past) (λ k. entry (call_id conn k) (m ∷ past))
-    (λ k x e. entry_stays (call_id conn k) m past x e) 0 (arrivals conn past) (arrivals conn (m ∷ past)) (entries_grow conn m past)
+    (λ k x e. entry_stays (call_id conn k) m past x e) 0 (arrivals conn past) (arrivals conn (m ∷ past)) (arrivals_grow conn m past)
 
 queued_grows : (conn : ℕ) (m : Mark) (past : Past) → IsPrefixOf (queued conn past) (queued conn (m ∷ past))
 queued_grows conn m past =

@@ -28,9 +28,9 @@ use Rattle.gateway_theory.specs.lemmas.Cases.{and_false, or_true}
 -- ---- lists of events
 
 -- no event of these decides, behind those
-abbrev pub goes_on : CallRecord → List CallEvent → List CallEvent → Bool
-goes_on r before [] = true
-goes_on r before (e ∷ es) = not (decides (answers_among before) (length r.plan.branches) e) && goes_on r (before ++ e ∷ []) es
+abbrev pub none_decides : CallRecord → List CallEvent → List CallEvent → Bool
+none_decides r before [] = true
+none_decides r before (e ∷ es) = not (decides (answers_among before) (length r.plan.branches) e) && none_decides r (before ++ e ∷ []) es
 
 and_both : (a b : Bool) → a ≡ true → b ≡ true → (a && b) ≡ true
 and_both a b x y = rw (x, y) refl
@@ -39,7 +39,7 @@ is_last_more : (es : List CallEvent) (e : CallEvent) → is_last (es ++ e ∷ []
 is_last_more [] e = refl
 is_last_more (x ∷ es) e = refl
 
-follow_more : (r : CallRecord) (before es : List CallEvent) (e : CallEvent) → may_follow r before es ≡ true → goes_on r before es ≡ true
+follow_more : (r : CallRecord) (before es : List CallEvent) (e : CallEvent) → may_follow r before es ≡ true → none_decides r before es ≡ true
     → may_come r (before ++ es) e ≡ true → may_follow r before (es ++ e ∷ []) ≡ true
 follow_more r before [] e f g c =
     let c0 : may_come r before e ≡ true = subst (λ xs. may_come r xs e ≡ true) (append-nil before) c in
@@ -47,19 +47,19 @@ follow_more r before [] e f g c =
 follow_more r before (x ∷ es) e f g c =
     let fp = and_parts (may_come r before x && (is_last es || not (decides (answers_among before) (length r.plan.branches) x))) (may_follow r (before ++ x ∷ []) es) f in
     let fq = and_parts (may_come r before x) (is_last es || not (decides (answers_among before) (length r.plan.branches) x)) fp.0 in
-    let gp = and_parts (not (decides (answers_among before) (length r.plan.branches) x)) (goes_on r (before ++ x ∷ []) es) g in
+    let gp = and_parts (not (decides (answers_among before) (length r.plan.branches) x)) (none_decides r (before ++ x ∷ []) es) g in
     let rest : may_follow r (before ++ x ∷ []) (es ++ e ∷ []) ≡ true =
     follow_more r (before ++ x ∷ []) es e fp.1 gp.1 (subst (λ xs. may_come r xs e ≡ true) (sym (append_assoc before (x ∷ []) es)) c) in
     rw (fq.0, is_last_more es e, gp.0) rest
 
-on_more : (r : CallRecord) (before es : List CallEvent) (e : CallEvent) → goes_on r before es ≡ true
-    → decides (answers_among (before ++ es)) (length r.plan.branches) e ≡ false → goes_on r before (es ++ e ∷ []) ≡ true
+on_more : (r : CallRecord) (before es : List CallEvent) (e : CallEvent) → none_decides r before es ≡ true
+    → decides (answers_among (before ++ es)) (length r.plan.branches) e ≡ false → none_decides r before (es ++ e ∷ []) ≡ true
 on_more r before [] e g d =
     let d0 : decides (answers_among before) (length r.plan.branches) e ≡ false =
     subst (λ xs. decides (answers_among xs) (length r.plan.branches) e ≡ false) (append-nil before) d in
     rw d0 refl
 on_more r before (x ∷ es) e g d =
-    let gp = and_parts (not (decides (answers_among before) (length r.plan.branches) x)) (goes_on r (before ++ x ∷ []) es) g in
+    let gp = and_parts (not (decides (answers_among before) (length r.plan.branches) x)) (none_decides r (before ++ x ∷ []) es) g in
     rw gp.0 (on_more r (before ++ x ∷ []) es e gp.1
     (subst (λ xs. decides (answers_among xs) (length r.plan.branches) e ≡ false) (sym (append_assoc before (x ∷ []) es)) d))
 
@@ -114,7 +114,7 @@ blank a ds = record_of a ds []
 pub record Going (id : CallId) (a : ArrivedCall) (past : Past) : Type 0 where
   pub early : is_due a.start a.deadline ≡ false
   pub follow : (ds : List (Option ℕ)) → may_follow (blank a ds) [] (own_events id past) ≡ true
-  pub on : (ds : List (Option ℕ)) → goes_on (blank a ds) [] (own_events id past) ≡ true
+  pub on : (ds : List (Option ℕ)) → none_decides (blank a ds) [] (own_events id past) ≡ true
   pub counted : answers_among (own_events id past) ≡ answers id past
   pub outs : (i : ℕ) → is_out id i past ≡ true → is_none (answer_of_branch i (own_events id past)) ≡ true
   pub below : (i : ℕ) → nat_lt i (started id past) ≡ false → is_none (answer_of_branch i (own_events id past)) ≡ true
@@ -130,23 +130,23 @@ pub record Lawful (id : CallId) (a : ArrivedCall) (past : Past) : Type 0 where
   pub done : (e : CallEvent) → decided id past ≡ Some e → Done id a past
 
 -- what is known of a call that goes on, at one occurrence more
-record Open (id : CallId) (a : ArrivedCall) (m : Mark) (past : Past) : Type 0 where
+record Undecided (id : CallId) (a : ArrivedCall) (m : Mark) (past : Past) : Type 0 where
   call_is : call id past ≡ Some a
   undecided : decided id past ≡ None
   unclosed : is_closed id.conn past ≡ false
   going : Going id a past
 
-own_is : (id : CallId) (a : ArrivedCall) (m : Mark) (past : Past) → Open id a m past → own_event id m past ≡ event_by id a m.what m.counted past
+own_is : (id : CallId) (a : ArrivedCall) (m : Mark) (past : Past) → Undecided id a m past → own_event id m past ≡ event_by id a m.what m.counted past
 own_is id a m past h = rw (h.unclosed, h.call_is) refl
 
-events_then : (id : CallId) (a : ArrivedCall) (m : Mark) (past : Past) (e : CallEvent) → Open id a m past → own_event id m past ≡ Some e
+events_then : (id : CallId) (a : ArrivedCall) (m : Mark) (past : Past) (e : CallEvent) → Undecided id a m past → own_event id m past ≡ Some e
     → own_events id (m ∷ past) ≡ own_events id past ++ e ∷ []
 events_then id a m past e h own = rw (h.undecided, own) refl
 
-events_same : (id : CallId) (a : ArrivedCall) (m : Mark) (past : Past) → Open id a m past → own_event id m past ≡ None → own_events id (m ∷ past) ≡ own_events id past
+events_same : (id : CallId) (a : ArrivedCall) (m : Mark) (past : Past) → Undecided id a m past → own_event id m past ≡ None → own_events id (m ∷ past) ≡ own_events id past
 events_same id a m past h own = rw (h.undecided, own) (append-nil (own_events id past))
 
-decided_then : (id : CallId) (a : ArrivedCall) (m : Mark) (past : Past) (e : CallEvent) → Open id a m past → own_event id m past ≡ Some e
+decided_then : (id : CallId) (a : ArrivedCall) (m : Mark) (past : Past) (e : CallEvent) → Undecided id a m past → own_event id m past ≡ Some e
     → decided id (m ∷ past) ≡ (if decides (answers id past) (length a.plan.branches) e then Some e else None)
 decided_then id a m past e h own = rw (h.undecided, own, h.call_is) refl
 
@@ -157,7 +157,7 @@ began_out id i past out =
     (cases_Bool (began id past))
 
 -- a branch that is out is so by the record
-out_of_record : (id : CallId) (a : ArrivedCall) (m : Mark) (past : Past) (i : ℕ) → Open id a m past → is_out id i past ≡ true
+out_of_record : (id : CallId) (a : ArrivedCall) (m : Mark) (past : Past) (i : ℕ) → Undecided id a m past → is_out id i past ≡ true
     → is_out_after (blank a []) (own_events id past) i ≡ true
 out_of_record id a m past i h out =
     let lt : i < started id past = out_started id i past out in
@@ -167,7 +167,7 @@ out_of_record id a m past i h out =
     (h.going.outs i out)
 
 -- nothing happens to it
-goes_quiet : (id : CallId) (a : ArrivedCall) (m : Mark) (past : Past) → Open id a m past → own_event id m past ≡ None → (m.counted && is_answer_to id m.what) ≡ false
+goes_quiet : (id : CallId) (a : ArrivedCall) (m : Mark) (past : Past) → Undecided id a m past → own_event id m past ≡ None → (m.counted && is_answer_to id m.what) ≡ false
     → Lawful id a (m ∷ past)
 goes_quiet id a m past h own none = record {
   going = λ _ _.
@@ -192,7 +192,7 @@ goes_quiet id a m past h own none = record {
     by_out i out false b_is = h.going.below i b_is
 
 -- an event ends it
-goes_ends : (id : CallId) (a : ArrivedCall) (m : Mark) (past : Past) (e : CallEvent) → Open id a m past → own_event id m past ≡ Some e
+goes_ends : (id : CallId) (a : ArrivedCall) (m : Mark) (past : Past) (e : CallEvent) → Undecided id a m past → own_event id m past ≡ Some e
     → decides (answers id past) (length a.plan.branches) e ≡ true → may_come (blank a (record_deadlines id (m ∷ past))) (own_events id past) e ≡ true
     → is_ending (answers_among (own_events id past ++ e ∷ [])) (length a.plan.branches) e ≡ true → Lawful id a (m ∷ past)
 goes_ends id a m past e h own dec come ends =
@@ -209,11 +209,11 @@ goes_ends id a m past e h own dec come ends =
     }
 
 -- an answer that leaves others open
-goes_on_answered : (id : CallId) (a : ArrivedCall) (past : Past) (o : Occurrence) (i : ℕ) (body : List ℕ) → Open id a (mark_of past o) past
+none_decides_answered : (id : CallId) (a : ArrivedCall) (past : Past) (o : Occurrence) (i : ℕ) (body : List ℕ) → Undecided id a (mark_of past o) past
     → own_event id (mark_of past o) past ≡ Some (Answered i body) → is_out id i past ≡ true → (counts o past && is_answer_to id o) ≡ true
     → ((k : ℕ) → is_result_of id k o ≡ (i == k))
     → decides (answers id past) (length a.plan.branches) (Answered i body) ≡ false → Lawful id a (mark_of past o ∷ past)
-goes_on_answered id a past o i body h own out_i one of_it dec =
+none_decides_answered id a past o i body h own out_i one of_it dec =
     let m : Mark = mark_of past o in
     let e : CallEvent = Answered i body in
     let events = events_then id a m past e h own in
@@ -250,7 +250,7 @@ goes_on_answered id a past o i body h own out_i one of_it dec =
 
 -- ---- each occurrence
 
-resulted : (id of : CallId) (a : ArrivedCall) (i : ℕ) (outcome : Outcome) (past : Past) → Open id a (mark_of past (Result of i outcome)) past
+resulted : (id of : CallId) (a : ArrivedCall) (i : ℕ) (outcome : Outcome) (past : Past) → Undecided id a (mark_of past (Result of i outcome)) past
     → Lawful id a (mark_of past (Result of i outcome) ∷ past)
 resulted id of a i outcome past h = by_count (counts (Result of i outcome) past && is_call of id) outcome refl h
   where
@@ -258,7 +258,7 @@ resulted id of a i outcome past h = by_count (counts (Result of i outcome) past 
     no_answer (Answer body) counted e = e
     no_answer (Fail error) counted e = and_false counted
 
-    by_count : (b : Bool) (o : Outcome) → (counts (Result of i o) past && is_call of id) ≡ b → Open id a (mark_of past (Result of i o)) past
+    by_count : (b : Bool) (o : Outcome) → (counts (Result of i o) past && is_call of id) ≡ b → Undecided id a (mark_of past (Result of i o)) past
         → Lawful id a (mark_of past (Result of i o) ∷ past)
     by_count false o b_is h =
         goes_quiet id a (mark_of past (Result of i o)) past h (own_is id a (mark_of past (Result of i o)) past h ∙ rw b_is refl)
@@ -281,11 +281,11 @@ resulted id of a i outcome past h = by_count (counts (Result of i outcome) past 
         (let count : answers_among (own_events id past ++ Answered i body ∷ []) ≡ answers id past + 1 =
         among_more (own_events id past) (Answered i body) ∙ omega (arith, h.going.counted) in rw count last))
         (λ (more : decides (answers id past) (length a.plan.branches) (Answered i body) ≡ false).
-        goes_on_answered id a past (Result of i (Answer body)) i body h own out b_is (λ k. rw p.1 refl) more)
+        none_decides_answered id a past (Result of i (Answer body)) i body h own out b_is (λ k. rw p.1 refl) more)
         (cases_Bool (decides (answers id past) (length a.plan.branches) (Answered i body)))
 
 -- a branch expires
-branch_ends : (id : CallId) (a : ArrivedCall) (t k : ℕ) (past : Past) → Open id a (mark_of past (Moment t)) past
+branch_ends : (id : CallId) (a : ArrivedCall) (t k : ℕ) (past : Past) → Undecided id a (mark_of past (Moment t)) past
     → event_by id a (Moment t) false past ≡ Some (BranchExpired k (now (mark_of past (Moment t) ∷ past))) → k < length (deadlines_out id a.plan past)
     → is_due (now (mark_of past (Moment t) ∷ past)) (slice_index_or (deadlines_out id a.plan past) k None) ≡ true → Lawful id a (mark_of past (Moment t) ∷ past)
 branch_ends id a t k past h event lt due =
@@ -308,7 +308,7 @@ branch_ends id a t k past h event lt due =
     deadlines : record_deadlines id (m ∷ past) ≡ branch_deadlines id past
     deadlines = deadlines_now id m past h.undecided ∙ deadlines_same id m past (call_same id m past none) (started_same id m past none refl)
 
-moved : (id : CallId) (a : ArrivedCall) (t : ℕ) (past : Past) → Open id a (mark_of past (Moment t)) past → Lawful id a (mark_of past (Moment t) ∷ past)
+moved : (id : CallId) (a : ArrivedCall) (t : ℕ) (past : Past) → Undecided id a (mark_of past (Moment t)) past → Lawful id a (mark_of past (Moment t) ∷ past)
 moved id a t past h = by_event (event_by id a (Moment t) false past) refl
   where
     m : Mark
@@ -321,14 +321,14 @@ moved id a t past h = by_event (event_by id a (Moment t) false past) refl
         (λ branch. branch_ends id a t branch.0 past h (o_is ∙ ap Some branch.1) branch.2 branch.3)
         (expires (now (m ∷ past)) a.deadline (deadlines_out id a.plan past) e o_is)
 
-hung : (id : CallId) (a : ArrivedCall) (conn : ℕ) (past : Past) → Open id a (mark_of past (HangUp conn)) past → Lawful id a (mark_of past (HangUp conn) ∷ past)
+hung : (id : CallId) (a : ArrivedCall) (conn : ℕ) (past : Past) → Undecided id a (mark_of past (HangUp conn)) past → Lawful id a (mark_of past (HangUp conn) ∷ past)
 hung id a conn past h =
     let m : Mark = mark_of past (HangUp conn) in
     ⊎_elim (λ (its : (conn == id.conn) ≡ true). goes_ends id a m past HungUp h (own_is id a m past h ∙ rw its refl) refl refl refl)
     (λ (above : (conn == id.conn) ≡ false). goes_quiet id a m past h (own_is id a m past h ∙ rw above refl) refl)
     (cases_Bool (conn == id.conn))
 
-opened_on : (id : CallId) (a : ArrivedCall) (o : Occurrence) (past : Past) → Open id a (mark_of past o) past → Lawful id a (mark_of past o ∷ past)
+opened_on : (id : CallId) (a : ArrivedCall) (o : Occurrence) (past : Past) → Undecided id a (mark_of past o) past → Lawful id a (mark_of past o ∷ past)
 opened_on id a Opening past h = goes_quiet id a (mark_of past Opening) past h (own_is id a (mark_of past Opening) past h) refl
 opened_on id a (Comes c x) past h =
     goes_quiet id a (mark_of past (Comes c x)) past h (own_is id a (mark_of past (Comes c x)) past h) (and_false (counts (Comes c x) past))

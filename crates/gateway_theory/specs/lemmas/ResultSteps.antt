@@ -10,7 +10,7 @@ use Rattle.gateway_theory.specs.declared.fault.Took.{Took}
 use Rattle.gateway_model.specs.declared.id.CallId.{CallId}
 use Rattle.gateway_theory.specs.Breaks.{AfterBreaks, GivenUp, NoneLive}
 use Rattle.gateway_theory.specs.Conn.{ConnValue, state_of}
-use Rattle.gateway_theory.specs.Ends.{is_stopped_in, MayBreak}
+use Rattle.gateway_theory.specs.Ends.{is_broken_in, MayBreak}
 use Rattle.gateway_theory.specs.Fate.{Fate, is_broken}
 use Rattle.gateway_theory.specs.Task.{TaskValue}
 use Rattle.gateway_theory.specs.Machine.{ConnState, MachineState, ConnAfter, After, slot_at, step_of}
@@ -21,7 +21,7 @@ use Rattle.gateway_theory.specs.Results.{result_at, stepped_kept, stepped_at, se
 use Rattle.gateway_theory.specs.Step.{CallState, Live, Step, call_state, kept, has_out, result_on, first_of, next_out}
 use Rattle.gateway_theory.specs.Store.{MachineValue, machine, call_at, conn_of, conn_state, kept_at, broken_at, broken_if, filled_in, IsFound, HasFates}
 use Rattle.gateway_theory.specs.lemmas.Cases.{or_none}
-use Rattle.gateway_theory.specs.lemmas.EndLemmas.{open_number, MayFill, fills_in, break_one, stopped_then, stopped_now}
+use Rattle.gateway_theory.specs.lemmas.EndLemmas.{open_number, MayFill, fills_in, break_one, broken_then, just_broken}
 use Rattle.gateway_theory.specs.lemmas.GivingUp.{given_up}
 use Rattle.gateway_theory.specs.lemmas.LimitLemmas.{same_call}
 use Rattle.gateway_theory.specs.lemmas.Readings.{quiet}
@@ -130,37 +130,37 @@ pub eta_none : (c : CallState) → c.live ≡ None → c ≡ call_state c.out No
 eta_none c none = ap (λ (l : Option Live). call_state c.out l) none
 
 -- no call of a connection that is broken can be decided
-pub stop_none : (v : MachineValue) (fates : ℕ → Fate) (id : CallId) → HasFates fates v → is_stopped_in id.conn v.conns ≡ true → (call_at id v.calls).live ≡ None
-stop_none v fates id h stopped = by_conn (conn_of id.conn v.conns) refl
+pub broken_not_live : (v : MachineValue) (fates : ℕ → Fate) (id : CallId) → HasFates fates v → is_broken_in id.conn v.conns ≡ true → (call_at id v.calls).live ≡ None
+broken_not_live v fates id h broken = by_conn (conn_of id.conn v.conns) refl
   where
     by_conn : (o : Option ConnValue) → conn_of id.conn v.conns ≡ o → (call_at id v.calls).live ≡ None
     by_conn None o_is = h.none_live id o_is
     by_conn (Some k) o_is =
-        h.broken_none id (sym (h.open_are id.conn k o_is) ∙ ap (λ o. option_map_or (λ (x : ConnValue). x.broken) o false) (sym o_is) ∙ stopped)
+        h.broken_none id (sym (h.open_are id.conn k o_is) ∙ ap (λ o. option_map_or (λ (x : ConnValue). x.broken) o false) (sym o_is) ∙ broken)
 
-stays_given : (v : MachineValue) (fates : ℕ → Fate) (closed : ℕ → ConnState) (stop : ℕ → Bool) → HasFates fates v → ((c : ℕ) → stop c ≡ is_stopped_in c v.conns)
-    → GivenUp stop (machine closed v) (machine closed v)
-stays_given v fates closed stop h same = record {
+stays_given : (v : MachineValue) (fates : ℕ → Fate) (closed : ℕ → ConnState) (breaks : ℕ → Bool) → HasFates fates v → ((c : ℕ) → breaks c ≡ is_broken_in c v.conns)
+    → GivenUp breaks (machine closed v) (machine closed v)
+stays_given v fates closed breaks h same = record {
   moment_is = refl;
   drained_is = refl;
   jobs_are = refl;
   conns_are = λ c. refl;
-  calls_are = λ id. by_stop id (stop id.conn) refl;
+  calls_are = λ id. by_broken id (breaks id.conn) refl;
 }
   where
-    by_stop : (id : CallId) (b : Bool) → stop id.conn ≡ b → call_at id v.calls ≡ (if stop id.conn then call_state (call_at id v.calls).out None else call_at id v.calls)
-    by_stop id true b_is = rw b_is (eta_none (call_at id v.calls) (stop_none v fates id h (sym (same id.conn) ∙ b_is)))
-    by_stop id false b_is = rw b_is refl
+    by_broken : (id : CallId) (b : Bool) → breaks id.conn ≡ b → call_at id v.calls ≡ (if breaks id.conn then call_state (call_at id v.calls).out None else call_at id v.calls)
+    by_broken id true b_is = rw b_is (eta_none (call_at id v.calls) (broken_not_live v fates id h (sym (same id.conn) ∙ b_is)))
+    by_broken id false b_is = rw b_is refl
 
 pub none_broken : (v : MachineValue) (fates : ℕ → Fate) (closed : ℕ → ConnState) → HasFates fates v → NoneLive (λ c. is_broken (fates c)) (machine closed v)
 none_broken v fates closed h = λ id e. h.broken_none id e
 
-pub fills_stop : (id : CallId) (reply : Option ReplyEntry) (a b : Option ConnValue) → MayFill id reply a b
+pub fills_broken : (id : CallId) (reply : Option ReplyEntry) (a b : Option ConnValue) → MayFill id reply a b
     → option_map_or (λ (k : ConnValue). k.broken) b false ≡ option_map_or (λ (k : ConnValue). k.broken) a false
-fills_stop id reply None None f = refl
-fills_stop id reply None (Some l) f = absurd f
-fills_stop id reply (Some k) None f = absurd f
-fills_stop id reply (Some k) (Some l) f = f.broken_is
+fills_broken id reply None None f = refl
+fills_broken id reply None (Some l) f = absurd f
+fills_broken id reply (Some k) None f = absurd f
+fills_broken id reply (Some k) (Some l) f = f.broken_is
 
 -- ---- a result at which its connection breaks
 
@@ -195,14 +195,14 @@ conn_breaks u id i outcome c closed (Some k) (Some l) m none = record {
       ∙ sym (ap (λ r. option_or (slot_at j k.slots) r) (none (call_id c (k.taken + j))) ∙ or_none (slot_at j k.slots));
 }
 
--- the machine, in which the calls of stopped connections were given up
+-- the machine, in which the calls of broken connections were given up
 abbrev pub given : (ℕ → Bool) → MachineState → MachineState
-given stop m = record m { calls = λ id. if stop id.conn then call_state (m.calls id).out None else m.calls id }
+given breaks m = record m { calls = λ id. if breaks id.conn then call_state (m.calls id).out None else m.calls id }
 
 broke_after : (v w : MachineValue) (closed : ℕ → ConnState) (fates : ℕ → Fate) (id : CallId) (branch : ℕ) (outcome : Outcome) (i : ℕ) → HasFates fates v → IsFound id v.calls (Some i)
     → has_out (kept_at i v.calls).call branch ≡ true → is_some (result_at i branch outcome v).reply ≡ true → (result_at i branch outcome v).jobs ≡ []
     → w ≡ broken_at (kept_at i v.calls).id.conn (stepped_at i (result_at i branch outcome v) v)
-    → After (Result id branch outcome) (given (λ c. is_stopped_in c w.conns) (machine closed v)) (machine closed w)
+    → After (Result id branch outcome) (given (λ c. is_broken_in c w.conns) (machine closed v)) (machine closed w)
 broke_after v w closed fates id branch outcome i h f out some none w_is = record {
   moment_is = ap (λ (x : MachineValue). x.moment) w_is ∙ omega arith;
   drained_is = ap (λ (x : MachineValue). x.drained) w_is;
@@ -218,11 +218,11 @@ broke_after v w closed fates id branch outcome i h f out some none w_is = record
     s : Step
     s = result_at i branch outcome v
 
-    stop : ℕ → Bool
-    stop c = is_stopped_in c w.conns
+    breaks : ℕ → Bool
+    breaks c = is_broken_in c w.conns
 
     u : MachineState
-    u = given (λ c. is_stopped_in c w.conns) (machine closed v)
+    u = given (λ c. is_broken_in c w.conns) (machine closed v)
 
     conns_are : w.conns ≡ map (broken_if d) v.conns
     conns_are = ap (λ (x : MachineValue). x.conns) w_is
@@ -244,11 +244,11 @@ broke_after v w closed fates id branch outcome i h f out some none w_is = record
         by_conn None o_is = absurd (not_live v.moment branch outcome (slice_set (kept_at i v.calls).call.out branch false) (kept_at i v.calls).call.live some
             (ap (λ (c : CallState). c.live) (sym found) ∙ h.none_live id (ap (λ n. conn_of n v.conns) (sym d_is) ∙ o_is)))
 
-    stops_here : (c : ℕ) → (c == d) ≡ true → is_stopped_in c w.conns ≡ true
-    stops_here c e = ap (λ ks. is_stopped_in c ks) conns_are ∙ stopped_now c d v.conns e (ap (λ n. is_some (conn_of n v.conns)) (eqb-true c d e) ∙ is_open)
+    broken_here : (c : ℕ) → (c == d) ≡ true → is_broken_in c w.conns ≡ true
+    broken_here c e = ap (λ ks. is_broken_in c ks) conns_are ∙ just_broken c d v.conns e (ap (λ n. is_some (conn_of n v.conns)) (eqb-true c d e) ∙ is_open)
 
     u_here : u.calls id ≡ call_state (call_at id v.calls).out None
-    u_here = ap (λ b. if b then call_state (call_at id v.calls).out None else call_at id v.calls) (stops_here id.conn (eq-eqb id.conn d (sym d_is)))
+    u_here = ap (λ b. if b then call_state (call_at id v.calls).out None else call_at id v.calls) (broken_here id.conn (eq-eqb id.conn d (sym d_is)))
 
     out_here : has_out (call_at id v.calls) branch ≡ true
     out_here = ap (λ c. has_out c branch) found ∙ out
@@ -285,33 +285,33 @@ broke_after v w closed fates id branch outcome i h f out some none w_is = record
         ∙ by_conn (other.conn == d) refl ∙ ap (λ (x : Step). x.call) (sym (step_other id other branch outcome u (rw b_is refl)))
       where
         by_conn : (b : Bool) → (other.conn == d) ≡ b → (if other.conn == d then call_state (call_at other v.calls).out None else call_at other v.calls) ≡ u.calls other
-        by_conn true e = rw e (sym (ap (λ b. if b then call_state (call_at other v.calls).out None else call_at other v.calls) (stops_here other.conn e)))
-        by_conn false e = rw e (by_stop (is_stopped_in other.conn w.conns) refl)
+        by_conn true e = rw e (sym (ap (λ b. if b then call_state (call_at other v.calls).out None else call_at other v.calls) (broken_here other.conn e)))
+        by_conn false e = rw e (by_broken (is_broken_in other.conn w.conns) refl)
           where
-            by_stop : (b : Bool) → is_stopped_in other.conn w.conns ≡ b → call_at other v.calls ≡ u.calls other
-            by_stop true b_is =
-                let before : is_stopped_in other.conn v.conns ≡ true = sym (stopped_then other.conn d v.conns e) ∙ ap (λ ks. is_stopped_in other.conn ks) (sym conns_are) ∙ b_is in
-                eta_none (call_at other v.calls) (stop_none v fates other h before)
+            by_broken : (b : Bool) → is_broken_in other.conn w.conns ≡ b → call_at other v.calls ≡ u.calls other
+            by_broken true b_is =
+                let before : is_broken_in other.conn v.conns ≡ true = sym (broken_then other.conn d v.conns e) ∙ ap (λ ks. is_broken_in other.conn ks) (sym conns_are) ∙ b_is in
+                eta_none (call_at other v.calls) (broken_not_live v fates other h before)
                 ∙ sym (ap (λ b. if b then call_state (call_at other v.calls).out None else call_at other v.calls) b_is)
-            by_stop false b_is = sym (ap (λ b. if b then call_state (call_at other v.calls).out None else call_at other v.calls) b_is)
+            by_broken false b_is = sym (ap (λ b. if b then call_state (call_at other v.calls).out None else call_at other v.calls) b_is)
 
 -- ---- each result
 
 pub result_breaks : (v w : MachineValue) (closed : ℕ → ConnState) (fates : ℕ → Fate) (id : CallId) (branch : ℕ) (outcome : Outcome) (took : Took) → HasFates fates v
-    → ResultTaken id branch outcome v w took → AfterBreaks (λ c. is_stopped_in c w.conns) fates (Result id branch outcome) (machine closed v) (machine closed w)
+    → ResultTaken id branch outcome v w took → AfterBreaks (λ c. is_broken_in c w.conns) fates (Result id branch outcome) (machine closed v) (machine closed w)
 result_breaks v w closed fates id branch outcome took h (inl n) = by_same n.2
   where
-    by_same : w ≡ v → AfterBreaks (λ c. is_stopped_in c w.conns) fates (Result id branch outcome) (machine closed v) (machine closed w)
-    by_same e = subst (λ x. AfterBreaks (λ c. is_stopped_in c x.conns) fates (Result id branch outcome) (machine closed v) (machine closed x)) (sym e)
-        (given_up (Result id branch outcome) (λ c. is_stopped_in c v.conns) fates (machine closed v) (machine closed v) (machine closed v) refl (none_broken v fates closed h)
-        (stays_given v fates closed (λ c. is_stopped_in c v.conns) h (λ c. refl)) (none_taken (machine closed v) id branch outcome n.0)).0
+    by_same : w ≡ v → AfterBreaks (λ c. is_broken_in c w.conns) fates (Result id branch outcome) (machine closed v) (machine closed w)
+    by_same e = subst (λ x. AfterBreaks (λ c. is_broken_in c x.conns) fates (Result id branch outcome) (machine closed v) (machine closed x)) (sym e)
+        (given_up (Result id branch outcome) (λ c. is_broken_in c v.conns) fates (machine closed v) (machine closed v) (machine closed v) refl (none_broken v fates closed h)
+        (stays_given v fates closed (λ c. is_broken_in c v.conns) h (λ c. refl)) (none_taken (machine closed v) id branch outcome n.0)).0
 result_breaks v w closed fates id branch outcome took h (inr (i, f, out, seen, its, inl taken)) =
-    (given_up (Result id branch outcome) (λ c. is_stopped_in c w.conns) fates (machine closed v) (machine closed v) (machine closed w) refl (none_broken v fates closed h)
-    (stays_given v fates closed (λ c. is_stopped_in c w.conns) h (λ c. ap (λ (x : MachineValue). is_stopped_in c x.conns) taken.1
-    ∙ fills_stop (kept_at i v.calls).id (result_at i branch outcome v).reply (conn_of c v.conns) _ (fills_in (kept_at i v.calls).id (result_at i branch outcome v).reply v.conns c)))
+    (given_up (Result id branch outcome) (λ c. is_broken_in c w.conns) fates (machine closed v) (machine closed v) (machine closed w) refl (none_broken v fates closed h)
+    (stays_given v fates closed (λ c. is_broken_in c w.conns) h (λ c. ap (λ (x : MachineValue). is_broken_in c x.conns) taken.1
+    ∙ fills_broken (kept_at i v.calls).id (result_at i branch outcome v).reply (conn_of c v.conns) _ (fills_in (kept_at i v.calls).id (result_at i branch outcome v).reply v.conns c)))
     (taken_after v w closed fates id branch outcome i h f out taken.1)).0
 result_breaks v w closed fates id branch outcome took h (inr (i, f, out, seen, its, inr broke)) =
-    (given_up (Result id branch outcome) (λ c. is_stopped_in c w.conns) fates (machine closed v) (given (λ c. is_stopped_in c w.conns) (machine closed v)) (machine closed w) refl
+    (given_up (Result id branch outcome) (λ c. is_broken_in c w.conns) fates (machine closed v) (given (λ c. is_broken_in c w.conns) (machine closed v)) (machine closed w) refl
     (none_broken v fates closed h)
     (record { moment_is = refl; drained_is = refl; jobs_are = refl; conns_are = λ c. refl; calls_are = λ x. refl })
     (broke_after v w closed fates id branch outcome i h f out broke.1 broke.2 broke.3)).0

@@ -10,7 +10,7 @@ use Rattle.gateway_theory.specs.declared.fault.Took.{Took}
 use Rattle.gateway_model.specs.declared.id.CallId.{CallId}
 use Rattle.gateway_theory.specs.Breaks.{seen_by}
 use Rattle.gateway_theory.specs.Conn.{ConnValue}
-use Rattle.gateway_theory.specs.Ends.{is_stopped_in}
+use Rattle.gateway_theory.specs.Ends.{is_broken_in}
 use Rattle.gateway_theory.specs.Orderly.{IsOrderly}
 use Rattle.gateway_theory.specs.Replies.{reply_with}
 use Rattle.gateway_theory.specs.Serving.{Breaks}
@@ -25,7 +25,7 @@ use Rattle.gateway_theory.specs.Served.{Served}
 use Rattle.gateway_model.specs.Starts.{Placed, occurrences}
 use Rattle.gateway_theory.specs.Step.{CallState, Live, has_out, result_on}
 use Rattle.gateway_theory.specs.Store.{MachineValue, broken_at, broken_if, call_at, conn_of, filled_in, kept_at, no_call}
-use Rattle.gateway_theory.specs.lemmas.EndLemmas.{fills_in, stopped_now}
+use Rattle.gateway_theory.specs.lemmas.EndLemmas.{fills_in, just_broken}
 use Rattle.gateway_theory.specs.lemmas.OrderSteps.{filled_back}
 use Rattle.gateway_theory.specs.lemmas.SeenLemmas.{seen_is}
 use Rattle.gateway_theory.specs.lemmas.StoreLemmas.{call_found}
@@ -77,43 +77,43 @@ module _ (id : CallId) (branch : ℕ) (v u : MachineValue) (took : Took) where
 
 -- a connection breaks, or none does
 abbrev pub BreaksIn : MachineValue → MachineValue → Bool → Type 0
-BreaksIn v w true = (c : ℕ) × (is_stopped_in c w.conns ≡ true) × (is_stopped_in c v.conns ≡ false)
-BreaksIn v w false = (c : ℕ) → is_stopped_in c w.conns ≡ true → is_stopped_in c v.conns ≡ true
+BreaksIn v w true = (c : ℕ) × (is_broken_in c w.conns ≡ true) × (is_broken_in c v.conns ≡ false)
+BreaksIn v w false = (c : ℕ) → is_broken_in c w.conns ≡ true → is_broken_in c v.conns ≡ true
 
 pub forgotten_conns : (id : CallId) (u w : MachineValue) → Forgets id u w → w.conns ≡ u.conns
 forgotten_conns id u w (inl e) = ap (λ (m : MachineValue). m.conns) e
 forgotten_conns id u w (inr e) = ap (λ (m : MachineValue). m.conns) e.1
 
 breaks_same : (v u w : MachineValue) (b : Bool) → w.conns ≡ u.conns → BreaksIn v u b → BreaksIn v w b
-breaks_same v u w true e h = (h.0, ap (is_stopped_in h.0) e ∙ h.1, h.2)
-breaks_same v u w false e h = λ c stopped. h c (sym (ap (is_stopped_in c) e) ∙ stopped)
+breaks_same v u w true e h = (h.0, ap (is_broken_in h.0) e ∙ h.1, h.2)
+breaks_same v u w false e h = λ c broken. h c (sym (ap (is_broken_in c) e) ∙ broken)
 
 none_breaks : (v u : MachineValue) (b : Bool) → b ≡ false → u ≡ v → BreaksIn v u b
 none_breaks v u true e same = absurd (cc)
-none_breaks v u false e same = λ c stopped. sym (ap (λ (m : MachineValue). is_stopped_in c m.conns) same) ∙ stopped
+none_breaks v u false e same = λ c broken. sym (ap (λ (m : MachineValue). is_broken_in c m.conns) same) ∙ broken
 
 one_breaks : (v u : MachineValue) (b : Bool) (c : ℕ) (k : ConnValue) → b ≡ true → conn_of c v.conns ≡ Some k → k.broken ≡ false → u.conns ≡ map (broken_if c) v.conns → BreaksIn v u b
 one_breaks v u false c k e k_is on conns_are = absurd (cc)
 one_breaks v u true c k e k_is on conns_are = (
   c,
-  ap (is_stopped_in c) conns_are ∙ stopped_now c c v.conns (eq-eqb c c refl) (ap (λ o. is_some o) k_is),
+  ap (is_broken_in c) conns_are ∙ just_broken c c v.conns (eq-eqb c c refl) (ap (λ o. is_some o) k_is),
   ap (λ o. option_map_or (λ (x : ConnValue). x.broken) o false) k_is ∙ on,
 )
 
 filled_breaks : (v u : MachineValue) (b : Bool) (id : CallId) (reply : Option ReplyEntry) → b ≡ false → u.conns ≡ filled_in (option_map (reply_with id) reply) v.conns → BreaksIn v u b
 filled_breaks v u true id reply e conns_are = absurd (cc)
-filled_breaks v u false id reply e conns_are = λ c stopped. by_conn c (conn_of c u.conns) refl stopped
+filled_breaks v u false id reply e conns_are = λ c broken. by_conn c (conn_of c u.conns) refl broken
   where
-    by_conn : (c : ℕ) (o : Option ConnValue) → conn_of c u.conns ≡ o → is_stopped_in c u.conns ≡ true → is_stopped_in c v.conns ≡ true
-    by_conn c None o_is stopped = absurd (let clash : true ≡ false = sym stopped ∙ ap (λ o. option_map_or (λ (x : ConnValue). x.broken) o false) o_is in cc)
-    by_conn c (Some l) o_is stopped =
+    by_conn : (c : ℕ) (o : Option ConnValue) → conn_of c u.conns ≡ o → is_broken_in c u.conns ≡ true → is_broken_in c v.conns ≡ true
+    by_conn c None o_is broken = absurd (let clash : true ≡ false = sym broken ∙ ap (λ o. option_map_or (λ (x : ConnValue). x.broken) o false) o_is in cc)
+    by_conn c (Some l) o_is broken =
         let x = filled_back id reply (conn_of c v.conns) (conn_of c (filled_in (option_map (reply_with id) reply) v.conns)) l (fills_in id reply v.conns c) (ap (conn_of c) (sym conns_are) ∙ o_is) in
-        ap (λ o. option_map_or (λ (k : ConnValue). k.broken) o false) x.1 ∙ sym x.4 ∙ sym (ap (λ o. option_map_or (λ (k : ConnValue). k.broken) o false) o_is) ∙ stopped
+        ap (λ o. option_map_or (λ (k : ConnValue). k.broken) o false) x.1 ∙ sym x.4 ∙ sym (ap (λ o. option_map_or (λ (k : ConnValue). k.broken) o false) o_is) ∙ broken
 
 module _ (id : CallId) (branch : ℕ) (v u w : MachineValue) (took : Took) (orderly : IsOrderly v) (forgets : Forgets id u w) where
   -- a call that can be decided has its connection, which is not broken
   its_conn : (i : ℕ) → i < length v.calls → is_some (kept_at i v.calls).call.live ≡ true → (k : ConnValue) × (conn_of (kept_at i v.calls).id.conn v.conns ≡ Some k) × (k.broken ≡ false)
-  its_conn i lt live = (orderly.calls_are i no_call lt).goes_on live
+  its_conn i lt live = (orderly.calls_are i no_call lt).on_unbroken live
 
   pub result_breaks_are : (outcome : Outcome) → ResultTaken id branch outcome v u took → BreaksIn v w took.broke
   result_breaks_are outcome (inl (out, is, same)) = breaks_same v u w took.broke (forgotten_conns id u w forgets) (none_breaks v u took.broke (ap (λ (t : Took). t.broke) is) same)
@@ -151,7 +151,7 @@ module _ (id : CallId) (branch : ℕ) (v u w : MachineValue) (took : Took) (orde
         where
           none_conns : (v u : MachineValue) (b : Bool) → b ≡ false → u.conns ≡ v.conns → BreaksIn v u b
           none_conns v u true x same = absurd (cc)
-          none_conns v u false x same = λ c stopped. sym (ap (is_stopped_in c) same) ∙ stopped
+          none_conns v u false x same = λ c broken. sym (ap (is_broken_in c) same) ∙ broken
 
 pub breaks_of : (v w : GatewayValue) (b : Bool) → BreaksIn v.machine w.machine b → Breaks v w b
 breaks_of v w true h = h

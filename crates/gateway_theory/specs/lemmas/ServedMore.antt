@@ -10,10 +10,10 @@ use Rattle.gateway_theory.specs.declared.fault.StepFault.{StepFault}
 use Rattle.gateway_model.specs.declared.id.CallId.{CallId}
 use Rattle.gateway_theory.specs.declared.trigger.Trigger.TheVariants.{HungUp}
 use Rattle.gateway_theory.specs.Conn.{ConnValue}
-use Rattle.gateway_theory.specs.Ends.{CallsEnd, MayEnd, ended_below, ended_call, is_stopped_in, without_reply}
+use Rattle.gateway_theory.specs.Ends.{CallsEnd, MayEnd, ended_below, ended_call, is_broken_in, without_reply}
 use Rattle.gateway_model.specs.Events.{Before, hung_up, is_hang_up_of, is_open, listens, once, stream}
 use Rattle.gateway_model.specs.declared.event.Event.TheVariants.{HangUp}
-use Rattle.gateway_theory.specs.Gateway.{GatewayValue, StreamValue, goes_on, stream_at, stream_of}
+use Rattle.gateway_theory.specs.Gateway.{GatewayValue, StreamValue, is_listening, stream_at, stream_of}
 use Rattle.gateway_model.specs.Job.{JobValue}
 use Rattle.gateway_theory.specs.Kept.{KeptValue}
 use Rattle.gateway_theory.specs.Machine.{slot_at}
@@ -21,7 +21,7 @@ use Rattle.gateway_model.specs.Occurrence as occurs
 use Rattle.gateway_theory.specs.Orderly.{IsInOrder, IsOrderly}
 use Rattle.gateway_model.specs.Past.{call_id}
 use Rattle.gateway_theory.specs.Served.{HasConns, Served, StandsBy}
-use Rattle.gateway_theory.specs.Serving.{HangsUp, hung, silent, IsDeaf, IsServing, ListensAt, without_more}
+use Rattle.gateway_theory.specs.Serving.{HangsUp, hung, unnoticed, NotListening, IsServing, ListensAt, without_more}
 use Rattle.gateway_theory.specs.Step.{CallState, Live, call_state}
 use Rattle.gateway_theory.specs.Store.{MachineValue, call_at, conn_at, conn_of}
 use Rattle.gateway_theory.specs.lemmas.Cases.{or_true, or_none}
@@ -47,7 +47,7 @@ number_of c (x ∷ conns) k e = by_it (x.number == c) refl e (λ f. number_of c 
     by_it true its f rest = ap (λ (y : ConnValue). y.number) (sym (some_same f)) ∙ eqb-true x.number c its
     by_it false its f rest = rest f
 
-module _ (n : ℕ) (s : MachineValue) (h : IsOrderly s) (stopped : is_stopped_in n s.conns ≡ true) where
+module _ (n : ℕ) (s : MachineValue) (h : IsOrderly s) (broken : is_broken_in n s.conns ≡ true) where
   -- a call of another connection is not ended by it
   other_call : (id : CallId) (c : CallState) → (n == id.conn) ≡ false → (ended_call (HungUp n) id c).reply ≡ None
   other_call id c ne = by_live c.live
@@ -56,17 +56,17 @@ module _ (n : ℕ) (s : MachineValue) (h : IsOrderly s) (stopped : is_stopped_in
       by_live None = refl
       by_live (Some l) = rw ne refl
 
-  call_still : (k : KeptValue) → IsInOrder s.conns k → without_reply (ended_below (HungUp n) (is_stopped_in k.id.conn s.conns) true k) ≡ k
-  call_still k o = by_stop (is_stopped_in k.id.conn s.conns) refl k.call.live refl
+  call_still : (k : KeptValue) → IsInOrder s.conns k → without_reply (ended_below (HungUp n) (is_broken_in k.id.conn s.conns) true k) ≡ k
+  call_still k o = by_broken (is_broken_in k.id.conn s.conns) refl k.call.live refl
     where
-      by_stop : (b : Bool) → is_stopped_in k.id.conn s.conns ≡ b → (l : Option Live) → k.call.live ≡ l → without_reply (ended_below (HungUp n) b true k) ≡ k
-      by_stop true x None l_is =
+      by_broken : (b : Bool) → is_broken_in k.id.conn s.conns ≡ b → (l : Option Live) → k.call.live ≡ l → without_reply (ended_below (HungUp n) b true k) ≡ k
+      by_broken true x None l_is =
           ap (λ l. record { id = k.id; call = call_state k.call.out l; reply = None }) (sym l_is) ∙ ap (λ r. record { id = k.id; call = k.call; reply = r }) (sym o.no_reply)
-      by_stop true x (Some l) l_is = absurd (
-          let c = o.goes_on (ap (λ y. is_some y) l_is) in
+      by_broken true x (Some l) l_is = absurd (
+          let c = o.on_unbroken (ap (λ y. is_some y) l_is) in
           let clash : true ≡ false = sym x ∙ ap (λ y. option_map_or (λ (z : ConnValue). z.broken) y false) c.1 ∙ c.2 in cc)
-      by_stop false x l l_is =
-          let ne : (n == k.id.conn) ≡ false = ne_eqb n k.id.conn (λ same. let clash : true ≡ false = sym stopped ∙ ap (λ m. is_stopped_in m s.conns) same ∙ x in absurd (cc)) in
+      by_broken false x l l_is =
+          let ne : (n == k.id.conn) ≡ false = ne_eqb n k.id.conn (λ same. let clash : true ≡ false = sym broken ∙ ap (λ m. is_broken_in m s.conns) same ∙ x in absurd (cc)) in
           by_live ne l l_is
         where
           by_live : (n == k.id.conn) ≡ false → (l : Option Live) → k.call.live ≡ l → without_reply (ended_below (HungUp n) false true k) ≡ k
@@ -82,7 +82,7 @@ module _ (n : ℕ) (s : MachineValue) (h : IsOrderly s) (stopped : is_stopped_in
     moment_is = refl;
     drained_is = refl;
     jobs_are = refl;
-    calls_are = sym (map_still (λ k. without_reply (ended_below (HungUp n) (is_stopped_in k.id.conn s.conns) true k)) s.calls (λ j d lt. call_still (slice_index_or s.calls j d) (h.calls_are j d lt)));
+    calls_are = sym (map_still (λ k. without_reply (ended_below (HungUp n) (is_broken_in k.id.conn s.conns) true k)) s.calls (λ j d lt. call_still (slice_index_or s.calls j d) (h.calls_are j d lt)));
     numbers_are = refl;
     conns_are = λ c. by_conn c (conn_of c s.conns) refl;
     breaks_are = λ c a b. absurd (let clash : true ≡ false = sym a ∙ b in cc);
@@ -105,14 +105,14 @@ module _ (n : ℕ) (s : MachineValue) (h : IsOrderly s) (stopped : is_stopped_in
           by_break j false x =
               let number : k.number ≡ c = number_of c s.conns k o_is in
               ap (λ r. option_or (slot_at j k.slots) r) (other_call (call_id k.number (k.taken + j)) (call_at (call_id k.number (k.taken + j)) s.calls)
-              (ne_eqb n k.number (λ same. let clash : true ≡ false = sym stopped ∙ ap (λ m. is_stopped_in m s.conns) (same ∙ number)
+              (ne_eqb n k.number (λ same. let clash : true ≡ false = sym broken ∙ ap (λ m. is_broken_in m s.conns) (same ∙ number)
               ∙ ap (λ y. option_map_or (λ (z : ConnValue). z.broken) y false) o_is ∙ x in absurd (cc)))) ∙ or_none (slot_at j k.slots)
 
 -- ---- a hang-up
 
 -- of a connection whose pieces are taken by the definitions, and are not by the gateway
-pub deaf_stopped : (n : ℕ) (v : GatewayValue) (opened : List ℕ) (es : Before) → IsServing v → HasConns v opened es → IsDeaf n v → listens opened n es ≡ true → is_stopped_in n v.machine.conns ≡ true
-deaf_stopped n v opened es serving h deaf on = by_conn (conn_of n v.machine.conns) refl (stream_of n v.streams) refl
+pub not_listening_broken : (n : ℕ) (v : GatewayValue) (opened : List ℕ) (es : Before) → IsServing v → HasConns v opened es → NotListening n v → listens opened n es ≡ true → is_broken_in n v.machine.conns ≡ true
+not_listening_broken n v opened es serving h not_listening on = by_conn (conn_of n v.machine.conns) refl (stream_of n v.streams) refl
   where
     parts : (a b : Bool) → (a && not b) ≡ true → (a ≡ true) × (b ≡ false)
     parts true false e = (refl, refl)
@@ -122,7 +122,7 @@ deaf_stopped n v opened es serving h deaf on = by_conn (conn_of n v.machine.conn
     both : (is_open opened n es ≡ true) × (hung_up opened n es ≡ false)
     both = parts (is_open opened n es) (hung_up opened n es) on
 
-    by_conn : (k : Option ConnValue) → conn_of n v.machine.conns ≡ k → (s : Option StreamValue) → stream_of n v.streams ≡ s → is_stopped_in n v.machine.conns ≡ true
+    by_conn : (k : Option ConnValue) → conn_of n v.machine.conns ≡ k → (s : Option StreamValue) → stream_of n v.streams ≡ s → is_broken_in n v.machine.conns ≡ true
     by_conn None k_is s s_is = absurd (let clash : true ≡ false = sym both.0 ∙ h.open_are n ∙ ap (λ o. is_some o) k_is in cc)
     by_conn (Some k) k_is None s_is = absurd (
         let clash : false ≡ true = sym (ap (λ o. is_some o) s_is) ∙ stream_by_number n v.streams ∙ ap (λ ns. list_any (λ m. m == n) ns) serving.numbers_are
@@ -132,13 +132,13 @@ deaf_stopped n v opened es serving h deaf on = by_conn (conn_of n v.machine.conn
         by_break : (b : Bool) → k.broken ≡ b → k.broken ≡ true
         by_break true x = x
         by_break false x = absurd (
-            let going : goes_on k s ≡ true = rw (x, h.hung_are n k s k_is s_is x, both.1) refl in
-            let clash : true ≡ false = sym going ∙ deaf k s k_is s_is in cc)
+            let going : is_listening k s ≡ true = rw (x, h.hung_are n k s k_is s_is x, both.1) refl in
+            let clash : true ≡ false = sym going ∙ not_listening k s k_is s_is in cc)
 
 module _ (n : ℕ) (v : GatewayValue) (opened : List ℕ) (es : Before) (taken : ℕ → List ReplyEntry) (handed : List JobValue) (serving : IsServing v) (h : Served v opened es taken handed) where
   -- the gateway does nothing
-  pub silent_served : IsDeaf n v → Served v opened (HangUp n ∷ es) taken handed
-  silent_served deaf = record {
+  pub unnoticed_served : NotListening n v → Served v opened (HangUp n ∷ es) taken handed
+  unnoticed_served not_listening = record {
     conns = record {
       below = λ place its. let lt = h.conns.below place its in omega (arith, lt);
       count_is = h.conns.count_is;
@@ -154,7 +154,7 @@ module _ (n : ℕ) (v : GatewayValue) (opened : List ℕ) (es : Before) (taken :
           → (b : Bool) → (n == c) ≡ b → s.hung_up ≡ hung_up opened c (HangUp n ∷ es)
       by_number c k s k_is s_is on false x = h.conns.hung_are c k s k_is s_is on ∙ sym (hung_still opened c (HangUp n) es x)
       by_number c k s k_is s_is on true x =
-          let off : goes_on k s ≡ false = deaf k s (ap (λ m. conn_of m v.machine.conns) (eqb-true n c x) ∙ k_is) (ap (λ m. stream_of m v.streams) (eqb-true n c x) ∙ s_is) in
+          let off : is_listening k s ≡ false = not_listening k s (ap (λ m. conn_of m v.machine.conns) (eqb-true n c x) ∙ k_is) (ap (λ m. stream_of m v.streams) (eqb-true n c x) ∙ s_is) in
           let hung : s.hung_up ≡ true = by_it s.hung_up (sym (ap (λ b. not b && not s.hung_up) on) ∙ off) in
           hung ∙ sym (ap (λ b. b || (is_open opened c es && is_hang_up_of c (HangUp n))) (sym (h.conns.hung_are c k s k_is s_is on) ∙ hung))
         where
@@ -167,7 +167,7 @@ module _ (n : ℕ) (v : GatewayValue) (opened : List ℕ) (es : Before) (taken :
           (λ os stands. stands) h.stands
       by_listens true x = stands_one v v opened (HangUp n) es taken handed refl (occurs.HangUp n) (λ os at. at ∙ ap (λ b. once b (occurs.HangUp n)) x) (λ c. text_still opened c (HangUp n) es refl)
           (λ os stands. ended_stands v v (λ c. stream opened c es) taken handed os (λ c t t_is on. t_is) (λ c none. none) refl refl serving.orderly stands (occurs.HangUp n) (HungUp n) v.machine
-          (hang_up_ends n v.machine) (quiet_hang_up n v.machine serving.orderly (deaf_stopped n v opened es serving h.conns deaf x))) h.stands
+          (hang_up_ends n v.machine) (quiet_hang_up n v.machine serving.orderly (not_listening_broken n v opened es serving h.conns not_listening x))) h.stands
 
   -- its calls end, or it breaks
   pub hung_served : (i : ℕ) (w : GatewayValue) → ListensAt n v i → CallsEnd (HungUp n) v.machine w.machine → w ≡ record v { machine = w.machine; streams = without_more i v.streams }
@@ -235,6 +235,6 @@ module _ (n : ℕ) (v : GatewayValue) (opened : List ℕ) (es : Before) (taken :
 
 pub hang_up_served : (n : ℕ) (v w : GatewayValue) (result : Result ⊤ StepFault) (opened : List ℕ) (es : Before) (taken : ℕ → List ReplyEntry) (handed : List JobValue)
     → IsServing v → Served v opened es taken handed → HangsUp n v w result → Served w opened (HangUp n ∷ es) taken handed
-hang_up_served n v w result opened es taken handed serving h (silent deaf r w_is) =
-    subst (λ x. Served x opened (HangUp n ∷ es) taken handed) (sym w_is) (silent_served n v opened es taken handed serving h deaf)
+hang_up_served n v w result opened es taken handed serving h (unnoticed not_listening r w_is) =
+    subst (λ x. Served x opened (HangUp n ∷ es) taken handed) (sym w_is) (unnoticed_served n v opened es taken handed serving h not_listening)
 hang_up_served n v w result opened es taken handed serving h (hung i l ends rest r) = hung_served n v opened es taken handed serving h i w l ends rest

@@ -11,7 +11,7 @@ use Rattle.gateway_model.specs.declared.entry.ReplyEntry.{ReplyEntry}
 use Rattle.gateway_theory.specs.Conn.{ConnValue, conn_value}
 use Rattle.gateway_model.specs.Events.{Before, Occurs, connections, hung_up, is_hang_up_of, is_open, onto, once, piece_of, stream, succeeds, IsShifted}
 use Rattle.gateway_model.specs.declared.event.Event.TheVariants.{Closing, Opening}
-use Rattle.gateway_theory.specs.Gateway.{GatewayStands, GatewayValue, StreamValue, goes_on, new_stream, stream_of}
+use Rattle.gateway_theory.specs.Gateway.{GatewayStands, GatewayValue, StreamValue, is_listening, new_stream, stream_of}
 use Rattle.gateway_model.specs.Job.{JobValue}
 use Rattle.gateway_model.specs.Occurrence as occurs
 use Rattle.gateway_theory.specs.Served.{Served, StandsBy}
@@ -200,7 +200,7 @@ module _ (v w : GatewayValue) (opened : List ℕ) (es : Before) (taken : ℕ →
       text_is : (c : ℕ) → stream more c (Opening ∷ es) ≡ stream opened c es
       text_is c = text_still more c Opening es refl ∙ same.stream_is c
 
-      reads : (c : ℕ) (k : ConnValue) (s : StreamValue) → conn_of c w.machine.conns ≡ Some k → stream_of c w.streams ≡ Some s → goes_on k s ≡ true
+      reads : (c : ℕ) (k : ConnValue) (s : StreamValue) → conn_of c w.machine.conns ≡ Some k → stream_of c w.streams ≡ Some s → is_listening k s ≡ true
           → (b : Bool) → (n == c) ≡ b → (given : List HttpRequest) × HasRead s.reader (stream more c (Opening ∷ es)) given
       reads c k s k_is s_is going false e =
           let read = h.conns.reads_are c k s (sym (conn_other c e) ∙ k_is) (sym (stream_other c e) ∙ s_is) going in
@@ -283,7 +283,7 @@ module _ (v w : GatewayValue) (opened : List ℕ) (es : Before) (taken : ℕ →
           h.conns.hung_are c k s (sym (conn_is c ∙ ap (λ b. if b then None else conn_of c v.machine.conns) e) ∙ k_is)
           (sym (stream_is c ∙ ap (λ b. if b then None else stream_of c v.streams) e) ∙ s_is) on ∙ sym (hung_still opened c (Closing n) es refl)
 
-      reads : (c : ℕ) (k : ConnValue) (s : StreamValue) → conn_of c w.machine.conns ≡ Some k → stream_of c w.streams ≡ Some s → goes_on k s ≡ true
+      reads : (c : ℕ) (k : ConnValue) (s : StreamValue) → conn_of c w.machine.conns ≡ Some k → stream_of c w.streams ≡ Some s → is_listening k s ≡ true
           → (b : Bool) → (c == n) ≡ b → (given : List HttpRequest) × HasRead s.reader (stream opened c (Closing n ∷ es)) given
       reads c k s k_is s_is going true e = absurd (let clash : None ≡ Some k = sym (conn_is c ∙ ap (λ b. if b then None else conn_of c v.machine.conns) e) ∙ k_is in cc)
       reads c k s k_is s_is going false e =

@@ -11,14 +11,14 @@ use Rattle.http_pieces.specs.Requests.{RefusedBy, Closed, Requests}
 use Rattle.gateway_model.specs.declared.entry.ReplyEntry.{ReplyEntry}
 use Rattle.gateway_theory.specs.declared.fault.StepFault.{StepFault}
 use Rattle.gateway_model.specs.declared.id.CallId.{CallId}
-use Rattle.gateway_theory.specs.Breaks.{CallAfter, ConnBy, EntryBreaks, is_stopped}
+use Rattle.gateway_theory.specs.Breaks.{CallAfter, ConnBy, ComingBreaks, is_broken_after}
 use Rattle.gateway_theory.specs.Conn.{ConnValue}
-use Rattle.gateway_theory.specs.Ends.{is_stopped_in}
+use Rattle.gateway_theory.specs.Ends.{is_broken_in}
 use Rattle.gateway_theory.specs.Enters.{Enters}
 use Rattle.gateway_model.specs.Events.{Before, Gains, Occurs, listens, stream}
 use Rattle.gateway_model.specs.declared.event.Event.TheVariants.{Piece}
 use Rattle.gateway_theory.specs.Fate.{fates_after, is_broken}
-use Rattle.gateway_theory.specs.Gateway.{Brings, Feeds, GatewayStands, GatewayValue, HasCome, StreamValue, goes_on, stream_at, stream_of, with_bytes}
+use Rattle.gateway_theory.specs.Gateway.{Brings, Feeds, GatewayStands, GatewayValue, HasCome, StreamValue, is_listening, stream_at, stream_of, with_bytes}
 use Rattle.gateway_model.specs.Job.{JobValue}
 use Rattle.gateway_theory.specs.Machine.{arriving, next_id, with_slot}
 use Rattle.gateway_model.specs.Occurrence.{Coming, Comes, Occurrence, Refused, Request}
@@ -26,14 +26,14 @@ use Rattle.gateway_model.specs.Arrival.{arrival_of}
 use Rattle.gateway_model.specs.Past.{is_call}
 use Rattle.gateway_theory.specs.RequestLaws.{RequestLaws}
 use Rattle.gateway_theory.specs.Served.{HasConns, Served, ServedFed, StandsBy}
-use Rattle.gateway_theory.specs.Serving.{FedTo, came, dropped, unheard, unread, IsDeaf, IsServing, ListensAt}
+use Rattle.gateway_theory.specs.Serving.{FedTo, came, dropped, not_fed, unread, NotListening, IsServing, ListensAt}
 use Rattle.gateway_model.specs.Starts.{occurrences}
 use Rattle.gateway_theory.specs.Store.{MachineValue, broken_at, conn_at, conn_of, machine, numbers}
 use Rattle.gateway_theory.specs.lemmas.Cases.{and_true}
-use Rattle.gateway_theory.specs.lemmas.Concerned.{not_stopped}
+use Rattle.gateway_theory.specs.lemmas.Concerned.{not_broken}
 use Rattle.gateway_theory.specs.lemmas.CutLemmas.{back, occurrences_onto}
-use Rattle.gateway_theory.specs.lemmas.EndLemmas.{numbers_broken, stopped_now}
-use Rattle.gateway_theory.specs.lemmas.EntryFates.{fated_entry}
+use Rattle.gateway_theory.specs.lemmas.EndLemmas.{numbers_broken, just_broken}
+use Rattle.gateway_theory.specs.lemmas.ComingFates.{fated_coming}
 use Rattle.gateway_theory.specs.lemmas.EventLemmas.{gains_unique}
 use Rattle.gateway_theory.specs.lemmas.FeedLemmas.{other_conn, stream_found, stream_set}
 use Rattle.gateway_theory.specs.lemmas.FeedSteps.{fed_stands}
@@ -42,37 +42,37 @@ use Rattle.gateway_theory.specs.lemmas.GatewaySteps.{goes_broken, still_off}
 use Rattle.gateway_theory.specs.lemmas.OrderLemmas.{some_same}
 use Rattle.gateway_theory.specs.lemmas.OrderSteps.{fates_next}
 use Rattle.gateway_theory.specs.lemmas.ServedLemmas.{going_parts, hung_still, open_same, open_still, stands_none}
-use Rattle.gateway_theory.specs.lemmas.ServedMore.{deaf_stopped}
+use Rattle.gateway_theory.specs.lemmas.ServedMore.{not_listening_broken}
 use Rattle.gateway_theory.specs.lemmas.ServingLemmas.{keeps_entered, streams_apart}
 use Rattle.gateway_theory.specs.lemmas.StoreMore.{conn_found}
 
 -- ---- what comes on a broken connection does nothing
 
 module _ (c : ℕ) (x : Coming) (v : GatewayValue) (texts : ℕ → List ℕ) (taken : ℕ → List ReplyEntry) (handed : List JobValue) (os : List Occurrence)
-    (stopped : is_stopped_in c v.machine.conns ≡ true) (h : GatewayStands v texts taken handed os) where
-  abbrev stops : ℕ → Bool
-  stops = λ d. is_stopped_in d v.machine.conns
+    (broken : is_broken_in c v.machine.conns ≡ true) (h : GatewayStands v texts taken handed os) where
+  abbrev breaks : ℕ → Bool
+  breaks = λ d. is_broken_in d v.machine.conns
 
   broken_fate : is_broken (h.fates c) ≡ true
   broken_fate = by_fate (is_broken (h.fates c)) refl
     where
       by_fate : (b : Bool) → is_broken (h.fates c) ≡ b → is_broken (h.fates c) ≡ true
       by_fate true e = e
-      by_fate false e = absurd (let clash : true ≡ false = sym stopped ∙ not_stopped c v.machine.conns h.fates h.fates_are e in cc)
+      by_fate false e = absurd (let clash : true ≡ false = sym broken ∙ not_broken c v.machine.conns h.fates h.fates_are e in cc)
 
-  other : (d : ℕ) → is_stopped stops h.fates d ≡ false → (d == c) ≡ false
-  other d on = ne_eqb d c (λ same. let clash : true ≡ false = sym (ap (λ m. is_stopped stops h.fates m) same ∙ ap (λ b. b || stops c) broken_fate) ∙ on in absurd (cc))
+  other : (d : ℕ) → is_broken_after breaks h.fates d ≡ false → (d == c) ≡ false
+  other d on = ne_eqb d c (λ same. let clash : true ≡ false = sym (ap (λ m. is_broken_after breaks h.fates m) same ∙ ap (λ b. b || breaks c) broken_fate) ∙ on in absurd (cc))
 
-  quiet_entry : EntryBreaks stops h.fates c x (machine h.closed v.machine) (machine h.closed v.machine)
-  quiet_entry = record {
+  quiet_coming : ComingBreaks breaks h.fates c x (machine h.closed v.machine) (machine h.closed v.machine)
+  quiet_coming = record {
     moment_is = refl;
     drained_is = refl;
-    calls_are = λ id. by_call id (is_stopped stops h.fates id.conn) refl;
-    conns_are = λ d. by_conn d (is_stopped stops h.fates d) refl;
-    jobs_are = sym (ap (λ b. v.machine.jobs ++ (if b || stops c then [] else (arriving c x (machine h.closed v.machine)).jobs)) broken_fate ∙ append-nil v.machine.jobs);
+    calls_are = λ id. by_call id (is_broken_after breaks h.fates id.conn) refl;
+    conns_are = λ d. by_conn d (is_broken_after breaks h.fates d) refl;
+    jobs_are = sym (ap (λ b. v.machine.jobs ++ (if b || breaks c then [] else (arriving c x (machine h.closed v.machine)).jobs)) broken_fate ∙ append-nil v.machine.jobs);
   }
     where
-      by_call : (id : CallId) (b : Bool) → is_stopped stops h.fates id.conn ≡ b
+      by_call : (id : CallId) (b : Bool) → is_broken_after breaks h.fates id.conn ≡ b
           → CallAfter b id (Comes c x) ((machine h.closed v.machine).calls id) ((machine h.closed v.machine).calls id)
           (if is_call (next_id c (machine h.closed v.machine)) id then (arriving c x (machine h.closed v.machine)).call else (machine h.closed v.machine).calls id)
       by_call id true e = record { outs_are = λ i. sym (and_true _) }
@@ -84,18 +84,18 @@ module _ (c : ℕ) (x : Coming) (v : GatewayValue) (texts : ℕ → List ℕ) (t
           not_its : is_call (next_id c (machine h.closed v.machine)) id ≡ false
           not_its = rw turned refl
 
-      by_conn : (d : ℕ) (b : Bool) → is_stopped stops h.fates d ≡ b
+      by_conn : (d : ℕ) (b : Bool) → is_broken_after breaks h.fates d ≡ b
           → ConnBy b (d == c) (arriving c x (machine h.closed v.machine)).reply ((machine h.closed v.machine).conns d) ((machine h.closed v.machine).conns d)
       by_conn d true e = record { taken_is = refl; slots_are = refl }
       by_conn d false e = sym (ap (λ b. if b then with_slot (arriving c x (machine h.closed v.machine)).reply ((machine h.closed v.machine).conns d) else (machine h.closed v.machine).conns d) (other d e))
 
-  entry_quiet : GatewayStands v texts taken handed (Comes c x ∷ os)
-  entry_quiet = record {
+  coming_quiet : GatewayStands v texts taken handed (Comes c x ∷ os)
+  coming_quiet = record {
     closed = h.closed;
-    fates = fates_after stops (Comes c x) os h.fates;
-    fated = fated_entry c x stops (machine h.closed v.machine) (machine h.closed v.machine) h.fates taken handed os
-        (λ on. absurd (let clash : true ≡ false = sym (ap (λ b. b || stops c) broken_fate) ∙ on in cc)) h.fated
-        (λ d on stop. absurd (let clash : true ≡ false = sym stop ∙ not_stopped d v.machine.conns h.fates h.fates_are on in cc)) quiet_entry;
+    fates = fates_after breaks (Comes c x) os h.fates;
+    fated = fated_coming c x breaks (machine h.closed v.machine) (machine h.closed v.machine) h.fates taken handed os
+        (λ on. absurd (let clash : true ≡ false = sym (ap (λ b. b || breaks c) broken_fate) ∙ on in cc)) h.fated
+        (λ d on breaks. absurd (let clash : true ≡ false = sym breaks ∙ not_broken d v.machine.conns h.fates h.fates_are on in cc)) quiet_coming;
     fates_are = fates_next (Comes c x) os h.fates v.machine (λ d l l_is on. sym (h.fates_are d l l_is) ∙ on);
     streams_stand = h.streams_stand;
     unopened = λ d le. let u = h.unopened d le in record {
@@ -108,16 +108,16 @@ module _ (c : ℕ) (x : Coming) (v : GatewayValue) (texts : ℕ → List ℕ) (t
     begun_is = let was = h.begun_is in omega (arith, was);
   }
 
-entries_quiet : (c : ℕ) (xs : List Coming) (v : GatewayValue) (texts : ℕ → List ℕ) (taken : ℕ → List ReplyEntry) (handed : List JobValue) (os : List Occurrence)
-    → is_stopped_in c v.machine.conns ≡ true → GatewayStands v texts taken handed os → GatewayStands v texts taken handed (back (map (Comes c) xs) os)
-entries_quiet c [] v texts taken handed os stopped h = h
-entries_quiet c (x ∷ xs) v texts taken handed os stopped h = entries_quiet c xs v texts taken handed (Comes c x ∷ os) stopped (entry_quiet c x v texts taken handed os stopped h)
+comings_quiet : (c : ℕ) (xs : List Coming) (v : GatewayValue) (texts : ℕ → List ℕ) (taken : ℕ → List ReplyEntry) (handed : List JobValue) (os : List Occurrence)
+    → is_broken_in c v.machine.conns ≡ true → GatewayStands v texts taken handed os → GatewayStands v texts taken handed (back (map (Comes c) xs) os)
+comings_quiet c [] v texts taken handed os broken h = h
+comings_quiet c (x ∷ xs) v texts taken handed os broken h = comings_quiet c xs v texts taken handed (Comes c x ∷ os) broken (coming_quiet c x v texts taken handed os broken h)
 
 -- ---- texts
 
 -- the same texts, but of streams that are broken
 texts_else : (v : GatewayValue) (texts others : ℕ → List ℕ) (taken : ℕ → List ReplyEntry) (handed : List JobValue) (os : List Occurrence)
-    → ((c : ℕ) → (others c ≡ texts c) ⊎ (is_stopped_in c v.machine.conns ≡ true)) → GatewayStands v texts taken handed os → GatewayStands v others taken handed os
+    → ((c : ℕ) → (others c ≡ texts c) ⊎ (is_broken_in c v.machine.conns ≡ true)) → GatewayStands v texts taken handed os → GatewayStands v others taken handed os
 texts_else v texts others taken handed os same h = record {
   closed = h.closed;
   fates = h.fates;
@@ -128,11 +128,11 @@ texts_else v texts others taken handed os same h = record {
   begun_is = h.begun_is;
 }
   where
-    by_text : (c : ℕ) (k : ConnValue) (s : StreamValue) → conn_of c v.machine.conns ≡ Some k → stream_of c v.streams ≡ Some s → goes_on k s ≡ true
-        → (others c ≡ texts c) ⊎ (is_stopped_in c v.machine.conns ≡ true) → HasCome k s.reader (others c)
+    by_text : (c : ℕ) (k : ConnValue) (s : StreamValue) → conn_of c v.machine.conns ≡ Some k → stream_of c v.streams ≡ Some s → is_listening k s ≡ true
+        → (others c ≡ texts c) ⊎ (is_broken_in c v.machine.conns ≡ true) → HasCome k s.reader (others c)
     by_text c k s k_is s_is going (inl e) = subst (λ text. HasCome k s.reader text) (sym e) (h.streams_stand c k s k_is s_is going)
-    by_text c k s k_is s_is going (inr stopped) = absurd (
-        let clash : true ≡ false = sym stopped ∙ ap (λ o. option_map_or (λ (y : ConnValue). y.broken) o false) k_is ∙ (going_parts k.broken s.hung_up going).0 in cc)
+    by_text c k s k_is s_is going (inr broken) = absurd (
+        let clash : true ≡ false = sym broken ∙ ap (λ o. option_map_or (λ (y : ConnValue). y.broken) o false) k_is ∙ (going_parts k.broken s.hung_up going).0 in cc)
 
 text_other : (opened : List ℕ) (c n : ℕ) (bytes : List ℕ) (es : Before) → (n == c) ≡ false → stream opened c (Piece n bytes ∷ es) ≡ stream opened c es
 text_other opened c n bytes es ne = by_it (listens opened c es)
@@ -281,8 +281,8 @@ module _ (n : ℕ) (v w : GatewayValue) (opened : List ℕ) (es : Before) (taken
   same_conns bytes read = conns_piece n bytes v v opened es refl refl (λ c k s k_is s_is on. (k, s, k_is, s_is, on, refl, read c k s k_is s_is on)) h.conns
 
   -- none of it is taken
-  pub unheard_served : (bytes : List ℕ) → IsDeaf n v → Served v opened (Piece n bytes ∷ es) taken handed
-  unheard_served bytes deaf = by_listens (listens opened n es) refl
+  pub not_fed_served : (bytes : List ℕ) → NotListening n v → Served v opened (Piece n bytes ∷ es) taken handed
+  not_fed_served bytes not_listening = by_listens (listens opened n es) refl
     where
       by_listens : (b : Bool) → listens opened n es ≡ b → Served v opened (Piece n bytes ∷ es) taken handed
       by_listens false off = record {
@@ -295,19 +295,19 @@ module _ (n : ℕ) (v w : GatewayValue) (opened : List ℕ) (es : Before) (taken
         conns = same_conns bytes (λ c k s k_is s_is unbroken given read.
             (given, subst (λ text. HasRead s.reader text given) (sym (text_other opened c n bytes es (other c k k_is unbroken))) read));
         stands = stands_gained n bytes v v opened es taken handed refl on (λ gained os gains stands.
-            entries_quiet n gained v (with_bytes n bytes (λ d. stream opened d es)) taken handed os stopped
+            comings_quiet n gained v (with_bytes n bytes (λ d. stream opened d es)) taken handed os broken
             (texts_else v (λ c. stream opened c es) (with_bytes n bytes (λ d. stream opened d es)) taken handed os (λ c. broken_text c (c == n) refl) stands)) h.stands;
       }
         where
-          stopped : is_stopped_in n v.machine.conns ≡ true
-          stopped = deaf_stopped n v opened es serving h.conns deaf on
+          broken : is_broken_in n v.machine.conns ≡ true
+          broken = not_listening_broken n v opened es serving h.conns not_listening on
 
           other : (c : ℕ) (k : ConnValue) → conn_of c v.machine.conns ≡ Some k → k.broken ≡ false → (n == c) ≡ false
-          other c k k_is unbroken = ne_eqb n c (λ same. let clash : true ≡ false = sym stopped ∙ ap (λ m. is_stopped_in m v.machine.conns) same
+          other c k k_is unbroken = ne_eqb n c (λ same. let clash : true ≡ false = sym broken ∙ ap (λ m. is_broken_in m v.machine.conns) same
               ∙ ap (λ o. option_map_or (λ (y : ConnValue). y.broken) o false) k_is ∙ unbroken in absurd (cc))
 
-          broken_text : (c : ℕ) (b : Bool) → (c == n) ≡ b → (with_bytes n bytes (λ d. stream opened d es) c ≡ stream opened c es) ⊎ (is_stopped_in c v.machine.conns ≡ true)
-          broken_text c true e = inr (ap (λ m. is_stopped_in m v.machine.conns) (eqb-true c n e) ∙ stopped)
+          broken_text : (c : ℕ) (b : Bool) → (c == n) ≡ b → (with_bytes n bytes (λ d. stream opened d es) c ≡ stream opened c es) ⊎ (is_broken_in c v.machine.conns ≡ true)
+          broken_text c true e = inr (ap (λ m. is_broken_in m v.machine.conns) (eqb-true c n e) ∙ broken)
           broken_text c false e = inl (ap (λ b. if b then stream opened c es ++ bytes else stream opened c es) e)
 
   module _ (i : ℕ) (l : ListensAt n v i) where
@@ -378,7 +378,7 @@ module _ (n : ℕ) (v w : GatewayValue) (opened : List ℕ) (es : Before) (taken
           let was = (goes_broken n v.machine).back c k k_is on in
           (was.0, s, was.1, s_is, was.2, refl, λ given read. (given, subst (λ text. HasRead s.reader text given) (sym (text_other opened c n bytes es (other c k k_is on))) read))) h.conns;
       stands = stands_gained n bytes v u opened es taken handed refl listening (λ gained os gains stands.
-          entries_quiet n gained u (with_bytes n bytes (λ d. stream opened d es)) taken handed os stopped
+          comings_quiet n gained u (with_bytes n bytes (λ d. stream opened d es)) taken handed os broken
           (texts_else u (λ c. stream opened c es) (with_bytes n bytes (λ d. stream opened d es)) taken handed os (λ c. broken_text c (c == n) refl)
           (refused_stands v u (λ c. stream opened c es) taken handed os serving.orderly stands n (conn_at i v.machine.conns) here l.unbroken refl refl refl refl))) h.stands;
     })
@@ -386,15 +386,15 @@ module _ (n : ℕ) (v w : GatewayValue) (opened : List ℕ) (es : Before) (taken
         u : GatewayValue
         u = record v { machine = broken_at n v.machine }
 
-        stopped : is_stopped_in n u.machine.conns ≡ true
-        stopped = stopped_now n n v.machine.conns (eq-eqb n n refl) (ap (λ o. is_some o) here)
+        broken : is_broken_in n u.machine.conns ≡ true
+        broken = just_broken n n v.machine.conns (eq-eqb n n refl) (ap (λ o. is_some o) here)
 
         other : (c : ℕ) (k : ConnValue) → conn_of c u.machine.conns ≡ Some k → k.broken ≡ false → (n == c) ≡ false
-        other c k k_is unbroken = ne_eqb n c (λ same. let clash : true ≡ false = sym stopped ∙ ap (λ m. is_stopped_in m u.machine.conns) same
+        other c k k_is unbroken = ne_eqb n c (λ same. let clash : true ≡ false = sym broken ∙ ap (λ m. is_broken_in m u.machine.conns) same
             ∙ ap (λ o. option_map_or (λ (y : ConnValue). y.broken) o false) k_is ∙ unbroken in absurd (cc))
 
-        broken_text : (c : ℕ) (b : Bool) → (c == n) ≡ b → (with_bytes n bytes (λ d. stream opened d es) c ≡ stream opened c es) ⊎ (is_stopped_in c u.machine.conns ≡ true)
-        broken_text c true e = inr (ap (λ m. is_stopped_in m u.machine.conns) (eqb-true c n e) ∙ stopped)
+        broken_text : (c : ℕ) (b : Bool) → (c == n) ≡ b → (with_bytes n bytes (λ d. stream opened d es) c ≡ stream opened c es) ⊎ (is_broken_in c u.machine.conns ≡ true)
+        broken_text c true e = inr (ap (λ m. is_broken_in m u.machine.conns) (eqb-true c n e) ∙ broken)
         broken_text c false e = inl (ap (λ b. if b then stream opened c es ++ bytes else stream opened c es) e)
 
     -- so many bytes were read, and what they brought came

@@ -10,7 +10,7 @@ use Rattle.http_pieces.specs.Requests.{StreamEnd, Open, RefusedBy, Closed, Reque
 use Rattle.gateway_model.specs.declared.entry.ReplyEntry.{ReplyEntry}
 use Rattle.gateway_theory.specs.declared.fault.StepFault.{StepFault}
 use Rattle.gateway_theory.specs.Conn.{ConnValue}
-use Rattle.gateway_theory.specs.Ends.{is_stopped_in}
+use Rattle.gateway_theory.specs.Ends.{is_broken_in}
 use Rattle.gateway_model.specs.Events.{Before, Gains, listens, piece_of, refusal_gained, requests_gained, stream}
 use Rattle.gateway_model.specs.declared.event.Event.TheVariants.{Piece}
 use Rattle.gateway_theory.specs.Gateway.{GatewayValue, stream_at}
@@ -18,11 +18,11 @@ use Rattle.gateway_model.specs.Job.{JobValue}
 use Rattle.gateway_model.specs.Occurrence.{Coming, Comes, Occurrence}
 use Rattle.gateway_theory.specs.RequestLaws.{RequestLaws}
 use Rattle.gateway_theory.specs.Served.{IsKnown, Served, ServedUpTo}
-use Rattle.gateway_theory.specs.Serving.{FedTo, came, dropped, unheard, unread, IsDeaf, IsServing, ListensAt}
+use Rattle.gateway_theory.specs.Serving.{FedTo, came, dropped, not_fed, unread, NotListening, IsServing, ListensAt}
 use Rattle.gateway_theory.specs.lemmas.CutLemmas.{listens_piece, stream_piece}
 use Rattle.gateway_theory.specs.lemmas.ServedJoins.{joined_served}
 use Rattle.gateway_theory.specs.lemmas.ServedLemmas.{hung_still, open_still, stands_none, text_still}
-use Rattle.gateway_theory.specs.lemmas.ServedPieces.{came_served, dropped_served, feeds_read, listening, over_more, read_here, unheard_served, unread_served}
+use Rattle.gateway_theory.specs.lemmas.ServedPieces.{came_served, dropped_served, feeds_read, listening, over_more, read_here, not_fed_served, unread_served}
 
 -- so many bytes were taken
 abbrev answer : ℕ → Result ℕ StepFault
@@ -102,7 +102,7 @@ module _ (laws : RequestLaws) (n : ℕ) (p q : List ℕ) (v w : GatewayValue) (o
         (read.0, subst (λ text. HasRead (stream_at i v.streams).reader text read.0) text_is read.1)
 
   pub fed_more : (m : ℕ) → FedTo n q v w (Ok m) → ServedUpTo n (p ++ take m q) w opened es taken handed
-  fed_more m (unheard deaf r w_is) = absurd (cc)
+  fed_more m (not_fed not_listening r w_is) = absurd (cc)
   fed_more m (dropped i l over r w_is) = subst (λ x. ServedUpTo n (p ++ take m q) x opened es taken handed) (sym w_is) (record {
     below = h.below;
     served = joined_up v (take m q) refl (dropped_served n v v opened (Piece n p ∷ es) taken handed serving h.served i l laws (take m q) over);
@@ -110,11 +110,11 @@ module _ (laws : RequestLaws) (n : ℕ) (p q : List ℕ) (v w : GatewayValue) (o
         (over_more laws (stream_at i v.streams).reader (stream opened n es ++ p) (take m q) (was_read i l).0 over (was_read i l).1));
   })
   fed_more m (unread i l going r w_is) = absurd (cc)
-  fed_more m (came i k l going f within moves request whole why is counts r) = by_stop (is_stopped_in n w.machine.conns) r
+  fed_more m (came i k l going f within moves request whole why is counts r) = by_broken (is_broken_in n w.machine.conns) r
     where
-      by_stop : (b : Bool) → Ok m ≡ (if b then Err why else Ok k) → ServedUpTo n (p ++ take m q) w opened es taken handed
-      by_stop true e = absurd (cc)
-      by_stop false e = subst (λ x. ServedUpTo n (p ++ take x q) w opened es taken handed) (by_count e) (record {
+      by_broken : (b : Bool) → Ok m ≡ (if b then Err why else Ok k) → ServedUpTo n (p ++ take m q) w opened es taken handed
+      by_broken true e = absurd (cc)
+      by_broken false e = subst (λ x. ServedUpTo n (p ++ take x q) w opened es taken handed) (by_count e) (record {
         below = h.below;
         served = joined_up w (take k q) f.plans_are (came_served n v w opened (Piece n p ∷ es) taken handed serving h.served i l laws k q going f);
         known = λ rest gained gains.
@@ -126,12 +126,12 @@ module _ (laws : RequestLaws) (n : ℕ) (p q : List ℕ) (v w : GatewayValue) (o
           by_count x = cc
 
   pub fed_fault : (fault : StepFault) → IsServing w → FedTo n q v w (Err fault) → Served w opened (Piece n (p ++ q) ∷ es) taken handed
-  fed_fault fault then_serving (unheard deaf r w_is) =
-      subst (λ x. Served x opened (Piece n (p ++ q) ∷ es) taken handed) (sym w_is) (joined_up v q refl (unheard_served n v v opened (Piece n p ∷ es) taken handed serving h.served q deaf))
+  fed_fault fault then_serving (not_fed not_listening r w_is) =
+      subst (λ x. Served x opened (Piece n (p ++ q) ∷ es) taken handed) (sym w_is) (joined_up v q refl (not_fed_served n v v opened (Piece n p ∷ es) taken handed serving h.served q not_listening))
   fed_fault fault then_serving (dropped i l over r w_is) = absurd (cc)
   fed_fault fault then_serving (unread i l going r w_is) =
       joined_up w q (ap (λ (x : GatewayValue). x.plans) w_is) (unread_served n v w opened (Piece n p ∷ es) taken handed serving h.served i l q w_is)
-  fed_fault fault then_serving (came i k l going f within moves request whole why is counts r) = by_stop (is_stopped_in n w.machine.conns) refl r
+  fed_fault fault then_serving (came i k l going f within moves request whole why is counts r) = by_broken (is_broken_in n w.machine.conns) refl r
     where
       first : Served w opened (Piece n (p ++ take k q) ∷ es) taken handed
       first = joined_up w (take k q) f.plans_are (came_served n v w opened (Piece n p ∷ es) taken handed serving h.served i l laws k q going f)
@@ -140,16 +140,16 @@ module _ (laws : RequestLaws) (n : ℕ) (p q : List ℕ) (v w : GatewayValue) (o
       known_first = let read = feeds_read i k q v w (stream opened n es ++ p) (was_read i l).0 f (was_read i l).1 in
           subst IsKnown (append_assoc (stream opened n es) p (take k q)) (read_requests f.new ((stream opened n es ++ p) ++ take k q) read.0 read.1)
 
-      by_stop : (b : Bool) → is_stopped_in n w.machine.conns ≡ b → Err fault ≡ (if is_stopped_in n w.machine.conns then Err why else Ok k) → Served w opened (Piece n (p ++ q) ∷ es) taken handed
-      by_stop false stop e = absurd (let clash : Err fault ≡ Ok k = e ∙ ap (λ b. if b then Err why else Ok k) stop in cc)
-      by_stop true stop e =
+      by_broken : (b : Bool) → is_broken_in n w.machine.conns ≡ b → Err fault ≡ (if is_broken_in n w.machine.conns then Err why else Ok k) → Served w opened (Piece n (p ++ q) ∷ es) taken handed
+      by_broken false breaks e = absurd (let clash : Err fault ≡ Ok k = e ∙ ap (λ b. if b then Err why else Ok k) breaks in cc)
+      by_broken true breaks e =
           subst (λ bytes. Served w opened (Piece n bytes ∷ es) taken handed) (append_assoc p (take k q) (drop k q) ∙ ap (λ x. p ++ x) (take-append-drop k q))
           (joined_served laws n (p ++ take k q) (drop k q) w opened es taken handed h.below (λ gained gains. known_first)
-          (unheard_served n w w opened (Piece n (p ++ take k q) ∷ es) taken handed then_serving first (drop k q) deaf))
+          (not_fed_served n w w opened (Piece n (p ++ take k q) ∷ es) taken handed then_serving first (drop k q) not_listening))
         where
-          deaf : IsDeaf n w
-          deaf x s x_is s_is =
-              let broke : x.broken ≡ true = ap (λ o. option_map_or (λ (y : ConnValue). y.broken) o false) (sym x_is) ∙ stop in
+          not_listening : NotListening n w
+          not_listening x s x_is s_is =
+              let broke : x.broken ≡ true = ap (λ o. option_map_or (λ (y : ConnValue). y.broken) o false) (sym x_is) ∙ breaks in
               ap (λ b. not b && not s.hung_up) broke
 
 -- either

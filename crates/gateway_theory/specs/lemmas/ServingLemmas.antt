@@ -14,12 +14,13 @@ use Rattle.gateway_model.specs.declared.id.CallId.{CallId}
 use Rattle.gateway_theory.specs.declared.tally.Tally.{Tally}
 use Rattle.gateway_theory.specs.declared.trigger.Trigger.{Trigger}
 use Rattle.gateway_theory.specs.Conn.{ConnValue, added, conn_value, without_first}
-use Rattle.gateway_theory.specs.Ends.{CallsEnd, ended_below, is_stopped_in, without_reply}
+use Rattle.gateway_theory.specs.Ends.{CallsEnd, ended_below, is_broken_in, without_reply}
 use Rattle.gateway_theory.specs.Enters.{Enters, arriving_at}
+use Rattle.http_pieces.specs.Reader.{HasRead, Partial, reader_value}
 use Rattle.gateway_model.specs.Queue.{front}
-use Rattle.gateway_theory.specs.Gateway.{GatewayValue, StreamValue, StreamsApart, has_ended, is_ended, is_waiting, untaken_of, new_stream, no_stream, stream_at, stream_of}
+use Rattle.gateway_theory.specs.Gateway.{GatewayValue, StreamValue, StreamsApart, is_listening, has_ended, is_ended, is_waiting, untaken_of, new_stream, no_stream, stream_at, stream_of}
 use Rattle.gateway_model.specs.Events.{most_open}
-use Rattle.gateway_theory.specs.Serving.{FewCalls, gateway_value, IsDeaf, IsPlaced, IsServing, ListensAt, NoCallOf}
+use Rattle.gateway_theory.specs.Serving.{FewCalls, HasBrought, IsBehind, StreamsBring, gateway_value, NotListening, IsPlaced, IsServing, ListensAt, NoCallOf}
 use Rattle.gateway_theory.specs.Kept.{KeptValue}
 use Rattle.gateway_model.specs.Occurrence.{Coming}
 use Rattle.gateway_theory.specs.Opens.{closed_at, opened_as, JobTaken, ReplyTaken}
@@ -30,14 +31,15 @@ use Rattle.gateway_theory.specs.Machine.{slot_at}
 use Rattle.gateway_theory.specs.Replies.{ReplyValue}
 use Rattle.gateway_theory.specs.Results.{Forgets, result_at, ResultTaken, Starved, StepsAt}
 use Rattle.gateway_theory.specs.Store.{MachineValue, broken_at, conn_at, conn_of, given_up_if, kept_at, numbers}
+use Rattle.gateway_theory.specs.lemmas.BroughtLemmas.{brought_entered, brought_go, brought_opened, brought_set}
 use Rattle.gateway_theory.specs.lemmas.EndLemmas.{id_below, numbers_broken, numbers_filled}
 use Rattle.gateway_theory.specs.lemmas.FeedLemmas.{calls_kept, stream_found}
 use Rattle.gateway_theory.specs.lemmas.FewCalls.{few_broken, few_closed, few_ended, few_entered, few_forgotten, few_opened, few_result, few_same, few_starved, few_taken}
-use Rattle.gateway_theory.specs.lemmas.GatewaySteps.{goes_broken, goes_forgotten, goes_result, goes_starved}
+use Rattle.gateway_theory.specs.lemmas.GatewaySteps.{Goes, goes_broken, goes_forgotten, goes_result, goes_starved}
 use Rattle.gateway_theory.specs.lemmas.OrderLemmas.{broken_order, closed_order, entered_order, opened_order, same_given, some_same, taken_order}
 use Rattle.gateway_theory.specs.lemmas.OrderSteps.{ends_order, forget_order, result_order, starved_order}
 use Rattle.gateway_theory.specs.lemmas.StoreLemmas.{conn_broken}
-use Rattle.gateway_theory.specs.lemmas.StoreMore.{conn_found}
+use Rattle.gateway_theory.specs.lemmas.StoreMore.{conn_found, conn_without}
 
 -- ---- numbers
 
@@ -102,7 +104,7 @@ set_names i new [] lt same = absurd (omega (arith, lt))
 set_names zero new (s ∷ streams) lt same = ap (λ n. n ∷ names streams) same
 set_names (suc i) new (s ∷ streams) lt same = ap (λ ns. s.number ∷ ns) (set_names i new streams (omega (arith, lt)) same)
 
-name_at : (i : ℕ) (streams : List StreamValue) (conns : List ConnValue) → names streams ≡ numbers conns → (stream_at i streams).number ≡ (conn_at i conns).number
+pub name_at : (i : ℕ) (streams : List StreamValue) (conns : List ConnValue) → names streams ≡ numbers conns → (stream_at i streams).number ≡ (conn_at i conns).number
 name_at i [] [] same = refl
 name_at i [] (k ∷ conns) same = absurd (cc)
 name_at i (s ∷ streams) [] same = absurd (cc)
@@ -172,8 +174,8 @@ keeps_ended trigger v w e = record {
   orderly = ends_order trigger v w e;
   numbers_are = e.numbers_are;
   no_call = λ h c none all. subst (NoCallOf c) (sym e.calls_are)
-      (All-map (λ (k : KeptValue). (k.id.conn == c) ≡ false) (λ k. without_reply (ended_below trigger (is_stopped_in k.id.conn w.conns) true k)) v.calls
-      (λ j d lt. ap (λ (x : CallId). x.conn == c) (id_below trigger (is_stopped_in (slice_index_or v.calls j d).id.conn w.conns) true (slice_index_or v.calls j d)) ∙ all j d lt));
+      (All-map (λ (k : KeptValue). (k.id.conn == c) ≡ false) (λ k. without_reply (ended_below trigger (is_broken_in k.id.conn w.conns) true k)) v.calls
+      (λ j d lt. ap (λ (x : CallId). x.conn == c) (id_below trigger (is_broken_in (slice_index_or v.calls j d).id.conn w.conns) true (slice_index_or v.calls j d)) ∙ all j d lt));
   few = λ h. few_ended trigger v w e;
 }
 
@@ -239,8 +241,8 @@ keeps_reply i v w (Some r) lt t = record {
 abbrev pub IsRead : StreamValue → Type 0
 IsRead s = is_waiting s.reader.reading ≡ false
 
-pub serving_kept : (v w : GatewayValue) → Keeps v.machine w.machine → names w.streams ≡ names v.streams → All IsRead w.streams → w.opened ≡ v.opened → IsServing v → IsServing w
-serving_kept v w k same read opened_is h = record {
+pub serving_kept : (v w : GatewayValue) → Keeps v.machine w.machine → StreamsBring w → names w.streams ≡ names v.streams → All IsRead w.streams → w.opened ≡ v.opened → IsServing v → IsServing w
+serving_kept v w k brought same read opened_is h = record {
   orderly = k.orderly h.orderly;
   numbers_are = same ∙ h.numbers_are ∙ sym k.numbers_are;
   settled = read;
@@ -248,17 +250,27 @@ serving_kept v w k same read opened_is h = record {
   no_call = λ c le. k.no_call h.orderly c (h.no_conn c (subst (λ n. n ≤ c) opened_is le)) (h.no_call c (subst (λ n. n ≤ c) opened_is le));
   few_streams = (let before = h.few_streams in omega (arith, before, length-map w.streams (λ s. s.number), ap (λ (ns : List ℕ). length ns) same, length-map v.streams (λ s. s.number)));
   few_calls = k.few h.orderly h.few_calls;
+  brought = brought;
 }
 
 -- the machine alone changes
-pub machine_kept : {begun : ℕ} {tally : Tally} (v : GatewayValue) (m : MachineValue) → Keeps v.machine m → IsServing v → IsServing (gateway_value v.plans m v.streams v.opened begun tally)
-machine_kept {begun} {tally} v m k h = serving_kept v (gateway_value v.plans m v.streams v.opened begun tally) k refl h.settled refl h
+pub machine_kept : {begun : ℕ} {tally : Tally} (v : GatewayValue) (m : MachineValue) → Keeps v.machine m → Goes v.machine m → IsServing v → IsServing (gateway_value v.plans m v.streams v.opened begun tally)
+machine_kept {begun} {tally} v m k goes h = serving_kept v (gateway_value v.plans m v.streams v.opened begun tally) k
+    (brought_go v (gateway_value v.plans m v.streams v.opened begun tally) goes (λ c t t_is on. t_is) h.brought) refl h.settled refl h
+
+pub streams_apart : (v : GatewayValue) → IsServing v → StreamsApart v.streams
+streams_apart v h i j lt within =
+    ap (λ n. n == (stream_at j v.streams).number) (name_at i v.streams v.machine.conns h.numbers_are)
+    ∙ ap (λ n. (conn_at i v.machine.conns).number == n) (name_at j v.streams v.machine.conns h.numbers_are)
+    ∙ h.orderly.conns_apart i j lt (omega (arith, within, same_size v.streams v.machine.conns h.numbers_are))
 
 -- a stream is another of its number
-pub stream_kept : (i : ℕ) (t : StreamValue) (v : GatewayValue) → i < length v.streams → t.number ≡ (stream_at i v.streams).number → IsRead t → IsServing v
+pub stream_kept : (i : ℕ) (t : StreamValue) (v : GatewayValue) → i < length v.streams → t.number ≡ (stream_at i v.streams).number → IsRead t
+    → ((k : ConnValue) → conn_of (stream_at i v.streams).number v.machine.conns ≡ Some k → is_listening k t ≡ true → HasBrought k t.reader) → IsServing v
     → IsServing (gateway_value v.plans v.machine (slice_set v.streams i t) v.opened v.begun v.tally)
-stream_kept i t v lt same read h =
-    serving_kept v (gateway_value v.plans v.machine (slice_set v.streams i t) v.opened v.begun v.tally) (keeps_same v.machine v.machine refl refl) (set_names i t v.streams lt same)
+stream_kept i t v lt same read brings h =
+    serving_kept v (gateway_value v.plans v.machine (slice_set v.streams i t) v.opened v.begun v.tally) (keeps_same v.machine v.machine refl refl)
+    (brought_set i t v lt (streams_apart v h) same brings h.brought) (set_names i t v.streams lt same)
     (All-set IsRead v.streams i t read h.settled) refl h
 
 -- the stream at a place is read
@@ -293,9 +305,9 @@ no_number c n (m ∷ ns) none ne = by_it (m == c) none (λ rest. no_number c n n
     by_it true e rest = absurd (cc)
     by_it false e rest = rest e
 
-pub opened_serving : (v : GatewayValue) (m : MachineValue) (streams : List StreamValue) → IsServing v → length v.streams < most_open → m ≡ opened_as v.opened v.machine → streams ≡ v.streams ++ new_stream v.opened ∷ []
+pub opened_serving : (v : GatewayValue) (m : MachineValue) (streams : List StreamValue) → HasRead (reader_value 0 (Partial [])) [] [] → IsServing v → length v.streams < most_open → m ≡ opened_as v.opened v.machine → streams ≡ v.streams ++ new_stream v.opened ∷ []
     → IsServing (gateway_value v.plans m streams (v.opened + 1) v.begun v.tally)
-opened_serving v m streams h room m_is streams_are =
+opened_serving v m streams fresh h room m_is streams_are =
     subst (λ x. IsServing (gateway_value v.plans x streams (v.opened + 1) v.begun v.tally)) (sym m_is) (subst (λ ss. IsServing (gateway_value v.plans (opened_as v.opened v.machine) ss (v.opened + 1) v.begun v.tally)) (sym streams_are) (record {
       orderly = opened_order v.opened v.machine (opened_as v.opened v.machine) (h.no_conn v.opened (omega arith)) (h.no_call v.opened (omega arith)) refl h.orderly;
       settled = read_more (new_stream v.opened) v.streams refl h.settled;
@@ -306,7 +318,12 @@ opened_serving v m streams h room m_is streams_are =
       no_call = λ c le. h.no_call c (omega (arith, le));
       few_streams = omega (arith, room, length-append v.streams (new_stream v.opened ∷ []));
       few_calls = few_opened v.opened v.machine.conns h.few_calls;
+      brought = brought_opened v fresh (h.no_conn v.opened (omega arith)) no_stream h.brought;
     }))
+  where
+    no_stream : stream_of v.opened v.streams ≡ None
+    no_stream = none_if (stream_of v.opened v.streams) (stream_by_number v.opened v.streams ∙ ap (has_number v.opened) h.numbers_are
+        ∙ sym (conn_by_number v.opened v.machine.conns) ∙ ap (λ o. is_some o) (h.no_conn v.opened (omega arith)))
 
 -- ---- a closing
 
@@ -356,18 +373,17 @@ closed_serving n v w w_is streams_are opened_is h = record {
       (λ j d lt. ap (λ (y : CallId). y.conn == c) (same_given n (slice_index_or v.machine.calls j d)) ∙ h.no_call c (subst (λ m. m ≤ c) opened_is le) j d lt));
   few_streams = (let before = h.few_streams in omega (arith, before, ap (λ (ss : List StreamValue). length ss) streams_are, length-filter (λ s. not (s.number == n)) v.streams, count_by-le-length (λ s. not (s.number == n)) v.streams));
   few_calls = subst FewCalls (sym (ap (λ (m : MachineValue). m.conns) w_is)) (few_closed n v.machine.conns h.few_calls);
+  brought = λ c k s k_is s_is going. still c k s going (c == n) (sym (ap (λ (m : MachineValue). conn_of c m.conns) w_is ∙ conn_without c n v.machine.conns) ∙ k_is) (sym (ap (stream_of c) streams_are ∙ stream_without c n v.streams) ∙ s_is);
 }
   where
+    still : (c : ℕ) (k : ConnValue) (s : StreamValue) → is_listening k s ≡ true → (b : Bool) → (if b then None else conn_of c v.machine.conns) ≡ Some k → (if b then None else stream_of c v.streams) ≡ Some s → HasBrought k s.reader
+    still c k s going true k_is s_is = absurd (cc)
+    still c k s going false k_is s_is = h.brought c k s k_is s_is going
+
     now : numbers w.machine.conns ≡ filter (λ m. not (m == n)) (numbers v.machine.conns)
     now = ap (λ (m : MachineValue). numbers m.conns) w_is ∙ numbers_without n v.machine.conns
 
 -- ---- a connection and its stream
-
-pub streams_apart : (v : GatewayValue) → IsServing v → StreamsApart v.streams
-streams_apart v h i j lt within =
-    ap (λ n. n == (stream_at j v.streams).number) (name_at i v.streams v.machine.conns h.numbers_are)
-    ∙ ap (λ n. (conn_at i v.machine.conns).number == n) (name_at j v.streams v.machine.conns h.numbers_are)
-    ∙ h.orderly.conns_apart i j lt (omega (arith, within, same_size v.streams v.machine.conns h.numbers_are))
 
 pub placed_none : (c : ℕ) (streams : List StreamValue) → IsPlaced c streams None → stream_of c streams ≡ None
 placed_none c [] none = refl
@@ -395,15 +411,15 @@ module _ (number i : ℕ) (v : GatewayValue) (h : IsServing v) (p : IsPlaced num
   pub placed_open : is_some (conn_of number v.machine.conns) ≡ true
   placed_open = ap (λ o. is_some o) conn_here
 
-  pub stopped_is : is_stopped_in number v.machine.conns ≡ (conn_at i v.machine.conns).broken
-  stopped_is = ap (λ o. option_map_or (λ (k : ConnValue). k.broken) o false) conn_here
+  pub broken_found : is_broken_in number v.machine.conns ≡ (conn_at i v.machine.conns).broken
+  broken_found = ap (λ o. option_map_or (λ (k : ConnValue). k.broken) o false) conn_here
 
-  pub deaf_off : ((stream_at i v.streams).hung_up ≡ true) ⊎ (is_stopped_in number v.machine.conns ≡ true) → IsDeaf number v
-  deaf_off off k s k_is s_is = by_it k.broken s.hung_up (at_one off)
+  pub not_listening_off : ((stream_at i v.streams).hung_up ≡ true) ⊎ (is_broken_in number v.machine.conns ≡ true) → NotListening number v
+  not_listening_off off k s k_is s_is = by_it k.broken s.hung_up (at_one off)
     where
-      at_one : ((stream_at i v.streams).hung_up ≡ true) ⊎ (is_stopped_in number v.machine.conns ≡ true) → (s.hung_up ≡ true) ⊎ (k.broken ≡ true)
+      at_one : ((stream_at i v.streams).hung_up ≡ true) ⊎ (is_broken_in number v.machine.conns ≡ true) → (s.hung_up ≡ true) ⊎ (k.broken ≡ true)
       at_one (inl e) = inl (ap (λ (x : StreamValue). x.hung_up) (some_same (sym s_is ∙ stream_here)) ∙ e)
-      at_one (inr e) = inr (ap (λ (x : ConnValue). x.broken) (some_same (sym k_is ∙ conn_here)) ∙ sym stopped_is ∙ e)
+      at_one (inr e) = inr (ap (λ (x : ConnValue). x.broken) (some_same (sym k_is ∙ conn_here)) ∙ sym broken_found ∙ e)
 
       by_it : (a b : Bool) → (b ≡ true) ⊎ (a ≡ true) → (not a && not b) ≡ false
       by_it true b off = refl
@@ -411,13 +427,13 @@ module _ (number i : ℕ) (v : GatewayValue) (h : IsServing v) (p : IsPlaced num
       by_it false false (inl e) = absurd (cc)
       by_it false false (inr e) = absurd (cc)
 
-  pub listens_on : (stream_at i v.streams).hung_up ≡ false → is_stopped_in number v.machine.conns ≡ false → ListensAt number v i
+  pub listens_on : (stream_at i v.streams).hung_up ≡ false → is_broken_in number v.machine.conns ≡ false → ListensAt number v i
   listens_on on unbroken = record {
     conn_there = conn_there;
     stream_there = p.0;
     conn_is = conn_numbered;
     stream_is = p.1;
-    unbroken = sym stopped_is ∙ unbroken;
+    unbroken = sym broken_found ∙ unbroken;
     on = on;
   }
 
@@ -429,8 +445,8 @@ module _ (number i : ℕ) (v : GatewayValue) (h : IsServing v) (p : IsPlaced num
   pub untaken_is : untaken_of number v ≡ front (conn_at i v.machine.conns).slots
   untaken_is = ap (λ o. option_map_or (λ (k : ConnValue). front k.slots) o []) conn_here
 
-pub deaf_none : (number : ℕ) (v : GatewayValue) → IsPlaced number v.streams None → IsDeaf number v
-deaf_none number v none k s k_is s_is = absurd (let clash : None ≡ Some s = sym (placed_none number v.streams none) ∙ s_is in cc)
+pub not_listening_none : (number : ℕ) (v : GatewayValue) → IsPlaced number v.streams None → NotListening number v
+not_listening_none number v none k s k_is s_is = absurd (let clash : None ≡ Some s = sym (placed_none number v.streams none) ∙ s_is in cc)
 
 pub not_placed : (number : ℕ) (streams : List StreamValue) (o : Option ℕ) (b : Bool) → IsPlaced number streams o → is_some o ≡ not b → b ≡ true → IsPlaced number streams None
 not_placed number streams None b p none e = p
@@ -444,8 +460,15 @@ pub closed_value : (number : ℕ) (v : GatewayValue) (m : MachineValue) (streams
     → gateway_value v.plans m streams v.opened v.begun v.tally ≡ record v { machine = closed_at number v.machine; streams = filter (λ s. not (s.number == number)) v.streams }
 closed_value number v m streams m_is streams_are = ap (λ x. gateway_value v.plans x streams v.opened v.begun v.tally) m_is ∙ ap (λ ss. gateway_value v.plans (closed_at number v.machine) ss v.opened v.begun v.tally) streams_are
 
--- something came on the connection at a place
+-- something came on the connection at a place, which was behind its stream
 pub entered_serving : {begun : ℕ} {tally : Tally} (i : ℕ) (x : Coming) (m : MachineValue) (v : GatewayValue) → i < length v.streams → (conn_at i v.machine.conns).broken ≡ false → Enters i x v.machine m
-    → IsServing v → IsServing (gateway_value v.plans m v.streams v.opened begun tally)
-entered_serving i x m v lt on enters h =
-    machine_kept v m (keeps_entered i x v.machine m (omega (arith, lt, same_size v.streams v.machine.conns h.numbers_are)) on enters) h
+    → IsBehind (conn_at i v.machine.conns) (stream_at i v.streams).reader → IsServing v → IsServing (gateway_value v.plans m v.streams v.opened begun tally)
+entered_serving {begun = begun} {tally = tally} i x m v lt on enters behind h =
+    serving_kept v (gateway_value v.plans m v.streams v.opened begun tally) (keeps_entered i x v.machine m there on enters)
+    (brought_entered begun tally i x m v there h.orderly.conns_apart enters (λ s s_is. subst (λ (y : StreamValue). IsBehind (conn_at i v.machine.conns) y.reader) (some_same (sym stream_is ∙ s_is)) behind) h.brought) refl h.settled refl h
+  where
+    there : i < length v.machine.conns
+    there = omega (arith, lt, same_size v.streams v.machine.conns h.numbers_are)
+
+    stream_is : stream_of (conn_at i v.machine.conns).number v.streams ≡ Some (stream_at i v.streams)
+    stream_is = ap (λ n. stream_of n v.streams) (sym (name_at i v.streams v.machine.conns h.numbers_are)) ∙ stream_found i v.streams lt (streams_apart v h)

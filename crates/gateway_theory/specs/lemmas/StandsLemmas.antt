@@ -18,7 +18,7 @@ use Rattle.gateway_theory.specs.lemmas.Cases.{or_false, and_false, or_none}
 -- ---- an occurrence that does not concern a call
 
 pub record Quiet (id : CallId) (m : Mark) (past : Past) : Type 0 where
-  pub no_entry : coming_on id.conn m.what ≡ None
+  pub no_coming : coming_on id.conn m.what ≡ None
   pub no_answer : (m.counted && is_answer_to id m.what) ≡ false
   pub no_event : own_event id m past ≡ None
 
@@ -31,13 +31,13 @@ no_asked id m past e =
     (λ _. refl) (λ _. rw (no_entering id m past e) refl)
 
 call_same : (id : CallId) (m : Mark) (past : Past) → Quiet id m past → call id (m ∷ past) ≡ call id past
-call_same id m past q = rw (no_asked id m past q.no_entry) (or_none (call id past))
+call_same id m past q = rw (no_asked id m past q.no_coming) (or_none (call id past))
 
 pub began_same : (id : CallId) (m : Mark) (past : Past) → Quiet id m past → began id (m ∷ past) ≡ began id past
-began_same id m past q = rw (no_asked id m past q.no_entry) (or_false (began id past))
+began_same id m past q = rw (no_asked id m past q.no_coming) (or_false (began id past))
 
 came_same : (id : CallId) (m : Mark) (past : Past) → Quiet id m past → came id (m ∷ past) ≡ came id past
-came_same id m past q = rw (no_entering id m past q.no_entry) (or_none (came id past))
+came_same id m past q = rw (no_entering id m past q.no_coming) (or_none (came id past))
 
 pub answers_same : (id : CallId) (m : Mark) (past : Past) → Quiet id m past → answers id (m ∷ past) ≡ answers id past
 answers_same id m past q = rw q.no_answer refl
@@ -82,7 +82,7 @@ no_event_of f none (Some c) d e = none c
 pub result_quiet : (id of : CallId) (i : ℕ) (outcome : Outcome) (m : Mark) (past : Past) → m.what ≡ Result of i outcome
     → (m.counted && is_call of id) ≡ false → Quiet id m past
 result_quiet id of i outcome m past what uncounted = record {
-  no_entry = rw what refl;
+  no_coming = rw what refl;
   no_answer = rw what (uncounted_answer m.counted outcome uncounted);
   no_event =
       cond_both (is_closed id.conn past) None

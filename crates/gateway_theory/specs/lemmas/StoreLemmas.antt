@@ -13,7 +13,7 @@ use Rattle.gateway_theory.specs.Machine.{slot_at}
 use Rattle.gateway_theory.specs.Kept.{KeptValue}
 use Rattle.gateway_theory.specs.Conn.{ConnValue, conn_value, entry_in, fill_at, filled}
 use Rattle.gateway_theory.specs.Replies.{ReplyValue}
-use Rattle.gateway_theory.specs.Ends.{is_stopped_in, unanswered}
+use Rattle.gateway_theory.specs.Ends.{is_broken_in, unanswered}
 use Rattle.gateway_theory.specs.Store.{MachineValue, machine_value, broken_at, call_at, conn_at, conn_of, kept_at, no_call, no_conn, IsFound, given_up, given_up_if, broken_conn, broken_if, fill_first, waiting_in, waiting}
 use Rattle.gateway_theory.specs.lemmas.LimitLemmas.{same_call}
 use Rattle.gateway_theory.specs.lemmas.Cases.{and_false, or_none}
@@ -261,19 +261,19 @@ none_of (Some r) b e it = absurd (let clash : true ≡ false = e ∙ ap not it i
 
 -- ---- whether a connection is broken, by its place
 
-pub stopped_at : (c i : ℕ) (conns : List ConnValue) → i < length conns → ((j : ℕ) → j < i → ((conn_at j conns).number == c) ≡ false) → ((conn_at i conns).number == c) ≡ true
-    → is_stopped_in c conns ≡ (conn_at i conns).broken
-stopped_at c i [] lt before its = absurd (omega (arith, lt))
-stopped_at c zero (k ∷ conns) lt before its = rw its refl
-stopped_at c (suc i) (k ∷ conns) lt before its = rw (before 0 (omega arith)) (stopped_at c i conns (omega (arith, lt)) (λ j less. before (suc j) (omega (arith, less))) its)
+pub broken_first : (c i : ℕ) (conns : List ConnValue) → i < length conns → ((j : ℕ) → j < i → ((conn_at j conns).number == c) ≡ false) → ((conn_at i conns).number == c) ≡ true
+    → is_broken_in c conns ≡ (conn_at i conns).broken
+broken_first c i [] lt before its = absurd (omega (arith, lt))
+broken_first c zero (k ∷ conns) lt before its = rw its refl
+broken_first c (suc i) (k ∷ conns) lt before its = rw (before 0 (omega arith)) (broken_first c i conns (omega (arith, lt)) (λ j less. before (suc j) (omega (arith, less))) its)
 
-pub none_stopped : (c : ℕ) (conns : List ConnValue) → ((j : ℕ) → j < length conns → ((conn_at j conns).number == c) ≡ false) → is_stopped_in c conns ≡ false
-none_stopped c [] none = refl
-none_stopped c (k ∷ conns) none = rw (none 0 (omega arith)) (none_stopped c conns (λ j less. none (suc j) (omega (arith, less))))
+pub absent_not_broken : (c : ℕ) (conns : List ConnValue) → ((j : ℕ) → j < length conns → ((conn_at j conns).number == c) ≡ false) → is_broken_in c conns ≡ false
+absent_not_broken c [] none = refl
+absent_not_broken c (k ∷ conns) none = rw (none 0 (omega arith)) (absent_not_broken c conns (λ j less. none (suc j) (omega (arith, less))))
 
-pub stopped_here : (c i : ℕ) (conns : List ConnValue) (x y : ConnValue) → i < length conns → ((j : ℕ) → j < i → ((conn_at j conns).number == c) ≡ false)
-    → x ≡ slice_index_or conns i x → y ≡ slice_index_or conns i y → (x.number == c) ≡ true → y.broken ≡ is_stopped_in c conns
-stopped_here c i conns x y lt before x_is y_is its =
+pub broken_here : (c i : ℕ) (conns : List ConnValue) (x y : ConnValue) → i < length conns → ((j : ℕ) → j < i → ((conn_at j conns).number == c) ≡ false)
+    → x ≡ slice_index_or conns i x → y ≡ slice_index_or conns i y → (x.number == c) ≡ true → y.broken ≡ is_broken_in c conns
+broken_here c i conns x y lt before x_is y_is its =
     let x_here : x ≡ conn_at i conns = conn_is conns conns i x no_conn refl lt x_is in
     let y_here : y ≡ conn_at i conns = conn_is conns conns i y no_conn refl lt y_is in
-    ap (λ (k : ConnValue). k.broken) y_here ∙ sym (stopped_at c i conns lt before (ap (λ (k : ConnValue). k.number == c) (sym x_here) ∙ its))
+    ap (λ (k : ConnValue). k.broken) y_here ∙ sym (broken_first c i conns lt before (ap (λ (k : ConnValue). k.number == c) (sym x_here) ∙ its))

@@ -13,7 +13,7 @@ use Rattle.gateway_model.specs.Past.{marked}
 use Rattle.gateway_model.specs.Starts.{Placed, occurrences}
 use Rattle.gateway_theory.specs.Breaks.{how_seen_fated, seen_by}
 use Rattle.gateway_theory.specs.Conn.{ConnValue}
-use Rattle.gateway_theory.specs.Ends.{is_stopped_in}
+use Rattle.gateway_theory.specs.Ends.{is_broken_in}
 use Rattle.gateway_theory.specs.Fate.{BrokenAt, Fate, Unbroken, is_broken}
 use Rattle.gateway_theory.specs.Fated.{CallFated}
 use Rattle.gateway_theory.specs.Gateway.{GatewayStands, GatewayValue, is_broken_conn, shown}
@@ -24,7 +24,7 @@ use Rattle.gateway_theory.specs.Step.{CallState, Live}
 use Rattle.gateway_theory.specs.Store.{HasFates, call_at, conn_of}
 use Rattle.gateway_theory.specs.Told.{IsSeen, IsSeenBy, IsWanted}
 use Rattle.gateway_theory.specs.lemmas.OrderLemmas.{has_fates}
-use Rattle.gateway_theory.specs.lemmas.ResultSteps.{stop_none}
+use Rattle.gateway_theory.specs.lemmas.ResultSteps.{broken_not_live}
 use Rattle.gateway_theory.specs.lemmas.SeenLemmas.{seen_is}
 use Rattle.gateway_theory.specs.lemmas.SeenResults.{seen_stands}
 
@@ -57,18 +57,18 @@ module _ (id : CallId) (v : GatewayValue) (orderly : IsOrderly v.machine) where
 
   -- a fate for each open connection
   abbrev fate_now : ℕ → Fate
-  fate_now d = if is_stopped_in d v.machine.conns then BrokenAt [] None [] else Unbroken
+  fate_now d = if is_broken_in d v.machine.conns then BrokenAt [] None [] else Unbroken
 
   fates_now : HasFates fate_now v.machine
   fates_now = has_fates fate_now v.machine orderly (λ d k k_is.
-      sym (ap (λ x. option_map_or (λ (y : ConnValue). y.broken) x false) k_is) ∙ by_it (is_stopped_in d v.machine.conns))
+      sym (ap (λ x. option_map_or (λ (y : ConnValue). y.broken) x false) k_is) ∙ by_it (is_broken_in d v.machine.conns))
     where
       by_it : (b : Bool) → b ≡ is_broken (if b then BrokenAt [] None [] else Unbroken)
       by_it true = refl
       by_it false = refl
 
-  none_stopped : is_whole id.conn (shown v) ≡ false → c.live ≡ None
-  none_stopped off = by_conn (conn_of id.conn v.machine.conns) refl
+  not_whole_not_live : is_whole id.conn (shown v) ≡ false → c.live ≡ None
+  not_whole_not_live off = by_conn (conn_of id.conn v.machine.conns) refl
     where
       on_not : (b : Bool) → (true && not b) ≡ false → b ≡ true
       on_not true e = refl
@@ -76,7 +76,7 @@ module _ (id : CallId) (v : GatewayValue) (orderly : IsOrderly v.machine) where
 
       by_conn : (k : Option ConnValue) → conn_of id.conn v.machine.conns ≡ k → c.live ≡ None
       by_conn None k_is = fates_now.none_live id k_is
-      by_conn (Some k) k_is = stop_none v.machine fate_now id fates_now
+      by_conn (Some k) k_is = broken_not_live v.machine fate_now id fates_now
           (on_not (is_broken_conn id.conn v) (sym (ap (λ x. is_some x && not (is_broken_conn id.conn v)) k_is) ∙ off))
 
   live_stands : (os : List Occurrence) (l : Option Live) (out : List Bool) → MayLive id l out (marked os) → is_some l ≡ is_live id (marked os)
@@ -109,6 +109,6 @@ module _ (id : CallId) (v : GatewayValue) (orderly : IsOrderly v.machine) where
   pub wanted_told : (wanted : Bool) → wanted ≡ is_some c.live → IsWanted id v wanted
   wanted_told wanted kept = record {
     kept = kept;
-    stopped = λ off. kept ∙ ap (λ (l : Option Live). is_some l) (none_stopped off);
+    broken = λ off. kept ∙ ap (λ (l : Option Live). is_some l) (not_whole_not_live off);
     by_events = λ opened es taken handed occurred h o whole. kept ∙ wanted_so opened es taken handed occurred h o whole;
   }

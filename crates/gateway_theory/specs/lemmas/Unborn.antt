@@ -21,15 +21,15 @@ no_entering_by : (id : CallId) (m : Mark) (past : Past) (o : Option Coming) → 
 no_entering_by id m past None o_is le = cond_both (arrivals id.conn past == id.request) None None (λ x. x ≡ None) (λ _. refl) (λ _. refl)
 no_entering_by id m past (Some e) o_is le = rw (ne_eqb (arrivals id.conn past) id.request (λ same. omega (arith, le, same))) refl
 
-entries_less : (id : CallId) (m : Mark) (past : Past) → arrivals id.conn (m ∷ past) ≤ id.request → arrivals id.conn past ≤ id.request
-entries_less id m past le =
+arrivals_less : (id : CallId) (m : Mark) (past : Past) → arrivals id.conn (m ∷ past) ≤ id.request → arrivals id.conn past ≤ id.request
+arrivals_less id m past le =
     cond_both (is_some (coming_on id.conn m.what)) (suc (arrivals id.conn past)) (arrivals id.conn past) (λ n. n ≤ id.request → arrivals id.conn past ≤ id.request)
     (λ _ l. omega (arith, l)) (λ _ l. l) le
 
 pub unborn : (id : CallId) (past : Past) → arrivals id.conn past ≤ id.request → Unborn id past
 unborn id [] le = record { no_call = refl; not_begun = refl; not_came = refl; no_events = refl; undecided = refl }
 unborn id (m ∷ past) le =
-    let u = unborn id past (entries_less id m past le) in
+    let u = unborn id past (arrivals_less id m past le) in
     let none : coming_now id m past ≡ None = no_entering_by id m past (coming_on id.conn m.what) refl le in
     let unasked : asked_now id m past ≡ None =
     cond_both m.crowded None (option_and_then (asked_by (now past)) (coming_now id m past)) (λ o. o ≡ None) (λ _. refl) (λ _. rw none refl) in

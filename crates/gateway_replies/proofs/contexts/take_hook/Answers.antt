@@ -19,11 +19,11 @@ returns-then-index-number-clause-taken g c =
     c.index_mut.ensures.value ∙ same_at c.loop-index.index c.loop-index.peers.items c.index_mut.result.now c.index.result.now low ∙ sym c.index.ensures in
     let its : (c.index_mut.result.now.number == c.args.number) ≡ true =
     eq-eqb c.index_mut.result.now.number c.args.number (ap (λ (p : Peer _). p.number) same ∙ c.if-index-number.true) in
-    subst (λ (ps : List (Peer _)). Takes c.args.number c.take.result (stock_ties ps) (stock_ties (slice_set c.loop-index.peers.items c.loop-index.index
-    (record { number = c.index_mut.result.now.number; ctx = c.index_mut.result.now.ctx; stock = c.take.new.self })))) c.loop-index.invariant.0
+    subst (λ (ps : List (Peer _)). Takes c.args.number c.take_first.result (stock_ties ps) (stock_ties (slice_set c.loop-index.peers.items c.loop-index.index
+    (record { number = c.index_mut.result.now.number; ctx = c.index_mut.result.now.ctx; stock = c.take_first.new.stock })))) c.loop-index.invariant.0
     (taken_at c.args.number c.loop-index.index c.loop-index.peers.items c.index_mut.result.now
-    (record { number = c.index_mut.result.now.number; ctx = c.index_mut.result.now.ctx; stock = c.take.new.self }) c.take.result low c.index_mut.ensures.value its refl c.loop-index.invariant.1
-    c.take.ensures.first c.take.ensures.none)
+    (record { number = c.index_mut.result.now.number; ctx = c.index_mut.result.now.ctx; stock = c.take_first.new.stock }) c.take_first.result low c.index_mut.ensures.value its refl c.loop-index.invariant.1
+    c.take_first.ensures.first c.take_first.ensures.none)
 
 pub loop-index-preserved : goal.loop-index-preserved
 loop-index-preserved g c =

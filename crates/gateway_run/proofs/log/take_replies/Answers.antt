@@ -2,7 +2,7 @@ use Rattle.std.proofs.Common.{◌≡◌, ◌++◌, ◌∷◌, [], List, Some, No
 use Rattle.gateway_model.specs.declared.entry.ReplyEntry.{ReplyEntry}
 use Rattle.gateway_theory.specs.Gateway.{untaken_of}
 use Rattle.gateway_model.specs.Queue.{answer_of}
-use Rattle.gateway_run.specs.Log.{Took}
+use Rattle.gateway_run.specs.Log.{TookReplies}
 use Rattle.gateway_model.specs.Run.{bytes_of}
 use Rattle.gateway_run.proofs.Gathering.{bytes_more, took_more, took_none}
 use Rattle.gateway_run.proofs.log.take_replies.Goals as goal
@@ -23,10 +23,10 @@ loop-reply-preserved g c =
 pub returns-clause-took : goal.returns-clause-took
 returns-clause-took g c =
     let was = c.loop-reply.invariant in
-    let t : Took c.args.conn (was.0 ++ []) c.args.core.now c.take_reply.new.self =
+    let t : TookReplies c.args.conn (was.0 ++ []) c.args.core.now c.take_reply.new.self =
     took_more c.args.conn was.0 None c.args.core.now c.loop-reply.core c.take_reply.new.self was.1 c.in_default.ensures.stands c.in_default.ensures.first c.in_default.ensures.only in
     let none : untaken_of c.args.conn c.take_reply.new.self ≡ [] = sym c.in_default.ensures.first ∙ c.take_reply.ensures.none c.in_default.is in
-    subst (λ es. Took c.args.conn es c.args.core.now c.take_reply.new.self) (sym (t.untaken_are ∙ ap (λ es. (was.0 ++ []) ++ es) none ∙ append-nil (was.0 ++ []))) t
+    subst (λ es. TookReplies c.args.conn es c.args.core.now c.take_reply.new.self) (sym (t.untaken_are ∙ ap (λ es. (was.0 ++ []) ++ es) none ∙ append-nil (was.0 ++ []))) t
 
 pub returns-clause-bytes : goal.returns-clause-bytes
 returns-clause-bytes g c =

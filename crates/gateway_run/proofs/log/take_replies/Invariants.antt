@@ -1,12 +1,12 @@
 use Rattle.std.proofs.Common.{◌≡◌, ◌++◌, List, length}
 use Rattle.gateway_model.specs.declared.entry.ReplyEntry.{ReplyEntry}
 use Rattle.gateway_theory.specs.Gateway.{untaken_of}
-use Rattle.gateway_run.specs.Log.{Took}
+use Rattle.gateway_run.specs.Log.{TookReplies}
 use Rattle.gateway_model.specs.Run.{bytes_of}
 use Rattle.gateway_run.proofs.log.take_replies.Given as goal
 
 abbrev pub invariant-loop-reply : goal.invariant-loop-reply
-invariant-loop-reply g l = (entries : List ReplyEntry) × Took l.conn entries l.initial.core l.core × (l.bytes ≡ l.initial.bytes ++ bytes_of entries)
+invariant-loop-reply g l = (entries : List ReplyEntry) × TookReplies l.conn entries l.initial.core l.core × (l.bytes ≡ l.initial.bytes ++ bytes_of entries)
 
 abbrev pub decreases-loop-reply : goal.decreases-loop-reply
 decreases-loop-reply g l = length (untaken_of l.conn l.core)

@@ -9,7 +9,7 @@ use Rattle.gateway_model.specs.Occurrence as occurs
 use Rattle.gateway_model.specs.Past.{call_id}
 use Rattle.gateway_run.specs.Stepping.{BreaksAt, Tells, TellsBreaks, TellsConn, TellsOpening, opened_by, seen_in}
 use Rattle.gateway_run.specs.declared.stepping.Stepped.TheVariants.{Done, Saw}
-use Rattle.gateway_run.proofs.Hearing.{has_effect}
+use Rattle.gateway_run.proofs.Listening.{has_effect}
 use Rattle.gateway_run.proofs.Starting.{breaks_told, by_done, by_opening, by_taken, conn_told, few_told, keeps_closing, keeps_for, none_begins, none_done, none_opening, none_taken, opening_told}
 use Rattle.gateway_run.proofs.stepping.step.Goals as goal
 

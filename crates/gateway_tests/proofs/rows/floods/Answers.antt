@@ -30,15 +30,15 @@ stays law m n id i =
     ∙ law (call_id 0 0) 1 (Answer (codes "9")) hotel_answered repeated n id i
 
 pub returns-clause-again : goal.returns-clause-again
-returns-clause-again c = λ m n. stays c.unknown_law.ensures.judged_stays m n (call_id 0 0) 1 ∙ repeated
+returns-clause-again c = λ m n. stays c.unknown_law.ensures.seen_stays m n (call_id 0 0) 1 ∙ repeated
 
 pub returns-clause-strange : goal.returns-clause-strange
-returns-clause-strange c = λ m n. stays c.unknown_law.ensures.judged_stays m n (call_id 7 0) 0 ∙ strange_first
+returns-clause-strange c = λ m n. stays c.unknown_law.ensures.seen_stays m n (call_id 7 0) 0 ∙ strange_first
 
 pub returns-clause-goes_on : goal.returns-clause-goes_on
-returns-clause-goes_on c = λ m n. stays c.unknown_law.ensures.judged_stays m n (call_id 0 0) 0 ∙ refl
+returns-clause-goes_on c = λ m n. stays c.unknown_law.ensures.seen_stays m n (call_id 0 0) 0 ∙ refl
 
 pub returns-clause-replies : goal.returns-clause-replies
 returns-clause-replies c = λ m n.
-    c.unknown_law.ensures.replies_stay (call_id 7 0) 0 (Answer (codes "9")) (replicate n (answers 0 1 (codes "9")) ++ hotel_answered) (strange_then c.unknown_law.ensures.judged_stays n) m 0
+    c.unknown_law.ensures.replies_stay (call_id 7 0) 0 (Answer (codes "9")) (replicate n (answers 0 1 (codes "9")) ++ hotel_answered) (strange_then c.unknown_law.ensures.seen_stays n) m 0
     ∙ c.unknown_law.ensures.replies_stay (call_id 0 0) 1 (Answer (codes "9")) hotel_answered repeated n 0 ∙ refl

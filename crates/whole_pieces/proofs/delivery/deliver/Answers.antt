@@ -1,6 +1,6 @@
 use Rattle.std.specs.Prelude.{◌==◌}
 use Rattle.std.proofs.Common.{drop}
-use Rattle.whole_pieces.proofs.PieceParts.{all_rest, begun, counts_then, empty_rest, fault_tells, fed_fault, fed_on, fed_whole, from_err, heard_ok, keeps_then, whole_tells}
+use Rattle.whole_pieces.proofs.PieceParts.{all_rest, begun, counts_then, empty_rest, fault_tells, fed_fault, fed_on, fed_whole, from_err, listening_ok, keeps_then, whole_tells}
 use Rattle.whole_pieces.proofs.delivery.deliver.Goals as goal
 
 pub loop-taken-init : goal.loop-taken-init
@@ -14,23 +14,23 @@ pub returns-then-is_empty-clause-stands : goal.returns-then-is_empty-clause-stan
 returns-then-is_empty-clause-stands g c =
     fed_whole c.args.conn c.args.piece.now (drop c.in_ok-taken.taken c.loop-taken.rest.now) c.args.core.now c.feed.new.self
     (fed_on c.args.conn c.in_ok-taken.taken c.args.piece.now c.loop-taken.rest.now c.args.core.now c.loop-taken.core c.feed.new.self c.loop-taken.invariant c.in_ok-taken.ensures.stands c.feed.ensures.keeps c.feed.ensures.counts
-    (heard_ok c.args.conn c.loop-taken.core c.feed.result c.in_ok-taken.taken c.in_ok-taken.was c.feed.ensures.tells.gone) c.in_ok-taken.ensures.heard)
+    (listening_ok c.args.conn c.loop-taken.core c.feed.result c.in_ok-taken.taken c.in_ok-taken.was c.feed.ensures.tells.gone) c.in_ok-taken.ensures.listens)
     (empty_rest c.in_ok-taken.taken c.loop-taken.rest.now c.if-is_empty.ensures)
 
 pub loop-taken-preserved : goal.loop-taken-preserved
 loop-taken-preserved g c =
     rw (all_rest c.in_ok-taken.taken c.loop-taken.rest.now)
     (fed_on c.args.conn c.in_ok-taken.taken c.args.piece.now c.loop-taken.rest.now c.args.core.now c.loop-taken.core c.feed.new.self c.loop-taken.invariant c.in_ok-taken.ensures.stands c.feed.ensures.keeps c.feed.ensures.counts
-    (heard_ok c.args.conn c.loop-taken.core c.feed.result c.in_ok-taken.taken c.in_ok-taken.was c.feed.ensures.tells.gone) c.in_ok-taken.ensures.heard)
+    (listening_ok c.args.conn c.loop-taken.core c.feed.result c.in_ok-taken.taken c.in_ok-taken.was c.feed.ensures.tells.gone) c.in_ok-taken.ensures.listens)
 
 pub returns-in_err-taken-clause-tells : goal.returns-in_err-taken-clause-tells
 returns-in_err-taken-clause-tells g c =
-    fault_tells c.args.conn c.args.core.now c.loop-taken.core c.feed.new.self c.feed.result c.from_residual.result c.in_err-taken.field-0.0 c.loop-taken.invariant.hears c.in_err-taken.was
+    fault_tells c.args.conn c.args.core.now c.loop-taken.core c.feed.new.self c.feed.result c.from_residual.result c.in_err-taken.field-0.0 c.loop-taken.invariant.listening c.in_err-taken.was
     (from_err c.from_residual.result c.in_err-taken.field-0.0 c.from_residual.ensures.0 c.from_residual.ensures.1) c.feed.ensures.tells
 
 pub returns-then-is_empty-clause-tells : goal.returns-then-is_empty-clause-tells
 returns-then-is_empty-clause-tells g c =
-    whole_tells c.args.conn c.in_ok-taken.taken c.args.core.now c.loop-taken.core c.feed.new.self c.feed.result _ c.loop-taken.invariant.hears c.in_ok-taken.was c.feed.ensures.tells
+    whole_tells c.args.conn c.in_ok-taken.taken c.args.core.now c.loop-taken.core c.feed.new.self c.feed.result _ c.loop-taken.invariant.listening c.in_ok-taken.was c.feed.ensures.tells
 
 pub returns-in_err-taken-clause-counts : goal.returns-in_err-taken-clause-counts
 returns-in_err-taken-clause-counts g c = counts_then c.args.core.now c.loop-taken.core c.feed.new.self c.loop-taken.invariant.counts c.feed.ensures.counts

@@ -7,7 +7,7 @@ use Rattle.gateway_theory.specs.Serving.{CountsCalls, Keeps, FedTo, TellsStep, W
 use Rattle.gateway_theory.specs.Told.{TakesOneOf}
 use Rattle.gateway_theory.specs.lemmas.OneAtATime.{fed_one}
 use Rattle.gateway_theory.specs.lemmas.ServedWhole.{fed_stands}
-use Rattle.gateway_theory.specs.lemmas.Keeping.{fed_begins, fed_counts, fed_heard, fed_keeps, fed_tells, fed_takes}
+use Rattle.gateway_theory.specs.lemmas.Keeping.{fed_begins, fed_counts, fed_listens, fed_keeps, fed_tells, fed_takes}
 use Rattle.gateway_core.proofs.gateway.Core.feed.Goals as goal
 
 pub returns : goal.returns
@@ -24,6 +24,6 @@ returns g c = record {
   begins = subst (λ (x : GatewayValue). c.feed-fed.result ≡ Err Exhausted → WouldBegin c.args.conn c.args.bytes.now x) c.self.view_is
       (fed_begins c.args.conn c.args.bytes.now c.self.inside.streams c.feed-fed.new.self c.serving_law.ensures c.feed-fed.result (subst (λ n. FedTo n c.args.bytes.now c.self.inside.streams c.feed-fed.new.self c.feed-fed.result) c.number.ensures c.feed-fed.ensures));
   counts = subst (λ (x : GatewayValue). CountsCalls x c.feed-fed.new.self) c.self.view_is (fed_counts c.args.conn c.args.bytes.now c.self.inside.streams c.feed-fed.new.self c.serving_law.ensures c.feed-fed.result (subst (λ n. FedTo n c.args.bytes.now c.self.inside.streams c.feed-fed.new.self c.feed-fed.result) c.number.ensures c.feed-fed.ensures));
-  heard = fed_heard c.args.conn c.self.inside.streams c.feed-fed.new.self c.serving_law.ensures c.serving_law-2.ensures c.args.bytes.now c.feed-fed.result (subst (λ n. FedTo n c.args.bytes.now c.self.inside.streams c.feed-fed.new.self c.feed-fed.result) c.number.ensures c.feed-fed.ensures);
+  listens = fed_listens c.args.conn c.self.inside.streams c.feed-fed.new.self c.serving_law.ensures c.serving_law-2.ensures c.args.bytes.now c.feed-fed.result (subst (λ n. FedTo n c.args.bytes.now c.self.inside.streams c.feed-fed.new.self c.feed-fed.result) c.number.ensures c.feed-fed.ensures);
   keeps = subst (λ (x : GatewayValue). Keeps (λ n. n == c.args.conn) x c.feed-fed.new.self) c.self.view_is (fed_keeps c.args.conn c.args.bytes.now c.self.inside.streams c.feed-fed.new.self c.serving_law.ensures c.feed-fed.result (subst (λ n. FedTo n c.args.bytes.now c.self.inside.streams c.feed-fed.new.self c.feed-fed.result) c.number.ensures c.feed-fed.ensures));
 }

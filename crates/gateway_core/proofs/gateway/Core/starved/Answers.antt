@@ -16,19 +16,19 @@ use Rattle.gateway_core.proofs.gateway.Core.starved.Goals as goal
 pub returns : goal.returns
 returns g c = record {
   stands = λ outcome opened es taken handed h.
-      let e = c.starve.ensures.starved in
-      starved_served c.self.inside.streams c.starve.new.self opened es taken handed c.serving_law.ensures (subst (λ (x : GatewayValue). Served x opened es taken handed) (sym c.self.view_is) h) c.args.call.now c.args.branch outcome e.0 c.starve.result c.starve.ensures.rest e.2 e.1;
+      let e = c.starved.ensures.starved in
+      starved_served c.self.inside.streams c.starved.new.self opened es taken handed c.serving_law.ensures (subst (λ (x : GatewayValue). Served x opened es taken handed) (sym c.self.view_is) h) c.args.call.now c.args.branch outcome e.0 c.starved.result c.starved.ensures.rest e.2 e.1;
   tells = λ outcome. record {
-    seen = subst (λ (x : GatewayValue). IsSeen c.args.call.now c.args.branch x c.starve.result.seen) c.self.view_is
-        (seen_told c.args.call.now c.self.inside.streams c.serving_law.ensures.orderly c.args.branch c.starve.result.seen
-        (starved_seen c.args.call.now c.args.branch c.self.inside.streams.machine c.starve.ensures.starved.0 c.starve.result c.starve.ensures.starved.1));
-    counted = λ e. starved_broke c.args.call.now c.args.branch c.self.inside.streams.machine c.starve.ensures.starved.0 c.starve.result c.starve.ensures.starved.1 e;
-    broke = subst (λ (x : GatewayValue). Breaks x c.starve.new.self c.starve.result.broke) c.self.view_is (breaks_of c.self.inside.streams c.starve.new.self c.starve.result.broke
-        (starved_breaks_are c.args.call.now c.args.branch c.self.inside.streams.machine c.starve.ensures.starved.0 c.starve.new.self.machine c.starve.result c.serving_law.ensures.orderly c.starve.ensures.starved.2 c.starve.ensures.starved.1));
-    unknown = λ e. unknown_kept c.self.inside.streams c.starve.new.self c.starve.ensures.rest (c.starve.ensures.unknown e) ∙ ap (λ (x : GatewayValue). record x { tally = c.starve.new.self.tally }) c.self.view_is;
-    none_spent = c.starve.ensures.none_spent;
-    concerned = subst (λ (x : GatewayValue). BreaksBy (Result c.args.call.now c.args.branch outcome) x c.starve.new.self) c.self.view_is
-        (starved_concerns c.args.call.now c.args.branch outcome c.starve.ensures.starved.0 c.starve.result c.self.inside.streams c.starve.new.self c.serving_law.ensures.orderly c.starve.ensures.starved.2 c.starve.ensures.starved.1);
+    seen = subst (λ (x : GatewayValue). IsSeen c.args.call.now c.args.branch x c.starved.result.seen) c.self.view_is
+        (seen_told c.args.call.now c.self.inside.streams c.serving_law.ensures.orderly c.args.branch c.starved.result.seen
+        (starved_seen c.args.call.now c.args.branch c.self.inside.streams.machine c.starved.ensures.starved.0 c.starved.result c.starved.ensures.starved.1));
+    counted = λ e. starved_broke c.args.call.now c.args.branch c.self.inside.streams.machine c.starved.ensures.starved.0 c.starved.result c.starved.ensures.starved.1 e;
+    broke = subst (λ (x : GatewayValue). Breaks x c.starved.new.self c.starved.result.broke) c.self.view_is (breaks_of c.self.inside.streams c.starved.new.self c.starved.result.broke
+        (starved_breaks_are c.args.call.now c.args.branch c.self.inside.streams.machine c.starved.ensures.starved.0 c.starved.new.self.machine c.starved.result c.serving_law.ensures.orderly c.starved.ensures.starved.2 c.starved.ensures.starved.1));
+    unknown = λ e. unknown_kept c.self.inside.streams c.starved.new.self c.starved.ensures.rest (c.starved.ensures.unknown e) ∙ ap (λ (x : GatewayValue). record x { tally = c.starved.new.self.tally }) c.self.view_is;
+    none_spent = c.starved.ensures.none_spent;
+    concerned = subst (λ (x : GatewayValue). BreaksBy (Result c.args.call.now c.args.branch outcome) x c.starved.new.self) c.self.view_is
+        (starved_concerns c.args.call.now c.args.branch outcome c.starved.ensures.starved.0 c.starved.result c.self.inside.streams c.starved.new.self c.serving_law.ensures.orderly c.starved.ensures.starved.2 c.starved.ensures.starved.1);
   };
-  keeps = subst (λ (x : GatewayValue). KeepsBut (λ n. false) (λ n. n == c.args.call.now.conn) (c.starve.result.seen ∷ []) x c.starve.new.self) c.self.view_is (starved_keeps c.args.call.now c.args.branch c.starve.ensures.starved.0 c.starve.result c.self.inside.streams c.starve.new.self c.serving_law.ensures.orderly c.starve.ensures.rest c.starve.ensures.starved.2 c.starve.ensures.tally c.starve.ensures.starved.1);
+  keeps = subst (λ (x : GatewayValue). KeepsBut (λ n. false) (λ n. n == c.args.call.now.conn) (c.starved.result.seen ∷ []) x c.starved.new.self) c.self.view_is (starved_keeps c.args.call.now c.args.branch c.starved.ensures.starved.0 c.starved.result c.self.inside.streams c.starved.new.self c.serving_law.ensures.orderly c.starved.ensures.rest c.starved.ensures.starved.2 c.starved.ensures.tally c.starved.ensures.starved.1);
 }

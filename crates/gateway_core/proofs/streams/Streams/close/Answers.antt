@@ -3,7 +3,7 @@ use Rattle.std.specs.Prelude.{true}
 use Rattle.gateway_theory.specs.Gateway.{GatewayValue}
 use Rattle.gateway_theory.specs.Serving.{gateway_value, Closes, IsPlaced, IsServing}
 use Rattle.gateway_theory.specs.lemmas.ServingLemmas.{closed_serving, closed_value, none_placed, not_placed, was_placed}
-use Rattle.gateway_theory.specs.lemmas.HeadLemmas.{closed_heard}
+use Rattle.gateway_theory.specs.lemmas.HeadLemmas.{closed_agree}
 use Rattle.gateway_theory.specs.Heads.{conn_heads, stream_heads}
 use Rattle.gateway_theory.specs.Store.{MachineValue}
 use Rattle.gateway_core.proofs.streams.Streams.close.Goals as goal
@@ -20,7 +20,7 @@ invariant_of-self g c =
     let v : GatewayValue = gateway_value c.self.inside.plans c.self.inside.machine c.self.inside.streams.items c.self.inside.opened c.self.inside.begun c.self.inside.tally in (
       closed_serving c.args.number v (gateway_value v.plans c.close.new.self c.close_in.new.streams.items v.opened v.begun v.tally) c.close.ensures
           c.close_in.ensures refl c.self.invariant.0,
-      ap (λ (m : MachineValue). conn_heads m.conns) c.close.ensures ∙ closed_heard c.args.number v.machine.conns v.streams c.self.invariant.1 ∙ sym (ap stream_heads c.close_in.ensures),
+      ap (λ (m : MachineValue). conn_heads m.conns) c.close.ensures ∙ closed_agree c.args.number v.machine.conns v.streams c.self.invariant.1 ∙ sym (ap stream_heads c.close_in.ensures),
     )
 
 pub returns : goal.returns

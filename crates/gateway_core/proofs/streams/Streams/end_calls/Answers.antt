@@ -4,7 +4,7 @@ use Rattle.gateway_theory.specs.Gateway.{GatewayValue}
 use Rattle.gateway_theory.specs.Heads.{conn_heads}
 use Rattle.gateway_theory.specs.Serving.{gateway_value, Breaks}
 use Rattle.gateway_theory.specs.Store.{broken_count}
-use Rattle.gateway_theory.specs.lemmas.HeardLemmas.{ended_heads, ended_serving, told_breaks}
+use Rattle.gateway_theory.specs.lemmas.NotedLemmas.{ended_heads, ended_serving, told_breaks}
 use Rattle.gateway_core.proofs.streams.Streams.end_calls.Goals as goal
 
 pub invariant_of-self : goal.invariant_of-self

@@ -3,15 +3,15 @@ use Rattle.std.proofs.Common.{◌≡◌, Ok, Err, true, false, inl, refl, sym, a
 use Rattle.std.specs.Prelude.{if◌then◌else◌}
 use Rattle.http_pieces.specs.Reader.{is_over}
 use Rattle.gateway_theory.specs.declared.fault.StepFault.TheVariants.{Memory}
-use Rattle.gateway_theory.specs.Ends.{is_stopped_in}
+use Rattle.gateway_theory.specs.Ends.{is_broken_in}
 use Rattle.gateway_theory.specs.Gateway.{GatewayValue, StreamValue, stream_at}
 use Rattle.gateway_theory.specs.Serving.{came, dropped, unread, IsServing}
 use Rattle.gateway_theory.specs.Store.{broken_at, conn_at}
 use Rattle.gateway_theory.specs.lemmas.BringLemmas.{fed}
 use Rattle.gateway_theory.specs.lemmas.Bringing.{counts_read, read_whole, same_fault}
 use Rattle.gateway_theory.specs.lemmas.ServingLemmas.{read_at, stream_is_at}
-use Rattle.gateway_theory.specs.Heads.{IsHeard}
-use Rattle.gateway_theory.specs.lemmas.HeadLemmas.{heard_at}
+use Rattle.gateway_theory.specs.Heads.{HeadsAgree}
+use Rattle.gateway_theory.specs.lemmas.HeadLemmas.{agree_at}
 use Rattle.gateway_core.proofs.streams.Streams.feed.Goals as goal
 
 pub returns-then-is_over : goal.returns-then-is_over
@@ -38,7 +38,7 @@ returns g c =
     let x_is : c.index.result.now ≡ stream_at i s.streams = stream_is_at i c.index.result.now s.streams c.in-Some.ensures.stream_there
     (subst (λ (v : GatewayValue). c.index.result.now ≡ slice_index_or v.streams i c.index.result.now) c.self.view_is c.index.ensures) in
     let number_is : (conn_at i c.read.new.self.machine.conns).number ≡ c.args.number = ap (λ (v : GatewayValue). (conn_at i v.machine.conns).number) c.in-Ok.ensures.ok.rest ∙ c.in-Some.ensures.conn_is in
-    let on : is_stopped_in c.args.number c.bring.new.self.machine.conns ≡ false = ap (λ n. is_stopped_in n c.bring.new.self.machine.conns) (sym number_is) ∙ c.in_ok-bring.ensures.fine in
+    let on : is_broken_in c.args.number c.bring.new.self.machine.conns ≡ false = ap (λ n. is_broken_in n c.bring.new.self.machine.conns) (sym number_is) ∙ c.in_ok-bring.ensures.fine in
     came i c.in-Ok.taken c.in-Some.ensures (ap (λ (x : StreamValue). is_over x.reader.reading) (sym x_is) ∙ sym c.is_over.ensures ∙ c.if-is_over.false)
     (fed i c.in-Ok.taken c.in-Ok.request c.args.bytes.now s c.read.new.self c.bring.new.self c.bring.result c.in-Some.ensures.stream_there c.in-Ok.ensures.ok c.bring.ensures)
     c.in-Ok.ensures.ok.reads.reads.within
@@ -56,7 +56,7 @@ returns-in_err-bring g c =
     let x_is : c.index.result.now ≡ stream_at i s.streams = stream_is_at i c.index.result.now s.streams c.in-Some.ensures.stream_there
     (subst (λ (v : GatewayValue). c.index.result.now ≡ slice_index_or v.streams i c.index.result.now) c.self.view_is c.index.ensures) in
     let number_is : (conn_at i c.read.new.self.machine.conns).number ≡ c.args.number = ap (λ (v : GatewayValue). (conn_at i v.machine.conns).number) c.in-Ok.ensures.ok.rest ∙ c.in-Some.ensures.conn_is in
-    let on : is_stopped_in c.args.number c.bring.new.self.machine.conns ≡ true = ap (λ n. is_stopped_in n c.bring.new.self.machine.conns) (sym number_is) ∙ c.in_err-bring.ensures.stopped in
+    let on : is_broken_in c.args.number c.bring.new.self.machine.conns ≡ true = ap (λ n. is_broken_in n c.bring.new.self.machine.conns) (sym number_is) ∙ c.in_err-bring.ensures.broken in
     came i c.in-Ok.taken c.in-Some.ensures (ap (λ (x : StreamValue). is_over x.reader.reading) (sym x_is) ∙ sym c.is_over.ensures ∙ c.if-is_over.false)
     (fed i c.in-Ok.taken c.in-Ok.request c.args.bytes.now s c.read.new.self c.bring.new.self c.bring.result c.in-Some.ensures.stream_there c.in-Ok.ensures.ok c.bring.ensures)
     c.in-Ok.ensures.ok.reads.reads.within
@@ -66,8 +66,8 @@ returns-in_err-bring g c =
     (counts_read i c.in-Ok.taken c.in-Ok.request c.args.bytes.now s c.read.new.self c.bring.new.self c.in-Ok.ensures.ok c.bring.ensures.counts)
     (given.1 ∙ ap Err given.2 ∙ sym (ap (λ b. if b then Err c.in_err-bring.field-0.0 else Ok c.in-Ok.taken) on))
 
-pub bring-requires-clause-heard : goal.bring-requires-clause-heard
-bring-requires-clause-heard g c =
-    let heard : (conn_at c.in-Some.index c.args.self.now.machine.conns).hung_up ≡ (stream_at c.in-Some.index c.args.self.now.streams).hung_up =
-    heard_at c.in-Some.index c.args.self.now.machine.conns c.args.self.now.streams (subst IsHeard c.self.view_is c.self.invariant.1) c.in-Some.ensures.conn_there in
-    ap (λ (v : GatewayValue). (conn_at c.in-Some.index v.machine.conns).hung_up) c.in-Ok.ensures.ok.rest ∙ heard ∙ c.in-Some.ensures.on
+pub bring-requires-clause-not_hung : goal.bring-requires-clause-not_hung
+bring-requires-clause-not_hung g c =
+    let agree : (conn_at c.in-Some.index c.args.self.now.machine.conns).hung_up ≡ (stream_at c.in-Some.index c.args.self.now.streams).hung_up =
+    agree_at c.in-Some.index c.args.self.now.machine.conns c.args.self.now.streams (subst HeadsAgree c.self.view_is c.self.invariant.1) c.in-Some.ensures.conn_there in
+    ap (λ (v : GatewayValue). (conn_at c.in-Some.index v.machine.conns).hung_up) c.in-Ok.ensures.ok.rest ∙ agree ∙ c.in-Some.ensures.on

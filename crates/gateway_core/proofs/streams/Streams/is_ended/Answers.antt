@@ -5,7 +5,7 @@ use Rattle.gateway_theory.specs.Conn.{ConnValue}
 use Rattle.gateway_theory.specs.Gateway.{GatewayValue, StreamValue, are_all_there, has_ended, is_broken_conn, is_done, stream_at, stream_of}
 use Rattle.gateway_theory.specs.Serving.{IsServing}
 use Rattle.gateway_theory.specs.Store.{conn_at}
-use Rattle.gateway_theory.specs.lemmas.ServingLemmas.{ended_is, none_placed, stopped_is, stream_is_at}
+use Rattle.gateway_theory.specs.lemmas.ServingLemmas.{ended_is, none_placed, broken_found, stream_is_at}
 use Rattle.gateway_core.proofs.streams.Streams.is_ended.Goals as goal
 
 pub returns-in-None : goal.returns-in-None
@@ -21,7 +21,7 @@ returns-then-is_done g c =
     let i : ℕ = c.in-Some.index in
     let serving : IsServing v = subst IsServing c.self.view_is c.self.invariant.0 in
     let on : (conn_at i v.machine.conns).broken ≡ false =
-    sym (stopped_is c.args.number i v serving c.in-Some.ensures) ∙ ap (λ (x : GatewayValue). is_broken_conn c.args.number x) (sym c.self.view_is) ∙ sym c.is_stopped.ensures ∙ c.if-is_stopped.false in
+    sym (broken_found c.args.number i v serving c.in-Some.ensures) ∙ ap (λ (x : GatewayValue). is_broken_conn c.args.number x) (sym c.self.view_is) ∙ sym c.is_broken.ensures ∙ c.if-is_broken.false in
     let x_is : c.index.result.now ≡ stream_at i v.streams = stream_is_at i c.index.result.now v.streams c.in-Some.ensures.0
     (subst (λ (x : GatewayValue). c.index.result.now ≡ slice_index_or x.streams i c.index.result.now) c.self.view_is c.index.ensures) in
     let done : is_done (stream_at i v.streams) ≡ true = ap is_done (sym x_is) ∙ sym c.is_done.ensures ∙ c.if-is_done.true in
@@ -35,7 +35,7 @@ returns-else-is_done g c =
     let i : ℕ = c.in-Some.index in
     let serving : IsServing v = subst IsServing c.self.view_is c.self.invariant.0 in
     let on : (conn_at i v.machine.conns).broken ≡ false =
-    sym (stopped_is c.args.number i v serving c.in-Some.ensures) ∙ ap (λ (x : GatewayValue). is_broken_conn c.args.number x) (sym c.self.view_is) ∙ sym c.is_stopped.ensures ∙ c.if-is_stopped.false in
+    sym (broken_found c.args.number i v serving c.in-Some.ensures) ∙ ap (λ (x : GatewayValue). is_broken_conn c.args.number x) (sym c.self.view_is) ∙ sym c.is_broken.ensures ∙ c.if-is_broken.false in
     let x_is : c.index.result.now ≡ stream_at i v.streams = stream_is_at i c.index.result.now v.streams c.in-Some.ensures.0
     (subst (λ (x : GatewayValue). c.index.result.now ≡ slice_index_or x.streams i c.index.result.now) c.self.view_is c.index.ensures) in
     let done : is_done (stream_at i v.streams) ≡ false = ap is_done (sym x_is) ∙ sym c.is_done.ensures ∙ c.if-is_done.false in

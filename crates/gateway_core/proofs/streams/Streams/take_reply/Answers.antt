@@ -1,6 +1,7 @@
 use Rattle.std.proofs.Common.{Some, refl, sym, subst, ◌∙◌}
 use Rattle.gateway_theory.specs.Gateway.{GatewayValue}
 use Rattle.gateway_theory.specs.Serving.{gateway_value, absent, taken, IsPlaced, IsServing, TakesReply}
+use Rattle.gateway_theory.specs.lemmas.BroughtLemmas.{goes_given}
 use Rattle.gateway_theory.specs.lemmas.ServingLemmas.{conn_numbered, conn_there, keeps_reply, machine_kept, none_placed}
 use Rattle.gateway_theory.specs.lemmas.HeadLemmas.{heads_reply}
 use Rattle.gateway_core.proofs.streams.Streams.take_reply.Goals as goal
@@ -14,7 +15,8 @@ invariant_of-self g c =
     let p : IsPlaced c.args.number v.streams (Some c.in-Some.index) =
     subst (λ (x : GatewayValue). IsPlaced c.args.number x.streams (Some c.in-Some.index)) (sym c.self.view_is) c.in-Some.ensures in (
       machine_kept v c.take_reply.new.self
-          (keeps_reply c.in-Some.index v.machine c.take_reply.new.self c.take_reply.result (conn_there c.args.number c.in-Some.index v c.self.invariant.0 p) c.take_reply.ensures) c.self.invariant.0,
+          (keeps_reply c.in-Some.index v.machine c.take_reply.new.self c.take_reply.result (conn_there c.args.number c.in-Some.index v c.self.invariant.0 p) c.take_reply.ensures)
+          (goes_given c.in-Some.index v.machine c.take_reply.new.self c.take_reply.result (conn_there c.args.number c.in-Some.index v c.self.invariant.0 p) c.self.invariant.0.orderly.conns_apart c.take_reply.ensures) c.self.invariant.0,
       heads_reply c.in-Some.index v.machine c.take_reply.new.self c.take_reply.result (conn_there c.args.number c.in-Some.index v c.self.invariant.0 p) c.take_reply.ensures ∙ c.self.invariant.1,
     )
 

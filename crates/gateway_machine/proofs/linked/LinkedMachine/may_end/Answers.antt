@@ -8,4 +8,4 @@ use Rattle.gateway_machine.proofs.linked.LinkedMachine.may_end.Goals as goal
 pub returns-in-Reached : goal.returns-in-Reached
 returns-in-Reached g c = λ low.
     subst (λ (k : Trigger). EndsNone k c.args.self.now) (sym c.in-Reached.is)
-    (subst (EndsNone (Reached c.in-Reached.moment)) c.self.view_is (not_due c.in-Reached.moment c.self.inside.contexts.standing c.self.inside.machine c.self.invariant (c.is_due.ensures.not_due low)))
+    (subst (EndsNone (Reached c.in-Reached.moment)) c.self.view_is (not_due c.in-Reached.moment c.self.inside.contexts.standing c.self.inside.machine c.self.invariant.0 (c.is_due.ensures.not_due low)))

@@ -3,10 +3,10 @@ use Rattle.std.specs.Arc.{arc_value}
 use Rattle.call_contexts.specs.Standing.{WithHooks}
 use Rattle.gateway_model.specs.Past.{ArrivedCall}
 use Rattle.gateway_replies.specs.Contexts.{ContextsValue, ctx_of}
-use Rattle.gateway_replies.specs.Hooks.{HookedContexts, stock_of}
-use Rattle.gateway_replies.specs.Ties.{life_ties, peer_ties, stock_ties}
+use Rattle.gateway_replies.specs.Hooks.{HookedContexts, stock_in, stock_of}
+use Rattle.gateway_replies.specs.Ties.{Takes, life_ties, peer_ties, stock_ties}
 use Rattle.gateway_replies.proofs.ContextLemmas.{begun_tied, begun_value, known_conn, no_such, not_known}
-use Rattle.gateway_replies.proofs.HookLemmas.{begun_hooked, takes_one}
+use Rattle.gateway_replies.proofs.HookLemmas.{begun_hooked, has_stock, takes_most, takes_one}
 use Rattle.gateway_replies.proofs.contexts.Contexts.begin.Goals as goal
 
 pub unreachable-requires : goal.unreachable-requires
@@ -55,3 +55,22 @@ returns-clause-hook g c =
     (subst (λ n. stock_of n (stock_ties c.self.inside.peers.items) ≡ c.in-Some-take_hook.hook ∷ stock_of n (stock_ties c.take_hook.new.peers.items)) c.number-2.ensures c.in-Some-take_hook.ensures.taken.0)
     c.self.invariant.1 (c.push_reserved.ensures.items ∙ ap (λ ls. ls ++ record { id = c.args.id.now; ctx = c.in-Ok.ctx } ∷ []) c.in_ok-reserve.ensures.items)
     (ap (λ (v : WithHooks _ _ _). v.hooks) c.in-Ok.ensures.stands)
+
+pub unreachable-requires-in_default-take_hook : goal.unreachable-requires-in_default-take_hook
+unreachable-requires-in_default-take_hook g c =
+    let at : ctx_of c.args.id.now.conn (peer_ties c.self.inside.peers.items) ≡ Some c.in-Some.conn =
+    ap (λ ps. ctx_of c.args.id.now.conn (peer_ties ps)) (sym c.deref.ensures.value) ∙ ap (λ n. ctx_of n (peer_ties c.deref.result.now)) (sym c.number.ensures) ∙ sym c.ctx_of.ensures ∙ c.in-Some.is in
+    let none : Takes c.args.id.now.conn None (stock_ties c.self.inside.peers.items) (stock_ties c.take_hook.new.peers.items) =
+    subst (λ r. Takes c.args.id.now.conn r (stock_ties c.self.inside.peers.items) (stock_ties c.take_hook.new.peers.items)) c.in_default-take_hook.is
+    (subst (λ n. Takes n c.take_hook.result (stock_ties c.self.inside.peers.items) (stock_ties c.take_hook.new.peers.items)) c.number-2.ensures c.take_hook.ensures.taken) in
+    c.requires.stocked (ap (λ (u : HookedContexts _). stock_in c.args.id.now.conn u.stocks) (sym c.self.view_is) ∙ has_stock c.args.id.now.conn c.self.inside.peers.items c.in-Some.conn at ∙ ap Some none.0)
+
+pub returns-in_default-begin-clause-takes : goal.returns-in_default-begin-clause-takes
+returns-in_default-begin-clause-takes g c =
+    takes_most c.args.self.now _ c.self.inside.peers.items c.take_hook.new.peers.items _ c.args.id.now.conn c.take_hook.result c.self.view_is c.take_hook.ensures.ties
+    (subst (λ n. Takes n c.take_hook.result (stock_ties c.self.inside.peers.items) (stock_ties c.take_hook.new.peers.items)) c.number-2.ensures c.take_hook.ensures.taken)
+
+pub returns-clause-takes : goal.returns-clause-takes
+returns-clause-takes g c =
+    takes_most c.args.self.now _ c.self.inside.peers.items c.take_hook.new.peers.items _ c.args.id.now.conn c.take_hook.result c.self.view_is c.take_hook.ensures.ties
+    (subst (λ n. Takes n c.take_hook.result (stock_ties c.self.inside.peers.items) (stock_ties c.take_hook.new.peers.items)) c.number-2.ensures c.take_hook.ensures.taken)

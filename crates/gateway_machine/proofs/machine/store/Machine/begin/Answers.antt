@@ -16,7 +16,7 @@ returns-clause-ok c =
     let was : ConnValue = c.index_mut.result.now in
     let its : c.next_id-id.result ≡ next_of (conn_at c.args.index s.conns) =
     c.next_id-id.ensures
-    ∙ ap next_of (conn_is c.self.inside.conns.items s.conns c.args.index c.index.result.now no_conn (ap (λ (m : MachineValue). m.conns) c.self.view_is) c.requires c.index.ensures) in
+    ∙ ap next_of (conn_is c.self.inside.conns.items s.conns c.args.index c.index.result.now no_conn (ap (λ (m : MachineValue). m.conns) c.self.view_is) c.requires.there c.index.ensures) in
     ap (λ k. machine_value c.self.inside.moment c.self.inside.drained (slice_set c.self.inside.conns.items c.args.index k) c.push_reserved.new.self.items
     (map (λ (j : HandedJob). j.job) c.start_all.new.jobs.items)) c.in_ok-add.ensures.ok
     ∙ ap (λ cs. machine_value c.self.inside.moment c.self.inside.drained (slice_set c.self.inside.conns.items c.args.index (added None was)) cs
@@ -25,7 +25,7 @@ returns-clause-ok c =
     (c.start_all.ensures.jobs_are ∙ ap (λ xs. map (λ (j : HandedJob). j.job) xs ++ map (job_at c.self.inside.moment) c.in_ok-call.first.items) c.in_ok-reserve-2.ensures.items)
     ∙ ap (λ (m : MachineValue). machine_value m.moment m.drained (slice_set m.conns c.args.index (added None was)) (m.calls ++ c.in_ok-call.call ∷ [])
     (m.jobs ++ map (job_at m.moment) c.in_ok-call.first.items)) c.self.view_is
-    ∙ begun_at s c.args.index c.next_id-id.result c.args.asked c.in_ok-call.call c.in_ok-call.first.items was c.requires its
+    ∙ begun_at s c.args.index c.next_id-id.result c.args.asked c.in_ok-call.call c.in_ok-call.first.items was c.requires.there its
     (subst (λ m. IsBegun m c.next_id-id.result c.args.asked c.in_ok-call.call c.in_ok-call.first.items) (ap (λ (m : MachineValue). m.moment) c.self.view_is) c.in_ok-call.ensures)
     (c.index_mut.ensures.value ∙ ap (λ (m : MachineValue). slice_index_or m.conns c.args.index was) c.self.view_is)
     ∙ ap (λ n. entered_at c.args.index (begins s.moment None n c.args.asked) s) its

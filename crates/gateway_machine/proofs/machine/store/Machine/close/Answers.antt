@@ -7,6 +7,7 @@ use Rattle.gateway_theory.specs.Store.{machine_value, waiting}
 use Rattle.gateway_replies.specs.Contexts.{ends_of}
 use Rattle.gateway_machine.proofs.BetweenLemmas.{closed_linked}
 use Rattle.gateway_theory.specs.lemmas.StoreLemmas.{waiting_less}
+use Rattle.gateway_machine.proofs.StockLemmas.{drops_stay}
 use Rattle.gateway_machine.proofs.machine.store.Machine.close.Goals as goal
 
 pub invariant_of-self : goal.invariant_of-self
@@ -18,3 +19,6 @@ returns-clause-linked g c =
     (ap (λ ks. machine_value c.self.inside.moment c.self.inside.drained ks c.give_up.new.calls.items (map (λ (j : HandedJob). j.job) c.self.inside.jobs.items)) c.close_in.ensures
     ∙ ap (λ ks. machine_value c.self.inside.moment c.self.inside.drained (filter (λ (k : ConnValue). not (k.number == c.args.number)) c.self.inside.conns.items) ks (map (λ (j : HandedJob). j.job) c.self.inside.jobs.items)) c.give_up.ensures
     ∙ ap (closed_at c.args.number) c.self.view_is)
+
+pub returns-clause-stocks : goal.returns-clause-stocks
+returns-clause-stocks g c = drops_stay c.args.number c.args.contexts.now c.close.new.self c.close.ensures.hooks

@@ -139,8 +139,8 @@ returns-clause-linked g c =
     ∙ passed_ends c.self.inside.moment c.args.branch c.args.outcome c.index-3.result.now c.args.contexts.now.standing in
     c.decide-broke.ensures.linked ∙ ap (λ e. linked_by e none_over c.decide-broke.new.self) ends
 
-pub come_back-requires : goal.come_back-requires
-come_back-requires g c =
+pub drop_result-requires : goal.drop_result-requires
+drop_result-requires g c =
     let same : c.pass_on.new.contexts.standing ≡ c.args.contexts.now.standing = on_err c.pass_on.result _ c.pass_on.ensures.err (sym c.is_err.ensures.value ∙ c.if-is_err.true) in
     same ∙ c.requires ∙ ap (λ (x : ContextsValue). linked x c.args.self.now) (sym same)
 
@@ -154,9 +154,9 @@ returns-then-is_err-clause-taken g c =
     let out : has_out (kept_at i s.calls).call c.args.branch ≡ true = ap (λ (k : KeptValue). has_out k.call c.args.branch) (sym was) ∙ sym c.is_out.ensures ∙ c.if-not-is_out.false in
     let live : is_some (kept_at i s.calls).call.live ≡ true =
     ap (λ (k : KeptValue). is_some k.call.live) (sym was_3) ∙ on_err c.pass_on.result _ c.pass_on.ensures.live (sym c.is_err.ensures.value ∙ c.if-is_err.true) in
-    inr (starved_live c.args.id.now c.args.branch s c.come_back.new.self c.come_back.result i c.in-Some.ensures out live c.come_back.ensures.taken, c.come_back.ensures.taken)
+    inr (starved_live c.args.id.now c.args.branch s c.drop_result.new.self c.drop_result.result i c.in-Some.ensures out live c.drop_result.ensures.taken, c.drop_result.ensures.taken)
 
 pub returns-then-is_err-clause-linked : goal.returns-then-is_err-clause-linked
 returns-then-is_err-clause-linked g c =
-    c.come_back.ensures.linked
-    ∙ ap (λ (x : ContextsValue). linked x c.come_back.new.self) (on_err c.pass_on.result _ c.pass_on.ensures.err (sym c.is_err.ensures.value ∙ c.if-is_err.true))
+    c.drop_result.ensures.linked
+    ∙ ap (λ (x : ContextsValue). linked x c.drop_result.new.self) (on_err c.pass_on.result _ c.pass_on.ensures.err (sym c.is_err.ensures.value ∙ c.if-is_err.true))

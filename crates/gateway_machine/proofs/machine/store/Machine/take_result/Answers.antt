@@ -13,6 +13,7 @@ returns g c = record {
       c.result-took.ensures.taken;
   none_spent = c.forget_unless.ensures.none_spent;
   linked = c.result-took.ensures.linked ∙ sym (c.forget_unless.ensures.linked (ends_of c.args.contexts.now.standing));
+  stocks = c.result-took.ensures.stocks;
 }
 
 pub forget_unless-requires : goal.forget_unless-requires

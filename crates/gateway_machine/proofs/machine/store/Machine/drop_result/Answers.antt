@@ -8,8 +8,8 @@ use Rattle.gateway_theory.specs.Results.{back_at}
 use Rattle.gateway_theory.specs.Store.{MachineValue, broken_at, kept_at}
 use Rattle.gateway_theory.specs.lemmas.StoreLemmas.{call_missing, item_is}
 use Rattle.gateway_machine.proofs.ResultLemmas.{found_out}
-use Rattle.gateway_theory.specs.lemmas.StarveSteps.{back_ready}
-use Rattle.gateway_machine.proofs.machine.store.Machine.come_back.Goals as goal
+use Rattle.gateway_theory.specs.lemmas.StarvedSteps.{back_ready}
+use Rattle.gateway_machine.proofs.machine.store.Machine.drop_result.Goals as goal
 
 pub returns-in_default-clause-taken : goal.returns-in_default-clause-taken
 returns-in_default-clause-taken g c = inl (ap (λ x. has_out x c.args.branch) (call_missing c.args.id.now c.args.self.now.calls c.in_default.ensures), c.unknown.ensures, refl)

@@ -1,4 +1,4 @@
--- The contexts of a machine between two events: they are its own, and a connection that is heard has ended only by the drain.
+-- The contexts of a machine between two events: they are its own, and a connection whose peer has not hung up has ended only by the drain.
 use Rattle.std.proofs.Common.{◌≡◌, ℕ, ◌<◌, zero, suc, arith, length, refl, sym, ap, ◌∙◌, List, [], ◌∷◌, ◌++◌, Option, Some, None, Bool, true, false, inl, inr, ⊎_elim, subst, map}
 use Rattle.std.specs.Prelude.{◌==◌, All, Err, Ok, OnErr, OnOk, Result, filter, if◌then◌else◌, is_some, not}
 use Rattle.std.specs.Option.{option_or}
@@ -13,7 +13,7 @@ use Rattle.gateway_theory.specs.Conn.{ConnValue, conn_value}
 use Rattle.gateway_replies.specs.Contexts.{ContextsValue, Ended, PeerValue, by_drain, by_hang_up, ended_peer, ends_of, ends_peer, is_peer, told}
 use Rattle.gateway_theory.specs.Ends.{noted}
 use Rattle.gateway_theory.specs.Heads.{Head, conn_heads, head, hung_head, noted_heads}
-use Rattle.gateway_machine.specs.Linked.{Hears, IsLinked, linked, linked_conns, none_over}
+use Rattle.gateway_machine.specs.Linked.{EndsOnlyByDrain, IsLinked, linked, linked_conns, none_over}
 use Rattle.gateway_theory.specs.Results.{Forgets, ResultTaken, StepsAt, Starved, result_at}
 use Rattle.gateway_theory.specs.Store.{MachineValue, broken_at, conn_at, conn_of, kept_at}
 use Rattle.gateway_theory.specs.Enters.{arriving_at, entered_at}
@@ -26,10 +26,10 @@ use Rattle.gateway_machine.proofs.ToldLemmas.{relinked}
 use Rattle.gateway_machine.proofs.BetweenLemmas.{new_ends}
 
 -- contexts that are linked as others were, where these others hear the same connections
-pub stays_linked : (c d : ContextsValue) (w : MachineValue) → d ≡ linked c w → c.drained ≡ w.drained → All (Hears c) (conn_heads w.conns) → IsLinked d w
-stays_linked c d w d_is drained_is heard = record {
+pub stays_linked : (c d : ContextsValue) (w : MachineValue) → d ≡ linked c w → c.drained ≡ w.drained → All (EndsOnlyByDrain c) (conn_heads w.conns) → IsLinked d w
+stays_linked c d w d_is drained_is not_hung = record {
   are = relinked (ends_of c) none_over w d d_is;
-  heard = All-weaker (Hears c) (Hears d) (λ h hears on. ends h.number (hears on)) (conn_heads w.conns) heard;
+  only_by_drain = All-weaker (EndsOnlyByDrain c) (EndsOnlyByDrain d) (λ h only on. ends h.number (only on)) (conn_heads w.conns) not_hung;
 }
   where
     ends : (n : ℕ) → ends_of c n ≡ by_drain c.drained → ends_of d n ≡ by_drain d.drained
@@ -38,14 +38,14 @@ stays_linked c d w d_is drained_is heard = record {
         (λ (new : ended_peer (by_drain w.drained) n (linked_conns (ends_of c) w.conns) ≡ by_drain w.drained). new)
         (ends_either (ends_of c) (by_drain w.drained) n w.conns))
 
--- the context of a connection that is heard has ended where all were drained
-pub heard_at : (i : ℕ) (c : ContextsValue) (v : MachineValue) → IsLinked c v → i < length v.conns → (conn_at i v.conns).hung_up ≡ false → ends_of c (conn_at i v.conns).number ≡ by_drain v.drained
-heard_at i c v l lt on = at i v.conns lt l.heard on ∙ ap by_drain (ap (λ (z : ContextsValue). z.drained) l.are)
+-- the context of a connection whose peer has not hung up has ended where all were drained
+pub only_drained_at : (i : ℕ) (c : ContextsValue) (v : MachineValue) → IsLinked c v → i < length v.conns → (conn_at i v.conns).hung_up ≡ false → ends_of c (conn_at i v.conns).number ≡ by_drain v.drained
+only_drained_at i c v l lt on = at i v.conns lt l.only_by_drain on ∙ ap by_drain (ap (λ (z : ContextsValue). z.drained) l.are)
   where
-    at : (i : ℕ) (ks : List ConnValue) → i < length ks → All (Hears c) (conn_heads ks) → (conn_at i ks).hung_up ≡ false → ends_of c (conn_at i ks).number ≡ by_drain c.drained
+    at : (i : ℕ) (ks : List ConnValue) → i < length ks → All (EndsOnlyByDrain c) (conn_heads ks) → (conn_at i ks).hung_up ≡ false → ends_of c (conn_at i ks).number ≡ by_drain c.drained
     at i [] lt all on = absurd (omega (arith, lt))
-    at zero (k ∷ ks) lt all on = All-head (Hears c) (head k.number k.hung_up) (conn_heads ks) all on
-    at (suc i) (k ∷ ks) lt all on = at i ks (omega (arith, lt)) (All-tail (Hears c) (head k.number k.hung_up) (conn_heads ks) all) on
+    at zero (k ∷ ks) lt all on = All-head (EndsOnlyByDrain c) (head k.number k.hung_up) (conn_heads ks) all on
+    at (suc i) (k ∷ ks) lt all on = at i ks (omega (arith, lt)) (All-tail (EndsOnlyByDrain c) (head k.number k.hung_up) (conn_heads ks) all) on
 
 -- what is drained is so in both
 pub drained_both : (c : ContextsValue) (v : MachineValue) → IsLinked c v → c.drained ≡ v.drained
@@ -53,7 +53,7 @@ drained_both c v l = ap (λ (z : ContextsValue). z.drained) l.are
 
 -- a step that leaves the drain and which peers hung up
 pub kept_linked : (c d : ContextsValue) (v w : MachineValue) → IsLinked c v → d ≡ linked c w → w.drained ≡ v.drained → conn_heads w.conns ≡ conn_heads v.conns → IsLinked d w
-kept_linked c d v w l d_is drained_is heads = stays_linked c d w d_is (drained_both c v l ∙ sym drained_is) (subst (λ hs. All (Hears c) hs) (sym heads) l.heard)
+kept_linked c d v w l d_is drained_is heads = stays_linked c d w d_is (drained_both c v l ∙ sym drained_is) (subst (λ hs. All (EndsOnlyByDrain c) hs) (sym heads) l.only_by_drain)
 
 -- a connection closes
 heads_closed : (n : ℕ) (P : Head → Type 0) (ks : List ConnValue) → All P (conn_heads ks) → All P (conn_heads (filter (λ (k : ConnValue). not (k.number == n)) ks))
@@ -65,23 +65,23 @@ heads_closed n P (k ∷ ks) all = by (k.number == n) (All-head P (head k.number 
     by true here rest = rest
     by false here rest = All-cons P (head k.number k.hung_up) _ here rest
 
-pub closed_heard : (n : ℕ) (c d : ContextsValue) (v w : MachineValue) → IsLinked c v → d ≡ linked c w → w.drained ≡ v.drained → w.conns ≡ filter (λ (k : ConnValue). not (k.number == n)) v.conns → IsLinked d w
-closed_heard n c d v w l d_is drained_is conns_are = stays_linked c d w d_is (drained_both c v l ∙ sym drained_is)
-    (subst (λ ks. All (Hears c) (conn_heads ks)) (sym conns_are) (heads_closed n (Hears c) v.conns l.heard))
+pub closed_only_drained : (n : ℕ) (c d : ContextsValue) (v w : MachineValue) → IsLinked c v → d ≡ linked c w → w.drained ≡ v.drained → w.conns ≡ filter (λ (k : ConnValue). not (k.number == n)) v.conns → IsLinked d w
+closed_only_drained n c d v w l d_is drained_is conns_are = stays_linked c d w d_is (drained_both c v l ∙ sym drained_is)
+    (subst (λ ks. All (EndsOnlyByDrain c) (conn_heads ks)) (sym conns_are) (heads_closed n (EndsOnlyByDrain c) v.conns l.only_by_drain))
 
 -- a connection opens
 heads_pushed : (ks : List ConnValue) (k : ConnValue) → conn_heads (ks ++ k ∷ []) ≡ conn_heads ks ++ head k.number k.hung_up ∷ []
 heads_pushed [] k = refl
 heads_pushed (l ∷ ks) k = ap (λ hs. head l.number l.hung_up ∷ hs) (heads_pushed ks k)
 
-pub opened_heard : (n : ℕ) (c d : ContextsValue) (v w : MachineValue) → IsLinked c v → ends_of c n ≡ by_drain c.drained → d ≡ linked c w → w.drained ≡ v.drained
+pub opened_only_drained : (n : ℕ) (c d : ContextsValue) (v w : MachineValue) → IsLinked c v → ends_of c n ≡ by_drain c.drained → d ≡ linked c w → w.drained ≡ v.drained
     → w.conns ≡ v.conns ++ conn_value n 0 [] false false ∷ [] → IsLinked d w
-opened_heard n c d v w l new d_is drained_is conns_are = stays_linked c d w d_is (drained_both c v l ∙ sym drained_is)
-    (subst (λ ks. All (Hears c) (conn_heads ks)) (sym conns_are) (subst (All (Hears c)) (sym (heads_pushed v.conns (conn_value n 0 [] false false))) (All-push (Hears c) (conn_heads v.conns) (head n false) l.heard (λ on. new))))
+opened_only_drained n c d v w l new d_is drained_is conns_are = stays_linked c d w d_is (drained_both c v l ∙ sym drained_is)
+    (subst (λ ks. All (EndsOnlyByDrain c) (conn_heads ks)) (sym conns_are) (subst (All (EndsOnlyByDrain c)) (sym (heads_pushed v.conns (conn_value n 0 [] false false))) (All-push (EndsOnlyByDrain c) (conn_heads v.conns) (head n false) l.only_by_drain (λ on. new))))
 
 pub opened_linked : {A B : Type 0} (n : ℕ) (c d : ContextsValue) (v w : MachineValue) (result : Result A B) → IsLinked c v → conn_of n v.conns ≡ None → OnOk result (w ≡ opened_as n v) → OnErr result (w ≡ v)
     → d ≡ linked c w → IsLinked d w
-opened_linked n c d v w (Ok a) l none ok err d_is = opened_heard n c d v w l
+opened_linked n c d v w (Ok a) l none ok err d_is = opened_only_drained n c d v w l
     (new_ends (by_drain c.drained) n c.conns (ap (λ (z : ContextsValue). is_peer n z.conns) l.are ∙ not_peer (ends_of c) n v.conns none))
     d_is (ap (λ (m : MachineValue). m.drained) ok) (ap (λ (m : MachineValue). m.conns) ok)
 opened_linked n c d v w (Err b) l none ok err d_is = kept_linked c d v w l d_is (ap (λ (m : MachineValue). m.drained) err) (ap (λ (m : MachineValue). conn_heads m.conns) err)
@@ -116,17 +116,17 @@ ends_drained d n (p ∷ ps) is = ⊎_elim
     by true = refl
     by false = refl
 
-pub told_heard : (trigger : Trigger) (c : ContextsValue) (hs : List Head) → All (Hears c) hs → All (Hears (told trigger c)) (noted_heads trigger hs)
-told_heard (Reached now) c hs heard = heard
-told_heard (HungUp n) c hs heard = All-map (Hears (told (HungUp n) c)) (hung_head n) hs (All-weaker (Hears c) (λ h. Hears (told (HungUp n) c) (hung_head n h)) one hs heard)
+pub told_only_drained : (trigger : Trigger) (c : ContextsValue) (hs : List Head) → All (EndsOnlyByDrain c) hs → All (EndsOnlyByDrain (told trigger c)) (noted_heads trigger hs)
+told_only_drained (Reached now) c hs not_hung = not_hung
+told_only_drained (HungUp n) c hs not_hung = All-map (EndsOnlyByDrain (told (HungUp n) c)) (hung_head n) hs (All-weaker (EndsOnlyByDrain c) (λ h. EndsOnlyByDrain (told (HungUp n) c) (hung_head n h)) one hs not_hung)
   where
-    one : (h : Head) → Hears c h → Hears (told (HungUp n) c) (hung_head n h)
-    one h hears = by (h.number == n) refl
+    one : (h : Head) → EndsOnlyByDrain c h → EndsOnlyByDrain (told (HungUp n) c) (hung_head n h)
+    one h only = by (h.number == n) refl
       where
-        by : (b : Bool) → (h.number == n) ≡ b → Hears (told (HungUp n) c) (if b then head h.number true else h)
+        by : (b : Bool) → (h.number == n) ≡ b → EndsOnlyByDrain (told (HungUp n) c) (if b then head h.number true else h)
         by true its = λ on. cc
-        by false far = λ on. ends_others (by_drain c.drained) n h.number c.conns far ∙ hears on
-told_heard Drained c hs heard = All-weaker (Hears c) (Hears (told Drained c)) (λ h hears on. ends_drained c.drained h.number c.conns (hears on)) hs heard
+        by false far = λ on. ends_others (by_drain c.drained) n h.number c.conns far ∙ only on
+told_only_drained Drained c hs not_hung = All-weaker (EndsOnlyByDrain c) (EndsOnlyByDrain (told Drained c)) (λ h only on. ends_drained c.drained h.number c.conns (only on)) hs not_hung
 
 pub noted_moment : (trigger : Trigger) (v : MachineValue) → (noted trigger v).moment ≡ v.moment
 noted_moment (Reached now) v = refl

@@ -23,7 +23,7 @@ use Rattle.gateway_theory.specs.lemmas.SlotLemmas.{undecided_count}
 use Rattle.gateway_theory.specs.lemmas.MachineLemmas.{no_entry_yet, crowd_is, other_call, kept_by_entry, more_slots}
 use Rattle.gateway_theory.specs.Fate.{Fate, Unbroken, BrokenAt, is_broken, fate_after, fates_after, jobs_fated}
 use Rattle.gateway_theory.specs.Fated.{CallFated, ConnFated, FatedStands}
-use Rattle.gateway_theory.specs.Breaks.{is_stopped, ConnBy, AreConcerned, EntryBreaks}
+use Rattle.gateway_theory.specs.Breaks.{is_broken_after, ConnBy, AreConcerned, ComingBreaks}
 use Rattle.gateway_theory.specs.lemmas.FateLemmas.{fate_then, call_goes, call_then, stays_conn, breaks_conn, jobs_then}
 
 -- ---- what goes on
@@ -76,11 +76,11 @@ conn_by d breaks comes reply o old new taken os (BrokenAt since at older) h goes
 
 -- ---- the machine
 
-pub fated_entry : (c : ℕ) (x : Coming) (breaks : ℕ → Bool) (s t : MachineState) (fates : ℕ → Fate) (taken : ℕ → List ReplyEntry) (handed : List JobValue) (os : List Occurrence)
-    → (is_stopped breaks fates c ≡ false → is_closed c (marked os) ≡ false)
-    → FatedStands s fates taken handed os → AreConcerned breaks fates (Comes c x) os → EntryBreaks breaks fates c x s t
+pub fated_coming : (c : ℕ) (x : Coming) (breaks : ℕ → Bool) (s t : MachineState) (fates : ℕ → Fate) (taken : ℕ → List ReplyEntry) (handed : List JobValue) (os : List Occurrence)
+    → (is_broken_after breaks fates c ≡ false → is_closed c (marked os) ≡ false)
+    → FatedStands s fates taken handed os → AreConcerned breaks fates (Comes c x) os → ComingBreaks breaks fates c x s t
     → FatedStands t (fates_after breaks (Comes c x) os fates) taken handed (Comes c x ∷ os)
-fated_entry c x breaks s t fates taken handed os unclosed h concerned a = record {
+fated_coming c x breaks s t fates taken handed os unclosed h concerned a = record {
   fates_are = λ d. fate_then d (breaks d) (Comes c x) os (fates d) (h.fates_are d) (concerned d);
   moment_is = a.moment_is ∙ h.moment_is ∙ omega arith;
   drained_is = a.drained_is ∙ h.drained_is;
@@ -92,9 +92,9 @@ fated_entry c x breaks s t fates taken handed os unclosed h concerned a = record
       conn_by d (breaks d) (d == c) (arriving c x s).reply (Comes c x) (s.conns d) (t.conns d) (taken d) os (fates d) (h.conns_stand d)
       (conn_made d (d == c) refl) (a.conns_are d);
   jobs_are = rw a.jobs_are
-      (sym (append_assoc handed s.jobs (if is_stopped breaks fates c then [] else (arriving c x s).jobs))
-      ∙ ap (λ js. js ++ (if is_stopped breaks fates c then [] else (arriving c x s).jobs)) h.jobs_are
-      ∙ ap (λ js. jobs_fated fates os ++ js) (jobs_made (is_stopped breaks fates c) refl)
+      (sym (append_assoc handed s.jobs (if is_broken_after breaks fates c then [] else (arriving c x s).jobs))
+      ∙ ap (λ js. js ++ (if is_broken_after breaks fates c then [] else (arriving c x s).jobs)) h.jobs_are
+      ∙ ap (λ js. jobs_fated fates os ++ js) (jobs_made (is_broken_after breaks fates c) refl)
       ∙ sym (jobs_then breaks (Comes c x) os fates h.fates_are));
 }
   where
@@ -104,43 +104,43 @@ fated_entry c x breaks s t fates taken handed os unclosed h concerned a = record
     m : Mark
     m = mark_of (marked os) (Comes c x)
 
-    conn_goes_on : (d : ℕ) → is_stopped breaks fates d ≡ false → ConnStands d (s.conns d) (taken d) (marked os)
+    conn_goes_on : (d : ℕ) → is_broken_after breaks fates d ≡ false → ConnStands d (s.conns d) (taken d) (marked os)
     conn_goes_on d e = subst (λ f. ConnFated d (s.conns d) (taken d) f os) (going (fates d) (breaks d) e) (h.conns_stand d)
 
-    call_goes_on : (id : CallId) → is_stopped breaks fates id.conn ≡ false → CallStands id (s.calls id) (marked os)
+    call_goes_on : (id : CallId) → is_broken_after breaks fates id.conn ≡ false → CallStands id (s.calls id) (marked os)
     call_goes_on id e = subst (λ f. CallFated id (s.calls id) f os) (going (fates id.conn) (breaks id.conn) e) (h.calls_stand id)
 
-    comes : is_stopped breaks fates c ≡ false → Stepped (next_id c s) (arriving c x s) m past
+    comes : is_broken_after breaks fates c ≡ false → Stepped (next_id c s) (arriving c x s) m past
     comes e = comes_on c x s (taken c) os h.moment_is h.drained_is (conn_goes_on c e) (unclosed e)
 
     -- another call than the one that comes
-    other : (id : CallId) → is_stopped breaks fates id.conn ≡ false → is_call (next_id c s) id ≡ false → Stepped id (kept (s.calls id)) m past
+    other : (id : CallId) → is_broken_after breaks fates id.conn ≡ false → is_call (next_id c s) id ≡ false → Stepped id (kept (s.calls id)) m past
     other id e apart = ⊎_elim
         (λ (here : (c == id.conn) ≡ true).
-        let on_c : is_stopped breaks fates c ≡ false = ap (λ d. is_stopped breaks fates d) (eqb-true c id.conn here) ∙ e in
+        let on_c : is_broken_after breaks fates c ≡ false = ap (λ d. is_broken_after breaks fates d) (eqb-true c id.conn here) ∙ e in
         other_goes c x id (s.calls id) s.moment os
         (other_call c x id _ past (next_of c (s.conns c) (taken c) past (conn_goes_on c on_c)) apart) h.moment_is (call_goes_on id e))
         (λ (there : (c == id.conn) ≡ false).
         other_goes c x id (s.calls id) s.moment os (elsewhere c x id past there) h.moment_is (call_goes_on id e))
         (cases_Bool (c == id.conn))
 
-    call_made : (id : CallId) → is_stopped breaks fates id.conn ≡ false → CallStands id (s.calls id) (marked os)
+    call_made : (id : CallId) → is_broken_after breaks fates id.conn ≡ false → CallStands id (s.calls id) (marked os)
         → CallStands id (if is_call (next_id c s) id then (arriving c x s).call else s.calls id) (m ∷ past)
     call_made id e old = ⊎_elim
         (λ (it : is_call (next_id c s) id ≡ true).
         let same : next_id c s ≡ id = same_call (next_id c s) id it in
-        let on_c : is_stopped breaks fates c ≡ false = ap (λ (i : CallId). is_stopped breaks fates i.conn) same ∙ e in
+        let on_c : is_broken_after breaks fates c ≡ false = ap (λ (i : CallId). is_broken_after breaks fates i.conn) same ∙ e in
         rw it (subst (λ i. CallStands i (arriving c x s).call (m ∷ past)) same (comes on_c).stands))
         (λ (apart : is_call (next_id c s) id ≡ false). rw apart (other id e apart).stands)
         (cases_Bool (is_call (next_id c s) id))
 
-    conn_made : (d : ℕ) (b : Bool) → (d == c) ≡ b → is_stopped breaks fates d ≡ false → ConnStands d (s.conns d) (taken d) (marked os)
+    conn_made : (d : ℕ) (b : Bool) → (d == c) ≡ b → is_broken_after breaks fates d ≡ false → ConnStands d (s.conns d) (taken d) (marked os)
         → ConnStands d (if d == c then with_slot (arriving c x s).reply (s.conns d) else s.conns d) (taken d) (m ∷ past)
     conn_made d true b_is e k =
         rw b_is (subst (λ i. ConnStands i (with_slot (arriving c x s).reply (s.conns i)) (taken i) (m ∷ past)) (sym (eqb-true d c b_is))
-        (slot_added (ap (λ i. is_stopped breaks fates i) (sym (eqb-true d c b_is)) ∙ e)))
+        (slot_added (ap (λ i. is_broken_after breaks fates i) (sym (eqb-true d c b_is)) ∙ e)))
       where
-        slot_added : is_stopped breaks fates c ≡ false → ConnStands c (with_slot (arriving c x s).reply (s.conns c)) (taken c) (m ∷ past)
+        slot_added : is_broken_after breaks fates c ≡ false → ConnStands c (with_slot (arriving c x s).reply (s.conns c)) (taken c) (m ∷ past)
         slot_added on = record {
           taken_is = kc.taken_is;
           closed_is = kc.closed_is;
@@ -175,8 +175,8 @@ fated_entry c x breaks s t fates taken handed os unclosed h concerned a = record
       };
     })
 
-    jobs_made : (b : Bool) → is_stopped breaks fates c ≡ b
-        → (if is_stopped breaks fates c then [] else (arriving c x s).jobs) ≡ (if is_stopped breaks fates c then [] else jobs_by (Comes c x) m past)
+    jobs_made : (b : Bool) → is_broken_after breaks fates c ≡ b
+        → (if is_broken_after breaks fates c then [] else (arriving c x s).jobs) ≡ (if is_broken_after breaks fates c then [] else jobs_by (Comes c x) m past)
     jobs_made true b_is = ap (λ b. if b then [] else (arriving c x s).jobs) b_is ∙ ap (λ b. if b then [] else jobs_by (Comes c x) m past) (sym b_is)
     jobs_made false b_is =
         ap (λ b. if b then [] else (arriving c x s).jobs) b_is

@@ -5,28 +5,28 @@ use Rattle.std.proofs.lemmas.Bool.{eqb-true}
 use Rattle.gateway_model.specs.Events.{Before, hung_up, is_open, listens}
 use Rattle.gateway_theory.specs.declared.fault.StepFault.{StepFault}
 use Rattle.gateway_theory.specs.Conn.{ConnValue}
-use Rattle.gateway_theory.specs.Gateway.{GatewayValue, StreamValue, goes_on, is_broken_conn, stream_of}
+use Rattle.gateway_theory.specs.Gateway.{GatewayValue, StreamValue, is_listening, is_broken_conn, stream_of}
 use Rattle.gateway_theory.specs.Served.{HasConns}
-use Rattle.gateway_theory.specs.Serving.{IsDeaf, TellsStep}
+use Rattle.gateway_theory.specs.Serving.{NotListening, TellsStep}
 use Rattle.gateway_theory.specs.Store.{conn_of}
 
 -- nothing is taken of one that does not listen
-deaf_then : (n : ℕ) (v : GatewayValue) (opened : List ℕ) (es : Before) → HasConns v opened es → listens opened n es ≡ false → IsDeaf n v
-deaf_then n v opened es h off k s k_is s_is = by_open (is_open opened n es) refl
+not_listening_then : (n : ℕ) (v : GatewayValue) (opened : List ℕ) (es : Before) → HasConns v opened es → listens opened n es ≡ false → NotListening n v
+not_listening_then n v opened es h off k s k_is s_is = by_open (is_open opened n es) refl
   where
-    by_broken : is_open opened n es ≡ true → (b : Bool) → k.broken ≡ b → goes_on k s ≡ false
+    by_broken : is_open opened n es ≡ true → (b : Bool) → k.broken ≡ b → is_listening k s ≡ false
     by_broken on true x = ap (λ b. not b && not s.hung_up) x
     by_broken on false x = ap (λ b. not b && not s.hung_up) x ∙ ap not (h.hung_are n k s k_is s_is x) ∙ sym (ap (λ b. b && not (hung_up opened n es)) on) ∙ off
 
-    by_open : (b : Bool) → is_open opened n es ≡ b → goes_on k s ≡ false
+    by_open : (b : Bool) → is_open opened n es ≡ b → is_listening k s ≡ false
     by_open true on = by_broken on k.broken refl
     by_open false x = absurd (let clash : true ≡ false = sym (ap (λ o. is_some o) k_is) ∙ sym (h.open_are n) ∙ x in cc)
 
-heard : {A : Type 0} (n : ℕ) (v w : GatewayValue) (result : Result A StepFault) (opened : List ℕ) (es : Before) → HasConns v opened es → TellsStep n v w result
+listened : {A : Type 0} (n : ℕ) (v w : GatewayValue) (result : Result A StepFault) (opened : List ℕ) (es : Before) → HasConns v opened es → TellsStep n v w result
     → is_broken_conn n w ≡ true → is_broken_conn n v ≡ false → (b : Bool) → listens opened n es ≡ b → listens opened n es ≡ true
-heard n v w result opened es h tells now before true x = x
-heard n v w result opened es h tells now before false x = absurd (
-    let same : w ≡ v = tells.unchanged (tells.gone.1 (deaf_then n v opened es h x)) in
+listened n v w result opened es h tells now before true x = x
+listened n v w result opened es h tells now before false x = absurd (
+    let same : w ≡ v = tells.unchanged (tells.gone.1 (not_listening_then n v opened es h x)) in
     let clash : true ≡ false = sym now ∙ ap (λ u. is_broken_conn n u) same ∙ before in cc)
 
 -- so the event can break it
@@ -35,4 +35,4 @@ pub has_effect : {A : Type 0} (m n : ℕ) (v w : GatewayValue) (result : Result 
 has_effect m n v w result opened es h tells its now before =
     let same : n ≡ m = eqb-true n m its in
     ap (λ b. b && listens opened m es) its
-    ∙ heard m v w result opened es h tells (subst (λ c. is_broken_conn c w ≡ true) same now) (subst (λ c. is_broken_conn c v ≡ false) same before) (listens opened m es) refl
+    ∙ listened m v w result opened es h tells (subst (λ c. is_broken_conn c w ≡ true) same now) (subst (λ c. is_broken_conn c v ≡ false) same before) (listens opened m es) refl

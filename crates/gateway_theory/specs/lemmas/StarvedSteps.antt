@@ -12,8 +12,8 @@ use Rattle.connect_codec.specs.declared.answer.Outcome.TheVariants.{Fail}
 use Rattle.gateway_theory.specs.declared.fault.Took.{Took}
 use Rattle.gateway_model.specs.declared.entry.ReplyEntry.{ReplyEntry}
 use Rattle.gateway_model.specs.declared.id.CallId.{CallId}
-use Rattle.gateway_theory.specs.Breaks.{AfterBreaks, CallAfter, CallStays, ConnOn, is_stopped, seen_by}
-use Rattle.gateway_theory.specs.Ends.{is_stopped_in}
+use Rattle.gateway_theory.specs.Breaks.{AfterBreaks, CallAfter, CallStays, ConnOn, is_broken_after, seen_by}
+use Rattle.gateway_theory.specs.Ends.{is_broken_in}
 use Rattle.gateway_theory.specs.Conn.{ConnValue}
 use Rattle.gateway_theory.specs.Fate.{Fate, Unbroken, BrokenAt}
 use Rattle.gateway_theory.specs.Fated.{CallFated, FatedStands}
@@ -27,7 +27,7 @@ use Rattle.gateway_theory.specs.Results.{back_at, back_kept, Forgets, is_spent, 
 use Rattle.gateway_theory.specs.Step.{CallState, Live, Step, call_state, gone, has_out, kept, result_on}
 use Rattle.gateway_theory.specs.Store.{MachineValue, machine_value, machine, call_at, conn_of, kept_at, no_call, given_up, given_up_if, broken_at, broken_if, IsFound, HasFates}
 use Rattle.gateway_theory.specs.lemmas.LimitLemmas.{same_call}
-use Rattle.gateway_theory.specs.lemmas.EndLemmas.{stopped_now}
+use Rattle.gateway_theory.specs.lemmas.EndLemmas.{just_broken}
 use Rattle.gateway_theory.specs.lemmas.ResultSteps.{result_breaks, step_other}
 use Rattle.gateway_theory.specs.lemmas.StoreLemmas.{call_found}
 use Rattle.gateway_theory.specs.lemmas.StoreMore.{call_without}
@@ -108,31 +108,31 @@ back_ready s u i n branch id k b f k_is b_is n_is u_is out = by_live (is_some k.
 
 -- ---- a result of which no more is known
 
--- where the connection stopped it makes no difference how the branch ended
-other_outcome : (breaks : ℕ → Bool) (fates : ℕ → Fate) (id : CallId) (i : ℕ) (a b : Outcome) (s t : MachineState) → is_stopped breaks fates id.conn ≡ true
+-- where the connection broke it makes no difference how the branch ended
+other_outcome : (breaks : ℕ → Bool) (fates : ℕ → Fate) (id : CallId) (i : ℕ) (a b : Outcome) (s t : MachineState) → is_broken_after breaks fates id.conn ≡ true
     → AfterBreaks breaks fates (Result id i a) s t → AfterBreaks breaks fates (Result id i b) s t
-other_outcome breaks fates id i a b s t stopped h = record {
+other_outcome breaks fates id i a b s t broken h = record {
   moment_is = h.moment_is;
   drained_is = h.drained_is;
-  calls_are = λ other. by_call other (is_stopped breaks fates other.conn) refl (h.calls_are other);
-  conns_are = λ c. by_conn c (is_stopped breaks fates c) refl (h.conns_are c);
+  calls_are = λ other. by_call other (is_broken_after breaks fates other.conn) refl (h.calls_are other);
+  conns_are = λ c. by_conn c (is_broken_after breaks fates c) refl (h.conns_are c);
   jobs_are = h.jobs_are
-      ∙ ap (λ (x : Bool). s.jobs ++ (if x then [] else (step_of id (Result id i a) s).jobs)) stopped
-      ∙ sym (ap (λ (x : Bool). s.jobs ++ (if x then [] else (step_of id (Result id i b) s).jobs)) stopped);
+      ∙ ap (λ (x : Bool). s.jobs ++ (if x then [] else (step_of id (Result id i a) s).jobs)) broken
+      ∙ sym (ap (λ (x : Bool). s.jobs ++ (if x then [] else (step_of id (Result id i b) s).jobs)) broken);
 }
   where
-    apart : (other : CallId) → is_stopped breaks fates other.conn ≡ false → is_call id other ≡ false
+    apart : (other : CallId) → is_broken_after breaks fates other.conn ≡ false → is_call id other ≡ false
     apart other on = ⊎_elim
         (λ (its : is_call id other ≡ true).
-        let clash : true ≡ false = sym stopped ∙ ap (λ (x : CallId). is_stopped breaks fates x.conn) (same_call id other its) ∙ on in absurd (cc))
+        let clash : true ≡ false = sym broken ∙ ap (λ (x : CallId). is_broken_after breaks fates x.conn) (same_call id other its) ∙ on in absurd (cc))
         (λ (ne : is_call id other ≡ false). ne) (cases_Bool (is_call id other))
 
-    same : (other : CallId) → is_stopped breaks fates other.conn ≡ false → step_of other (Result id i a) s ≡ step_of other (Result id i b) s
+    same : (other : CallId) → is_broken_after breaks fates other.conn ≡ false → step_of other (Result id i a) s ≡ step_of other (Result id i b) s
     same other on = step_other id other i a s (rw (apart other on) refl) ∙ sym (step_other id other i b s (rw (apart other on) refl))
 
-    by_call : (other : CallId) (x : Bool) → is_stopped breaks fates other.conn ≡ x
-        → CallAfter (is_stopped breaks fates other.conn) other (Result id i a) (s.calls other) (t.calls other) (step_of other (Result id i a) s).call
-        → CallAfter (is_stopped breaks fates other.conn) other (Result id i b) (s.calls other) (t.calls other) (step_of other (Result id i b) s).call
+    by_call : (other : CallId) (x : Bool) → is_broken_after breaks fates other.conn ≡ x
+        → CallAfter (is_broken_after breaks fates other.conn) other (Result id i a) (s.calls other) (t.calls other) (step_of other (Result id i a) s).call
+        → CallAfter (is_broken_after breaks fates other.conn) other (Result id i b) (s.calls other) (t.calls other) (step_of other (Result id i b) s).call
     by_call other true x_is k =
         let stays : CallStays other (Result id i a) (s.calls other) (t.calls other) =
         subst (λ x. CallAfter x other (Result id i a) (s.calls other) (t.calls other) (step_of other (Result id i a) s).call) x_is k in
@@ -143,8 +143,8 @@ other_outcome breaks fates id i a b s t stopped h = record {
         subst (λ x. CallAfter x other (Result id i b) (s.calls other) (t.calls other) (step_of other (Result id i b) s).call) (sym x_is)
         (now ∙ ap (λ (y : Step). y.call) (same other x_is))
 
-    by_conn : (c : ℕ) (x : Bool) → is_stopped breaks fates c ≡ x
-        → ConnOn (is_stopped breaks fates c) (Result id i a) s c (s.conns c) (t.conns c) → ConnOn (is_stopped breaks fates c) (Result id i b) s c (s.conns c) (t.conns c)
+    by_conn : (c : ℕ) (x : Bool) → is_broken_after breaks fates c ≡ x
+        → ConnOn (is_broken_after breaks fates c) (Result id i a) s c (s.conns c) (t.conns c) → ConnOn (is_broken_after breaks fates c) (Result id i b) s c (s.conns c) (t.conns c)
     by_conn c true x_is k = subst (λ x. ConnOn x (Result id i b) s c (s.conns c) (t.conns c)) (sym x_is) (subst (λ x. ConnOn x (Result id i a) s c (s.conns c) (t.conns c)) x_is k)
     by_conn c false x_is k =
         let on : ConnAfter (Result id i a) s c (s.conns c) (t.conns c) = subst (λ x. ConnOn x (Result id i a) s c (s.conns c) (t.conns c)) x_is k in
@@ -169,7 +169,7 @@ module _ (id : CallId) (branch i : ℕ) (v w : MachineValue) (closed : ℕ → C
 
   -- it is late: its branch comes back, and that is all
   late : (outcome : Outcome) → k.call.live ≡ None → w ≡ back_at i branch v
-      → AfterBreaks (λ c. is_stopped_in c w.conns) fates (Result id branch outcome) (machine closed v) (machine closed w)
+      → AfterBreaks (λ c. is_broken_in c w.conns) fates (Result id branch outcome) (machine closed v) (machine closed w)
   late outcome none w_is = result_breaks v w closed fates id branch outcome (record { seen = seen_by k.call branch; broke = false }) h
       (inr (i, f, out, refl, of_none (result_at i branch outcome v).jobs (ap (λ (s : Step). s.jobs) step_is), inl (refl, w_is ∙ ap (λ js. record (back_at i branch v) { jobs = js }) (sym (append-nil v.jobs)) ∙ ap (λ s. settled_by k.id s (stepped_at i s v)) (sym step_is))))
     where
@@ -178,8 +178,8 @@ module _ (id : CallId) (branch i : ℕ) (v w : MachineValue) (closed : ℕ → C
 
   -- it counts: its connection breaks
   counted : (outcome : Outcome) (l : Live) → k.call.live ≡ Some l → w ≡ back_at i branch (broken_at id.conn v)
-      → AfterBreaks (λ c. is_stopped_in c w.conns) fates (Result id branch outcome) (machine closed v) (machine closed w)
-  counted outcome l live w_is = other_outcome (λ c. is_stopped_in c w.conns) fates id branch failure outcome (machine closed v) (machine closed w) stopped
+      → AfterBreaks (λ c. is_broken_in c w.conns) fates (Result id branch outcome) (machine closed v) (machine closed w)
+  counted outcome l live w_is = other_outcome (λ c. is_broken_in c w.conns) fates id branch failure outcome (machine closed v) (machine closed w) broken
       (result_breaks v w closed fates id branch failure (record { seen = seen_by k.call branch; broke = true }) h
       (inr (i, f, out, refl, of_none (result_at i branch failure v).jobs (ap (λ (s : Step). s.jobs) step_is), inr (refl, ap (λ (s : Step). is_some s.reply) step_is, ap (λ (s : Step). s.jobs) step_is, w_is ∙ same))))
     where
@@ -207,20 +207,20 @@ module _ (id : CallId) (branch i : ℕ) (v w : MachineValue) (closed : ℕ → C
       or_yes true y e = refl
       or_yes false y e = e
 
-      stopped : is_stopped (λ c. is_stopped_in c w.conns) fates id.conn ≡ true
-      stopped = or_yes _ (is_stopped_in id.conn w.conns) (ap (λ (x : MachineValue). is_stopped_in id.conn x.conns) w_is
-          ∙ stopped_now id.conn id.conn v.conns (eq-eqb id.conn id.conn refl) (by_conn (conn_of id.conn v.conns) refl))
+      broken : is_broken_after (λ c. is_broken_in c w.conns) fates id.conn ≡ true
+      broken = or_yes _ (is_broken_in id.conn w.conns) (ap (λ (x : MachineValue). is_broken_in id.conn x.conns) w_is
+          ∙ just_broken id.conn id.conn v.conns (eq-eqb id.conn id.conn refl) (by_conn (conn_of id.conn v.conns) refl))
         where
           by_conn : (o : Option ConnValue) → conn_of id.conn v.conns ≡ o → is_some (conn_of id.conn v.conns) ≡ true
           by_conn (Some c) e = ap is_some e
           by_conn None e = absurd (let clash : Some l ≡ None = sym live ∙ ap (λ (c : CallState). c.live) (sym (call_found id v.calls i f)) ∙ h.none_live id e in cc)
 
 pub starved_breaks : (id : CallId) (branch : ℕ) (outcome : Outcome) (v w : MachineValue) (closed : ℕ → ConnState) (fates : ℕ → Fate) (took : Took) → HasFates fates v
-    → Starved id branch v w took → AfterBreaks (λ c. is_stopped_in c w.conns) fates (Result id branch outcome) (machine closed v) (machine closed w)
+    → Starved id branch v w took → AfterBreaks (λ c. is_broken_in c w.conns) fates (Result id branch outcome) (machine closed v) (machine closed w)
 starved_breaks id branch outcome v w closed fates took h (inl n) = result_breaks v w closed fates id branch outcome took h (inl n)
 starved_breaks id branch outcome v w closed fates took h (inr (i, f, out, seen, broke, w_is)) = by_live (kept_at i v.calls).call.live refl
   where
     by_live : (l : Option Live) → (kept_at i v.calls).call.live ≡ l
-        → AfterBreaks (λ c. is_stopped_in c w.conns) fates (Result id branch outcome) (machine closed v) (machine closed w)
+        → AfterBreaks (λ c. is_broken_in c w.conns) fates (Result id branch outcome) (machine closed v) (machine closed w)
     by_live None e = late id branch i v w closed fates h f out outcome e (w_is ∙ ap (λ l. back_at i branch (if is_some l then broken_at id.conn v else v)) e)
     by_live (Some l) e = counted id branch i v w closed fates h f out outcome l e (w_is ∙ ap (λ x. back_at i branch (if is_some x then broken_at id.conn v else v)) e)

@@ -6,7 +6,7 @@ use Rattle.gateway_theory.specs.Task.{HandedJob}
 use Rattle.gateway_machine.specs.Linked.{linked}
 use Rattle.gateway_machine.proofs.PeerLemmas.{not_peer}
 use Rattle.gateway_machine.proofs.BetweenLemmas.{opened_contexts}
-use Rattle.gateway_machine.proofs.machine.store.Machine.open.Goals as goal
+use Rattle.gateway_machine.proofs.machine.store.Machine.open_conn.Goals as goal
 
 pub open-requires : goal.open-requires
 open-requires g c = ap (λ (x : ContextsValue). is_peer c.args.number x.conns) c.requires.linked ∙ not_peer (ends_of c.args.contexts.now.standing) c.args.number c.args.self.now.conns c.requires.new
