@@ -93,7 +93,8 @@ impl Job {
         }
     }
 
-    /// How long the branch has yet from its start on, in milliseconds, if its call expires, or it does before its call.
+    /// How long the branch had as it started, in milliseconds: until its own deadline or its call's, whichever comes first. None if
+    /// neither has one.
     pub fn remaining(&self) -> Option<u64>
         ensures { result ≡ self.now.job.remaining }
     {
@@ -103,7 +104,8 @@ impl Job {
         }
     }
 
-    /// The moment at which its call expires, or it does before its call, in milliseconds. So long had it yet as it started.
+    /// The branch's own deadline or its call's, whichever comes first: a moment, in milliseconds. `remaining` is what was left of it
+    /// as the branch started.
     pub fn deadline(&self) -> Option<u64>
         ensures deadline { result ≡ self.now.deadline }
         ensures left { (start : ℕ) × (self.now.job.remaining ≡ left_at start result) }

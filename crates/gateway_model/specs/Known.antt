@@ -7,7 +7,7 @@ use Rattle.gateway_model.specs.Events.{Before, is_open}
 use Rattle.gateway_model.specs.Job.{JobValue}
 use Rattle.gateway_model.specs.Occurrence.{Occurrence}
 use Rattle.gateway_model.specs.Past.{ArrivedCall, call, can_be_decided, marked, outs}
-use Rattle.gateway_model.specs.Queue.{IsPrefixOf, own_events, queued_entries, record_deadlines, record_of}
+use Rattle.gateway_model.specs.Queue.{own_events, queued_entries, record_deadlines, record_of}
 use Rattle.gateway_model.specs.Record.{is_decided, is_lawful}
 use Rattle.gateway_model.specs.Starts.{jobs}
 
@@ -51,11 +51,10 @@ pub record IsKnown (s : Shown) (opened : List ℕ) (events : Before) (os : List 
   pub jobs_are : (c : ℕ) → is_whole c s ≡ true → filter (is_of c) (handed ++ s.waiting) ≡ filter (is_of c) (jobs (marked os))
   -- of one that broke they are those of what had occurred before it did; of any, the jobs begin those that started
   pub broke : (c : ℕ) → s.is_broken c ≡ true → BrokeBefore c (taken c ++ s.untaken c) (filter (is_of c) (handed ++ s.waiting)) os
-  pub no_more : (c : ℕ) → IsPrefixOf (filter (is_of c) (handed ++ s.waiting)) (filter (is_of c) (jobs (marked os)))
+  pub no_more : (c : ℕ) → (rest : List JobValue) × (filter (is_of c) (jobs (marked os)) ≡ filter (is_of c) (handed ++ s.waiting) ++ rest)
   -- the branches that are out are those of the definitions, and a call that can be decided has a lawful record, which is not decided
   pub outs_are : (id : CallId) → is_whole id.conn s ≡ true → s.outs id ≡ outs id (marked os)
   pub records : (id : CallId) (a : ArrivedCall) → call id (marked os) ≡ Some a → can_be_decided id (marked os) ≡ true
-      → (is_lawful (record_of a (record_deadlines id (marked os)) (own_events id (marked os))) ≡ true)
-      × (is_decided (record_of a (record_deadlines id (marked os)) (own_events id (marked os))) ≡ false)
+      → let r = record_of a (record_deadlines id (marked os)) (own_events id (marked os)) in (is_lawful r ≡ true) × (is_decided r ≡ false)
   -- no call, of whatever connection, has more branches out than its limit
   pub limit : (id : CallId) (a : ArrivedCall) → call id (marked os) ≡ Some a → s.outs id ≤ a.plan.limit

@@ -2,7 +2,7 @@
 use Rattle.std.specs.Prelude.{ℕ, suc, ◌+◌, min, Bool, true, false, not, ◌&&◌, ◌||◌, ◌==◌, nat_lt, is_none, None, List, [], ◌∷◌, ◌++◌, length, slice_index_or}
 use Rattle.std.specs.Option.{option_map_or}
 use Rattle.gateway_model.specs.declared.call_event.CallEvent.{CallEvent}
-use Rattle.gateway_model.specs.declared.call_event.CallEvent.TheVariants.{Answer, Failed, Expired, BranchExpired, HungUp, Drained}
+use Rattle.gateway_model.specs.declared.call_event.CallEvent.TheVariants.{Answer, Failed, Expired, BranchExpired, Drained}
 use Rattle.gateway_model.specs.CallRecord.{CallRecord, answer_of_branch, last_event}
 use Rattle.gateway_model.specs.Past.{decides, is_due}
 
@@ -12,13 +12,9 @@ answers_among [] = 0
 answers_among (Answer i body ∷ events) = suc (answers_among events)
 answers_among (e ∷ events) = answers_among events
 
--- how many branches of the call have started after these events
-abbrev pub started_after : CallRecord → List CallEvent → ℕ
-started_after r events = min (length r.plan.branches) (r.plan.limit + answers_among events)
-
--- the branch is out after these events: it has started, and has no answer
+-- the branch is out after these events: it has started, being below the limit and the answers that counted, and has no answer
 abbrev pub is_out_after : CallRecord → List CallEvent → ℕ → Bool
-is_out_after r events i = nat_lt i (started_after r events) && is_none (answer_of_branch i events)
+is_out_after r events i = nat_lt i (min (length r.plan.branches) (r.plan.limit + answers_among events)) && is_none (answer_of_branch i events)
 
 -- the event can come behind those
 abbrev pub may_come : CallRecord → List CallEvent → CallEvent → Bool
@@ -26,18 +22,13 @@ may_come r before (Answer i body) = is_out_after r before i
 may_come r before (Failed i error) = is_out_after r before i
 may_come r before (Expired moment) = is_due moment r.deadline
 may_come r before (BranchExpired i moment) = is_out_after r before i && is_due moment (slice_index_or r.branch_deadlines i None)
-may_come r before HungUp = true
-may_come r before Drained = true
-
-abbrev pub is_last : List CallEvent → Bool
-is_last [] = true
-is_last (e ∷ events) = false
+may_come r before e = true
 
 -- these events can come behind those, each in its turn, and none behind one that decides the call
 abbrev pub may_follow : CallRecord → List CallEvent → List CallEvent → Bool
 may_follow r before [] = true
 may_follow r before (e ∷ events) =
-    may_come r before e && (is_last events || not (decides (answers_among before) (length r.plan.branches) e)) && may_follow r (before ++ e ∷ []) events
+    may_come r before e && (length events == 0 || not (decides (answers_among before) (length r.plan.branches) e)) && may_follow r (before ++ e ∷ []) events
 
 -- the call was decided as it arrived: by its deadline, or by the drain
 abbrev pub ends_at_start : List CallEvent → Bool

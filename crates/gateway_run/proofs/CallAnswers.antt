@@ -1,5 +1,5 @@
 -- The answer to a call: all its answers joined, or the error of the event that decided it.
-use Rattle.std.proofs.Common.{◌≡◌, ℕ, zero, suc, ◌+◌, ◌≤◌, ◌<◌, Bool, true, false, List, [], ◌∷◌, ◌++◌, length, reverse, Option, None, Some, refl, sym, ap, ◌∙◌, subst, arith, append_assoc, ⊎_elim}
+use Rattle.std.proofs.Common.{min, ◌≡◌, ℕ, zero, suc, ◌+◌, ◌≤◌, ◌<◌, Bool, true, false, List, [], ◌∷◌, ◌++◌, length, reverse, Option, None, Some, refl, sym, ap, ◌∙◌, subst, arith, append_assoc, ⊎_elim}
 use Rattle.std.specs.Prelude.{◌==◌, ◌&&◌, ◌||◌, not, nat_lt, if◌then◌else◌, is_none, is_some, option_and_then, option_map, option_to_list}
 use Rattle.std.specs.Option.{option_or, option_map_or}
 use Rattle.std.proofs.lemmas.Bool.{and_parts, cases_eq, cond_both, eq-eqb, eqb-true, ltb-true}
@@ -18,7 +18,7 @@ use Rattle.gateway_model.specs.Decided.{IsDecidedAt}
 use Rattle.gateway_model.specs.Occurrence.{Occurrence, Opening, Comes, HangUp, Moment, Result, Drain, Closing, Coming, Request, Refused}
 use Rattle.gateway_model.specs.Past.{ArrivedCall, Mark, Past, answers, asked_now, branches, call, count_below, counts, deadlines_out, decided, decides, due_by, ends_at_arrival, event_by, is_call, is_closed, is_drained, is_due, mark_of, marked, now, own_event, past_of}
 use Rattle.gateway_model.specs.Queue.{answer_of, call_entry, came, entry, entry_by, joined_reply, own_events, record_deadlines, record_of}
-use Rattle.gateway_model.specs.Record.{answers_among, is_decided, is_ending, is_last, is_lawful, may_come, may_follow, started_after}
+use Rattle.gateway_model.specs.Record.{answers_among, is_decided, is_ending, is_lawful, may_come, may_follow}
 use Rattle.gateway_model.specs.Reply.{reply_of}
 use Rattle.gateway_model.specs.Headline.{AllAnswered, AnswersCall, failed, joined, HasAnswered, IsAnswered}
 use Rattle.gateway_theory.specs.lemmas.Cases.{or_none}
@@ -113,8 +113,8 @@ Counted n es = answers_among es ≤ count_below n (has_answer es)
 counted_more : (r : CallRecord) (es : List CallEvent) (e : CallEvent) → may_come r es e ≡ true → Counted (length r.plan.branches) es → Counted (length r.plan.branches) (es ++ e ∷ [])
 counted_more r es (Answered i body) come h =
     let n : ℕ = length r.plan.branches in
-    let both = and_parts (nat_lt i (started_after r es)) (is_none (answer_of_branch i es)) come in
-    let within : i < started_after r es = ltb-true i (started_after r es) both.0 in
+    let both = and_parts (nat_lt i (min (length r.plan.branches) (r.plan.limit + answers_among es))) (is_none (answer_of_branch i es)) come in
+    let within : i < min (length r.plan.branches) (r.plan.limit + answers_among es) = ltb-true i (min (length r.plan.branches) (r.plan.limit + answers_among es)) both.0 in
     let here : has_answer (es ++ Answered i body ∷ []) i ≡ true =
     ap (λ o. is_some o) (answer_behind i es (Answered i body)) ∙ ap (λ b. is_some (option_or (if b then Some body else None) (answer_of_branch i es))) (eq-eqb i i refl) in
     let more : suc (count_below n (has_answer es)) ≤ count_below n (has_answer (es ++ Answered i body ∷ [])) =
@@ -138,8 +138,8 @@ counted_all r before [] follow h = subst (λ xs. Counted (length r.plan.branches
     append_nil' [] = refl
     append_nil' (x ∷ xs) = ap (λ ys. x ∷ ys) (append_nil' xs)
 counted_all r before (e ∷ es) follow h =
-    let outer = and_parts (may_come r before e && (is_last es || not (decides (answers_among before) (length r.plan.branches) e))) (may_follow r (before ++ e ∷ []) es) follow in
-    let inner = and_parts (may_come r before e) (is_last es || not (decides (answers_among before) (length r.plan.branches) e)) outer.0 in
+    let outer = and_parts (may_come r before e && (length es == 0 || not (decides (answers_among before) (length r.plan.branches) e))) (may_follow r (before ++ e ∷ []) es) follow in
+    let inner = and_parts (may_come r before e) (length es == 0 || not (decides (answers_among before) (length r.plan.branches) e)) outer.0 in
     subst (λ xs. Counted (length r.plan.branches) xs) (append_assoc before (e ∷ []) es)
     (counted_all r (before ++ e ∷ []) es outer.1 (counted_more r before e inner.0 h))
 

@@ -14,7 +14,7 @@ use Rattle.gateway_model.specs.CallRecord.{CallRecord, answer_in, answer_of_bran
 use Rattle.gateway_model.specs.Occurrence.{Occurrence, Opening, Comes, HangUp, Moment, Result, Drain, Closing, Coming, Request, Refused}
 use Rattle.gateway_model.specs.Past.{Mark, Past, ArrivedCall, call, answers, asked_by, asked_now, began, branches, counts, decided, decides, ends_at_arrival, coming_now, event_by, is_answer_to, is_call, is_closed, is_due, is_drained, branch_deadlines, can_be_decided, deadlines_out, is_out, is_result_of, mark_of, marked, now, own_event, started}
 use Rattle.gateway_model.specs.Queue.{came, call_entry, entry, entry_by, own_events, record_deadlines, record_of}
-use Rattle.gateway_model.specs.Record.{answers_among, started_after, is_out_after, may_come, may_follow, is_last, ends_at_start, is_lawful, is_ending, is_decided}
+use Rattle.gateway_model.specs.Record.{answers_among, is_out_after, may_come, may_follow, ends_at_start, is_lawful, is_ending, is_decided}
 use Rattle.gateway_theory.specs.lemmas.LimitLemmas.{out_started, same_call, started_grows, unanswered, unanswered_next}
 use Rattle.gateway_theory.specs.lemmas.PastLemmas.{call_stays}
 use Rattle.gateway_theory.specs.lemmas.Deadlines.{deadlines_same, expires, reached_out}
@@ -35,9 +35,9 @@ none_decides r before (e ∷ es) = not (decides (answers_among before) (length r
 and_both : (a b : Bool) → a ≡ true → b ≡ true → (a && b) ≡ true
 and_both a b x y = rw (x, y) refl
 
-is_last_more : (es : List CallEvent) (e : CallEvent) → is_last (es ++ e ∷ []) ≡ false
+is_last_more : (es : List CallEvent) (e : CallEvent) → (length (es ++ e ∷ []) == 0) ≡ false
 is_last_more [] e = refl
-is_last_more (x ∷ es) e = refl
+is_last_more (x ∷ es) e = ne_eqb (length (x ∷ es ++ e ∷ [])) 0 (λ none. omega (arith, none))
 
 follow_more : (r : CallRecord) (before es : List CallEvent) (e : CallEvent) → may_follow r before es ≡ true → none_decides r before es ≡ true
     → may_come r (before ++ es) e ≡ true → may_follow r before (es ++ e ∷ []) ≡ true
@@ -45,8 +45,8 @@ follow_more r before [] e f g c =
     let c0 : may_come r before e ≡ true = subst (λ xs. may_come r xs e ≡ true) (append-nil before) c in
     rw c0 refl
 follow_more r before (x ∷ es) e f g c =
-    let fp = and_parts (may_come r before x && (is_last es || not (decides (answers_among before) (length r.plan.branches) x))) (may_follow r (before ++ x ∷ []) es) f in
-    let fq = and_parts (may_come r before x) (is_last es || not (decides (answers_among before) (length r.plan.branches) x)) fp.0 in
+    let fp = and_parts (may_come r before x && (length es == 0 || not (decides (answers_among before) (length r.plan.branches) x))) (may_follow r (before ++ x ∷ []) es) f in
+    let fq = and_parts (may_come r before x) (length es == 0 || not (decides (answers_among before) (length r.plan.branches) x)) fp.0 in
     let gp = and_parts (not (decides (answers_among before) (length r.plan.branches) x)) (none_decides r (before ++ x ∷ []) es) g in
     let rest : may_follow r (before ++ x ∷ []) (es ++ e ∷ []) ≡ true =
     follow_more r (before ++ x ∷ []) es e fp.1 gp.1 (subst (λ xs. may_come r xs e ≡ true) (sym (append_assoc before (x ∷ []) es)) c) in
@@ -67,15 +67,15 @@ on_more r before (x ∷ es) e g d =
 pub same_follow : (a : ArrivedCall) (ds : List (Option ℕ)) (events before es : List CallEvent) → may_follow (record_of a ds events) before es ≡ may_follow (record_of a ds []) before es
 same_follow a ds events before [] = refl
 same_follow a ds events before (Answered i body ∷ es) =
-    ap (λ b. (is_out_after (record_of a ds []) before i) && (is_last es || not (answers_among before + 1 == length a.plan.branches)) && b) (same_follow a ds events (before ++ Answered i body ∷ []) es)
+    ap (λ b. (is_out_after (record_of a ds []) before i) && (length es == 0 || not (answers_among before + 1 == length a.plan.branches)) && b) (same_follow a ds events (before ++ Answered i body ∷ []) es)
 same_follow a ds events before (Failed i error ∷ es) =
-    ap (λ b. (is_out_after (record_of a ds []) before i) && (is_last es || not true) && b) (same_follow a ds events (before ++ Failed i error ∷ []) es)
+    ap (λ b. (is_out_after (record_of a ds []) before i) && (length es == 0 || not true) && b) (same_follow a ds events (before ++ Failed i error ∷ []) es)
 same_follow a ds events before (Expired t ∷ es) =
-    ap (λ b. (is_due t a.deadline) && (is_last es || not true) && b) (same_follow a ds events (before ++ Expired t ∷ []) es)
+    ap (λ b. (is_due t a.deadline) && (length es == 0 || not true) && b) (same_follow a ds events (before ++ Expired t ∷ []) es)
 same_follow a ds events before (BranchExpired i t ∷ es) =
-    ap (λ b. (is_out_after (record_of a ds []) before i && is_due t (slice_index_or ds i None)) && (is_last es || not true) && b) (same_follow a ds events (before ++ BranchExpired i t ∷ []) es)
-same_follow a ds events before (HungUp ∷ es) = ap (λ b. true && (is_last es || not true) && b) (same_follow a ds events (before ++ HungUp ∷ []) es)
-same_follow a ds events before (Drained ∷ es) = ap (λ b. true && (is_last es || not true) && b) (same_follow a ds events (before ++ Drained ∷ []) es)
+    ap (λ b. (is_out_after (record_of a ds []) before i && is_due t (slice_index_or ds i None)) && (length es == 0 || not true) && b) (same_follow a ds events (before ++ BranchExpired i t ∷ []) es)
+same_follow a ds events before (HungUp ∷ es) = ap (λ b. true && (length es == 0 || not true) && b) (same_follow a ds events (before ++ HungUp ∷ []) es)
+same_follow a ds events before (Drained ∷ es) = ap (λ b. true && (length es == 0 || not true) && b) (same_follow a ds events (before ++ Drained ∷ []) es)
 
 pub among_more : (es : List CallEvent) (e : CallEvent) → answers_among (es ++ e ∷ []) ≡ answers_among es + answers_among (e ∷ [])
 among_more [] e = omega arith
@@ -162,8 +162,8 @@ out_of_record : (id : CallId) (a : ArrivedCall) (m : Mark) (past : Past) (i : �
 out_of_record id a m past i h out =
     let lt : i < started id past = out_started id i past out in
     let is : started id past ≡ min (length a.plan.branches) (a.plan.limit + answers id past) = started_live id a past h.call_is (began_out id i past out) in
-    and_both (nat_lt i (started_after (blank a []) (own_events id past))) (is_none (answer_of_branch i (own_events id past)))
-    (lt-ltb i (started_after (blank a []) (own_events id past)) (omega (arith, lt, is, h.going.counted)))
+    and_both (nat_lt i (min (length a.plan.branches) (a.plan.limit + answers_among (own_events id past)))) (is_none (answer_of_branch i (own_events id past)))
+    (lt-ltb i (min (length a.plan.branches) (a.plan.limit + answers_among (own_events id past))) (omega (arith, lt, is, h.going.counted)))
     (h.going.outs i out)
 
 -- nothing happens to it
