@@ -59,6 +59,16 @@ module _ {C V : Type 0} (id : Id) where
   pub fewer_more : (n : ℕ) (v : Standing C V) → branches_fewer id 1 (branches_fewer id n v) ≡ branches_fewer id (suc n) v
   fewer_more n v = ap (λ cs. record { drained = v.drained; conns = v.conns; calls = cs }) (turned_more n v.calls)
 
+  turned_twice : (f : Call C V → List (Branch C)) (cs : List (Call C V)) → turn_calls (λ c. []) (turn_calls f cs) ≡ turn_calls (λ c. []) cs
+  turned_twice f [] = refl
+  turned_twice f (c ∷ cs) = ⊎_elim
+      (λ (y : same c.id id ≡ true). rw (y, y) (ap (λ l. with_branches [] c ∷ l) (turned_twice f cs)))
+      (λ (o : same c.id id ≡ false). rw (o, o) (ap (λ l. c ∷ l) (turned_twice f cs)))
+      (cases_Bool (same c.id id))
+
+  pub bare_twice : (n : ℕ) (v : Standing C V) → bare_call id (branches_fewer id n v) ≡ bare_call id v
+  bare_twice n v = ap (λ cs. record { drained = v.drained; conns = v.conns; calls = cs }) (turned_twice (λ c. drop n c.branches) v.calls)
+
   one_bare : (c : Call C V) (b : Bool) → same c.id id ≡ b → same (if b then with_branches [] c else c).id id ≡ true → (if b then with_branches [] c else c).branches ≡ []
   one_bare c true is y = refl
   one_bare c false is y = let bad : true ≡ false = sym y ∙ is in cc
@@ -135,23 +145,32 @@ module _ {C V : Type 0} (slots : Slots C V) (id : Id) where
       (λ (n : same m.ctx id ≡ false). bare_twigs ts l ms (rw n at found) (All-tail (λ c. same c.id id ≡ true → c.branches ≡ []) (seen_call slots ts m) (map (seen_call slots ts) ms) bare))
       (cases_Bool (same m.ctx id))
 
-  -- after as many turns as the call has branches, none is left
-  pub all_dropped : (n : ℕ) (ts : List Twig) (base : Id) (conns : List Id) (ls : List Life) → length (filter (λ t. same t.call id) ts) ≤ n
+  few_of : (ts : List Twig) → length (filter (λ t. same t.call id) ts) ≤ length ts
+  few_of [] = omega arith
+  few_of (t ∷ ts) =
+      let rest = few_of ts in
+      ⊎_elim
+      (λ (y : same t.call id ≡ true). rw y (omega (arith, rest)))
+      (λ (n : same t.call id ≡ false). rw n (omega (arith, rest)))
+      (cases_Bool (same t.call id))
+
+  -- after as many turns as there are branches, none of the call's is left
+  pub all_dropped : (n : ℕ) (ts : List Twig) (base : Id) (conns : List Id) (ls : List Life) → length ts ≤ n
       → branches_fewer id n (seen slots ts base conns ls) ≡ bare_call id (seen slots ts base conns ls)
   all_dropped n ts base conns ls few = on_same id (λ c. drop n c.branches) (λ c. []) (seen slots ts base conns ls)
       (all_seen_of (λ bs. drop n bs ≡ []) ts ls (drop_all n (seen_branches slots ts id)
-      (let same_length = length-map (filter (λ t. same t.call id) ts) (seen_branch slots) in omega (arith, same_length, few))))
+      (let same_length = length-map (filter (λ t. same t.call id) ts) (seen_branch slots) in let no_more = few_of ts in omega (arith, same_length, no_more, few))))
 
   pub first_gone : (t : Twig) (ts : List Twig) (base : Id) (conns : List Id) (ls : List Life) → twig_of id ts ≡ Some t
       → unbranched id t.branch (seen slots ts base conns ls) ≡ branches_fewer id 1 (seen slots ts base conns ls)
   first_gone t ts base conns ls found = on_same id (λ c. drop_branch t.branch c.branches) (λ c. drop 1 c.branches) (seen slots ts base conns ls)
       (all_seen_of (λ bs. drop_branch t.branch bs ≡ drop 1 bs) ts ls (first_dropped t ts found))
 
-  pub none_gone : (ts : List Twig) (base : Id) (conns : List Id) (ls : List Life) → twig_of id ts ≡ None
-      → seen slots ts base conns ls ≡ branches_fewer id 1 (seen slots ts base conns ls)
-  none_gone ts base conns ls none = sym (on_none id (seen slots ts base conns ls))
-      ∙ on_same id (λ c. c.branches) (λ c. drop 1 c.branches) (seen slots ts base conns ls)
-      (all_seen_of (λ bs. bs ≡ drop 1 bs) ts ls (rw (none_first ts none) refl))
+  pub none_bare : (ts : List Twig) (base : Id) (conns : List Id) (ls : List Life) → twig_of id ts ≡ None
+      → seen slots ts base conns ls ≡ bare_call id (seen slots ts base conns ls)
+  none_bare ts base conns ls none = sym (on_none id (seen slots ts base conns ls))
+      ∙ on_same id (λ c. c.branches) (λ c. []) (seen slots ts base conns ls)
+      (all_seen_of (λ bs. bs ≡ []) ts ls (none_first ts none))
 
 -- ---- one after the other
 
@@ -166,3 +185,9 @@ module _ {C V H : Type 0} (id : Id) where
     where
       next : (k : ℕ) → suc k ≡ k + 1
       next k = omega arith
+
+  -- once none is left, the call is bare
+  pub then_bare : (n : ℕ) (v w : WithHooks C V H) → w ≡ with_standing (branches_fewer id n v.standing) v → w.standing ≡ bare_call id w.standing
+      → w ≡ with_standing (bare_call id v.standing) v
+  then_bare n v w w_is bare = ap (λ st. with_standing st w) bare ∙ ap (λ (x : WithHooks C V H). with_standing (bare_call id x.standing) x) w_is
+      ∙ ap (λ st. with_standing st v) (bare_twice id n v.standing)

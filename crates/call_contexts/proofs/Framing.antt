@@ -73,6 +73,7 @@ module _ {C V H : Type 0} (laws : TreeLaws C V) {f : AfterFuncs H} {base : Id} {
       → All (IsTwig later ls) ts → ((x : Id) → is_kept ts s.root base cs ls x ≡ false → held x later ≡ None) → NoTwo same_ctx ls → NoTwo same_holder ls → NoTwo same_twig ts → map hook_of (waiting hooks') ≡ map kept_of ls → due hooks' ≡ []
       → IsSound new f' ts base cs ls
   framed_sound f' hooks' cs ls ts hs conns_are calls_are twigs_are else_none distinct apart twigs_apart waits none = record {
+    laws = laws;
     past = later;
     hooks = hooks';
     tree_is = st;

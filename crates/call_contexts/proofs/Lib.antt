@@ -10,6 +10,5 @@ pub mod Beginning
 pub mod Leaving
 pub mod Branching
 pub mod Branches
-pub mod Counting
 pub mod Sooner
 pub mod Deadlines

@@ -156,13 +156,6 @@ module _ (id : Id) where
       (λ (n : same m.ctx id ≡ false). rw n (found_any l ms (rw n at is)))
       (cases_Bool (same m.ctx id))
 
-  pub any_found : (ls : List Life) → list_any (λ m. same m.ctx id) ls ≡ true → (l : Life) × (life_at id ls ≡ Some l)
-  any_found [] is = cc
-  any_found (m ∷ ms) is = ⊎_elim
-      (λ (y : same m.ctx id ≡ true). (m, rw y refl))
-      (λ (n : same m.ctx id ≡ false). let rest = any_found ms (rw n at is) in (rest.0, rw n rest.1))
-      (cases_Bool (same m.ctx id))
-
   pub none_found : (ls : List Life) → life_at id ls ≡ None → list_any (λ m. same m.ctx id) ls ≡ false
   none_found [] is = refl
   none_found (m ∷ ms) is = ⊎_elim

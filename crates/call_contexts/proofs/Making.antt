@@ -1,17 +1,16 @@
 -- The contexts of a call, as they are made.
 use Rattle.std.proofs.Common.{◌≡◌, refl, sym, ap, ◌∙◌, ℕ, List, [], ◌∷◌, Option, Some, None, Bool, true, false, ⊎_elim, subst}
-use Rattle.std.specs.Prelude.{◌||◌, is_some, nat_le, if◌then◌else◌, length, option_map, unwrap_or}
+use Rattle.std.specs.Prelude.{◌||◌, is_some, nat_le, if◌then◌else◌, length, option_map}
 use Rattle.std.specs.Option.{option_or}
 use Rattle.std.proofs.lemmas.Bool.{cases_Bool, or_parts}
 use Rattle.std.proofs.Math.Bool.{or-false}
-use Rattle.std.proofs.lemmas.Option.{same_Some}
 use Rattle.context_tree.specs.declared.node.Kind.{Kind}
 use Rattle.context_tree.specs.declared.node.Kind.TheVariants.{Value}
 use Rattle.context_tree.specs.Context.{Id, Ended, same, Makes, Releases, expiry, held, inherited, ending}
 use Rattle.call_contexts.specs.Standing.{if_due}
 use Rattle.context_tree.specs.Tree.{TreeValue, StandsFor, IsLawful, is_among}
 use Rattle.call_contexts.specs.Sound.{Op, TreeLaws, IsFree, AreFree, IsHolder, Touches, StandsAlike, contexts, kind_of, moment_of, with_holder, with_call, let_go, parent_of_call, why}
-use Rattle.call_contexts.proofs.Trees.{same_refl, same_true, same_turned, far_one, far_new, touch_made, touch_released, touch_next, touch_more, touch_none, free_alike, made_held, released_held, alike, new_free, made_and_released}
+use Rattle.call_contexts.proofs.Trees.{same_refl, same_true, same_turned, far_one, far_new, touch_made, touch_released, touch_next, touch_more, touch_none, free_alike, made_held, released_held, new_free, made_and_released}
 
 -- what ended one from the start: what had ended its parent, or else its own deadline
 born_by : {C D : Type 0} (turn : ℕ) (id : Id) (exp : D → Ended C) (o : Option (Ended C)) (b : Bool) (d : D)
@@ -131,32 +130,12 @@ module _ {C V : Type 0} (ctx : Id) (past : List (Op C V)) where
       rw n (subst (λ z. held z (Releases ctx ∷ past) ≡ None) (sym e) (released_held past ctx)))
       (cases_Bool (same holder x))
 
--- ---- the contexts of a call, made one after the other
-
-pub call_made : {C V : Type 0} (ctx conn : Id) (at : Option ℕ) (now : ℕ) (request_id : Option V) (past : List (Op C V)) (new : TreeValue C V) (first holder : Option Id) (parent : Id)
-    → holder ≡ first → parent ≡ unwrap_or first conn → StandsFor new (Makes ctx (kind_of parent at) (moment_of at now) ∷ with_holder conn first request_id past)
-    → StandsFor new (with_call ctx holder conn at now request_id past)
-call_made ctx conn at now request_id past new first holder parent same_holder parent_is st =
-    subst (λ h. StandsFor new (with_call ctx h conn at now request_id past)) (sym same_holder)
-    (subst (λ p. StandsFor new (Makes ctx (kind_of p at) (moment_of at now) ∷ with_holder conn first request_id past)) parent_is st)
-
 -- ---- a call's context is refused: the one that has the request id is let go of again
 
-module _ {C V : Type 0} (laws : TreeLaws C V) (conn : Id) (past : List (Op C V)) (new : TreeValue C V) where
-  pub none_alike : (holder : Option Id) (request_id : Option V) → holder ≡ None → StandsFor new (with_holder conn holder request_id past) → StandsAlike new past
-  none_alike None request_id is st = alike new past st
-  none_alike (Some h) request_id is st = cc
-
-  pub some_alike : (mid : TreeValue C V) (holder : Option Id) (request_id : Option V) (h : Id) → holder ≡ Some h → is_some holder ≡ is_some request_id → StandsFor mid (with_holder conn holder request_id past)
-      → (IsFree h (with_holder conn holder request_id past) → StandsFor new (Releases h ∷ with_holder conn holder request_id past)) → StandsAlike new past
-  some_alike mid None request_id h is agree st goes = cc
-  some_alike mid (Some x) None h is agree st goes = cc
-  some_alike mid (Some x) (Some r) h is agree st goes =
-      let e : x ≡ h = same_Some x h is in
-      let goes_x : IsFree x (Makes x (Value conn 0 r) 0 ∷ past) → StandsFor new (Releases x ∷ Makes x (Value conn 0 r) 0 ∷ past) =
-      subst (λ z. IsFree z (Makes x (Value conn 0 r) 0 ∷ past) → StandsFor new (Releases z ∷ Makes x (Value conn 0 r) 0 ∷ past)) (sym e) goes in
-      record {
-        later = Releases x ∷ Makes x (Value conn 0 r) 0 ∷ past;
-        stands = goes_x (new_free laws x (Value conn 0 r) 0 past st.contexts.lawful);
-        alike = made_and_released laws x (Value conn 0 r) 0 past st.contexts.lawful;
-      }
+pub made_alike : {C V : Type 0} (laws : TreeLaws C V) (conn : Id) (past : List (Op C V)) (mid new : TreeValue C V) (h : Id) (r : V) → StandsFor mid (Makes h (Value conn 0 r) 0 ∷ past)
+    → (IsFree h (Makes h (Value conn 0 r) 0 ∷ past) → StandsFor new (Releases h ∷ Makes h (Value conn 0 r) 0 ∷ past)) → StandsAlike new past
+made_alike laws conn past mid new h r st goes = record {
+  later = Releases h ∷ Makes h (Value conn 0 r) 0 ∷ past;
+  stands = goes (new_free laws h (Value conn 0 r) 0 past st.contexts.lawful);
+  alike = made_and_released laws h (Value conn 0 r) 0 past st.contexts.lawful;
+}

@@ -1,16 +1,17 @@
 -- What is seen after a moment, a cancel and a drain.
-use Rattle.std.proofs.Common.{◌≡◌, refl, sym, ap, ◌∙◌, arith, ℕ, ◌≤◌, List, [], ◌∷◌, Option, Some, None, Bool, true, false, ⊎_elim, is_none}
-use Rattle.std.specs.Prelude.{◌&&◌, ◌||◌, min, is_some, map, filter, All, option_map, option_and_then, unwrap_or}
+use Rattle.std.proofs.Common.{◌≡◌, refl, sym, ap, ◌∙◌, arith, ℕ, ◌≤◌, List, [], ◌∷◌, Option, Some, None, Bool, true, false, ⊎_elim, is_none, subst, Ok}
+use Rattle.std.specs.Prelude.{◌&&◌, ◌||◌, IfOk, Result, min, is_some, map, filter, All, option_map, option_and_then, unwrap_or}
 use Rattle.std.specs.Option.{option_or}
 use Rattle.std.proofs.lemmas.List.Elements.{All-nil, All-head, All-map, All-tail, All-weaker}
 use Rattle.std.proofs.lemmas.Bool.{cases_Bool, or_parts}
 use Rattle.std.proofs.Math.Bool.{or-true}
 use Rattle.context_tree.specs.declared.error.Cause.{Cause}
 use Rattle.context_tree.specs.declared.error.Cause.TheVariants.{Given}
+use Rattle.context_tree.specs.declared.error.CtxError.{CtxError}
 use Rattle.context_tree.specs.declared.node.Kind.{Kind}
 use Rattle.context_tree.specs.declared.node.Kind.TheVariants.{Background, Cancel, Deadline, Value}
 use Rattle.context_tree.specs.Context.{Id, Ended, same, Makes, Cancels, Advances, held, chain, deadline, sooner, has_cancel, ending}
-use Rattle.context_tree.specs.Tree.{TreeValue, StandsFor, IsFirstDeadline, IsNotAfter, IsLawful, is_ended_by_cancel}
+use Rattle.context_tree.specs.Tree.{TreeValue, StandsFor, IsMade, IsFirstDeadline, IsNotAfter, IsLawful, is_ended_by_cancel}
 use Rattle.after_funcs.specs.declared.callbacks.AfterFuncs.{AfterFuncs}
 use Rattle.after_funcs.specs.Stands.{StandsFor as HooksStand}
 use Rattle.call_contexts.specs.declared.life.Life.{Life}
@@ -132,6 +133,7 @@ module _ {C V : Type 0} (laws : TreeLaws C V) (root base : Id) (t : TreeValue C 
 
   pub new_sound : {H : Type 0} (f : AfterFuncs H) → HooksStand f [] → IsSound t f [] base [] []
   new_sound f hs = record {
+    laws = laws;
     past = Makes base (Cancel root) 0 ∷ Makes root Background 0 ∷ [];
     hooks = [];
     tree_is = st;
@@ -202,6 +204,7 @@ module _ {C V H : Type 0} (laws : TreeLaws C V) {f : AfterFuncs H} {base : Id} {
 
     pub sound_expired : IsSound new f twigs base conns calls
     sound_expired = record {
+      laws = laws;
       past = Advances now ∷ s.past;
       hooks = s.hooks;
       tree_is = st;
@@ -274,6 +277,7 @@ module _ {C V H : Type 0} (laws : TreeLaws C V) {f : AfterFuncs H} {base : Id} {
     -- a cancel leaves all sound
     sound_cancelled : StandsFor new (Cancels id (Some cause) ∷ s.past) → IsSound new f twigs base conns calls
     sound_cancelled st = record {
+      laws = laws;
       past = Cancels id (Some cause) ∷ s.past;
       hooks = s.hooks;
       tree_is = st;
@@ -304,6 +308,7 @@ module _ {C V H : Type 0} (laws : TreeLaws C V) {f : AfterFuncs H} {base : Id} {
       where
         still_sound : StandsFor new s.past → IsSound new f twigs base conns calls
         still_sound st = record {
+          laws = laws;
           past = s.past;
           hooks = s.hooks;
           tree_is = st;

@@ -184,8 +184,10 @@ hook_of r = (r.id, r.ctx)
 
 module _ {C V H : Type 0} where
   -- Some operations lead to these contexts and hooks. Each call has its contexts, those of its branches, and its hook which
-  -- waits on it; no other context is held, and no hook is due.
+  -- waits on it; no other context is held, and no hook is due. What the laws of the tree say is kept with it, so that no call
+  -- has to ask for it again.
   pub record IsSound (t : TreeValue C V) (f : AfterFuncs H) (twigs : List Twig) (base : Id) (conns : List Id) (calls : List Life) : Type 0 where
+    pub laws : TreeLaws C V
     pub past : List (Op C V)
     pub hooks : List (Operation H)
     pub tree_is : StandsFor t past

@@ -2,7 +2,7 @@ ghost use Rattle.std.specs.Prelude.{All, ◌≡◌, ◌∷◌, [], ◌++◌, Som
 ghost use Rattle.std.specs.List.{list_any};
 ghost use Rattle.std.specs.Option.{option_copied};
 ghost use Rattle.context_tree.specs.Context.{same};
-ghost use Rattle.call_contexts.specs.Standing.{IsNoSooner, AreNoSooner, has_deadline, ended_branch, empty, opened, begun, expired, cancelled, all_ended, closed, gone, with_standing, with_hook, hook_for, request_for, ended_call, branched, unbranched, branches_fewer, bare_call, IsBare, AreApart, is_fresh, is_call, is_conn};
+ghost use Rattle.call_contexts.specs.Standing.{IsNoSooner, AreNoSooner, has_deadline, ended_branch, empty, opened, begun, expired, cancelled, all_ended, closed, gone, with_standing, with_hook, hook_for, request_for, ended_call, branched, unbranched, bare_call, AreApart, is_fresh, is_call, is_conn};
 
 use crate::contexts::{REQUEST_ID, cause_of, free, make, release, tree_laws};
 use crate::life::Life;
@@ -75,7 +75,6 @@ impl<C: Copy, V: Drop, H: Drop> CallContexts<C, V, H> {
         ensures fresh { IfOk result (λ id. is_fresh id self.old.standing ≡ true) }
         ensures unchanged { OnErr result (self.new ≡ self.old) }
     {
-        tree_laws::<C, V>();
         self.conns.reserve(1)?;
         let Ok(conn) = self.tree.with_cancel(self.base) else {
             return Err(AllocError);
@@ -102,7 +101,6 @@ impl<C: Copy, V: Drop, H: Drop> CallContexts<C, V, H> {
         if self.calls.reserve(1).is_err() {
             return Err(hook);
         }
-        tree_laws::<C, V>();
         let Ok(made) = make(&mut self.tree, conn, deadline, now, request_id) else {
             return Err(hook);
         };
@@ -132,7 +130,6 @@ impl<C: Copy, V: Drop, H: Drop> CallContexts<C, V, H> {
         let Some(_) = calls::find(&self.calls, ctx) else {
             return None;
         };
-        tree_laws::<C, V>();
         match self.tree.value(ctx, REQUEST_ID) {
             Ok(request_id) => request_id,
             Err(_) => unreachable!(),
@@ -143,7 +140,6 @@ impl<C: Copy, V: Drop, H: Drop> CallContexts<C, V, H> {
     pub fn expire(&mut self, now: u64)
         ensures { self.new ≡ with_standing (expired now self.old.standing) self.old }
     {
-        tree_laws::<C, V>();
         self.tree.advance(now);
     }
 
@@ -152,7 +148,6 @@ impl<C: Copy, V: Drop, H: Drop> CallContexts<C, V, H> {
         requires { is_conn conn self.old.standing.conns ≡ true }
         ensures { self.new ≡ with_standing (cancelled conn cause self.old.standing) self.old }
     {
-        tree_laws::<C, V>();
         self.tree.cancel(conn, Some(cause));
     }
 
@@ -160,7 +155,6 @@ impl<C: Copy, V: Drop, H: Drop> CallContexts<C, V, H> {
     pub fn drain(&mut self, cause: C)
         ensures { self.new ≡ with_standing (all_ended cause self.old.standing) self.old }
     {
-        tree_laws::<C, V>();
         self.tree.cancel(self.base, Some(cause));
     }
 
@@ -169,11 +163,9 @@ impl<C: Copy, V: Drop, H: Drop> CallContexts<C, V, H> {
     pub fn ended(&self, ctx: CtxId) -> Option<Cause<C>>
         ensures { result ≡ ended_call ctx self.now.standing.calls }
     {
-        tree_laws::<C, V>();
-        if calls::has(&self.calls, ctx) {
-            cause_of(&self.tree, ctx)
-        } else {
-            None
+        match calls::find(&self.calls, ctx) {
+            Some(_) => cause_of(&self.tree, ctx),
+            None => None,
         }
     }
 
@@ -183,7 +175,6 @@ impl<C: Copy, V: Drop, H: Drop> CallContexts<C, V, H> {
     pub fn ended_branch(&self, ctx: CtxId) -> Option<u32>
         ensures { result ≡ ended_branch ctx self.now.standing.calls }
     {
-        tree_laws::<C, V>();
         let life = calls::find(&self.calls, ctx)?;
         let twig = twigs::soonest(&self.twigs, ctx)?;
         if cause_of(&self.tree, twig.ctx).is_some() {
@@ -199,7 +190,6 @@ impl<C: Copy, V: Drop, H: Drop> CallContexts<C, V, H> {
         ensures branches { All (AreNoSooner result) self.now.standing.calls }
         ensures its { IfSome result (λ first. list_any (has_deadline first) self.now.standing.calls ≡ true) }
     {
-        tree_laws::<C, V>();
         self.tree.next_deadline()
     }
 
@@ -207,7 +197,7 @@ impl<C: Copy, V: Drop, H: Drop> CallContexts<C, V, H> {
     pub fn has_conn(&self, conn: CtxId) -> bool
         ensures { result ≡ is_conn conn self.now.standing.conns }
     {
-        calls::is_among(&self.conns, conn)
+        self.conns.contains(&conn)
     }
 
     /// Whether a call of that connection stands.
@@ -223,7 +213,6 @@ impl<C: Copy, V: Drop, H: Drop> CallContexts<C, V, H> {
         ensures stands { IfOk result (λ _. self.new ≡ with_standing (branched call branch at now self.old.standing) self.old) }
         ensures unchanged { OnErr result (self.new ≡ self.old) }
     {
-        tree_laws::<C, V>();
         self.twigs.reserve(1)?;
         let Ok(ctx) = self.tree.with_deadline(call, at, now, None) else {
             return Err(AllocError);
@@ -244,27 +233,20 @@ impl<C: Copy, V: Drop, H: Drop> CallContexts<C, V, H> {
         let Some(twig) = twigs::find(&self.twigs, call, branch) else {
             return;
         };
-        tree_laws::<C, V>();
         twigs::remove(&mut self.twigs, twig.ctx);
         free(&mut self.tree, twig.ctx);
-    }
-
-    /// Lets go of the context of the first branch of a call.
-    fn let_first_branch_go(&mut self, call: CtxId)
-        ensures { self.new ≡ with_standing (branches_fewer call 1 self.old.standing) self.old }
-    {
-        let Some(twig) = twigs::first(&self.twigs, call) else {
-            return;
-        };
-        self.let_branch_go(call, twig.branch);
     }
 
     /// Lets go of the contexts of all branches of a call.
     fn let_branches_go(&mut self, call: CtxId)
         ensures { self.new ≡ with_standing (bare_call call self.old.standing) self.old }
     {
-        for _index in 0..twigs::count(&self.twigs, call) {
-            self.let_first_branch_go(call);
+        // no call has more branches than there are
+        for _index in 0..self.twigs.len() {
+            let Some(twig) = twigs::first(&self.twigs, call) else {
+                return;
+            };
+            self.let_branch_go(call, twig.branch);
         }
     }
 
@@ -280,32 +262,9 @@ impl<C: Copy, V: Drop, H: Drop> CallContexts<C, V, H> {
         ensures left { self.new ≡ gone ctx self.old }
     {
         self.let_branches_go(ctx);
-        self.end_bare(ctx, event)
-    }
-
-    /// Drops the hook of a call uncalled, and lets go of its contexts and those of its branches.
-    pub fn abandon(&mut self, ctx: CtxId)
-        ensures { self.new ≡ gone ctx self.old }
-    {
-        self.let_branches_go(ctx);
-        self.abandon_bare(ctx);
-    }
-
-    /// Calls the hook of a call that has no branches with what ended it, and lets go of its contexts.
-    fn end_bare<E: Drop, O>(&mut self, ctx: CtxId, event: E) -> Option<Result<O, AllocError>>
-    where
-        H: Hook<E, O>,
-        requires allowed { H.allows event }
-        requires bare { IsBare ctx self.old.standing.calls }
-        ensures duty { IfSome result (λ ran. IfOk ran (λ answer. H.meets event answer)) }
-        ensures called { (h : H) → hook_for ctx self.old.hooks ≡ Some h → IfSome result (λ ran. H.gives h event ran) }
-        ensures ran { is_some result ≡ is_call ctx self.old.standing.calls }
-        ensures left { self.new ≡ gone ctx self.old }
-    {
         let Some(life) = calls::find(&self.calls, ctx) else {
             return None;
         };
-        tree_laws::<C, V>();
         calls::remove(&mut self.calls, ctx);
         self.hooks.fire(ctx);
         let ran = self.hooks.run_next(event);
@@ -316,15 +275,14 @@ impl<C: Copy, V: Drop, H: Drop> CallContexts<C, V, H> {
         }
     }
 
-    /// Drops the hook of a call that has no branches uncalled, and lets go of its contexts.
-    fn abandon_bare(&mut self, ctx: CtxId)
-        requires { IsBare ctx self.old.standing.calls }
+    /// Drops the hook of a call uncalled, and lets go of its contexts and those of its branches.
+    pub fn abandon(&mut self, ctx: CtxId)
         ensures { self.new ≡ gone ctx self.old }
     {
+        self.let_branches_go(ctx);
         let Some(life) = calls::find(&self.calls, ctx) else {
             return;
         };
-        tree_laws::<C, V>();
         order_law::<H>();
         calls::remove(&mut self.calls, ctx);
         self.hooks.stop(life.hook);
@@ -337,7 +295,6 @@ impl<C: Copy, V: Drop, H: Drop> CallContexts<C, V, H> {
         requires none { list_any (λ c. same c.conn conn) self.old.standing.calls ≡ false }
         ensures { self.new ≡ with_standing (closed conn self.old.standing) self.old }
     {
-        tree_laws::<C, V>();
         self.conns.retain(|other| *other != conn);
         free(&mut self.tree, conn);
     }

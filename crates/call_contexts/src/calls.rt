@@ -7,25 +7,16 @@ ghost use Rattle.call_contexts.specs.Sound.{life_at};
 use crate::life::Life;
 use context_tree::CtxId;
 
-/// Whether a call has that context.
-pub(crate) fn has(calls: &[Life], ctx: CtxId) -> bool
-    ensures { result ≡ list_any (λ l. same l.ctx ctx) calls.now }
-{
-    calls.iter().any(|life| life.ctx == ctx)
-}
-
-/// Whether that context is one of these.
-pub(crate) fn is_among(contexts: &[CtxId], ctx: CtxId) -> bool
-    ensures { result ≡ list_any (λ x. same x ctx) contexts.now }
-{
-    contexts.iter().any(|other| *other == ctx)
-}
-
 /// Whether a call is of that connection.
 pub(crate) fn has_of(calls: &[Life], conn: CtxId) -> bool
     ensures { result ≡ list_any (λ l. same l.conn conn) calls.now }
 {
-    calls.iter().any(|life| life.conn == conn)
+    for life in calls {
+        if life.conn == conn {
+            return true;
+        }
+    }
+    false
 }
 
 /// The first call of that context.

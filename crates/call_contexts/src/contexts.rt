@@ -2,10 +2,11 @@
 ghost use Rattle.std.specs.Prelude.{◌≡◌, ◌∷◌, [], List, true, IfOk, OnErr, is_some, unwrap_or};
 ghost use Rattle.context_tree.specs.Context.{Makes, Releases, held};
 ghost use Rattle.context_tree.specs.Tree.{StandsFor};
-ghost use Rattle.call_contexts.specs.Sound.{Op, TreeLaws, IsFree, AreFree, StandsAlike, kind_of, moment_of, with_holder, with_call, let_go, why};
+ghost use Rattle.call_contexts.specs.Sound.{Op, TreeLaws, IsFree, AreFree, StandsAlike, kind_of, moment_of, with_call, let_go, why};
 
 use context_tree::laws::{chain_law, child_law, new_law};
 use context_tree::{Cause, CtxError, CtxId, Tree};
+use std::alloc::AllocError;
 
 /// The key of a call's request id.
 pub(crate) const REQUEST_ID: u32 = 0;
@@ -26,48 +27,26 @@ pub(crate) fn make<C: Copy, V: Drop>(
     deadline: Option<u64>,
     now: u64,
     request_id: Option<V>,
-) -> Result<(CtxId, Option<CtxId>), CtxError>
+) -> Result<(CtxId, Option<CtxId>), AllocError>
     ensures made { IfOk result (λ made. (past : List (Op C V)) → StandsFor tree.old past
         → StandsFor tree.new (with_call made.0 made.1 conn deadline now request_id past)) }
     ensures held { IfOk result (λ made. is_some made.1 ≡ is_some request_id) }
-    ensures refused { OnErr result ((past : List (Op C V)) → StandsFor tree.old past → StandsAlike tree.new past) }
+    ensures refused { OnErr result (TreeLaws C V → (past : List (Op C V)) → StandsFor tree.old past → StandsAlike tree.new past) }
 {
-    let holder = hold(tree, conn, request_id)?;
-    let parent = match holder {
-        Some(id) => id,
-        None => conn,
+    let Some(request_id) = request_id else {
+        let Ok(ctx) = derive(tree, conn, deadline, now) else {
+            return Err(AllocError);
+        };
+        return Ok((ctx, None));
     };
-    match derive(tree, parent, deadline, now) {
-        Ok(ctx) => Ok((ctx, holder)),
-        Err(error) => {
-            tree_laws::<C, V>();
-            match holder {
-                Some(id) => free(tree, id),
-                None => (),
-            }
-            Err(error)
-        }
-    }
-}
-
-/// A context that has the request id, where there is one.
-fn hold<C: Copy, V: Drop>(
-    tree: &mut Tree<C, V>,
-    conn: CtxId,
-    request_id: Option<V>,
-) -> Result<Option<CtxId>, CtxError>
-    ensures made { IfOk result (λ holder. (past : List (Op C V)) → StandsFor tree.old past
-        → StandsFor tree.new (with_holder conn holder request_id past)) }
-    ensures held { IfOk result (λ holder. is_some holder ≡ is_some request_id) }
-    ensures unchanged { OnErr result (tree.new ≡ tree.old) }
-{
-    match request_id {
-        Some(request_id) => match tree.with_value(conn, REQUEST_ID, request_id) {
-            Ok(holder) => Ok(Some(holder)),
-            Err((_, error)) => Err(error),
-        },
-        None => Ok(None),
-    }
+    let Ok(holder) = tree.with_value(conn, REQUEST_ID, request_id) else {
+        return Err(AllocError);
+    };
+    let Ok(ctx) = derive(tree, holder, deadline, now) else {
+        free(tree, holder);
+        return Err(AllocError);
+    };
+    Ok((ctx, Some(holder)))
 }
 
 /// A context with a deadline, where there is one.

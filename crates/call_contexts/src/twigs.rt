@@ -1,5 +1,5 @@
 //! A list of branches, looked up by the contexts of their calls.
-ghost use Rattle.std.specs.Prelude.{◌≡◌, Some, not, filter, length};
+ghost use Rattle.std.specs.Prelude.{◌≡◌, Some, not, filter};
 ghost use Rattle.std.specs.Option.{option_map_or};
 ghost use Rattle.context_tree.specs.Context.{same};
 ghost use Rattle.call_contexts.specs.Standing.{if_before};
@@ -30,19 +30,6 @@ pub(crate) fn first(twigs: &[Twig], call: CtxId) -> Option<Twig>
         }
     }
     None
-}
-
-/// How many branches a call has.
-pub(crate) fn count(twigs: &[Twig], call: CtxId) -> usize
-    ensures { result ≡ length (filter (λ t. same t.call call) twigs.now) }
-{
-    let mut count = 0;
-    for twig in twigs {
-        if twig.call == call {
-            count += 1;
-        }
-    }
-    count
 }
 
 /// The branch of a call of the least deadline, and of equal ones the first.

@@ -1,4 +1,4 @@
-ghost use Rattle.std.specs.Prelude.{◌≡◌, ◌==◌, ◌||◌, IfNone, IfOk, IfSome, List, OnErr, Some, ℕ, true};
+ghost use Rattle.std.specs.Prelude.{◌≡◌, ◌==◌, IfNone, IfOk, IfSome, List, OnErr, Some, ℕ};
 ghost use Rattle.http_pieces.specs.Reader.{Waiting, is_over, state_of};
 ghost use Rattle.http_pieces.specs.Request.{HttpRequest};
 ghost use Rattle.gateway_theory.specs.Gateway.{new_stream};
@@ -13,8 +13,6 @@ use std::marker::Model;
 pub struct Stream {
     number: u64,
     reader: Reader,
-    /// Its peer hung up: no more of it is read.
-    hung_up: bool,
 }
 
 impl Model for Stream {
@@ -22,7 +20,7 @@ impl Model for Stream {
 
     ghost Value = { StreamValue };
 
-    ghost view = { λ s. record { number = s.number; reader = s.reader; hung_up = s.hung_up } };
+    ghost view = { λ s. record { number = s.number; reader = s.reader } };
 }
 
 impl Stream {
@@ -33,7 +31,6 @@ impl Stream {
         Stream {
             number,
             reader: Reader::new(alloc),
-            hung_up: false,
         }
     }
 
@@ -42,20 +39,6 @@ impl Stream {
         ensures { result ≡ (self.now.number == number) }
     {
         self.number == number
-    }
-
-    /// Whether its peer hung up.
-    pub(crate) fn has_hung_up(&self) -> bool
-        ensures { result ≡ self.now.hung_up }
-    {
-        self.hung_up
-    }
-
-    /// Its peer hangs up.
-    pub(crate) fn hang_up(&mut self)
-        ensures { self.new ≡ record self.old { hung_up = true } }
-    {
-        self.hung_up = true;
     }
 
     /// How far its reader is.
@@ -70,13 +53,6 @@ impl Stream {
         ensures { result ≡ is_over self.now.reader.reading }
     {
         matches!(self.reader.state(), State::Refused(_) | State::Ended)
-    }
-
-    /// Whether it brings nothing more: it ended, or its peer hung up.
-    pub(crate) fn is_done(&self) -> bool
-        ensures { result ≡ (is_over self.now.reader.reading || self.now.hung_up) }
-    {
-        self.is_over() || self.hung_up
     }
 
     /// Takes bytes, at most up to the end of a request, and answers how many.

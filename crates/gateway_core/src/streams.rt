@@ -2,8 +2,7 @@ ghost use Rattle.std.specs.Prelude.{◌≡◌, ◌==◌, ◌<◌, ◌≤◌, ◌
 ghost use Rattle.http_pieces.specs.Reader.{is_over};
 ghost use Rattle.gateway_theory.specs.Ends.{is_broken_in, noted};
 ghost use Rattle.gateway_machine.specs.Linked.{IsNow};
-ghost use Rattle.gateway_theory.specs.Heads.{IsOfAll};
-ghost use Rattle.gateway_theory.specs.Gateway.{stream_at, is_broken_conn, is_ended, outs_of, untaken_of};
+ghost use Rattle.gateway_theory.specs.Gateway.{stream_at, is_broken_conn, is_done, is_ended, outs_of, untaken_of};
 ghost use Rattle.gateway_theory.specs.Least.{ends_any, least_deadline};
 ghost use Rattle.gateway_theory.specs.Step.{moment_after};
 ghost use Rattle.gateway_model.specs.Past.{is_due};
@@ -51,15 +50,13 @@ pub(crate) struct Streams<H> {
 
 impl<H> Model for Streams<H> {
     ghost use Rattle.gateway_theory.specs.Gateway.{GatewayValue};
-    ghost use Rattle.gateway_theory.specs.Heads.{HeadsAgree};
     ghost use Rattle.gateway_theory.specs.Serving.{gateway_value, IsServing};
 
     ghost Value = { GatewayValue };
 
     ghost view = { λ s. gateway_value s.plans s.machine s.streams.items s.opened s.begun s.tally };
 
-    ghost invariant = { λ s. IsServing (gateway_value s.plans s.machine s.streams.items s.opened s.begun s.tally)
-        × HeadsAgree (gateway_value s.plans s.machine s.streams.items s.opened s.begun s.tally) };
+    ghost invariant = { λ s. IsServing (gateway_value s.plans s.machine s.streams.items s.opened s.begun s.tally) };
 }
 
 impl<H: ReplyHook + Drop> Streams<H> {
@@ -127,12 +124,11 @@ impl<H: ReplyHook + Drop> Streams<H> {
     pub(crate) fn hang_up(&mut self, number: u64) -> Result<(), StepFault>
         ensures { HangsUp number self.old self.new result }
     {
-        let Some(index) = self.listening(number) else {
+        let Some(_) = self.listening(number) else {
             return Err(StepFault::Gone);
         };
-        self.streams[index].hang_up();
-        self.machine.end_calls(self.alloc, &Trigger::HungUp(number));
-        if self.machine.is_broken(number) {
+        self.end_calls(&Trigger::HungUp(number));
+        if self.is_broken(number) {
             return Err(StepFault::Memory);
         }
         Ok(())
@@ -238,14 +234,14 @@ impl<H: ReplyHook + Drop> Streams<H> {
         self.tally
     }
 
-    /// Whether the connection of that number brings nothing more: it is not open, or is broken, or its stream has ended and no
+    /// Whether nothing more comes of the connection of that number: it is not open, or is broken, or brings nothing more and no
     /// call of it is undecided.
     pub(crate) fn is_ended(&self, number: u64) -> bool
         ensures { result ≡ is_ended number self.now }
     {
         match self.place(number) {
             Some(index) => self.machine.is_broken(number)
-                || (self.streams[index].is_done() && self.machine.is_idle(index)),
+                || (self.is_done(index) && self.machine.is_idle(index)),
             None => true,
         }
     }
@@ -297,10 +293,11 @@ impl<H: ReplyHook + Drop> Streams<H> {
     fn listening(&self, number: u64) -> Option<usize>
         ensures { IsListening number self.now result }
     {
+        self.serving_law();
         let Some(index) = self.place(number) else {
             return None;
         };
-        if self.streams[index].has_hung_up() {
+        if self.machine.has_hung_up(index) {
             return None;
         }
         if self.machine.is_broken(number) {
@@ -309,11 +306,20 @@ impl<H: ReplyHook + Drop> Streams<H> {
         Some(index)
     }
 
+    /// Whether the connection at that place brings nothing more: its stream ended, or its peer hung up.
+    fn is_done(&self, index: usize) -> bool
+        requires conn { index < length self.now.machine.conns }
+        requires stream { index < length self.now.streams }
+        ensures { result ≡ is_done (conn_at index self.now.machine.conns) (stream_at index self.now.streams) }
+    {
+        self.streams[index].is_over() || self.machine.has_hung_up(index)
+    }
+
     /// The stream at that place takes bytes, at most up to the end of a request, and gives the request that they make whole.
     fn read(&mut self, index: usize, bytes: &[u8]) -> Result<(usize, Option<Request>), AllocError>
         requires there { index < length self.old.streams }
         requires on { (conn_at index self.old.machine.conns).broken ≡ false }
-        requires not_hung { (stream_at index self.old.streams).hung_up ≡ false }
+        requires not_hung { (conn_at index self.old.machine.conns).hung_up ≡ false }
         requires going { is_over (stream_at index self.old.streams).reader.reading ≡ false }
         ensures ok { IfOk result (λ r. ReadsAt index r.0 r.1 bytes.now self.old self.new) }
         ensures behind { IfOk result (λ r. IsBehindIf r.1 (conn_at index self.new.machine.conns) (stream_at index self.new.streams).reader) }
@@ -348,9 +354,8 @@ impl<H: ReplyHook + Drop> Streams<H> {
         Ok(())
     }
 
-    /// What may end calls, other than a hang-up, is noted, and the calls end that it ends. True where a connection broke.
+    /// What may end calls is noted, and the calls end that it ends. True where a connection broke.
     fn end_calls(&mut self, trigger: &Trigger) -> bool
-        requires all { IsOfAll trigger.now }
         requires now { IsNow trigger.now self.old.machine.moment }
         ensures ends { Ends trigger.now (noted trigger.now self.old.machine) self.old self.new }
         ensures broke { Breaks self.old self.new result }

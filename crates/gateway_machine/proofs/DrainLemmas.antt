@@ -1,35 +1,39 @@
 -- The contexts of a machine between two events: they are its own, and a connection whose peer has not hung up has ended only by the drain.
-use Rattle.std.proofs.Common.{◌≡◌, ℕ, ◌<◌, zero, suc, arith, length, refl, sym, ap, ◌∙◌, List, [], ◌∷◌, ◌++◌, Option, Some, None, Bool, true, false, inl, inr, ⊎_elim, subst, map}
-use Rattle.std.specs.Prelude.{◌==◌, All, Err, Ok, OnErr, OnOk, Result, filter, if◌then◌else◌, is_some, not}
+use Rattle.std.proofs.Common.{◌≡◌, ℕ, ◌<◌, length, refl, sym, ap, ◌∙◌, List, [], ◌∷◌, ◌++◌, Option, Some, None, Bool, true, false, inl, inr, ⊎_elim, subst, map}
+use Rattle.std.specs.Prelude.{◌==◌, Err, Ok, OnErr, OnOk, Result, if◌then◌else◌, is_some}
 use Rattle.std.specs.Option.{option_or}
-use Rattle.std.proofs.lemmas.Bool.{cases_Bool, eqb-true}
-use Rattle.std.proofs.lemmas.List.Elements.{All-cons, All-head, All-map, All-push, All-tail, All-weaker}
+use Rattle.std.proofs.lemmas.Bool.{cases_Bool, eqb-true, or_parts}
+use Rattle.std.proofs.lemmas.Option.{same_Some}
 use Rattle.connect_codec.specs.declared.answer.Outcome.{Outcome}
 use Rattle.gateway_model.specs.declared.id.CallId.{CallId}
 use Rattle.gateway_theory.specs.declared.trigger.Trigger.{Trigger}
 use Rattle.gateway_theory.specs.declared.trigger.Trigger.TheVariants.{Reached, HungUp, Drained}
 use Rattle.gateway_theory.specs.declared.fault.Took.{Took}
-use Rattle.gateway_theory.specs.Conn.{ConnValue, conn_value}
+use Rattle.gateway_theory.specs.Conn.{ConnValue, added, conn_value}
 use Rattle.gateway_replies.specs.Contexts.{ContextsValue, Ended, PeerValue, by_drain, by_hang_up, ended_peer, ends_of, ends_peer, is_peer, told}
 use Rattle.gateway_theory.specs.Ends.{noted}
-use Rattle.gateway_theory.specs.Heads.{Head, conn_heads, head, hung_head, noted_heads}
+use Rattle.gateway_theory.specs.Gateway.{is_listening}
 use Rattle.gateway_machine.specs.Linked.{EndsOnlyByDrain, IsLinked, linked, linked_conns, none_over}
 use Rattle.gateway_theory.specs.Results.{Forgets, ResultTaken, StepsAt, Starved, result_at}
 use Rattle.gateway_theory.specs.Store.{MachineValue, broken_at, conn_at, conn_of, kept_at}
 use Rattle.gateway_theory.specs.Enters.{arriving_at, entered_at}
 use Rattle.gateway_theory.specs.Opens.{ReplyTaken, opened_as}
+use Rattle.gateway_theory.specs.Orderly.{ConnsApart}
 use Rattle.gateway_theory.specs.Replies.{ReplyValue}
 use Rattle.gateway_model.specs.Occurrence.{Coming}
-use Rattle.gateway_theory.specs.lemmas.HeadLemmas.{heads_entered}
+use Rattle.gateway_theory.specs.lemmas.EndLemmas.{open_number}
+use Rattle.gateway_theory.specs.lemmas.GatewaySteps.{goes_broken, going_parts}
+use Rattle.gateway_theory.specs.lemmas.StoreMore.{conn_added, conn_found, hung_before}
 use Rattle.gateway_machine.proofs.PeerLemmas.{ends_either, not_peer}
+use Rattle.gateway_machine.proofs.StockLemmas.{WereBefore, set_either}
 use Rattle.gateway_machine.proofs.ToldLemmas.{relinked}
 use Rattle.gateway_machine.proofs.BetweenLemmas.{new_ends}
 
 -- contexts that are linked as others were, where these others hear the same connections
-pub stays_linked : (c d : ContextsValue) (w : MachineValue) → d ≡ linked c w → c.drained ≡ w.drained → All (EndsOnlyByDrain c) (conn_heads w.conns) → IsLinked d w
-stays_linked c d w d_is drained_is not_hung = record {
+pub stays_linked : (c d : ContextsValue) (w : MachineValue) → d ≡ linked c w → c.drained ≡ w.drained → EndsOnlyByDrain c w.conns → IsLinked d w
+stays_linked c d w d_is drained_is only = record {
   are = relinked (ends_of c) none_over w d d_is;
-  only_by_drain = All-weaker (EndsOnlyByDrain c) (EndsOnlyByDrain d) (λ h only on. ends h.number (only on)) (conn_heads w.conns) not_hung;
+  only_by_drain = λ n k k_is going. ends n (only n k k_is going);
 }
   where
     ends : (n : ℕ) → ends_of c n ≡ by_drain c.drained → ends_of d n ≡ by_drain d.drained
@@ -39,58 +43,52 @@ stays_linked c d w d_is drained_is not_hung = record {
         (ends_either (ends_of c) (by_drain w.drained) n w.conns))
 
 -- the context of a connection whose peer has not hung up has ended where all were drained
-pub only_drained_at : (i : ℕ) (c : ContextsValue) (v : MachineValue) → IsLinked c v → i < length v.conns → (conn_at i v.conns).hung_up ≡ false → ends_of c (conn_at i v.conns).number ≡ by_drain v.drained
-only_drained_at i c v l lt on = at i v.conns lt l.only_by_drain on ∙ ap by_drain (ap (λ (z : ContextsValue). z.drained) l.are)
-  where
-    at : (i : ℕ) (ks : List ConnValue) → i < length ks → All (EndsOnlyByDrain c) (conn_heads ks) → (conn_at i ks).hung_up ≡ false → ends_of c (conn_at i ks).number ≡ by_drain c.drained
-    at i [] lt all on = absurd (omega (arith, lt))
-    at zero (k ∷ ks) lt all on = All-head (EndsOnlyByDrain c) (head k.number k.hung_up) (conn_heads ks) all on
-    at (suc i) (k ∷ ks) lt all on = at i ks (omega (arith, lt)) (All-tail (EndsOnlyByDrain c) (head k.number k.hung_up) (conn_heads ks) all) on
+pub only_drained_at : (i : ℕ) (c : ContextsValue) (v : MachineValue) → IsLinked c v → i < length v.conns → ConnsApart v.conns → (conn_at i v.conns).broken ≡ false → (conn_at i v.conns).hung_up ≡ false
+    → ends_of c (conn_at i v.conns).number ≡ by_drain v.drained
+only_drained_at i c v l lt apart unbroken on =
+    l.only_by_drain (conn_at i v.conns).number (conn_at i v.conns) (conn_found i v.conns lt apart) (rw (unbroken, on) refl) ∙ ap by_drain (ap (λ (z : ContextsValue). z.drained) l.are)
 
 -- what is drained is so in both
 pub drained_both : (c : ContextsValue) (v : MachineValue) → IsLinked c v → c.drained ≡ v.drained
 drained_both c v l = ap (λ (z : ContextsValue). z.drained) l.are
 
 -- a step that leaves the drain and which peers hung up
-pub kept_linked : (c d : ContextsValue) (v w : MachineValue) → IsLinked c v → d ≡ linked c w → w.drained ≡ v.drained → conn_heads w.conns ≡ conn_heads v.conns → IsLinked d w
-kept_linked c d v w l d_is drained_is heads = stays_linked c d w d_is (drained_both c v l ∙ sym drained_is) (subst (λ hs. All (EndsOnlyByDrain c) hs) (sym heads) l.only_by_drain)
+pub only_before : (c : ContextsValue) (v w : MachineValue) → WereBefore v w → EndsOnlyByDrain c v.conns → EndsOnlyByDrain c w.conns
+only_before c v w were only n l l_is going =
+    let parts = going_parts l.broken l.hung_up going in
+    let k = were n l l_is parts.0 in
+    only n k.0 k.1 (rw (k.2, sym k.4 ∙ parts.1) refl)
 
--- a connection closes
-heads_closed : (n : ℕ) (P : Head → Type 0) (ks : List ConnValue) → All P (conn_heads ks) → All P (conn_heads (filter (λ (k : ConnValue). not (k.number == n)) ks))
-heads_closed n P [] all = all
-heads_closed n P (k ∷ ks) all = by (k.number == n) (All-head P (head k.number k.hung_up) (conn_heads ks) all) (heads_closed n P ks (All-tail P (head k.number k.hung_up) (conn_heads ks) all))
-  where
-    by : (b : Bool) → P (head k.number k.hung_up) → All P (conn_heads (filter (λ (k : ConnValue). not (k.number == n)) ks))
-        → All P (conn_heads (if not b then k ∷ filter (λ (k : ConnValue). not (k.number == n)) ks else filter (λ (k : ConnValue). not (k.number == n)) ks))
-    by true here rest = rest
-    by false here rest = All-cons P (head k.number k.hung_up) _ here rest
-
-pub closed_only_drained : (n : ℕ) (c d : ContextsValue) (v w : MachineValue) → IsLinked c v → d ≡ linked c w → w.drained ≡ v.drained → w.conns ≡ filter (λ (k : ConnValue). not (k.number == n)) v.conns → IsLinked d w
-closed_only_drained n c d v w l d_is drained_is conns_are = stays_linked c d w d_is (drained_both c v l ∙ sym drained_is)
-    (subst (λ ks. All (EndsOnlyByDrain c) (conn_heads ks)) (sym conns_are) (heads_closed n (EndsOnlyByDrain c) v.conns l.only_by_drain))
+pub kept_linked : (c d : ContextsValue) (v w : MachineValue) → IsLinked c v → d ≡ linked c w → w.drained ≡ v.drained → WereBefore v w → IsLinked d w
+kept_linked c d v w l d_is drained_is were = stays_linked c d w d_is (drained_both c v l ∙ sym drained_is) (only_before c v w were l.only_by_drain)
 
 -- a connection opens
-heads_pushed : (ks : List ConnValue) (k : ConnValue) → conn_heads (ks ++ k ∷ []) ≡ conn_heads ks ++ head k.number k.hung_up ∷ []
-heads_pushed [] k = refl
-heads_pushed (l ∷ ks) k = ap (λ hs. head l.number l.hung_up ∷ hs) (heads_pushed ks k)
-
-pub opened_only_drained : (n : ℕ) (c d : ContextsValue) (v w : MachineValue) → IsLinked c v → ends_of c n ≡ by_drain c.drained → d ≡ linked c w → w.drained ≡ v.drained
-    → w.conns ≡ v.conns ++ conn_value n 0 [] false false ∷ [] → IsLinked d w
-opened_only_drained n c d v w l new d_is drained_is conns_are = stays_linked c d w d_is (drained_both c v l ∙ sym drained_is)
-    (subst (λ ks. All (EndsOnlyByDrain c) (conn_heads ks)) (sym conns_are) (subst (All (EndsOnlyByDrain c)) (sym (heads_pushed v.conns (conn_value n 0 [] false false))) (All-push (EndsOnlyByDrain c) (conn_heads v.conns) (head n false) l.only_by_drain (λ on. new))))
+opened_only : (n : ℕ) (c : ContextsValue) (conns : List ConnValue) → ends_of c n ≡ by_drain c.drained → EndsOnlyByDrain c conns → EndsOnlyByDrain c (conns ++ conn_value n 0 [] false false ∷ [])
+opened_only n c conns new only m k k_is going = by_it (conn_of m conns) refl (n == m) refl (sym (conn_added m (conn_value n 0 [] false false) conns) ∙ k_is)
+  where
+    by_it : (o : Option ConnValue) → conn_of m conns ≡ o → (b : Bool) → (n == m) ≡ b → option_or o (if b then Some (conn_value n 0 [] false false) else None) ≡ Some k → ends_of c m ≡ by_drain c.drained
+    by_it (Some l) o_is b its e = only m l o_is (ap (λ (x : ConnValue). is_listening x) (same_Some l k e) ∙ going)
+    by_it None o_is true its e = subst (λ x. ends_of c x ≡ by_drain c.drained) (eqb-true n m its) new
+    by_it None o_is false its e = absurd (let clash : None ≡ Some k = e in cc)
 
 pub opened_linked : {A B : Type 0} (n : ℕ) (c d : ContextsValue) (v w : MachineValue) (result : Result A B) → IsLinked c v → conn_of n v.conns ≡ None → OnOk result (w ≡ opened_as n v) → OnErr result (w ≡ v)
     → d ≡ linked c w → IsLinked d w
-opened_linked n c d v w (Ok a) l none ok err d_is = opened_only_drained n c d v w l
-    (new_ends (by_drain c.drained) n c.conns (ap (λ (z : ContextsValue). is_peer n z.conns) l.are ∙ not_peer (ends_of c) n v.conns none))
-    d_is (ap (λ (m : MachineValue). m.drained) ok) (ap (λ (m : MachineValue). m.conns) ok)
-opened_linked n c d v w (Err b) l none ok err d_is = kept_linked c d v w l d_is (ap (λ (m : MachineValue). m.drained) err) (ap (λ (m : MachineValue). conn_heads m.conns) err)
+opened_linked n c d v w (Ok a) l none ok err d_is = stays_linked c d w d_is (drained_both c v l ∙ sym (ap (λ (m : MachineValue). m.drained) ok))
+    (subst (λ (m : MachineValue). EndsOnlyByDrain c m.conns) (sym ok)
+    (opened_only n c v.conns (new_ends (by_drain c.drained) n c.conns (ap (λ (z : ContextsValue). is_peer n z.conns) l.are ∙ not_peer (ends_of c) n v.conns none)) l.only_by_drain))
+opened_linked n c d v w (Err b) l none ok err d_is = stays_linked c d w d_is (drained_both c v l ∙ sym (ap (λ (m : MachineValue). m.drained) err))
+    (subst (λ (m : MachineValue). EndsOnlyByDrain c m.conns) (sym err) l.only_by_drain)
 
 -- something came, or the connection broke
-pub came_linked : {A B : Type 0} (i : ℕ) (x : Coming) (c d : ContextsValue) (v w : MachineValue) (result : Result A B) → i < length v.conns → IsLinked c v
+pub came_linked : {A B : Type 0} (i : ℕ) (x : Coming) (c d : ContextsValue) (v w : MachineValue) (result : Result A B) → IsLinked c v
     → OnOk result (w ≡ entered_at i (arriving_at i x v) v) → OnErr result (w ≡ broken_at (conn_at i v.conns).number v) → d ≡ linked c w → IsLinked d w
-came_linked i x c d v w (Ok a) lt l ok err d_is = kept_linked c d v w l d_is (ap (λ (m : MachineValue). m.drained) ok) (heads_entered i x v w lt (inl ok))
-came_linked i x c d v w (Err b) lt l ok err d_is = kept_linked c d v w l d_is (ap (λ (m : MachineValue). m.drained) err) (heads_entered i x v w lt (inr err))
+came_linked i x c d v w (Ok a) l ok err d_is = stays_linked c d w d_is (drained_both c v l ∙ sym (ap (λ (m : MachineValue). m.drained) ok)) (λ n k k_is going. ⊎_elim
+    (λ (same : conn_of n v.conns ≡ Some k). l.only_by_drain n k same going)
+    (λ (new : (conn_of n v.conns ≡ Some (conn_at i v.conns)) × (added (arriving_at i x v).reply (conn_at i v.conns) ≡ k)).
+    l.only_by_drain n (conn_at i v.conns) new.0 (ap (λ (y : ConnValue). is_listening y) new.1 ∙ going))
+    (set_either n i (added (arriving_at i x v).reply (conn_at i v.conns)) k v.conns refl (ap (λ (m : MachineValue). conn_of n m.conns) (sym ok) ∙ k_is)))
+came_linked i x c d v w (Err b) l ok err d_is =
+    kept_linked c d v w l d_is (ap (λ (m : MachineValue). m.drained) err) (subst (WereBefore v) (sym err) (goes_broken (conn_at i v.conns).number v).back)
 
 -- ---- what may end calls is told
 
@@ -116,17 +114,15 @@ ends_drained d n (p ∷ ps) is = ⊎_elim
     by true = refl
     by false = refl
 
-pub told_only_drained : (trigger : Trigger) (c : ContextsValue) (hs : List Head) → All (EndsOnlyByDrain c) hs → All (EndsOnlyByDrain (told trigger c)) (noted_heads trigger hs)
-told_only_drained (Reached now) c hs not_hung = not_hung
-told_only_drained (HungUp n) c hs not_hung = All-map (EndsOnlyByDrain (told (HungUp n) c)) (hung_head n) hs (All-weaker (EndsOnlyByDrain c) (λ h. EndsOnlyByDrain (told (HungUp n) c) (hung_head n h)) one hs not_hung)
-  where
-    one : (h : Head) → EndsOnlyByDrain c h → EndsOnlyByDrain (told (HungUp n) c) (hung_head n h)
-    one h only = by (h.number == n) refl
-      where
-        by : (b : Bool) → (h.number == n) ≡ b → EndsOnlyByDrain (told (HungUp n) c) (if b then head h.number true else h)
-        by true its = λ on. cc
-        by false far = λ on. ends_others (by_drain c.drained) n h.number c.conns far ∙ only on
-told_only_drained Drained c hs not_hung = All-weaker (EndsOnlyByDrain c) (EndsOnlyByDrain (told Drained c)) (λ h only on. ends_drained c.drained h.number c.conns (only on)) hs not_hung
+pub told_only_drained : (trigger : Trigger) (c : ContextsValue) (v : MachineValue) → EndsOnlyByDrain c v.conns → EndsOnlyByDrain (told trigger c) (noted trigger v).conns
+told_only_drained (Reached now) c v only = only
+told_only_drained (HungUp n) c v only = λ m l l_is going.
+    let parts = going_parts l.broken l.hung_up going in
+    let k = hung_before n m v.conns l l_is in
+    let off = or_parts k.0.hung_up (k.0.number == n) (sym (ap (λ (x : ConnValue). x.hung_up) k.2) ∙ parts.1) in
+    let far : (m == n) ≡ false = ap (λ x. x == n) (sym (open_number m v.conns k.0 k.1)) ∙ off.1 in
+    ends_others (by_drain c.drained) n m c.conns far ∙ only m k.0 k.1 (rw (sym (ap (λ (x : ConnValue). x.broken) k.2) ∙ parts.0, off.0) refl)
+told_only_drained Drained c v only = λ m l l_is going. ends_drained c.drained m c.conns (only m l l_is going)
 
 pub noted_moment : (trigger : Trigger) (v : MachineValue) → (noted trigger v).moment ≡ v.moment
 noted_moment (Reached now) v = refl

@@ -4,7 +4,7 @@ use Rattle.std.specs.Prelude.{option_and_then, option_map, option_to_list}
 use Rattle.gateway_model.specs.declared.id.CallId.{CallId}
 use Rattle.gateway_model.specs.Past.{least_of, smaller}
 use Rattle.gateway_replies.specs.Contexts.{ContextsValue, LifeValue}
-use Rattle.gateway_replies.specs.Least.{branch_deadline, first_deadline, life_deadline}
+use Rattle.gateway_replies.specs.Least.{branch_deadline, first_deadline}
 use Rattle.gateway_theory.specs.Kept.{KeptValue}
 use Rattle.gateway_theory.specs.Least.{deadline_of, least_deadline}
 use Rattle.gateway_theory.specs.Step.{Live, deadlines_in}

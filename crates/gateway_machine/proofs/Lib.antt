@@ -12,3 +12,8 @@ pub mod EnterLemmas
 pub mod QuietLemmas
 mod LeastLemmas
 pub mod StockLemmas
+pub mod CallsLemmas
+pub mod IndexLemmas
+pub mod ListedLemmas
+pub mod EndingLemmas
+pub mod BackLemmas

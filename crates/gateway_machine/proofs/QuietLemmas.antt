@@ -79,6 +79,7 @@ none_end trigger v left settled = record {
     same (Some k) = record {
       number_is = refl;
       taken_is = refl;
+      hung_is = refl;
       stays_broken = λ b. b;
       size_is = refl;
       each = λ j lt. or_none (slot_at j k.slots) k.broken _ (none_replied trigger (call_id k.number (k.taken + j)) v.calls left);
@@ -121,6 +122,5 @@ left_by moment (k ∷ ks) all = by k.call.live refl (λ rest. left_by moment ks 
 pub not_due : (moment : ℕ) (c : ContextsValue) (v : MachineValue) → IsLinked c v → All (IsNotDue moment) c.calls → EndsNone (Reached moment) v
 not_due moment c v l all = record {
   noted_is = refl;
-  heads_are = refl;
   none_ends = none_end (Reached moment) v (left_by moment v.calls (subst (λ (z : ContextsValue). All (IsNotDue moment) z.calls) l.are all));
 }

@@ -17,12 +17,11 @@ use Rattle.gateway_theory.specs.Machine.{slot_at}
 use Rattle.gateway_theory.specs.Orderly.{ConnsApart}
 use Rattle.gateway_theory.specs.Opens.{ReplyTaken, closed_at, opened_as}
 use Rattle.gateway_theory.specs.Replies.{ReplyValue}
-use Rattle.gateway_theory.specs.Store.{MachineValue, broken_at, broken_conn, broken_if, conn_at, conn_of, hung_if}
+use Rattle.gateway_theory.specs.Store.{MachineValue, broken_at, broken_conn, broken_if, conn_at, conn_of}
 use Rattle.gateway_theory.specs.lemmas.Cases.{or_none, sym_eqb}
-use Rattle.gateway_theory.specs.lemmas.GatewaySteps.{Goes, WasBefore, goes_broken}
-use Rattle.gateway_theory.specs.lemmas.HeadLemmas.{conn_hung}
+use Rattle.gateway_theory.specs.lemmas.GatewaySteps.{WasBefore, goes_broken}
 use Rattle.gateway_theory.specs.lemmas.StoreLemmas.{conn_broken}
-use Rattle.gateway_theory.specs.lemmas.StoreMore.{conn_added, conn_found, conn_set, conn_without}
+use Rattle.gateway_theory.specs.lemmas.StoreMore.{conn_added, conn_found, conn_set, conn_without, hung_before}
 use Rattle.gateway_replies.specs.Hooks.{BringsHooks, DropsHooks, HookedContexts, Stocks, StocksStay, TakesAtMostOne, stock_in}
 use Rattle.gateway_machine.specs.Linked.{AreStocked}
 
@@ -78,24 +77,16 @@ module _ {H : Type 0} where
 abbrev pub WereBefore : MachineValue → MachineValue → Type 0
 WereBefore v w = (c : ℕ) (l : ConnValue) → conn_of c w.conns ≡ Some l → l.broken ≡ false → WasBefore c v l
 
-pub were_noted : (trigger : Trigger) (v : MachineValue) → WereBefore v (noted trigger v)
-were_noted (Reached now) v c l l_is on = (l, l_is, on, refl)
-were_noted Drained v c l l_is on = (l, l_is, on, refl)
-were_noted (HungUp n) v c l l_is on = by_it (conn_of c v.conns) refl (sym (conn_hung c n v.conns) ∙ l_is)
+-- a connection closes
+pub were_closed : (c : ℕ) (v w : MachineValue) → w ≡ closed_at c v → WereBefore v w
+were_closed c v w w_is d l l_is on = by_it (d == c) (sym (ap (λ (x : MachineValue). conn_of d x.conns) w_is ∙ conn_without d c v.conns) ∙ l_is)
   where
-    by_it : (o : Option ConnValue) → conn_of c v.conns ≡ o → option_map (hung_if n) (conn_of c v.conns) ≡ Some l → WasBefore c v l
-    by_it None o_is e = absurd (let clash : None ≡ Some l = sym (ap (option_map (hung_if n)) o_is) ∙ e in cc)
-    by_it (Some k) o_is e = by_number (k.number == n) (same_Some _ l (sym (ap (option_map (hung_if n)) o_is) ∙ e))
-      where
-        by_number : (b : Bool) → (if b then record k { hung_up = true } else k) ≡ l → WasBefore c v l
-        by_number true same = (k, o_is, ap (λ (x : ConnValue). x.broken) same ∙ on, ap (λ (x : ConnValue). x.taken + length x.slots) (sym same))
-        by_number false same = (k, o_is, ap (λ (x : ConnValue). x.broken) same ∙ on, ap (λ (x : ConnValue). x.taken + length x.slots) (sym same))
-
-pub were_then : (u v w : MachineValue) → WereBefore u v → WereBefore v w → WereBefore u w
-were_then u v w a b c l l_is on = let y = b c l l_is on in let x = a c y.0 y.1 y.2 in (x.0, x.1, x.2, y.3 ∙ x.3)
+    by_it : (b : Bool) → (if b then None else conn_of d v.conns) ≡ Some l → WasBefore d v l
+    by_it true e = absurd (let clash : None ≡ Some l = e in cc)
+    by_it false e = (l, e, on, refl, refl)
 
 -- what stands at a place is another: it is found, or what was found before
-set_either : (c i : ℕ) (new l : ConnValue) (conns : List ConnValue) → new.number ≡ (conn_at i conns).number → conn_of c (slice_set conns i new) ≡ Some l
+pub set_either : (c i : ℕ) (new l : ConnValue) (conns : List ConnValue) → new.number ≡ (conn_at i conns).number → conn_of c (slice_set conns i new) ≡ Some l
     → (conn_of c conns ≡ Some l) ⊎ ((conn_of c conns ≡ Some (conn_at i conns)) × (new ≡ l))
 set_either c i new l [] same is = inl is
 set_either c zero new l (k ∷ conns) same is = ⊎_elim
@@ -120,14 +111,15 @@ one_less k r there = by_slots k.slots there
 
 -- a reply is taken
 pub were_given : (i : ℕ) (v w : MachineValue) (reply : Option ReplyValue) → ReplyTaken i v w reply → WereBefore v w
-were_given i v w None t c l l_is on = (l, ap (λ (m : MachineValue). conn_of c m.conns) (sym t.1) ∙ l_is, on, refl)
+were_given i v w None t c l l_is on = (l, ap (λ (m : MachineValue). conn_of c m.conns) (sym t.1) ∙ l_is, on, refl, refl)
 were_given i v w (Some r) t c l l_is on = ⊎_elim
-    (λ (same : conn_of c v.conns ≡ Some l). (l, same, on, refl))
+    (λ (same : conn_of c v.conns ≡ Some l). (l, same, on, refl, refl))
     (λ (new : (conn_of c v.conns ≡ Some k) × (without_first k ≡ l)). (
       k,
       new.0,
       ap (λ (y : ConnValue). y.broken) new.1 ∙ on,
       ap (λ (y : ConnValue). y.taken + length y.slots) (sym new.1) ∙ one_less k r t.0,
+      ap (λ (y : ConnValue). y.hung_up) (sym new.1),
     ))
     (set_either c i (without_first k) l v.conns refl (ap (λ (m : MachineValue). conn_of c m.conns) (sym t.2) ∙ l_is))
   where
@@ -161,11 +153,15 @@ module _ {H : Type 0} where
 
   -- a connection closes
   pub stocked_closed : (c : ℕ) (v w : HookedContexts H) (m n : MachineValue) → StocksStay v w → n ≡ closed_at c m → AreStocked v.stocks m.conns → AreStocked w.stocks n.conns
-  stocked_closed c v w m n stays n_is = stocked_before v w m n stays (λ d l l_is on. were d l on (d == c) (sym (ap (λ (x : MachineValue). conn_of d x.conns) n_is ∙ conn_without d c m.conns) ∙ l_is))
-    where
-      were : (d : ℕ) (l : ConnValue) → l.broken ≡ false → (b : Bool) → (if b then None else conn_of d m.conns) ≡ Some l → WasBefore d m l
-      were d l on true l_is = absurd (let clash : None ≡ Some l = l_is in cc)
-      were d l on false l_is = (l, l_is, on, refl)
+  stocked_closed c v w m n stays n_is = stocked_before v w m n stays (were_closed c m n n_is)
+
+  -- what may end calls is noted
+  pub stocked_noted : (trigger : Trigger) (ss : Stocks H) (m : MachineValue) → AreStocked ss m.conns → AreStocked ss (noted trigger m).conns
+  stocked_noted (Reached now) ss m are = are
+  stocked_noted (HungUp n) ss m are = λ number l stock l_is on is.
+      let k = hung_before n number m.conns l l_is in
+      subst (λ (x : ConnValue). most_requests ≤ length stock + (x.taken + length x.slots)) (sym k.2) (are number k.0 stock k.1 (sym (ap (λ (x : ConnValue). x.broken) k.2) ∙ on) is)
+  stocked_noted Drained ss m are = are
 
   -- a connection opens
   pub stocked_opened : (c : ℕ) (hooks : List H) (v w : HookedContexts H) (m n : MachineValue) → BringsHooks c hooks v w → conn_of c m.conns ≡ None → n ≡ opened_as c m → AreStocked v.stocks m.conns

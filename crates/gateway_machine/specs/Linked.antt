@@ -1,10 +1,10 @@
 -- The contexts beside the machine: each connection that is open and not broken has one, and each call that can be decided.
-use Rattle.std.specs.Prelude.{◌≡◌, ◌≤◌, ◌+◌, ⊤, ◌==◌, ℕ, zero, suc, Bool, true, false, if◌then◌else◌, length, not, All, List, [], ◌∷◌, ◌++◌, map, filter, Option, None, Some, option_map, option_to_list}
+use Rattle.std.specs.Prelude.{◌≡◌, ◌≤◌, ◌+◌, ⊤, ◌==◌, ℕ, zero, suc, Bool, true, false, if◌then◌else◌, length, not, List, [], ◌∷◌, ◌++◌, map, filter, Option, None, Some, option_map, option_to_list}
 use Rattle.std.specs.Option.{option_or}
 use Rattle.gateway_model.specs.declared.call_event.CallEvent.{CallEvent}
 use Rattle.gateway_theory.specs.declared.trigger.Trigger.TheVariants.{Reached, HungUp, Drained}
 use Rattle.gateway_theory.specs.Ends.{CallsEnd, IsSettled, noted}
-use Rattle.gateway_theory.specs.Heads.{Head, conn_heads, noted_heads}
+use Rattle.gateway_theory.specs.Gateway.{is_listening}
 use Rattle.gateway_model.specs.declared.id.CallId.{CallId}
 use Rattle.gateway_machine.specs.declared.machine.arriving.Arriving.{Arriving}
 use Rattle.gateway_machine.specs.declared.machine.arriving.Arriving.TheVariants.{Answered, Begins}
@@ -127,9 +127,9 @@ abbrev pub passed_on : ℕ → ℕ → Outcome → KeptValue → ContextsValue �
 passed_on moment branch (Fail error) k c = c
 passed_on moment branch (Answer body) k c = passed_by moment branch k.id k.call.live c
 
--- a connection whose peer has not hung up has ended where all were drained, and by nothing else
-abbrev pub EndsOnlyByDrain : ContextsValue → Head → Type 0
-EndsOnlyByDrain c h = h.hung_up ≡ false → ends_of c h.number ≡ by_drain c.drained
+-- a connection that is not broken, and whose peer has not hung up, has ended where all were drained, and by nothing else
+abbrev pub EndsOnlyByDrain : ContextsValue → List ConnValue → Type 0
+EndsOnlyByDrain c conns = (number : ℕ) (k : ConnValue) → conn_of number conns ≡ Some k → is_listening k ≡ true → ends_of c number ≡ by_drain c.drained
 
 -- each connection that is not broken has a hook for each request that may still come
 abbrev pub AreStocked : {H : Type 0} → Stocks H → List ConnValue → Type 0
@@ -140,10 +140,9 @@ AreStocked ss conns =
 -- the contexts of a machine between two events
 pub record IsLinked (c : ContextsValue) (v : MachineValue) : Type 0 where
   pub are : c ≡ linked c v
-  pub only_by_drain : All (EndsOnlyByDrain c) (conn_heads v.conns)
+  pub only_by_drain : EndsOnlyByDrain c v.conns
 
 -- it ends no call, and nothing is to be noted
 pub record EndsNone (trigger : Trigger) (v : MachineValue) : Type 0 where
   pub noted_is : noted trigger v ≡ v
-  pub heads_are : noted_heads trigger (conn_heads v.conns) ≡ conn_heads v.conns
   pub none_ends : IsSettled v → CallsEnd trigger v v

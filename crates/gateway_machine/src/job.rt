@@ -1,7 +1,6 @@
 ghost use Rattle.std.specs.Prelude.{◌≡◌, ◌≤◌, ◌^◌, option_map, true, ℕ};
 ghost use Rattle.gateway_model.specs.Past.{smaller};
-ghost use Rattle.gateway_model.specs.Job.{left_at};
-ghost use Rattle.gateway_theory.specs.Task.{deadline_at, job_at};
+ghost use Rattle.gateway_theory.specs.Task.{deadline_at, job_at, left_at};
 
 use crate::machine::task::Task;
 use gateway_model::CallId;
@@ -21,12 +20,11 @@ pub struct Job {
 
 impl Model for Job {
     ghost use Rattle.std.specs.Prelude.{◌≡◌};
-    ghost use Rattle.gateway_theory.specs.Task.{HandedJob};
-    ghost use Rattle.gateway_model.specs.Job.{job_with, left_at};
+    ghost use Rattle.gateway_theory.specs.Task.{HandedJob, job_at, left_at};
 
     ghost Value = { HandedJob };
 
-    ghost view = { λ j. record { job = job_with j.task.call j.task.branch j.task.asked.plan j.task.asked.request j.task.asked.request_id (left_at j.start j.deadline); deadline = j.deadline; wanted = j.wanted } };
+    ghost view = { λ j. record { job = record (job_at j.start j.task) { remaining = left_at j.start j.deadline }; deadline = j.deadline; wanted = j.wanted } };
 }
 
 impl Job {

@@ -9,7 +9,6 @@ ghost use Rattle.gateway_theory.specs.Enters.{arriving_at, entered_at};
 ghost use Rattle.gateway_theory.specs.Gateway.{are_all_there};
 ghost use Rattle.gateway_machine.specs.Ended.{BranchEnds};
 ghost use Rattle.gateway_machine.specs.Linked.{EndsNone, IsNow};
-ghost use Rattle.gateway_theory.specs.Heads.{conn_heads, noted_heads};
 ghost use Rattle.gateway_theory.specs.Least.{ends_any, least_deadline};
 ghost use Rattle.gateway_model.specs.Occurrence.{Coming};
 ghost use Rattle.gateway_model.specs.Past.{is_due};
@@ -121,7 +120,6 @@ impl<H: ReplyHook + Drop> LinkedMachine<H> {
         requires settled { IsSettled self.old }
         requires apart { AreApart self.old.calls }
         ensures ended { CallsEnd trigger.now (noted trigger.now self.old) self.new }
-        ensures heads { conn_heads self.new.conns ≡ noted_heads trigger.now (conn_heads self.old.conns) }
     {
         if !self.may_end(trigger) {
             return;
@@ -221,6 +219,14 @@ impl<H: ReplyHook + Drop> LinkedMachine<H> {
         ensures { result ≡ is_broken_in number self.now.conns }
     {
         self.machine.is_broken(number)
+    }
+
+    /// Whether the peer of the connection at that place hung up.
+    pub fn has_hung_up(&self, index: usize) -> bool
+        requires { index < length self.now.conns }
+        ensures { result ≡ (conn_at index self.now.conns).hung_up }
+    {
+        self.machine.has_hung_up(index)
     }
 
     /// How many replies of the connection at that place can be taken.

@@ -1,6 +1,7 @@
 //! The machine: connections' slots, calls and jobs, and what each occurrence makes of them.
 mod arriving;
 mod begin;
+pub(crate) mod calls;
 mod conn;
 mod ending;
 mod enter;

@@ -29,8 +29,7 @@ plan_of plans q = option_and_then (λ path. plan_at path plans) (path_of q.targe
 
 abbrev pub arrival_by : Verdict → PlanRecord → Arrival
 arrival_by (Ask timeout id) plan = Asks plan timeout id
-arrival_by (Bare status) plan = Judged (Bare status)
-arrival_by (Fail error) plan = Judged (Fail error)
+arrival_by verdict plan = Judged verdict
 
 -- what the request comes to by its verdict, for which its path names a plan or none
 abbrev pub arrival_of : List PlanRecord → HttpRequest → Arrival

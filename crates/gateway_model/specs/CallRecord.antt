@@ -18,10 +18,6 @@ pub record CallRecord : Type 0 where
   pub branch_deadlines : List (Option ℕ)
   pub events : List CallEvent
 
-abbrev pub record_with : PlanRecord → ℕ → Option ℕ → Bool → List (Option ℕ) → List CallEvent → CallRecord
-record_with plan start deadline last branch_deadlines events =
-    record { plan = plan; start = start; deadline = deadline; last = last; branch_deadlines = branch_deadlines; events = events }
-
 -- the answer that this event brings of the branch
 abbrev pub answer_in : ℕ → CallEvent → Option (List ℕ)
 answer_in i (Answer j body) = if j == i then Some body else None

@@ -3,7 +3,7 @@ use Rattle.std.specs.Prelude.{◌≡◌, ℕ, ◌<◌, List, take, slice_get, Op
 use Rattle.gateway_model.specs.declared.id.CallId.{CallId}
 use Rattle.gateway_model.specs.Occurrence.{Occurrence}
 use Rattle.gateway_model.specs.declared.call_event.CallEvent.{CallEvent}
-use Rattle.gateway_model.specs.Past.{Past, call, past_of, mark_of, deciding}
+use Rattle.gateway_model.specs.Past.{Past, past_of, mark_of, deciding}
 
 -- what stood before place t
 abbrev pub before : List Occurrence → ℕ → Past

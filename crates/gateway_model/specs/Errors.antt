@@ -1,5 +1,5 @@
 -- The errors that calls end with (Connect protocol, error codes; Go `context`, `Err`).
-use Rattle.std.specs.Prelude.{ℕ, Bool, List, [], ◌∷◌, ◌++◌, codes, Option, None, Some, option_map}
+use Rattle.std.specs.Prelude.{ℕ, List, [], ◌∷◌, ◌++◌, codes, Option, None, Some, option_map}
 use Rattle.error_document.specs.Documents.{plain_error}
 use Rattle.error_document.specs.declared.code.Code.TheVariants.{ResourceExhausted, DeadlineExceeded, Canceled, Unavailable}
 use Rattle.error_document.specs.declared.document.RpcError.{RpcError}

@@ -2,7 +2,7 @@
 use Rattle.std.specs.Prelude.{◌≡◌, ℕ, suc, ◌<◌, ⊤, Bool, true, false, ◌&&◌, ◌||◌, not, if◌then◌else◌, ◌==◌, nat_lt, List, [], ◌∷◌, ◌++◌, map, length, MatchBool}
 use Rattle.std.specs.List.{list_any}
 use Rattle.http_pieces.specs.Request.{HttpRequest}
-use Rattle.http_pieces.specs.Requests.{StreamEnd, Open, RefusedBy, Closed, Requests}
+use Rattle.http_pieces.specs.Requests.{StreamEnd, Open, RefusedBy, Requests}
 use Rattle.call_plan.specs.Plan.{PlanRecord}
 use Rattle.gateway_model.specs.Arrival.{arrival_of}
 use Rattle.gateway_model.specs.Occurrence.{Occurrence, Coming, Request, Refused, Comes}
@@ -22,11 +22,16 @@ Before = List Event
 abbrev pub succeeds : List ℕ → ℕ → Bool
 succeeds opened place = list_any (λ p. p == place) opened
 
+-- it opens a connection
+abbrev pub is_opening : Event → Bool
+is_opening Opening = true
+is_opening _ = false
+
 -- how many connections were opened
 abbrev pub connections : List ℕ → Before → ℕ
 connections opened [] = 0
-connections opened (Opening ∷ before) = if succeeds opened (length before) then suc (connections opened before) else connections opened before
-connections opened (e ∷ before) = connections opened before
+connections opened (e ∷ before) =
+    if is_opening e && succeeds opened (length before) then suc (connections opened before) else connections opened before
 
 abbrev pub is_closing_of : ℕ → Event → Bool
 is_closing_of conn (Closing c) = c == conn
@@ -58,9 +63,8 @@ pub record OpensAt (opened : List ℕ) (events : Before) (place : ℕ) : Type 0 
 
 -- each is greater than the one before it
 abbrev pub IsRising : List ℕ → Type 0
-IsRising [] = ⊤
-IsRising (p ∷ []) = ⊤
 IsRising (p ∷ q ∷ places) = (p < q) × IsRising (q ∷ places)
+IsRising _ = ⊤
 
 -- these are the places of the openings that succeeded, of which number c is connection c
 pub record IsOpened (opened : List ℕ) (events : Before) : Type 0 where
@@ -95,11 +99,8 @@ stream opened conn (e ∷ before) =
 
 -- the refusal that a longer stream gains
 abbrev pub refusal_gained : StreamEnd → StreamEnd → List Coming
-refusal_gained (RefusedBy r) later = []
 refusal_gained (Open left) (RefusedBy r) = Refused r ∷ []
-refusal_gained (Open left) (Open more) = []
-refusal_gained (Open left) Closed = []
-refusal_gained Closed later = []
+refusal_gained _ later = []
 
 -- the requests that come, with what each comes to
 abbrev pub requests_gained : List PlanRecord → List HttpRequest → List Coming
@@ -119,8 +120,7 @@ pub record Gains (plans : List PlanRecord) (text longer : List ℕ) (gained : Li
 
 -- one occurrence where a condition holds, and else none
 abbrev pub once : Bool → Occurrence → List Occurrence
-once true o = o ∷ []
-once false o = []
+once occurs o = if occurs then o ∷ [] else []
 
 -- what occurs at an event, behind these: an event of a connection that is not open has no effect, and so has a piece or a
 -- hang-up after its first hang-up

@@ -1,10 +1,10 @@
 -- What occurs to a gateway, where the bytes of its connections are already cut into requests.
-use Rattle.std.specs.Prelude.{ℕ, ◌+◌, List, [], ◌∷◌}
+use Rattle.std.specs.Prelude.{ℕ}
 use Rattle.http_pieces.specs.declared.refusal.Refusal.{Refusal}
 use Rattle.http_pieces.specs.Request.{HttpRequest}
 use Rattle.connect_codec.specs.declared.answer.Outcome.{Outcome}
 use Rattle.gateway_model.specs.declared.id.CallId.{CallId}
-use Rattle.gateway_model.specs.Arrival.{Arrival, Asks, Judged}
+use Rattle.gateway_model.specs.Arrival.{Arrival}
 
 -- what comes on a connection's stream
 pub data Coming : Type 0 where

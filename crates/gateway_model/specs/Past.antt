@@ -12,8 +12,8 @@ use Rattle.gateway_model.specs.declared.call_event.CallEvent.TheVariants as even
 use Rattle.gateway_model.specs.declared.id.CallId.{CallId}
 use Rattle.gateway_model.specs.declared.seen.Seen.{Seen}
 use Rattle.gateway_model.specs.declared.seen.Seen.TheVariants.{Counted, Late, Unknown}
-use Rattle.gateway_model.specs.Arrival.{Judged, Asks}
-use Rattle.gateway_model.specs.Occurrence.{Occurrence, Comes, HangUp, Moment, Result, Drain, Closing, Coming, Request, Refused}
+use Rattle.gateway_model.specs.Arrival.{Asks}
+use Rattle.gateway_model.specs.Occurrence.{Occurrence, Comes, HangUp, Moment, Result, Drain, Closing, Coming, Request}
 
 -- one occurrence, whether it is a result that counted, and whether it is a request that asked for one call too many
 pub record Mark : Type 0 where
@@ -101,9 +101,8 @@ asked_of moment q plan timeout id = record {
 
 -- the call that comes at this moment, if what comes asks for one
 abbrev pub asked_by : ℕ → Coming → Option ArrivedCall
-asked_by moment (Refused r) = None
-asked_by moment (Request q (Judged v)) = None
 asked_by moment (Request q (Asks plan timeout id)) = Some (asked_of moment q plan timeout id)
+asked_by moment _ = None
 
 -- the call that this occurrence begins under that id, if it does
 abbrev pub asked_now : CallId → Mark → Past → Option ArrivedCall
@@ -116,8 +115,7 @@ call id (m ∷ past) = option_or (call id past) (asked_now id m past)
 
 -- the deadline is not above the moment
 abbrev pub is_due : ℕ → Option ℕ → Bool
-is_due moment None = false
-is_due moment (Some deadline) = nat_le deadline moment
+is_due moment deadline = option_map_or (λ d. nat_le d moment) deadline false
 
 -- what decides a call as it arrives: the drain, and else its deadline
 abbrev pub ends_at_arrival : Past → ArrivedCall → Option CallEvent
@@ -171,21 +169,14 @@ abbrev pub started_when : CallId → ℕ → Past → ℕ
 started_when id i [] = 0
 started_when id i (m ∷ past) = if nat_lt i (started id past) then started_when id i past else now past
 
--- the deadline of a branch that has started
-abbrev pub branch_deadline : CallId → PlanRecord → Past → ℕ → Option ℕ
-branch_deadline id plan past i = deadline_from (started_when id i past) plan i
-
 -- the deadlines of the branches that have started, in declared order
 abbrev pub branch_deadlines : CallId → Past → List (Option ℕ)
-branch_deadlines id past = option_map_or (λ c. map (branch_deadline id c.plan past) (range_with_len 0 (started id past))) (call id past) []
+branch_deadlines id past = option_map_or (λ c. map (λ i. deadline_from (started_when id i past) c.plan i) (range_with_len 0 (started id past))) (call id past) []
 
--- the deadline of the branch while it is out: one that answered has none any more, one that has not started none yet
-abbrev pub deadline_out : CallId → PlanRecord → Past → ℕ → Option ℕ
-deadline_out id plan past i = option_and_then (λ t. if is_out id i past then Some (started_when id i past + t) else None) (time_of plan i)
-
--- those of all branches of the call
+-- the deadlines of all branches of the call while they are out: one that answered has none any more, one that has not started none yet
 abbrev pub deadlines_out : CallId → PlanRecord → Past → List (Option ℕ)
-deadlines_out id plan past = map (deadline_out id plan past) (range_with_len 0 (length plan.branches))
+deadlines_out id plan past =
+    map (λ i. option_and_then (λ t. if is_out id i past then Some (started_when id i past + t) else None) (time_of plan i)) (range_with_len 0 (length plan.branches))
 
 -- the least of these moments
 abbrev pub least_of : List (Option ℕ) → Option ℕ
@@ -194,8 +185,7 @@ least_of (d ∷ ds) = smaller d (least_of ds)
 
 -- it is that moment
 abbrev pub is_at : ℕ → Option ℕ → Bool
-is_at at None = false
-is_at at (Some d) = d == at
+is_at at deadline = option_map_or (λ d. d == at) deadline false
 
 -- the place of the first of these that is that moment, counted from k
 abbrev pub first_at : ℕ → ℕ → List (Option ℕ) → ℕ

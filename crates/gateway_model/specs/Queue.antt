@@ -4,14 +4,14 @@ use Rattle.std.specs.List.{range_with_len}
 use Rattle.std.specs.Option.{option_or, option_map_or}
 use Rattle.http_pieces.specs.Request.{closes}
 use Rattle.connect_codec.specs.Reply.{success_reply, error_reply}
-use Rattle.call_plan.specs.Plan.{PlanRecord, join_text}
+use Rattle.call_plan.specs.Plan.{join_text}
 use Rattle.gateway_model.specs.declared.entry.ReplyEntry.{ReplyEntry}
 use Rattle.gateway_model.specs.declared.entry.ReplyEntry.TheVariants as reply_entry
 use Rattle.gateway_model.specs.declared.call_event.CallEvent.{CallEvent}
 use Rattle.gateway_model.specs.declared.id.CallId.{CallId}
 use Rattle.gateway_model.specs.declared.reply_bytes.ReplyBytes.{ReplyBytes}
 use Rattle.gateway_model.specs.Arrival.{Judged, Asks, refusal_reply, verdict_reply}
-use Rattle.gateway_model.specs.CallRecord.{CallRecord, record_with, answers_in, last_event}
+use Rattle.gateway_model.specs.CallRecord.{CallRecord, answers_in, last_event}
 use Rattle.gateway_model.specs.Errors.{crowded_error, error_of}
 use Rattle.gateway_model.specs.Reply.{reply_of}
 use Rattle.gateway_model.specs.Occurrence.{Coming, Request, Refused}
@@ -32,20 +32,17 @@ record_deadlines id [] = []
 record_deadlines id (m ∷ past) = if is_some (decided id past) then record_deadlines id past else branch_deadlines id (m ∷ past)
 
 abbrev pub record_of : ArrivedCall → List (Option ℕ) → List CallEvent → CallRecord
-record_of c deadlines events = record_with c.plan c.start c.deadline (closes c.request) deadlines events
+record_of c deadlines events =
+    record { plan = c.plan; start = c.start; deadline = c.deadline; last = closes c.request; branch_deadlines = deadlines; events = events }
 
 -- ---- the reply to a call
 
--- the success of a call: the answers among its events joined, in declared order
-abbrev pub joined_reply : PlanRecord → List CallEvent → Bool → List ℕ
-joined_reply plan events last = success_reply (join_text plan.branches (answers_in (length plan.branches) events)) last
-
--- the reply to a decided call: its answers joined, or the error of its last event
+-- the reply to a decided call: the error of its last event, or else the answers among its events joined, in declared order
 abbrev pub call_reply : CallRecord → ReplyBytes
 call_reply r =
     option_map_or (λ error. reply_of (error_reply error r.last) r.last)
     (option_and_then (error_of r.plan) (last_event r.events))
-    (reply_of (joined_reply r.plan r.events r.last) r.last)
+    (reply_of (success_reply (join_text r.plan.branches (answers_in (length r.plan.branches) r.events)) r.last) r.last)
 
 -- ---- what a request is answered by
 
@@ -81,21 +78,16 @@ entry id past = option_and_then (entry_by id past) (came id past)
 
 -- the first ones, up to the first that is not there
 abbrev pub front : {A : Type 0} → List (Option A) → List A
-front [] = []
-front (None ∷ rest) = []
 front (Some a ∷ rest) = a ∷ front rest
+front _ = []
 
 -- the arrivals of a connection's requests in order, up to the first that is undecided
 abbrev pub queued_entries : ℕ → Past → List ReplyEntry
 queued_entries conn past = front (map (λ k. entry (call_id conn k) past) (range_with_len 0 (arrivals conn past)))
 
--- the replies to a connection's requests in order, up to the first that is undecided
-abbrev pub replies : ℕ → Past → List ReplyBytes
-replies conn past = map answer_of (queued_entries conn past)
-
--- the bytes queued for a connection: those replies, one behind another
+-- the bytes queued for a connection: the replies to them, one behind another
 abbrev pub queued : ℕ → Past → List ℕ
-queued conn past = flat_map (λ reply. reply.bytes) (replies conn past)
+queued conn past = flat_map (λ reply. reply.bytes) (map answer_of (queued_entries conn past))
 
 -- the one list begins the other
 abbrev pub IsPrefixOf : {A : Type 0} → List A → List A → Type 0

@@ -12,7 +12,7 @@ answers_among [] = 0
 answers_among (Answer i body ∷ events) = suc (answers_among events)
 answers_among (e ∷ events) = answers_among events
 
--- the branch is out after these events: it has started, being below the limit and the answers that counted, and has no answer
+-- the branch is out after these events: it has started, as the limit and the answers allow, and has not answered
 abbrev pub is_out_after : CallRecord → List CallEvent → ℕ → Bool
 is_out_after r events i = nat_lt i (min (length r.plan.branches) (r.plan.limit + answers_among events)) && is_none (answer_of_branch i events)
 

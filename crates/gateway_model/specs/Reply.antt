@@ -1,7 +1,5 @@
 -- A reply: the request that it answers, and what that is answered by; and the bytes that are written for it.
 use Rattle.std.specs.Prelude.{ℕ, Bool, List}
-use Rattle.gateway_model.specs.declared.entry.ReplyEntry.{ReplyEntry}
-use Rattle.gateway_model.specs.declared.id.CallId.{CallId}
 use Rattle.gateway_model.specs.declared.reply_bytes.ReplyBytes.{ReplyBytes}
 
 -- the bytes of a reply, and whether it is its connection's last

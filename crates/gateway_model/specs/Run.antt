@@ -1,22 +1,16 @@
 -- What a run comes to: the openings that succeeded, what is queued for each connection, and what starts.
-use Rattle.std.specs.Prelude.{◌≡◌, ◌⊎◌, ℕ, ◌<◌, Bool, true, false, if◌then◌else◌, ◌==◌, List, [], ◌∷◌, ◌++◌, filter, length, map, reverse, slice_index_or, Option, option_map, option_to_list}
+use Rattle.std.specs.Prelude.{◌≡◌, ◌⊎◌, ℕ, Bool, true, ◌==◌, List, [], ◌∷◌, ◌++◌, filter, map, reverse, Option, option_map, option_to_list}
 use Rattle.std.specs.List.{flat_map, list_any}
 use Rattle.call_plan.specs.Plan.{PlanRecord}
 use Rattle.gateway_model.specs.declared.entry.ReplyEntry.{ReplyEntry}
 use Rattle.gateway_model.specs.Concerns.{breaks_at, can_break}
-use Rattle.gateway_model.specs.Events.{Before, IsOpened, IsRising, Occurs}
+use Rattle.gateway_model.specs.Events.{Before, Occurs}
 use Rattle.gateway_model.specs.declared.event.Event.{Event}
 use Rattle.gateway_model.specs.Job.{JobValue}
 use Rattle.gateway_model.specs.Past.{marked}
 use Rattle.gateway_model.specs.Queue.{answer_of, queued}
-use Rattle.gateway_model.specs.Starts.{Placed, StartedJob, occurrences, starts}
-use Rattle.gateway_model.specs.declared.event.Event.TheVariants.{Opening}
+use Rattle.gateway_model.specs.Starts.{Placed, occurrences, starts}
 use Rattle.gateway_model.specs.declared.run.Start.{Start}
-
--- it opens a connection
-abbrev pub is_opening : Event → Bool
-is_opening Opening = true
-is_opening _ = false
 
 -- these events, newest first
 abbrev pub newest_first : List Event → Before
@@ -34,12 +28,9 @@ bytes_of entries = flat_map (λ reply. reply.bytes) (map answer_of entries)
 
 -- ---- what starts
 
--- the start of a job's branch at the event of that place
-abbrev pub start_at : ℕ → JobValue → Start
-start_at event job = record { event = event; conn = job.call.conn; request = job.call.request; branch = job.branch }
-
-abbrev pub run_start : StartedJob → Start
-run_start s = start_at s.place s.job
+-- the start of a job's branch, at the event of its place
+abbrev pub run_start : ℕ × JobValue → Start
+run_start s = record { event = s.0; conn = s.1.call.conn; request = s.1.call.request; branch = s.1.branch }
 
 -- all starts by what occurred
 abbrev pub starts_of : List Placed → List Start

@@ -34,20 +34,10 @@ abbrev pub jobs : Past → List JobValue
 jobs [] = []
 jobs (m ∷ past) = jobs past ++ jobs_by m.what m past
 
--- a branch of a call starts at the event of that place, and gives that job
-pub record StartedJob : Type 0 where
-  pub place : ℕ
-  pub job : JobValue
-
-abbrev pub start : ℕ → JobValue → StartedJob
-start place job = record { place = place; job = job }
-
-abbrev pub job_started : StartedJob → JobValue
-job_started s = s.job
-
--- all branches that have started by what occurred, newest first: by event, then by request of the call, then by branch
-abbrev pub starts : List Placed → List StartedJob
+-- by what occurred, newest first, the jobs of all branches that have started, each with the place of the event at which it did: in the
+-- order of the events, then of the calls' requests, then of the branches
+abbrev pub starts : List Placed → List (ℕ × JobValue)
 starts [] = []
 starts (o ∷ placed) =
     let past = marked (occurrences placed) in
-    starts placed ++ map (start o.0) (jobs_by o.1 (mark_of past o.1) past)
+    starts placed ++ map (λ job. (o.0, job)) (jobs_by o.1 (mark_of past o.1) past)

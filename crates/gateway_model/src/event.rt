@@ -1,5 +1,5 @@
 ghost use Rattle.std.specs.Prelude.{◌≡◌};
-ghost use Rattle.gateway_model.specs.Run.{is_opening};
+ghost use Rattle.gateway_model.specs.Events.{is_opening};
 
 use connect_codec::Outcome;
 use http_pieces::Bytes;

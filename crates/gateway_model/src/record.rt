@@ -21,9 +21,16 @@ pub struct CallRecord {
 
 impl Model for CallRecord {
     ghost use Rattle.std.specs.Arc.{arc_value};
-    ghost use Rattle.gateway_model.specs.CallRecord.{CallRecord as Record, record_with};
+    ghost use Rattle.gateway_model.specs.CallRecord.{CallRecord as Record};
 
     ghost Value = { Record };
 
-    ghost view = { λ r. record_with (arc_value r.plan) r.start r.deadline r.last r.branch_deadlines.items r.events.items };
+    ghost view = { λ r. record {
+      plan = arc_value r.plan;
+      start = r.start;
+      deadline = r.deadline;
+      last = r.last;
+      branch_deadlines = r.branch_deadlines.items;
+      events = r.events.items;
+    } };
 }

@@ -1,7 +1,7 @@
 ghost use Rattle.std.specs.Prelude.{◌≡◌, ℕ, [], IfOk, unwrap_or};
 ghost use Rattle.std.specs.Option.{option_copied};
 ghost use Rattle.gateway_model.specs.CallRecord.{answer_in, answer_of_branch, answers_in};
-ghost use Rattle.gateway_model.specs.Queue.{joined_reply};
+ghost use Rattle.gateway_theory.specs.Replies.{joined_reply};
 
 use call_plan::Plan;
 use connect_codec::success_reply;

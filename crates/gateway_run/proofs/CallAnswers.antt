@@ -17,7 +17,8 @@ use Rattle.gateway_model.specs.Errors.{branch_error, error_of}
 use Rattle.gateway_model.specs.Decided.{IsDecidedAt}
 use Rattle.gateway_model.specs.Occurrence.{Occurrence, Opening, Comes, HangUp, Moment, Result, Drain, Closing, Coming, Request, Refused}
 use Rattle.gateway_model.specs.Past.{ArrivedCall, Mark, Past, answers, asked_now, branches, call, count_below, counts, deadlines_out, decided, decides, due_by, ends_at_arrival, event_by, is_call, is_closed, is_drained, is_due, mark_of, marked, now, own_event, past_of}
-use Rattle.gateway_model.specs.Queue.{answer_of, call_entry, came, entry, entry_by, joined_reply, own_events, record_deadlines, record_of}
+use Rattle.gateway_model.specs.Queue.{answer_of, call_entry, came, entry, entry_by, own_events, record_deadlines, record_of}
+use Rattle.gateway_theory.specs.Replies.{joined_reply}
 use Rattle.gateway_model.specs.Record.{answers_among, is_decided, is_ending, is_lawful, may_come, may_follow}
 use Rattle.gateway_model.specs.Reply.{reply_of}
 use Rattle.gateway_model.specs.Headline.{AllAnswered, AnswersCall, failed, joined, HasAnswered, IsAnswered}

@@ -13,7 +13,8 @@ use Rattle.gateway_model.specs.Occurrence.{Occurrence}
 use Rattle.gateway_model.specs.Past.{marked}
 use Rattle.gateway_model.specs.Queue.{IsPrefixOf, front}
 use Rattle.gateway_theory.specs.Served.{JobsAre, QueueIs, Served}
-use Rattle.gateway_model.specs.Starts.{Placed, job_started, jobs, occurrences, starts}
+use Rattle.gateway_model.specs.Starts.{Placed, jobs, occurrences, starts}
+use Rattle.gateway_theory.specs.Starting.{job_started}
 use Rattle.gateway_theory.specs.Store.{conn_of}
 
 -- what one event adds, and whose jobs the starts are

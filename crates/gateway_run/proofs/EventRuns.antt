@@ -3,9 +3,8 @@ use Rattle.std.proofs.Common.{◌≡◌, ℕ, suc, ◌+◌, ◌<◌, ◌≤◌, 
 use Rattle.std.specs.Prelude.{if◌then◌else◌, ◌||◌, ◌==◌}
 use Rattle.std.proofs.lemmas.Bool.{cases_Bool, eq-eqb, eqb-true, ne_eqb}
 use Rattle.std.proofs.lemmas.List.{length-append}
-use Rattle.std.proofs.lemmas.List.Recursion.{or_push}
 use Rattle.gateway_model.specs.declared.entry.ReplyEntry.{ReplyEntry}
-use Rattle.gateway_model.specs.Events.{Before, IsOpened, IsRising, OpensAt, connections, is_closing_of, is_open, most_open, open_connections, succeeds}
+use Rattle.gateway_model.specs.Events.{Before, IsOpened, IsRising, OpensAt, connections, is_closing_of, most_open, open_connections, succeeds}
 use Rattle.gateway_model.specs.declared.event.Event.TheVariants.{Closing, Opening}
 use Rattle.gateway_model.specs.declared.event.Event.{Event}
 use Rattle.gateway_model.specs.declared.event.Event.TheVariants as events
@@ -14,7 +13,7 @@ use Rattle.gateway_model.specs.Job.{JobValue}
 use Rattle.gateway_theory.specs.Served.{HasConns, Served}
 use Rattle.gateway_model.specs.declared.seen.Seen.{Seen}
 use Rattle.gateway_theory.specs.Serving.{KeepsBut}
-use Rattle.gateway_model.specs.Starts.{job_started}
+use Rattle.gateway_theory.specs.Starting.{job_started}
 use Rattle.gateway_run.specs.Log.{HasRun, LogValue, StartsAll}
 use Rattle.gateway_run.specs.Stepping.{BreaksAt, CollectsFor, log_after, opened_by}
 use Rattle.gateway_run.specs.declared.stepping.Stepped.{Stepped}

@@ -1,14 +1,13 @@
 -- Options, lists by places, and lists that are filtered.
-use Rattle.std.proofs.Common.{◌≡◌, ℕ, zero, suc, ◌<◌, ◌≤◌, Bool, true, false, List, [], ◌∷◌, ◌++◌, length, map, Option, None, Some, refl, sym, ap, ◌∙◌, arith, ⊎_elim}
+use Rattle.std.proofs.Common.{◌≡◌, ℕ, zero, suc, ◌<◌, ◌≤◌, Bool, true, false, List, [], ◌∷◌, ◌++◌, length, map, refl, sym, ap, ◌∙◌, arith, ⊎_elim}
 use Rattle.std.specs.Prelude.{if◌then◌else◌, ◌||◌, filter, slice_index_or, slice_set}
-use Rattle.std.specs.Option.{option_or}
 use Rattle.std.proofs.lemmas.Bool.{cases_Bool, eq-eqb, eqb-true}
 use Rattle.gateway_model.specs.Known.{is_of}
 use Rattle.gateway_model.specs.Job.{JobValue}
-use Rattle.gateway_model.specs.Starts.{StartedJob, job_started, start}
+use Rattle.gateway_theory.specs.Starting.{StartedJob, job_started, start}
 use Rattle.gateway_run.specs.Log.{is_started_on}
-use Rattle.gateway_model.specs.Run.{is_start_of, run_start, start_at}
-use Rattle.gateway_theory.specs.lemmas.Cases.{or_none}
+use Rattle.gateway_model.specs.Run.{is_start_of, run_start}
+use Rattle.gateway_run.specs.Log.{start_at}
 
 -- ---- places
 
@@ -48,12 +47,12 @@ or_false_right false b e = e
 
 pub jobs_on : (c : ℕ) (started : List StartedJob) → filter (is_of c) (map job_started started) ≡ map job_started (filter (is_started_on c) started)
 jobs_on c [] = refl
-jobs_on c (s ∷ started) = by_it (is_of c s.job) (jobs_on c started)
+jobs_on c (s ∷ started) = by_it (is_of c s.1) (jobs_on c started)
   where
     by_it : (b : Bool) → filter (is_of c) (map job_started started) ≡ map job_started (filter (is_started_on c) started)
-        → (if b then s.job ∷ filter (is_of c) (map job_started started) else filter (is_of c) (map job_started started))
+        → (if b then s.1 ∷ filter (is_of c) (map job_started started) else filter (is_of c) (map job_started started))
         ≡ map job_started (if b then s ∷ filter (is_started_on c) started else filter (is_started_on c) started)
-    by_it true rest = ap (λ js. s.job ∷ js) rest
+    by_it true rest = ap (λ js. s.1 ∷ js) rest
     by_it false rest = rest
 
 pub starts_on : (c place : ℕ) (js : List JobValue) → filter (is_started_on c) (map (start place) js) ≡ map (start place) (filter (is_of c) js)
@@ -68,7 +67,7 @@ starts_on c place (j ∷ js) = by_it (is_of c j) (starts_on c place js)
 
 pub run_starts_on : (c : ℕ) (started : List StartedJob) → filter (is_start_of c) (map run_start started) ≡ map run_start (filter (is_started_on c) started)
 run_starts_on c [] = refl
-run_starts_on c (s ∷ started) = by_it (is_of c s.job) (run_starts_on c started)
+run_starts_on c (s ∷ started) = by_it (is_of c s.1) (run_starts_on c started)
   where
     by_it : (b : Bool) → filter (is_start_of c) (map run_start started) ≡ map run_start (filter (is_started_on c) started)
         → (if b then run_start s ∷ filter (is_start_of c) (map run_start started) else filter (is_start_of c) (map run_start started))

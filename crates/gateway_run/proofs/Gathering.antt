@@ -15,7 +15,8 @@ use Rattle.gateway_model.specs.Queue.{answer_of, front}
 use Rattle.gateway_theory.specs.Replies.{ReplyValue}
 use Rattle.gateway_theory.specs.Served.{QueueIs, Served, with_reply}
 use Rattle.gateway_theory.specs.Serving.{TakesOnly}
-use Rattle.gateway_model.specs.Starts.{Placed, job_started}
+use Rattle.gateway_model.specs.Starts.{Placed}
+use Rattle.gateway_theory.specs.Starting.{job_started}
 use Rattle.gateway_theory.specs.Store.{conn_of}
 use Rattle.gateway_run.specs.Log.{BrokeSo, Collects, absent, gathers, HasRun, LogValue, TookReplies, flag_at, is_flagged, is_open_conn, log_with, queue_at}
 use Rattle.gateway_model.specs.Run.{bytes_of}

@@ -1,24 +1,22 @@
 -- A connection that breaks at a piece or a hang-up listened before it.
-use Rattle.std.proofs.Common.{◌≡◌, ℕ, Bool, true, false, List, Option, None, Some, Result, Err, refl, sym, ap, ◌∙◌, subst}
+use Rattle.std.proofs.Common.{◌≡◌, ℕ, Bool, true, false, List, Result, refl, sym, ap, ◌∙◌, subst}
 use Rattle.std.specs.Prelude.{◌==◌, ◌&&◌, not, is_some}
 use Rattle.std.proofs.lemmas.Bool.{eqb-true}
 use Rattle.gateway_model.specs.Events.{Before, hung_up, is_open, listens}
 use Rattle.gateway_theory.specs.declared.fault.StepFault.{StepFault}
-use Rattle.gateway_theory.specs.Conn.{ConnValue}
-use Rattle.gateway_theory.specs.Gateway.{GatewayValue, StreamValue, is_listening, is_broken_conn, stream_of}
+use Rattle.gateway_theory.specs.Gateway.{GatewayValue, is_listening, is_broken_conn}
 use Rattle.gateway_theory.specs.Served.{HasConns}
 use Rattle.gateway_theory.specs.Serving.{NotListening, TellsStep}
-use Rattle.gateway_theory.specs.Store.{conn_of}
 
 -- nothing is taken of one that does not listen
 not_listening_then : (n : ℕ) (v : GatewayValue) (opened : List ℕ) (es : Before) → HasConns v opened es → listens opened n es ≡ false → NotListening n v
-not_listening_then n v opened es h off k s k_is s_is = by_open (is_open opened n es) refl
+not_listening_then n v opened es h off k k_is = by_open (is_open opened n es) refl
   where
-    by_broken : is_open opened n es ≡ true → (b : Bool) → k.broken ≡ b → is_listening k s ≡ false
-    by_broken on true x = ap (λ b. not b && not s.hung_up) x
-    by_broken on false x = ap (λ b. not b && not s.hung_up) x ∙ ap not (h.hung_are n k s k_is s_is x) ∙ sym (ap (λ b. b && not (hung_up opened n es)) on) ∙ off
+    by_broken : is_open opened n es ≡ true → (b : Bool) → k.broken ≡ b → is_listening k ≡ false
+    by_broken on true x = ap (λ b. not b && not k.hung_up) x
+    by_broken on false x = ap (λ b. not b && not k.hung_up) x ∙ ap not (h.hung_are n k k_is x) ∙ sym (ap (λ b. b && not (hung_up opened n es)) on) ∙ off
 
-    by_open : (b : Bool) → is_open opened n es ≡ b → is_listening k s ≡ false
+    by_open : (b : Bool) → is_open opened n es ≡ b → is_listening k ≡ false
     by_open true on = by_broken on k.broken refl
     by_open false x = absurd (let clash : true ≡ false = sym (ap (λ o. is_some o) k_is) ∙ sym (h.open_are n) ∙ x in cc)
 

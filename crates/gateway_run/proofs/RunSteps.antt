@@ -21,10 +21,12 @@ use Rattle.gateway_model.specs.Queue.{IsPrefixOf, front, queued_entries}
 use Rattle.gateway_theory.specs.Served.{HasConns, JobsAre, QueueIs, Served}
 use Rattle.gateway_model.specs.declared.seen.Seen.{Seen}
 use Rattle.gateway_theory.specs.Serving.{KeepsBut, is_silent}
-use Rattle.gateway_model.specs.Starts.{Placed, job_started, jobs, occurrences, start, starts}
+use Rattle.gateway_model.specs.Starts.{Placed, jobs, occurrences, starts}
+use Rattle.gateway_theory.specs.Starting.{job_started, start}
 use Rattle.gateway_theory.specs.Store.{conn_of}
 use Rattle.gateway_run.specs.Log.{BrokeSo, HasRun, LogValue, StartsAll, flag_at, is_flagged, is_open_conn, is_started_on, queue_at}
-use Rattle.gateway_model.specs.Run.{IsSublist, run_start, start_at}
+use Rattle.gateway_model.specs.Run.{IsSublist, run_start}
+use Rattle.gateway_run.specs.Log.{start_at}
 use Rattle.gateway_run.specs.Stepping.{BreaksAt}
 use Rattle.gateway_run.proofs.CoreLaws.{BreakingLaw, EventLaws, StandingLaws}
 use Rattle.gateway_run.proofs.Flags.{all_here, beyond, jobs_again, jobs_on, none_else, or_false_left, or_false_right, same_jobs, starts_at, starts_on}

@@ -1,17 +1,17 @@
 -- Jobs that are taken one by one.
 use Rattle.std.proofs.Common.{◌≡◌, ℕ, Bool, true, false, List, [], ◌∷◌, ◌++◌, refl, sym, ap, ◌∙◌, subst, append-nil, append_assoc}
 use Rattle.std.proofs.lemmas.Bool.{eq-eqb, ne_eqb}
-use Rattle.std.specs.Prelude.{◌==◌, ◌^◌, ◌≤◌, ⊤, OnOk, IfOk, IfErr, OnErr, length, MatchResult, Option, Result, Ok, Err, option_map, option_to_list}
+use Rattle.std.specs.Prelude.{◌==◌, ⊤, IfOk, IfErr, OnErr, MatchResult, Option, Result, Ok, Err, option_map, option_to_list}
 use Rattle.gateway_theory.specs.declared.fault.OpenError.{OpenError}
 use Rattle.gateway_model.specs.declared.seen.Seen.{Seen}
 use Rattle.gateway_theory.specs.declared.fault.StepFault.{StepFault}
 use Rattle.gateway_run.specs.Stepping.{TellsBreaks, TellsConn, TellsOpening, done_of, opened_by, opening_of, seen_in, taken_of}
 use Rattle.gateway_run.specs.declared.stepping.Stepped.{Stepped}
-use Rattle.gateway_run.specs.declared.stepping.Stepped.TheVariants.{Fault, NotOpened, Opened}
+use Rattle.gateway_run.specs.declared.stepping.Stepped.TheVariants.{Fault, Opened}
 use Rattle.gateway_model.specs.declared.entry.ReplyEntry.{ReplyEntry}
-use Rattle.gateway_model.specs.Events.{Before, most_open}
+use Rattle.gateway_model.specs.Events.{Before}
 use Rattle.gateway_theory.specs.Refused.{RefusesOpening}
-use Rattle.gateway_theory.specs.Gateway.{GatewayValue, is_broken_conn}
+use Rattle.gateway_theory.specs.Gateway.{GatewayValue}
 use Rattle.gateway_theory.specs.Serving.{Breaks, KeepsBut, TellsStep}
 use Rattle.gateway_theory.specs.declared.fault.StepFault.TheVariants.{Exhausted, Gone, Memory}
 use Rattle.gateway_theory.specs.Task.{HandedJob}

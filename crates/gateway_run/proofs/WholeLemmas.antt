@@ -6,14 +6,15 @@ use Rattle.std.proofs.lemmas.Bool.{cases_Bool, cond_both, eq-eqb, eqb-true, ltb-
 use Rattle.std.proofs.lemmas.List.Elements.{filter-append}
 use Rattle.std.proofs.lemmas.List.FromFn.{map-range_with_len_more}
 use Rattle.gateway_model.specs.Events.{IsRising}
-use Rattle.std.specs.Prelude.{◌↔◌, Result, Ok, Err, length, reverse}
+use Rattle.std.specs.Prelude.{◌↔◌, Result, Ok, Err, length}
 use Rattle.std.specs.Result.{IsErrAnd}
-use Rattle.std.proofs.lemmas.List.{length-map, length-reverse, map-append, reverse-append}
+use Rattle.std.proofs.lemmas.List.{length-reverse, reverse-append}
 use Rattle.std.proofs.lemmas.List.Sums.{sum_by-cons}
 use Rattle.gateway_model.specs.declared.event.Event.{Event}
 use Rattle.gateway_model.specs.declared.run.RunError.{RunError}
 use Rattle.gateway_model.specs.declared.run.RunError.TheVariants.{Memory, Stocks}
-use Rattle.gateway_model.specs.Run.{is_listed, is_opening, newest_first}
+use Rattle.gateway_model.specs.Run.{is_listed, newest_first}
+use Rattle.gateway_model.specs.Events.{is_opening}
 use Rattle.gateway_run.specs.Running.{openings_at}
 
 range_more : (a n : ℕ) → range_with_len a (n + 1) ≡ range_with_len a n ++ (a + n) ∷ []

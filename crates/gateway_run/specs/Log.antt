@@ -10,11 +10,15 @@ use Rattle.gateway_model.specs.Past.{marked}
 use Rattle.gateway_model.specs.Queue.{queued_entries}
 use Rattle.gateway_theory.specs.Served.{QueueIs, Served}
 use Rattle.gateway_theory.specs.Serving.{TakesOnly}
-use Rattle.gateway_model.specs.Starts.{Placed, job_started, occurrences, starts}
-use Rattle.gateway_model.specs.Starts as core
+use Rattle.gateway_model.specs.Starts.{Placed, occurrences, starts}
+use Rattle.gateway_theory.specs.Starting.{StartedJob, job_started}
 use Rattle.gateway_theory.specs.Store.{conn_of}
 use Rattle.gateway_model.specs.declared.run.Start.{Start}
-use Rattle.gateway_model.specs.Run.{Breakage, IsSublist, bytes_of, run_start, start_at}
+use Rattle.gateway_model.specs.Run.{Breakage, IsSublist, bytes_of, run_start}
+
+-- the start of a job's branch at the event of that place
+abbrev pub start_at : ℕ → JobValue → Start
+start_at place job = run_start (place, job)
 
 pub record LogValue : Type 0 where
   -- the places of the openings that succeeded
@@ -66,11 +70,11 @@ is_open_conn c v = is_some (conn_of c v.machine.conns)
 abbrev pub is_flagged : ℕ → GatewayValue → LogValue → Bool
 is_flagged c v log = flag_at c log || is_broken_conn c v
 
-abbrev pub is_started_on : ℕ → core.StartedJob → Bool
-is_started_on c s = is_of c s.job
+abbrev pub is_started_on : ℕ → StartedJob → Bool
+is_started_on c s = is_of c s.1
 
 -- what is queued for a connection that broke, and what has started, is by what had occurred before it did
-abbrev pub BrokeSo : ℕ → List PlanRecord → List ℕ → List ReplyEntry → List core.StartedJob → Before → List Placed → Type 0
+abbrev pub BrokeSo : ℕ → List PlanRecord → List ℕ → List ReplyEntry → List StartedJob → Before → List Placed → Type 0
 BrokeSo c plans opened queue started es occurred =
     (b : Breakage c plans opened es occurred)
     × (queue ≡ queued_entries c (marked (occurrences (b.newer ++ b.past))))
@@ -79,7 +83,7 @@ BrokeSo c plans opened queue started es occurred =
 -- how far a run is after these events, newest first, where what is queued was taken for those of the open connections of which this is so
 pub record HasRun (gathered : ℕ → Bool) (v : GatewayValue) (log : LogValue) (es : Before) : Type 0 where
   pub taken : ℕ → List ReplyEntry
-  pub started : List core.StartedJob
+  pub started : List StartedJob
   pub served : Served v log.opened es taken (map job_started started)
   pub no_jobs : v.machine.jobs ≡ []
   pub opened_are : IsOpened log.opened es

@@ -7,7 +7,8 @@ use Rattle.gateway_model.specs.Queue.{queued}
 use Rattle.gateway_model.specs.Starts.{Placed, occurrences}
 use Rattle.gateway_model.specs.declared.event.Event.{Event}
 use Rattle.gateway_model.specs.declared.run.Start.{Start}
-use Rattle.gateway_model.specs.Run.{IsSublist, is_opening, is_listed, starts_of, is_start_of, BrokeAs}
+use Rattle.gateway_model.specs.Run.{IsSublist, is_listed, starts_of, is_start_of, BrokeAs}
+use Rattle.gateway_model.specs.Events.{is_opening}
 
 -- how many stocks of hooks it takes
 abbrev pub openings_at : Event → ℕ

@@ -12,7 +12,7 @@ ghost use Rattle.gateway_model.specs.declared.entry.ReplyEntry.{ReplyEntry};
 ghost use Rattle.gateway_model.specs.declared.id.CallId.{CallId};
 ghost use Rattle.gateway_model.specs.CallRecord.{CallRecord, answer_of_branch};
 ghost use Rattle.gateway_model.specs.Past.{ArrivedCall, Past, call, call_id, is_undecided, outs};
-ghost use Rattle.gateway_model.specs.Starts.{Placed, occurrences, job_started, starts};
+ghost use Rattle.gateway_model.specs.Starts.{Placed, occurrences, starts};
 ghost use Rattle.gateway_model.specs.Queue.{came, entry, own_events, queued, queued_entries, IsPrefixOf};
 ghost use Rattle.gateway_model.specs.declared.event.Event.{Event};
 ghost use Rattle.gateway_model.specs.declared.event.Event.TheVariants.{Piece};
@@ -124,7 +124,7 @@ pub fn any_cut_law()
     // For any openings there are those of the longer list.
     ensures shifts { (n : ℕ) (opened : List ℕ) → IsShifted n opened (shifted_by n opened) }
     ensures starts { (a b : List Placed) → occurrences a ≡ occurrences b
-        → map job_started (starts a) ≡ map job_started (starts b) }
+        → map (λ s. s.1) (starts a) ≡ map (λ s. s.1) (starts b) }
 {
     event_law();
     pieces_law();

@@ -5,7 +5,7 @@ ghost use Rattle.gateway_model.specs.Events.{is_closing_of, most_open, open_conn
 ghost use Rattle.gateway_model.specs.Job.{JobValue};
 ghost use Rattle.gateway_theory.specs.Served.{Served};
 ghost use Rattle.gateway_theory.specs.Serving.{KeepsBut};
-ghost use Rattle.gateway_model.specs.Run.{is_opening};
+ghost use Rattle.gateway_model.specs.Events.{is_opening};
 ghost use Rattle.gateway_run.specs.Stepping.{BreaksAt, Tells, done_of, opened_by, opening_of, seen_in, taken_of};
 
 use gateway_core::{CallId, ConnId, Core, OpenError, ReplyHook, StepFault, Stock, Took};

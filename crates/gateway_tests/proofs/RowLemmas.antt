@@ -12,7 +12,8 @@ use Rattle.gateway_model.specs.Past.{Mark, Past, call_id, arrivals, mark_of, mar
 use Rattle.gateway_model.specs.declared.entry.ReplyEntry.{ReplyEntry}
 use Rattle.gateway_model.specs.declared.id.CallId.{CallId}
 use Rattle.gateway_model.specs.declared.entry.ReplyEntry.TheVariants.{Judged as Judging}
-use Rattle.gateway_model.specs.Queue.{answer_of, came, entry, front, queued_entries, replies}
+use Rattle.gateway_model.specs.Queue.{answer_of, came, entry, front, queued_entries}
+use Rattle.gateway_theory.specs.Replies.{replies}
 use Rattle.gateway_tests.specs.Rows.{get_request, gets, after_gets}
 
 -- one more that is there, where all before are there and stay

@@ -24,13 +24,33 @@ use Rattle.gateway_model.specs.Occurrence.{Occurrence, Opening, Comes, Moment, R
 use Rattle.gateway_model.specs.declared.entry.ReplyEntry.{ReplyEntry}
 use Rattle.gateway_model.specs.declared.entry.ReplyEntry.TheVariants.{Call}
 use Rattle.gateway_model.specs.declared.call_event.CallEvent.{CallEvent}
+use Rattle.gateway_model.specs.Branch.{branch_at}
 use Rattle.gateway_model.specs.CallRecord.{CallRecord}
+use Rattle.gateway_model.specs.Job.{JobValue}
+use Rattle.gateway_model.specs.declared.id.CallId.{CallId}
 use Rattle.gateway_model.specs.Past.{call_id, past_of}
 use Rattle.gateway_model.specs.Queue.{entry, queued}
 use Rattle.gateway_model.specs.Record.{is_lawful, is_decided}
 use Rattle.std.specs.Option.{option_map_or}
-use Rattle.gateway_model.specs.Job.{job_with}
-use Rattle.gateway_model.specs.Starts.{StartedJob, start, starts}
+use Rattle.gateway_model.specs.Starts.{starts}
+use Rattle.gateway_theory.specs.Starting.{StartedJob, start}
+
+-- the record of a call
+abbrev pub record_with : PlanRecord → ℕ → Option ℕ → Bool → List (Option ℕ) → List CallEvent → CallRecord
+record_with plan start deadline last branch_deadlines events =
+    record { plan = plan; start = start; deadline = deadline; last = last; branch_deadlines = branch_deadlines; events = events }
+
+-- the job of a branch, with so much left of its time
+abbrev pub job_with : CallId → ℕ → PlanRecord → HttpRequest → Option (List ℕ) → Option ℕ → JobValue
+job_with call i plan request request_id remaining = record {
+  call = call;
+  branch = i;
+  address = (branch_at plan i).address;
+  path = (branch_at plan i).path;
+  body = request.body;
+  request_id = request_id;
+  remaining = remaining;
+}
 
 -- what starts, where each occurrence is an event of its own
 abbrev pub row_starts : List Occurrence → List StartedJob

@@ -9,7 +9,8 @@ ghost use Rattle.http_pieces.specs.declared.refusal.Refusal.{Refusal};
 ghost use Rattle.gateway_model.specs.Occurrence.{Opening, HangUp, Moment, Drain, Closing};
 ghost use Rattle.gateway_model.specs.declared.call_event.CallEvent.TheVariants.{Answer as Answered, Expired, HungUp};
 ghost use Rattle.gateway_model.specs.Past.{call_id, how_seen, marked, past_of};
-ghost use Rattle.gateway_model.specs.Queue.{replies, queued};
+ghost use Rattle.gateway_model.specs.Queue.{queued};
+ghost use Rattle.gateway_theory.specs.Replies.{replies};
 ghost use Rattle.gateway_model.specs.Record.{is_lawful, is_decided};
 ghost use Rattle.gateway_tests.specs.Rows.{row_starts, starts_then, is_lawful_row, quote_record, ping, quote, asks, gets, after_gets, refuses, answers, fails, succeeded, failed, document, bytes_queued, flooded};
 

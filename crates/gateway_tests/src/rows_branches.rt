@@ -6,7 +6,7 @@ ghost use Rattle.gateway_model.specs.declared.seen.Seen.{Seen};
 ghost use Rattle.gateway_model.specs.Occurrence.{Opening, HangUp, Moment, Drain, Closing};
 ghost use Rattle.gateway_model.specs.declared.call_event.CallEvent.TheVariants.{Answer as Answered, BranchExpired, HungUp};
 ghost use Rattle.gateway_model.specs.Past.{call_id, how_seen, outs, past_of};
-ghost use Rattle.gateway_model.specs.Queue.{replies};
+ghost use Rattle.gateway_theory.specs.Replies.{replies};
 ghost use Rattle.gateway_model.specs.Record.{is_lawful, is_decided};
 ghost use Rattle.gateway_tests.specs.Rows.{row_starts, starts_with, is_lawful_row, hotel_record, ping, quote, timed, quote_timed, asked_at_1000, asks, asks_on, answers, fails, succeeded, failed, document, bytes_queued, record_in};
 

@@ -6,13 +6,14 @@ ghost use Rattle.error_document.specs.declared.code.Code.{Code};
 ghost use Rattle.gateway_model.specs.declared.entry.ReplyEntry.{ReplyEntry};
 ghost use Rattle.gateway_model.specs.declared.call_event.CallEvent.{CallEvent};
 ghost use Rattle.gateway_model.specs.declared.seen.Seen.{Seen};
-ghost use Rattle.gateway_model.specs.Job.{job_with};
+ghost use Rattle.gateway_tests.specs.Rows.{job_with};
 ghost use Rattle.gateway_model.specs.Occurrence.{Opening, HangUp, Moment, Result, Drain, Closing};
-ghost use Rattle.gateway_model.specs.CallRecord.{record_with};
+ghost use Rattle.gateway_tests.specs.Rows.{record_with};
 ghost use Rattle.gateway_model.specs.Past.{call_id, how_seen, now, past_of};
-ghost use Rattle.gateway_model.specs.Queue.{entry, replies};
+ghost use Rattle.gateway_model.specs.Queue.{entry};
+ghost use Rattle.gateway_theory.specs.Replies.{replies};
 ghost use Rattle.gateway_model.specs.Record.{is_lawful};
-ghost use Rattle.gateway_model.specs.Starts.{start};
+ghost use Rattle.gateway_theory.specs.Starting.{start};
 ghost use Rattle.gateway_tests.specs.Rows.{row_starts, quote_record, ping, quote, request_for, asks, asks_on, answers, fails, failed, error, record_in};
 
 /// Moments are cut at 2^62, and not below.

@@ -12,7 +12,7 @@ ghost use Rattle.gateway_model.specs.Arrival.{Arrival};
 ghost use Rattle.gateway_model.specs.Reply.{reply_of};
 ghost use Rattle.gateway_model.specs.Occurrence.{Opening};
 ghost use Rattle.gateway_model.specs.Past.{past_of};
-ghost use Rattle.gateway_model.specs.Queue.{replies};
+ghost use Rattle.gateway_theory.specs.Replies.{replies};
 ghost use Rattle.gateway_tests.specs.Rows.{ping, quote, request_for, get_request, ping_adding, ping_of_type, ping_empty, text_of, arrives, comes, error, backend_reply, outcome_at, pinged, detailed, failed_with, failed, document, bytes_queued};
 
 /// A request of another method is told which there is.

@@ -10,7 +10,7 @@ ghost use Rattle.gateway_model.specs.Arrival.{Arrival};
 ghost use Rattle.gateway_model.specs.Reply.{reply_of};
 ghost use Rattle.gateway_model.specs.Occurrence.{Opening, HangUp};
 ghost use Rattle.gateway_model.specs.Past.{past_of};
-ghost use Rattle.gateway_model.specs.Queue.{replies};
+ghost use Rattle.gateway_theory.specs.Replies.{replies};
 ghost use Rattle.gateway_tests.specs.Rows.{ping, request_for, get_request, ping_adding, ping_of_length, ping_closing, ping_old, ping_hostless, ping_filled, ping_crowded, head_text, text_of, arrives, comes, refuses, answers, error, document, bytes_queued};
 
 use http_pieces::laws::requests_law;

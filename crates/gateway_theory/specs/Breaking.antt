@@ -1,15 +1,13 @@
 -- A connection that breaks at an event.
-use Rattle.std.specs.Prelude.{◌≡◌, ℕ, Bool, true, false, ◌==◌, ◌++◌, filter, List, map, Option, option_map, option_to_list}
+use Rattle.std.specs.Prelude.{◌≡◌, ℕ, true, ◌++◌, filter, List, map, Option, option_map, option_to_list}
 use Rattle.gateway_model.specs.Known.{is_of}
 use Rattle.gateway_model.specs.declared.entry.ReplyEntry.{ReplyEntry}
-use Rattle.gateway_model.specs.declared.event.Event.{Event}
-use Rattle.gateway_model.specs.declared.event.Event.TheVariants.{Opening, Piece, HangUp, Moment, BranchResult, Drain, Closing}
-use Rattle.gateway_model.specs.Concerns.{breaks_at, concerns}
+use Rattle.gateway_model.specs.Concerns.{breaks_at}
 use Rattle.gateway_model.specs.Job.{JobValue}
-use Rattle.gateway_model.specs.Occurrence as occurs
-use Rattle.gateway_model.specs.Past.{Past, call_id, marked}
+use Rattle.gateway_model.specs.Past.{marked}
 use Rattle.gateway_model.specs.Queue.{queued_entries}
-use Rattle.gateway_model.specs.Starts.{Placed, occurrences, start, starts}
+use Rattle.gateway_model.specs.Starts.{Placed, occurrences, starts}
+use Rattle.gateway_theory.specs.Starting.{start}
 
 -- the connection broke at the event of that place, before which this had occurred: what is queued for it, and the jobs that started
 -- at the event, are those of what had occurred before some occurrence of the event that concerned it, or before none did

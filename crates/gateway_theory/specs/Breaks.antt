@@ -1,7 +1,6 @@
 -- What an occurrence makes of the machine, where connections can break at it.
 use Rattle.std.specs.Prelude.{◌≡◌, ℕ, max, Bool, true, false, ◌&&◌, ◌||◌, not, if◌then◌else◌, ◌==◌, List, [], ◌++◌, Option, None, option_to_list, option_map, is_some}
 use Rattle.gateway_model.specs.declared.id.CallId.{CallId}
-use Rattle.gateway_model.specs.Job.{JobValue}
 use Rattle.gateway_model.specs.Occurrence.{Occurrence, Comes, Coming}
 use Rattle.gateway_model.specs.Past.{is_call, is_drain, is_result_of, moment_of, marked}
 use Rattle.gateway_model.specs.declared.entry.ReplyEntry.{ReplyEntry}

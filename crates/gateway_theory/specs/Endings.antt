@@ -1,7 +1,6 @@
 -- How a call ends that does not succeed.
 use Rattle.std.specs.Prelude.{Bool}
 use Rattle.gateway_model.specs.declared.ending.EndCause.{EndCause}
-use Rattle.gateway_model.specs.declared.ending.EndCause.TheVariants as cause
 use Rattle.gateway_model.specs.declared.ending.Ending.{Ending}
 
 abbrev pub ending_with : EndCause → Bool → Ending

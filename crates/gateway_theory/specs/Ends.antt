@@ -112,6 +112,7 @@ pub record TakesIn (calls : List KeptValue) (k l : ConnValue) : Type 0 where
   pub number_is : l.number ≡ k.number
   pub taken_is : l.taken ≡ k.taken
   pub broken_is : l.broken ≡ k.broken
+  pub hung_is : l.hung_up ≡ k.hung_up
   pub size_is : length l.slots ≡ length k.slots
   pub each : (j : ℕ) → j < length k.slots → slot_at j l.slots ≡ option_or (slot_at j k.slots) (reply_in (call_id k.number (k.taken + j)) calls)
 
@@ -135,6 +136,7 @@ pub record SettledBelow (i : ℕ) (u w : MachineValue) : Type 0 where
 pub record ConnEnds (trigger : Trigger) (calls : List KeptValue) (k l : ConnValue) : Type 0 where
   pub number_is : l.number ≡ k.number
   pub taken_is : l.taken ≡ k.taken
+  pub hung_is : l.hung_up ≡ k.hung_up
   pub stays_broken : k.broken ≡ true → l.broken ≡ true
   pub size_is : length l.slots ≡ length k.slots
   pub each : (j : ℕ) → j < length k.slots

@@ -6,7 +6,8 @@ use Rattle.gateway_model.specs.declared.event.Event.{Event}
 use Rattle.gateway_model.specs.Job.{JobValue}
 use Rattle.gateway_model.specs.Past.{marked}
 use Rattle.gateway_model.specs.Queue.{queued_entries}
-use Rattle.gateway_model.specs.Starts.{Placed, occurrences, start, starts}
+use Rattle.gateway_model.specs.Starts.{Placed, occurrences, starts}
+use Rattle.gateway_theory.specs.Starting.{start}
 
 -- the connection was opened before the event, and is not open behind it
 pub record IsShut (opened : List ℕ) (e : Event) (es : Before) (c : ℕ) : Type 0 where

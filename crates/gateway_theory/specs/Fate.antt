@@ -1,9 +1,9 @@
 -- A connection's fate: it is unbroken, or it broke at an occurrence that concerned it.
-use Rattle.std.specs.Prelude.{◌≡◌, ℕ, Bool, true, false, ◌&&◌, ◌||◌, not, if◌then◌else◌, ◌==◌, nat_lt, nat_le, is_some, List, [], ◌∷◌, ◌++◌, length, Option, None, Some, option_to_list, ⊤}
+use Rattle.std.specs.Prelude.{◌≡◌, ℕ, Bool, true, false, ◌&&◌, ◌||◌, not, if◌then◌else◌, ◌==◌, nat_le, List, [], ◌∷◌, ◌++◌, length, Option, None, Some, option_to_list, ⊤}
 use Rattle.gateway_model.specs.declared.id.CallId.{CallId}
 use Rattle.gateway_model.specs.Job.{JobValue}
-use Rattle.gateway_model.specs.Occurrence.{Occurrence, Opening, Comes, HangUp, Moment, Result, Drain, Closing}
-use Rattle.gateway_model.specs.Past.{Past, call_id, is_closed, is_out, is_result_of, is_undecided, deciding, counts, count_below, arrivals, mark_of, marked}
+use Rattle.gateway_model.specs.Occurrence.{Occurrence, Comes, Result}
+use Rattle.gateway_model.specs.Past.{is_out, is_result_of, mark_of, marked}
 use Rattle.gateway_model.specs.Starts.{jobs_by}
 use Rattle.gateway_model.specs.Concerns.{breaks_at}
 

@@ -1,11 +1,10 @@
 -- The deciding event and the branches that are out, by places in the finished list of what occurs: each is a least number.
-use Rattle.std.specs.Prelude.{◌≡◌, ℕ, zero, suc, ◌+◌, ◌<◌, ◌≤◌, ◌↔◌, Bool, false, List, [], ◌++◌, length, map, take, slice_get, Option, None, Some}
+use Rattle.std.specs.Prelude.{◌≡◌, ℕ, zero, suc, ◌+◌, ◌<◌, ◌≤◌, ◌↔◌, Bool, false, List, [], ◌++◌, length, map, slice_get, Option, None, Some}
 use Rattle.std.specs.List.{range_with_len}
 use Rattle.gateway_model.specs.declared.id.CallId.{CallId}
 use Rattle.gateway_model.specs.Occurrence.{Occurrence}
-use Rattle.gateway_model.specs.declared.call_event.CallEvent.{CallEvent}
 use Rattle.gateway_model.specs.Job.{JobValue, job_of}
-use Rattle.gateway_model.specs.Past.{Past, ArrivedCall, call, past_of, mark_of, deciding, is_call, is_result_of, now, started}
+use Rattle.gateway_model.specs.Past.{Past, ArrivedCall, call, mark_of, is_call, is_result_of, now, started}
 use Rattle.gateway_model.specs.Starts.{jobs_by}
 use Rattle.gateway_model.specs.Decided.{before}
 

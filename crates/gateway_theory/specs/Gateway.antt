@@ -1,5 +1,5 @@
 -- The open connections with their streams, and what they stand for.
-use Rattle.std.specs.Prelude.{◌≡◌, ◌⊎◌, ℕ, ◌+◌, ◌<◌, ◌≤◌, Bool, true, false, ◌&&◌, ◌||◌, not, is_none, is_some, if◌then◌else◌, ◌==◌, All, List, [], ◌∷◌, ◌++◌, take, length, Option, None, Some, slice_set, slice_index_or}
+use Rattle.std.specs.Prelude.{◌≡◌, ℕ, ◌+◌, ◌<◌, ◌≤◌, Bool, true, false, ◌&&◌, ◌||◌, not, is_none, is_some, if◌then◌else◌, ◌==◌, All, List, [], ◌∷◌, ◌++◌, take, length, Option, None, Some, slice_set, slice_index_or}
 use Rattle.std.specs.List.{count_by, list_any}
 use Rattle.std.specs.Option.{option_map_or}
 use Rattle.http_pieces.specs.Reader.{ReaderValue, Reading, reader_value, Partial, Waiting, Stopped, Done, HasRead, after_request, is_over}
@@ -9,13 +9,12 @@ use Rattle.gateway_model.specs.declared.entry.ReplyEntry.{ReplyEntry}
 use Rattle.gateway_model.specs.Arrival.{arrival_of}
 use Rattle.gateway_theory.specs.Conn.{ConnValue}
 use Rattle.gateway_theory.specs.Enters.{Enters}
-use Rattle.gateway_model.specs.Events.{Gains}
 use Rattle.gateway_theory.specs.Fate.{Fate, is_broken}
 use Rattle.gateway_theory.specs.Fated.{FatedStands}
 use Rattle.gateway_model.specs.Job.{JobValue}
 use Rattle.gateway_theory.specs.Kept.{KeptValue}
 use Rattle.gateway_theory.specs.Machine.{ConnState, new_conn}
-use Rattle.gateway_model.specs.Occurrence.{Occurrence, Coming, Comes, Request, Refused}
+use Rattle.gateway_model.specs.Occurrence.{Occurrence, Request, Refused}
 use Rattle.gateway_theory.specs.Arrivals.{calls_arrived, calls_in}
 use Rattle.gateway_theory.specs.Orderly.{FatesAre}
 use Rattle.gateway_theory.specs.Store.{MachineValue, call_at, machine, conn_of}
@@ -26,18 +25,17 @@ use Rattle.gateway_model.specs.Queue.{front}
 use Rattle.gateway_model.specs.declared.id.CallId.{CallId}
 use Rattle.gateway_theory.specs.declared.tally.Tally.{Tally}
 
--- an open connection's stream: its reader, and whether its peer hung up
+-- an open connection's stream
 pub record StreamValue : Type 0 where
   pub number : ℕ
   pub reader : ReaderValue
-  pub hung_up : Bool
 
 abbrev pub no_stream : StreamValue
-no_stream = record { number = 0; reader = reader_value 0 (Partial []); hung_up = false }
+no_stream = record { number = 0; reader = reader_value 0 (Partial []) }
 
 -- the stream of a connection that has just opened
 abbrev pub new_stream : ℕ → StreamValue
-new_stream number = record { number = number; reader = reader_value 0 (Partial []); hung_up = false }
+new_stream number = record { number = number; reader = reader_value 0 (Partial []) }
 
 abbrev pub stream_at : ℕ → List StreamValue → StreamValue
 stream_at i streams = slice_index_or streams i no_stream
@@ -113,13 +111,13 @@ pub record HasCome (k : ConnValue) (reader : ReaderValue) (text : List ℕ) : Ty
   pub settled : is_waiting reader.reading ≡ false
   pub came : k.taken + length k.slots ≡ length given + refusals reader.reading
 
--- pieces of the stream are taken
-abbrev pub is_listening : ConnValue → StreamValue → Bool
-is_listening k s = not k.broken && not s.hung_up
+-- pieces of its stream are taken
+abbrev pub is_listening : ConnValue → Bool
+is_listening k = not k.broken && not k.hung_up
 
 abbrev pub StreamsStand : GatewayValue → (ℕ → List ℕ) → Type 0
 StreamsStand v texts =
-    (c : ℕ) (k : ConnValue) (s : StreamValue) → conn_of c v.machine.conns ≡ Some k → stream_of c v.streams ≡ Some s → is_listening k s ≡ true → HasCome k s.reader (texts c)
+    (c : ℕ) (k : ConnValue) (s : StreamValue) → conn_of c v.machine.conns ≡ Some k → stream_of c v.streams ≡ Some s → is_listening k ≡ true → HasCome k s.reader (texts c)
 
 -- of the connections that were not opened yet there is nothing
 pub record Unopened (v : GatewayValue) (closed : ℕ → ConnState) (fates : ℕ → Fate) (c : ℕ) : Type 0 where
@@ -158,18 +156,18 @@ untaken_of c v = option_map_or (λ k. front k.slots) (conn_of c v.machine.conns)
 abbrev pub next_reply : ℕ → GatewayValue → CallId
 next_reply c v = call_id c (option_map_or (λ k. k.taken) (conn_of c v.machine.conns) 0)
 
--- the stream brings nothing more: it ended, or its peer hung up
-abbrev pub is_done : StreamValue → Bool
-is_done s = is_over s.reader.reading || s.hung_up
+-- the connection brings nothing more: its stream ended, or its peer hung up
+abbrev pub is_done : ConnValue → StreamValue → Bool
+is_done k s = is_over s.reader.reading || k.hung_up
 
 -- each of these is there
 abbrev pub are_all_there : List (Option ReplyEntry) → Bool
 are_all_there slots = not (list_any is_none slots)
 
 abbrev pub has_ended : ConnValue → StreamValue → Bool
-has_ended k s = k.broken || (is_done s && are_all_there k.slots)
+has_ended k s = k.broken || (is_done k s && are_all_there k.slots)
 
--- the connection is not open, or is broken, or its stream brings nothing more and no call of it is undecided
+-- the connection is not open, or is broken, or brings nothing more and no call of it is undecided
 abbrev pub is_ended : ℕ → GatewayValue → Bool
 is_ended c v = option_map_or (λ k. option_map_or (λ s. has_ended k s) (stream_of c v.streams) true) (conn_of c v.machine.conns) true
 

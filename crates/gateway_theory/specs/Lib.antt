@@ -8,6 +8,7 @@ pub mod LiveStands
 pub mod Begins
 pub mod Machine
 pub mod Standing
+pub mod Starting
 pub mod Fate
 pub mod Fated
 pub mod Breaks
@@ -23,7 +24,6 @@ pub mod Opens
 pub mod Orderly
 pub mod Gateway
 pub mod Refused
-pub mod Heads
 pub mod Serving
 pub mod Served
 pub mod Told

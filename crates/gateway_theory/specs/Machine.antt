@@ -1,11 +1,11 @@
 -- The machine: all connections, all calls, and what an occurrence makes of them. Of a closed connection it keeps the slots that it had.
-use Rattle.std.specs.Prelude.{◌≡◌, ℕ, ◌+◌, ◌<◌, max, Bool, true, false, ◌||◌, if◌then◌else◌, ◌==◌, nat_le, is_none, List, [], ◌∷◌, ◌++◌, length, Option, None, slice_index_or}
+use Rattle.std.specs.Prelude.{◌≡◌, ℕ, ◌+◌, ◌<◌, max, Bool, true, false, ◌||◌, nat_le, is_none, List, [], ◌∷◌, ◌++◌, length, Option, None, slice_index_or}
 use Rattle.std.specs.List.{count_by}
 use Rattle.std.specs.Option.{option_or}
 use Rattle.gateway_model.specs.declared.id.CallId.{CallId}
 use Rattle.gateway_model.specs.Job.{JobValue}
 use Rattle.gateway_model.specs.Occurrence.{Occurrence, Comes, Result, Coming}
-use Rattle.gateway_model.specs.Past.{is_call, call_id, moment_of, is_drain, closing_occurs, most_calls}
+use Rattle.gateway_model.specs.Past.{call_id, moment_of, is_drain, closing_occurs, most_calls}
 use Rattle.gateway_model.specs.declared.entry.ReplyEntry.{ReplyEntry}
 use Rattle.gateway_theory.specs.Step.{CallState, Step, step}
 use Rattle.gateway_theory.specs.Begins.{arrive}

@@ -1,12 +1,10 @@
 -- What the gateway stands for after events.
-use Rattle.std.specs.Prelude.{◌≡◌, ◌⊎◌, ℕ, ◌<◌, ◌≤◌, Bool, true, false, filter, List, ◌∷◌, ◌++◌, ◌==◌, if◌then◌else◌, take, length, Option, Some, option_map, option_to_list, is_some, Result, Ok, Err}
+use Rattle.std.specs.Prelude.{◌≡◌, ℕ, ◌<◌, ◌≤◌, Bool, true, false, filter, List, ◌∷◌, ◌++◌, ◌==◌, if◌then◌else◌, length, Option, Some, option_map, option_to_list, is_some}
 use Rattle.http_pieces.specs.Reader.{HasRead}
 use Rattle.http_pieces.specs.Request.{HttpRequest}
 use Rattle.http_pieces.specs.Requests.{StreamEnd, Requests}
 use Rattle.gateway_model.specs.declared.entry.ReplyEntry.{ReplyEntry}
-use Rattle.gateway_theory.specs.declared.fault.StepFault.{StepFault}
 use Rattle.gateway_theory.specs.Conn.{ConnValue}
-use Rattle.gateway_theory.specs.Ends.{is_broken_in}
 use Rattle.gateway_model.specs.Events.{Before, Gains, Occurs, connections, hung_up, is_open, stream, succeeds}
 use Rattle.gateway_model.specs.declared.event.Event.TheVariants.{Piece}
 use Rattle.gateway_theory.specs.Gateway.{GatewayStands, GatewayValue, StreamValue, is_listening, stream_of}
@@ -26,9 +24,9 @@ pub record HasConns (v : GatewayValue) (opened : List ℕ) (events : Before) : T
   pub count_is : connections opened events ≡ v.opened
   pub open_are : (c : ℕ) → is_open opened c events ≡ is_some (conn_of c v.machine.conns)
   -- of one that is broken nobody asks any more whether its peer hung up
-  pub hung_are : (c : ℕ) (k : ConnValue) (s : StreamValue) → conn_of c v.machine.conns ≡ Some k → stream_of c v.streams ≡ Some s → k.broken ≡ false → s.hung_up ≡ hung_up opened c events
+  pub hung_are : (c : ℕ) (k : ConnValue) → conn_of c v.machine.conns ≡ Some k → k.broken ≡ false → k.hung_up ≡ hung_up opened c events
   -- of one whose pieces are taken the text was read
-  pub reads_are : (c : ℕ) (k : ConnValue) (s : StreamValue) → conn_of c v.machine.conns ≡ Some k → stream_of c v.streams ≡ Some s → is_listening k s ≡ true
+  pub reads_are : (c : ℕ) (k : ConnValue) (s : StreamValue) → conn_of c v.machine.conns ≡ Some k → stream_of c v.streams ≡ Some s → is_listening k ≡ true
       → (given : List HttpRequest) × HasRead s.reader (stream opened c events) given
 
 -- it stands for what occurs by them, where these replies and jobs were taken
@@ -44,12 +42,6 @@ pub record Served (v : GatewayValue) (opened : List ℕ) (events : Before) (take
 -- the replies taken, and one of that connection more, if it is given
 abbrev pub with_reply : ℕ → Option ReplyValue → (ℕ → List ReplyEntry) → ℕ → List ReplyEntry
 with_reply n reply taken c = if c == n then taken c ++ option_to_list (option_map (λ r. r.entry) reply) else taken c
-
--- what the gateway stands for once bytes were fed: those that were taken have come; at a fault all of them, or those up to what broke the connection
-abbrev pub ServedFed : ℕ → List ℕ → GatewayValue → List ℕ → Before → (ℕ → List ReplyEntry) → List JobValue → Result ℕ StepFault → Type 0
-ServedFed n bytes w opened es taken handed (Ok m) = Served w opened (Piece n (take m bytes) ∷ es) taken handed
-ServedFed n bytes w opened es taken handed (Err fault) =
-    Served w opened (Piece n bytes ∷ es) taken handed ⊎ ((m : ℕ) × (is_broken_in n w.machine.conns ≡ true) × Served w opened (Piece n (take m bytes) ∷ es) taken handed)
 
 -- ---- a piece that is fed in parts
 

@@ -32,7 +32,7 @@ use Rattle.gateway_model.specs.Queue.{IsPrefixOf}
 use Rattle.gateway_theory.specs.Replies.{ReplyValue}
 use Rattle.gateway_theory.specs.Served.{Served}
 use Rattle.gateway_model.specs.Starts.{Placed, occurrences}
-use Rattle.gateway_theory.specs.Store.{MachineValue, broken_at, conn_at, conn_of, numbers}
+use Rattle.gateway_theory.specs.Store.{MachineValue, broken_at, conn_at, conn_of, hung_at, numbers}
 use Rattle.gateway_theory.specs.Tally.{tally_of}
 use Rattle.gateway_theory.specs.declared.tally.Tally.{Tally}
 
@@ -65,7 +65,7 @@ pub record HasBrought (k : ConnValue) (reader : ReaderValue) : Type 0 where
 -- so it is of each stream that goes on
 abbrev pub StreamsBring : GatewayValue → Type 0
 StreamsBring v =
-    (c : ℕ) (k : ConnValue) (s : StreamValue) → conn_of c v.machine.conns ≡ Some k → stream_of c v.streams ≡ Some s → is_listening k s ≡ true → HasBrought k s.reader
+    (c : ℕ) (k : ConnValue) (s : StreamValue) → conn_of c v.machine.conns ≡ Some k → stream_of c v.streams ≡ Some s → is_listening k ≡ true → HasBrought k s.reader
 
 -- less has come on the connection than its stream brought
 pub record IsBehind (k : ConnValue) (reader : ReaderValue) : Type 0 where
@@ -117,11 +117,11 @@ pub record ListensAt (number : ℕ) (v : GatewayValue) (i : ℕ) : Type 0 where
   pub conn_is : (conn_at i v.machine.conns).number ≡ number
   pub stream_is : (stream_at i v.streams).number ≡ number
   pub unbroken : (conn_at i v.machine.conns).broken ≡ false
-  pub on : (stream_at i v.streams).hung_up ≡ false
+  pub on : (conn_at i v.machine.conns).hung_up ≡ false
 
--- a stream of that number is not there, or no pieces of it are taken
+-- the connection of that number is not open, or no pieces of its stream are taken
 abbrev pub NotListening : ℕ → GatewayValue → Type 0
-NotListening number v = (k : ConnValue) (s : StreamValue) → conn_of number v.machine.conns ≡ Some k → stream_of number v.streams ≡ Some s → is_listening k s ≡ false
+NotListening number v = (k : ConnValue) → conn_of number v.machine.conns ≡ Some k → is_listening k ≡ false
 
 abbrev pub IsListening : ℕ → GatewayValue → Option ℕ → Type 0
 IsListening number v None = NotListening number v
@@ -244,23 +244,18 @@ pub data FedTo (number : ℕ) (bytes : List ℕ) (v w : GatewayValue) (result : 
 
 -- ---- what else is done
 
--- no more is read of the stream at that place
-abbrev pub without_more : ℕ → List StreamValue → List StreamValue
-without_more i streams = slice_set streams i (record (stream_at i streams) { hung_up = true })
+-- calls end of the machine, to which what ends them was told
+pub record Ends (trigger : Trigger) (told : MachineValue) (v w : GatewayValue) : Type 0 where
+  pub ends : CallsEnd trigger told w.machine
+  pub rest : w ≡ record v { machine = w.machine }
 
 -- the peer of a connection hangs up
 pub data HangsUp (number : ℕ) (v w : GatewayValue) (result : Result ⊤ StepFault) : Type 0 where
   -- no piece of its stream is taken any more
   unnoticed : NotListening number v → result ≡ Err Gone → w ≡ v → HangsUp number v w result
   -- its calls end, or it breaks
-  hung : (i : ℕ) → ListensAt number v i → CallsEnd (HungUp number) v.machine w.machine
-      → w ≡ record v { machine = w.machine; streams = without_more i v.streams }
+  hung : (i : ℕ) → ListensAt number v i → Ends (HungUp number) (hung_at number v.machine) v w
       → result ≡ (if is_broken_in number w.machine.conns then Err Memory else Ok tt) → HangsUp number v w result
-
--- calls end of the machine, to which what ends them was told
-pub record Ends (trigger : Trigger) (told : MachineValue) (v w : GatewayValue) : Type 0 where
-  pub ends : CallsEnd trigger told w.machine
-  pub rest : w ≡ record v { machine = w.machine }
 
 -- a connection breaks in the step, or none does
 abbrev pub Breaks : GatewayValue → GatewayValue → Bool → Type 0

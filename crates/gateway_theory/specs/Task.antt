@@ -1,5 +1,5 @@
 -- A branch of a call that waits for its start, and a job as it is handed out.
-use Rattle.std.specs.Prelude.{ℕ, ◌-◌, Bool, Option}
+use Rattle.std.specs.Prelude.{ℕ, ◌-◌, Bool, Option, option_map}
 use Rattle.gateway_model.specs.declared.id.CallId.{CallId}
 use Rattle.gateway_model.specs.Past.{ArrivedCall, deadline_from, smaller}
 use Rattle.gateway_model.specs.Job.{JobValue, job_of}
@@ -16,6 +16,10 @@ task_of call asked i = record { call = call; branch = i; asked = asked }
 -- its job, where it starts at this moment
 abbrev pub job_at : ℕ → TaskValue → JobValue
 job_at moment t = job_of t.call t.branch t.asked moment
+
+-- what is left of the time until the deadline (Go `time.Until`)
+abbrev pub left_at : ℕ → Option ℕ → Option ℕ
+left_at moment deadline = option_map (λ d. d - moment) deadline
 
 -- the sooner of two deadlines: its call's, and its own, where it starts at this moment
 abbrev pub deadline_at : ℕ → TaskValue → Option ℕ

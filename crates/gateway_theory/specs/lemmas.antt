@@ -70,7 +70,6 @@ pub mod Breaking
 pub mod SeenResults
 pub mod OpenCount
 pub mod LaterOpenings
-pub mod HeadLemmas
 pub mod NotedLemmas
 pub mod Knowing
 pub mod Telling

@@ -10,7 +10,8 @@ ghost use Rattle.connect_codec.specs.declared.answer.Outcome.{Outcome};
 ghost use Rattle.gateway_theory.specs.EventAdds.{EventAdds};
 ghost use Rattle.gateway_model.specs.declared.event.Event.{Event};
 ghost use Rattle.gateway_model.specs.Events.{Occurs};
-ghost use Rattle.gateway_model.specs.Starts.{Placed, job_started, jobs, occurrences, starts};
+ghost use Rattle.gateway_model.specs.Starts.{Placed, jobs, occurrences, starts};
+ghost use Rattle.gateway_theory.specs.Starting.{job_started};
 ghost use Rattle.call_plan.specs.Plan.{PlanRecord};
 ghost use Rattle.gateway_model.specs.declared.seen.Seen.{Seen};
 ghost use Rattle.gateway_model.specs.declared.entry.ReplyEntry.{ReplyEntry};
@@ -20,7 +21,8 @@ ghost use Rattle.gateway_model.specs.declared.ending.EndCause.{EndCause};
 ghost use Rattle.connect_codec.specs.Reply.{error_reply};
 ghost use Rattle.gateway_model.specs.Errors.{cause_of, ending_error};
 ghost use Rattle.gateway_theory.specs.Endings.{ending_with};
-ghost use Rattle.gateway_model.specs.Queue.{call_reply, entry, joined_reply, replies, queued, IsPrefixOf};
+ghost use Rattle.gateway_model.specs.Queue.{call_reply, entry, queued, IsPrefixOf};
+ghost use Rattle.gateway_theory.specs.Replies.{joined_reply, replies};
 
 use crate::request_laws::request_laws;
 

@@ -1,6 +1,6 @@
 -- A piece that is fed in parts.
 use Rattle.std.proofs.Common.{◌≡◌, ℕ, ◌-◌, Bool, true, false, List, [], ◌∷◌, ◌++◌, take, drop, length, refl, sym, ap, ◌∙◌, subst, arith, inl, inr, append-nil, append_assoc}
-use Rattle.std.specs.Prelude.{◌==◌, ◌↔◌, ◌⊎◌, ◌+◌, ◌<◌, ◌≤◌, filter, OnOk, Result, Ok, Err, IsErr, IsErrAnd}
+use Rattle.std.specs.Prelude.{◌==◌, ◌↔◌, ◌⊎◌, ◌<◌, ◌≤◌, filter, OnOk, Result, Ok, Err, IsErr, IsErrAnd}
 use Rattle.gateway_theory.specs.declared.fault.StepFault.{StepFault}
 use Rattle.gateway_theory.specs.declared.fault.StepFault.TheVariants.{Exhausted, Gone, Memory}
 use Rattle.std.proofs.lemmas.Bool.{cases_lt, eqb-true}
@@ -14,7 +14,6 @@ use Rattle.gateway_theory.specs.Gateway.{GatewayValue, is_broken_conn, untaken_o
 use Rattle.gateway_model.specs.Job.{JobValue}
 use Rattle.gateway_theory.specs.Served.{Served, ServedUpTo}
 use Rattle.gateway_theory.specs.Serving.{CountsCalls, NotListening, Keeps, TellsStep, most_begun}
-use Rattle.gateway_theory.specs.Store.{MachineValue}
 
 -- nothing was fed yet, or the connection listens, and did
 pub data Listening (conn : ℕ) (v w : GatewayValue) : Type 0 where

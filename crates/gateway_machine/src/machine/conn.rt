@@ -86,6 +86,13 @@ impl Conn {
         }
     }
 
+    /// Whether its peer hung up.
+    pub(crate) fn has_hung_up(&self) -> bool
+        ensures { result ≡ self.now.hung_up }
+    {
+        self.hung_up
+    }
+
     /// Whether as many calls of it are undecided as may be.
     pub(crate) fn is_full(&self) -> bool
         ensures { result ≡ is_full self.now.slots }

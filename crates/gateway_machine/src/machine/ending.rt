@@ -1,50 +1,20 @@
-ghost use Rattle.std.specs.Prelude.{◌≡◌, ◌<◌, ℕ, length};
-ghost use Rattle.gateway_theory.specs.declared.trigger.Trigger.{Trigger as AnyTrigger};
+ghost use Rattle.std.specs.Prelude.{◌≡◌, ◌≤◌, ℕ, Bool, Some as Just, length};
+ghost use Rattle.gateway_machine.specs.Calls.{rooms};
 ghost use Rattle.gateway_machine.specs.Linked.{IsNow, Over, linked, linked_by, over_by};
 ghost use Rattle.gateway_replies.specs.Contexts.{Ended, ends_of};
 ghost use Rattle.gateway_replies.specs.Hooks.{StocksStay};
-ghost use Rattle.gateway_theory.specs.Heads.{conn_heads};
-ghost use Rattle.gateway_theory.specs.Ends.{AreApart, CallsEnd, EndedAt, IsSettled, settled_at, SettledBelow};
+ghost use Rattle.gateway_theory.specs.Ends.{AreApart, CallsEnd, EndedAt, EndedBelow, IsSettled, settled_at, SettledBelow};
+ghost use Rattle.gateway_theory.specs.Store.{IsFound, waiting};
 
-use crate::machine::store::Machine;
+use crate::machine::calls::Calls;
+use crate::machine::conn::Conn;
+use crate::machine::store::{Machine, break_in, fill_in};
+use gateway_model::CallId;
 use gateway_replies::{Contexts, ReplyHook};
 use gateway_theory::Trigger;
 use std::alloc::Global;
 
 impl Machine {
-    /// Ends the call at that place, if its context has ended; its connection breaks where memory is refused to its reply.
-    pub(crate) fn end_call<H: ReplyHook + Drop>(
-        &mut self,
-        alloc: Global,
-        contexts: &mut Contexts<H>,
-        index: usize,
-    )
-        requires there { index < length self.old.calls }
-        requires live { (ends : ℕ → Ended) × (over : Over) × (contexts.old.standing ≡ linked_by ends over self.old) }
-        ensures ended { (ends : ℕ → Ended) (trigger : AnyTrigger) → IsNow trigger self.old.moment
-            → contexts.old.standing ≡ linked_by ends (over_by trigger) self.old → EndedAt trigger index self.old self.new }
-        ensures linked { (ends : ℕ → Ended) (trigger : AnyTrigger) → IsNow trigger self.old.moment
-            → contexts.old.standing ≡ linked_by ends (over_by trigger) self.old → contexts.new.standing ≡ linked_by ends (over_by trigger) self.new }
-        ensures stocks { StocksStay contexts.old contexts.new }
-    {
-        contexts.apart_law();
-        let moment = self.moment;
-        if self.calls[index].end(alloc, contexts, moment).is_err() {
-            let id = self.calls[index].id();
-            self.break_conn(contexts, id.conn.number());
-        }
-    }
-
-    /// Puts the reply of the call at that place into its slot.
-    pub(crate) fn settle(&mut self, index: usize)
-        requires { index < length self.old.calls }
-        ensures settled { self.new ≡ settled_at index self.old }
-        ensures linked { (ends : ℕ → Ended) (over : Over) → linked_by ends over self.new ≡ linked_by ends over self.old }
-    {
-        let reply = self.calls[index].take_reply();
-        self.fill(reply);
-    }
-
     /// Ends all calls whose contexts have ended: their replies go into their slots. Where memory is refused to one of them, its
     /// connection breaks.
     pub(crate) fn end_calls<H: ReplyHook + Drop>(
@@ -59,23 +29,101 @@ impl Machine {
         requires linked { contexts.old.standing ≡ linked_by (ends_of contexts.old.standing) (over_by trigger.now) self.old }
         ensures ended { CallsEnd trigger.now self.old self.new }
         ensures linked { contexts.new.standing ≡ linked contexts.old.standing self.new }
-        ensures heads { conn_heads self.new.conns ≡ conn_heads self.old.conns }
         ensures stocks { StocksStay contexts.old contexts.new }
     {
-        for index in 0..self.calls.len() {
-            self.end_call(alloc, contexts, index);
-        }
-        self.settle_all();
+        end_listed(
+            alloc,
+            contexts,
+            &mut self.conns,
+            &mut self.calls,
+            trigger,
+            self.moment,
+        );
+        settle_listed(&mut self.conns, &mut self.calls);
     }
+}
 
-    /// Puts the replies that were made into their slots.
-    fn settle_all(&mut self)
-        ensures settled { SettledBelow (length self.old.calls) self.old self.new }
-        ensures linked { (ends : ℕ → Ended) (over : Over) → linked_by ends over self.new ≡ linked_by ends over self.old }
-        ensures heads { conn_heads self.new.conns ≡ conn_heads self.old.conns }
-    {
-        for index in 0..self.calls.len() {
-            self.settle(index);
-        }
+/// Ends the calls whose contexts have ended at this moment. Where memory is refused to the reply of one, its connection breaks.
+fn end_listed<H: ReplyHook + Drop>(
+    alloc: Global,
+    contexts: &mut Contexts<H>,
+    conns: &mut Vec<Conn>,
+    calls: &mut Calls,
+    trigger: &Trigger,
+    moment: u64,
+)
+    requires now { IsNow trigger.now moment }
+    requires settled { IsSettled (rooms moment contexts.old.standing.drained conns.old.items calls.old.items) }
+    requires linked { contexts.old.standing
+        ≡ linked_by (ends_of contexts.old.standing) (over_by trigger.now) (rooms moment contexts.old.standing.drained conns.old.items calls.old.items) }
+    ensures ended { EndedBelow trigger.now (length calls.old.items) (rooms moment contexts.old.standing.drained conns.old.items calls.old.items)
+        (rooms moment contexts.old.standing.drained conns.new.items calls.new.items) }
+    ensures linked { contexts.new.standing
+        ≡ linked_by (ends_of contexts.old.standing) (over_by trigger.now) (rooms moment contexts.old.standing.drained conns.new.items calls.new.items) }
+    ensures waits { waiting calls.new.items ≤ waiting calls.old.items }
+    ensures stocks { StocksStay contexts.old contexts.new }
+{
+    calls.covers_law();
+    for index in 0..calls.listed_len() {
+        let id = calls.listed_at(index);
+        end_call(alloc, contexts, conns, calls, &id, trigger, moment);
+    }
+}
+
+/// Ends the call, if its context has ended at this moment; its connection breaks where memory is refused to its reply.
+fn end_call<H: ReplyHook + Drop>(
+    alloc: Global,
+    contexts: &mut Contexts<H>,
+    conns: &mut Vec<Conn>,
+    calls: &mut Calls,
+    id: &CallId,
+    trigger: &Trigger,
+    moment: u64,
+)
+    requires now { IsNow trigger.now moment }
+    requires linked { (ends : ℕ → Ended) × (drained : Bool) × (contexts.old.standing ≡ linked_by ends (over_by trigger.now) (rooms moment drained conns.old.items calls.old.items)) }
+    ensures ended { (ends : ℕ → Ended) (drained : Bool) (i : ℕ) → IsFound id.now calls.old.items (Just i)
+        → contexts.old.standing ≡ linked_by ends (over_by trigger.now) (rooms moment drained conns.old.items calls.old.items)
+        → EndedAt trigger.now i (rooms moment drained conns.old.items calls.old.items) (rooms moment drained conns.new.items calls.new.items) }
+    ensures linked { (ends : ℕ → Ended) (drained : Bool) (i : ℕ) → IsFound id.now calls.old.items (Just i)
+        → contexts.old.standing ≡ linked_by ends (over_by trigger.now) (rooms moment drained conns.old.items calls.old.items)
+        → contexts.new.standing ≡ linked_by ends (over_by trigger.now) (rooms moment drained conns.new.items calls.new.items) }
+    ensures listed { calls.new.listed ≡ calls.old.listed }
+    ensures waits { waiting calls.new.items ≤ waiting calls.old.items }
+    ensures stocks { StocksStay contexts.old contexts.new }
+{
+    contexts.apart_law();
+    if calls.end(alloc, contexts, id, moment).is_err() {
+        let number = id.conn.number();
+        contexts.close(number);
+        calls.give_up(number);
+        break_in(conns, number);
+    }
+}
+
+/// Puts the replies that were made into their slots.
+fn settle_listed(conns: &mut Vec<Conn>, calls: &mut Calls)
+    ensures settled { (moment : ℕ) (drained : Bool) → SettledBelow (length calls.old.items) (rooms moment drained conns.old.items calls.old.items)
+        (rooms moment drained conns.new.items calls.new.items) }
+    ensures linked { (ends : ℕ → Ended) (over : Over) (moment : ℕ) (drained : Bool) → linked_by ends over (rooms moment drained conns.new.items calls.new.items)
+        ≡ linked_by ends over (rooms moment drained conns.old.items calls.old.items) }
+    ensures waits { waiting calls.new.items ≡ waiting calls.old.items }
+{
+    calls.covers_law();
+    for index in 0..calls.listed_len() {
+        let id = calls.listed_at(index);
+        settle(conns, calls, &id);
+    }
+}
+
+/// Puts the reply of the call into its slot, if it has one.
+fn settle(conns: &mut Vec<Conn>, calls: &mut Calls, id: &CallId)
+    ensures settled { (moment : ℕ) (drained : Bool) (i : ℕ) → IsFound id.now calls.old.items (Just i)
+        → rooms moment drained conns.new.items calls.new.items ≡ settled_at i (rooms moment drained conns.old.items calls.old.items) }
+    ensures listed { calls.new.listed ≡ calls.old.listed }
+    ensures waits { waiting calls.new.items ≡ waiting calls.old.items }
+{
+    if let Some(reply) = calls.take_reply(id) {
+        fill_in(conns, reply);
     }
 }

@@ -14,13 +14,12 @@ ghost use Rattle.gateway_model.specs.Occurrence.{Coming};
 ghost use Rattle.gateway_theory.specs.Arrivals.{calls_in};
 ghost use Rattle.gateway_theory.specs.Serving.{IsFault, IsMade, begins_at, most_begun};
 ghost use Rattle.gateway_theory.specs.Step.{gone, step_to};
-ghost use Rattle.gateway_theory.specs.Store.{broken_at, conn_at, waiting};
+ghost use Rattle.gateway_theory.specs.Store.{IsFound, broken_at, conn_at};
 ghost use Rattle.gateway_theory.specs.declared.fault.StepFault.TheVariants as fault;
 
 use crate::job::Job;
 use crate::machine::arriving::Arriving;
 use crate::machine::begin::begin;
-use crate::machine::kept::Kept;
 use crate::machine::store::Machine;
 use crate::machine::task::Task;
 use crate::machine::times::start_first;
@@ -54,6 +53,7 @@ impl Machine {
         requires not_hung { ends_of contexts.old.standing (conn_at index self.old.conns).number ≡ by_drain self.old.drained }
         requires fresh { is_life (next_of (conn_at index self.old.conns)) contexts.old.standing.calls ≡ false }
         requires stocked { stock_in (conn_at index self.old.conns).number contexts.old.stocks ≡ Some [] → ⊥ }
+        requires new { IsFound (next_of (conn_at index self.old.conns)) self.old.calls Nothing }
         requires linked { contexts.old.standing ≡ linked contexts.old.standing self.old }
         ensures made { IsMade index (Coming.Request request (arrival_of plans.now request)) begun.old self.old begun.new self.new result }
         ensures linked { contexts.new.standing ≡ linked contexts.old.standing self.new }
@@ -108,6 +108,7 @@ impl Machine {
         requires not_hung { ends_of contexts.old.standing (conn_at index self.old.conns).number ≡ by_drain self.old.drained }
         requires fresh { is_life (next_of (conn_at index self.old.conns)) contexts.old.standing.calls ≡ false }
         requires stocked { stock_in (conn_at index self.old.conns).number contexts.old.stocks ≡ Some [] → ⊥ }
+        requires new { IsFound (next_of (conn_at index self.old.conns)) self.old.calls Nothing }
         requires linked { contexts.old.standing ≡ linked contexts.old.standing self.old }
         ensures ok { OnOk result (self.new
             ≡ entered_at index (arriving_at index (Coming.Request request (arrival_of plans.now request)) self.old) self.old) }
@@ -139,6 +140,7 @@ impl Machine {
     ) -> Result<(), StepFault>
         requires there { index < length self.old.conns }
         requires room { (next_of (conn_at index self.old.conns)).request < most_requests }
+        requires new { IsFound (next_of (conn_at index self.old.conns)) self.old.calls Nothing }
         ensures ok { OnOk result (self.new
             ≡ entered_at index (begins self.old.moment Nothing (next_of (conn_at index self.old.conns)) asked) self.old) }
         ensures err { OnErr result (self.new ≡ self.old) }
@@ -269,7 +271,7 @@ impl Machine {
         self.conns[index].add(Some(reply))
     }
 
-    /// A call begins on the connection at that place. All growths come before the first change.
+    /// A call begins on the connection at that place. Where memory is refused to its slot, it is not kept.
     pub(crate) fn begin(
         &mut self,
         alloc: Global,
@@ -278,32 +280,23 @@ impl Machine {
     ) -> Result<(), AllocError>
         requires there { index < length self.old.conns }
         requires room { (next_of (conn_at index self.old.conns)).request < most_requests }
+        requires new { IsFound (next_of (conn_at index self.old.conns)) self.old.calls Nothing }
         ensures ok { OnOk result (self.new
             ≡ entered_at index (begins self.old.moment Nothing (next_of (conn_at index self.old.conns)) asked) self.old) }
         ensures err { OnErr result (self.new ≡ self.old) }
     {
         let id = self.conns[index].next_id();
         let (call, first) = begin(alloc, id, asked, self.moment)?;
-        let room = waiting(&self.calls) + call.waiting() + first.len();
-        self.calls.reserve(1)?;
+        let room = self.calls.waiting() + call.waiting() + first.len();
         self.jobs.reserve(room)?;
-        self.conns[index].add(None)?;
-        self.calls.push_reserved(call);
+        self.calls.push(call)?;
+        if self.conns[index].add(None).is_err() {
+            self.calls.forget(&id);
+            return Err(AllocError);
+        }
         start_all(&mut self.jobs, first, self.moment);
         Ok(())
     }
-}
-
-/// How many branches wait for their start.
-fn waiting(calls: &Vec<Kept>) -> usize
-    requires { waiting calls.now.items < 18446744073709551616 }
-    ensures { result ≡ waiting calls.now.items }
-{
-    let mut count = 0;
-    for index in 0..calls.len() {
-        count += calls[index].waiting();
-    }
-    count
 }
 
 /// Queues the jobs of the branches that start as their call begins.

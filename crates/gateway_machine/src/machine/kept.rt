@@ -1,12 +1,12 @@
 ghost use Rattle.std.specs.Prelude.{◌≡◌, ◌≤◌, ◌^◌, ℕ, OnOk, OnErr, true, false, if◌then◌else◌, is_some, None as Nothing, Some, option_map, option_to_list, slice_set};
 ghost use Rattle.std.specs.List.{count_by, list_any};
 ghost use Rattle.gateway_replies.specs.Contexts.{KeepsOthers, is_life, without};
+ghost use Rattle.gateway_machine.specs.Calls.{is_open};
 ghost use Rattle.gateway_machine.specs.KeptCall.{GoesOn, IsStep};
 ghost use Rattle.gateway_theory.specs.Ends.{unanswered, without_reply};
 ghost use Rattle.gateway_machine.specs.Linked.{ended_with, ends_with, event_for, passed_on};
 ghost use Rattle.gateway_theory.specs.Replies.{reply_with};
 ghost use Rattle.gateway_theory.specs.Results.{back_kept, is_spent};
-ghost use Rattle.gateway_model.specs.Past.{is_call};
 ghost use Rattle.gateway_theory.specs.Store.{given_up_if, waiting_in};
 ghost use Rattle.gateway_model.specs.declared.seen.Seen.{Seen};
 ghost use Rattle.gateway_theory.specs.Step.{Live as Going, has_out, next_out, result_on};
@@ -57,18 +57,18 @@ impl Model for Kept {
 }
 
 impl Kept {
-    /// Whether it is the call of that id.
-    pub(crate) fn is_of(&self, id: &CallId) -> bool
-        ensures { result ≡ is_call self.now.id id.now }
-    {
-        self.id == *id
-    }
-
     /// Whether it can still be decided.
     pub(crate) fn is_live(&self) -> bool
         ensures { result ≡ is_some self.now.call.live }
     {
         self.live.is_some()
+    }
+
+    /// Whether it may change without a result: it can be decided, or its reply is not in its slot.
+    pub(crate) fn is_open(&self) -> bool
+        ensures { result ≡ is_open self.now }
+    {
+        self.live.is_some() || self.reply.is_some()
     }
 
     /// Whether no branch of it is out, and it can't be decided any more.

@@ -6,7 +6,7 @@ ghost use Rattle.gateway_theory.specs.Store.{call_at, conn_of};
 
 use crate::job::Job;
 use crate::machine::conn::Conn;
-use crate::machine::store::{Machine, give_up};
+use crate::machine::store::Machine;
 use gateway_model::CallId;
 use gateway_replies::{Contexts, Reply, ReplyHook, Stock};
 use std::alloc::Global;
@@ -45,7 +45,7 @@ impl Machine {
         ensures stocks { StocksStay contexts.old contexts.new }
     {
         contexts.close(number);
-        give_up(&mut self.calls, number);
+        self.calls.give_up(number);
         close_in(&mut self.conns, number);
     }
 
@@ -70,8 +70,8 @@ impl Machine {
     fn is_live(&self, id: &CallId) -> bool
         ensures { result ≡ is_some (call_at id.now self.now.calls).live }
     {
-        match self.find(id) {
-            Some(index) => self.calls[index].is_live(),
+        match self.calls.find(id) {
+            Some(call) => call.is_live(),
             None => false,
         }
     }

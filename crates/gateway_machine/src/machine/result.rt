@@ -1,5 +1,4 @@
-ghost use Rattle.std.specs.Prelude.{◌≡◌, ◌+◌, ◌<◌, ◌≤◌, ◌++◌, ◌^◌, ℕ, None as Nothing, false, true, if◌then◌else◌, filter, length, map, not, option_to_list};
-ghost use Rattle.gateway_model.specs.Past.{is_call};
+ghost use Rattle.std.specs.Prelude.{◌≡◌, ◌+◌, ◌≤◌, ◌++◌, ◌^◌, ℕ, None as Nothing, Some as Just, true, if◌then◌else◌, length, map, option_to_list};
 ghost use Rattle.std.specs.VecDeque.{deque_capacity};
 ghost use Rattle.gateway_theory.specs.Ends.{AreApart};
 ghost use Rattle.gateway_theory.specs.Task.{job_at};
@@ -10,11 +9,10 @@ ghost use Rattle.gateway_replies.specs.Hooks.{StocksStay};
 ghost use Rattle.gateway_theory.specs.Orderly.{IsOrderly};
 ghost use Rattle.gateway_theory.specs.Results.{back_at, DecidedBy, Forgets, NoneSpent, Starved};
 ghost use Rattle.gateway_theory.specs.Step.{has_out};
-ghost use Rattle.gateway_theory.specs.Store.{MachineValue, broken_at, kept_at};
+ghost use Rattle.gateway_theory.specs.Store.{IsFound, MachineValue, broken_at, call_at};
 ghost use Rattle.gateway_model.specs.declared.seen.Seen.{Seen};
 
 use crate::job::Job;
-use crate::machine::kept::Kept;
 use crate::machine::store::Machine;
 use crate::machine::task::Task;
 use connect_codec::Outcome;
@@ -40,22 +38,22 @@ impl Machine {
         ensures linked { contexts.new.standing ≡ linked contexts.old.standing self.new }
         ensures stocks { StocksStay contexts.old contexts.new }
     {
-        let Some(index) = self.find(id) else {
+        let Some(call) = self.calls.find(id) else {
             return Took::unknown();
         };
-        if !self.calls[index].is_out(branch) {
+        if !call.is_out(branch) {
             return Took::unknown();
         }
         contexts.apart_law();
-        self.calls[index].going_law();
-        if self.calls[index]
+        call.going_law();
+        if call
             .pass_on(contexts, branch, &outcome, self.moment)
             .is_err()
         {
             return self.drop_result(contexts, id, branch);
         }
-        let seen = self.calls[index].seen();
-        let taken = self.calls[index].take_result(branch, outcome, self.moment);
+        let seen = call.seen();
+        let taken = self.calls.take_result(id, branch, outcome, self.moment);
         start(&mut self.jobs, taken.next, self.moment);
         let broke = self.decide(alloc, contexts, id, taken.decided);
         Took { seen, broke }
@@ -115,16 +113,16 @@ impl Machine {
         ensures linked { contexts.new.standing ≡ linked contexts.old.standing self.new }
         ensures stocks { StocksStay contexts.old contexts.new }
     {
-        let Some(index) = self.find(id) else {
+        let Some(call) = self.calls.find(id) else {
             return Took::unknown();
         };
-        if !self.calls[index].is_out(branch) {
+        if !call.is_out(branch) {
             return Took::unknown();
         }
-        let seen = self.calls[index].seen();
-        let broke = self.calls[index].is_live();
+        let seen = call.seen();
+        let broke = call.is_live();
         self.break_if(contexts, broke, id.conn.number());
-        self.give_back(index, branch);
+        self.give_back(id, branch);
         Took { seen, broke }
     }
 
@@ -145,15 +143,14 @@ impl Machine {
         }
     }
 
-    /// A branch of the call at that place comes back, which can't be decided any more.
-    fn give_back(&mut self, index: usize, branch: u32)
-        requires kept { index < length self.old.calls }
-        requires out { has_out (kept_at index self.old.calls).call branch ≡ true }
-        requires over { (kept_at index self.old.calls).call.live ≡ Nothing }
-        ensures back { self.new ≡ back_at index branch self.old }
+    /// A branch of the call comes back, which can't be decided any more.
+    fn give_back(&mut self, id: &CallId, branch: u32)
+        requires out { has_out (call_at id.now self.old.calls) branch ≡ true }
+        requires over { (call_at id.now self.old.calls).live ≡ Nothing }
+        ensures back { (i : ℕ) → IsFound id.now self.old.calls (Just i) → self.new ≡ back_at i branch self.old }
         ensures linked { (ends : ℕ → Ended) → linked_by ends none_over self.new ≡ linked_by ends none_over self.old }
     {
-        self.calls[index].give_back(branch);
+        self.calls.give_back(id, branch);
     }
 
     /// Forgets the call as `forget` does, unless the result was of no branch that was out.
@@ -177,11 +174,11 @@ impl Machine {
         ensures linked { (ends : ℕ → Ended) → linked_by ends none_over self.new ≡ linked_by ends none_over self.old }
         ensures none_spent { NoneSpent id.now self.new.calls }
     {
-        let Some(index) = self.find(id) else {
+        let Some(call) = self.calls.find(id) else {
             return;
         };
-        if self.calls[index].is_spent() {
-            forget_in(&mut self.calls, id);
+        if call.is_spent() {
+            self.calls.forget(id);
         }
     }
 
@@ -213,13 +210,6 @@ impl Machine {
             }
         }
     }
-}
-
-/// Leaves the calls of other ids.
-fn forget_in(calls: &mut Vec<Kept>, id: &CallId)
-    ensures { calls.new.items ≡ filter (λ k. not (is_call k.id id.now)) calls.old.items }
-{
-    calls.retain(|call| !call.is_of(id));
 }
 
 /// Queues the job of the branch that starts, whose room was made as its call began.

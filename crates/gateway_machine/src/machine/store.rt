@@ -6,11 +6,11 @@ ghost use Rattle.gateway_theory.specs.Ends.{is_broken_in, noted};
 ghost use Rattle.gateway_replies.specs.Contexts.{closed};
 ghost use Rattle.gateway_replies.specs.Hooks.{StocksStay};
 ghost use Rattle.gateway_theory.specs.Step.{moment_after};
-ghost use Rattle.gateway_theory.specs.Store.{IsFound, call_at, conn_at, broken_at, broken_count, broken_if, given_up_if, fill_first, filled_in, hung_if, machine_value};
+ghost use Rattle.gateway_theory.specs.Store.{call_at, conn_at, broken_at, broken_count, broken_if, fill_first, filled_in, hung_if, machine_value};
 
 use crate::job::Job;
+use crate::machine::calls::Calls;
 use crate::machine::conn::Conn;
-use crate::machine::kept::Kept;
 use gateway_model::CallId;
 use gateway_replies::{Contexts, Reply, ReplyHook};
 use gateway_theory::Trigger;
@@ -28,8 +28,7 @@ pub struct Machine {
     pub(crate) drained: bool,
     /// By rising number.
     pub(crate) conns: Vec<Conn>,
-    /// By beginning.
-    pub(crate) calls: Vec<Kept>,
+    pub(crate) calls: Calls,
     /// The jobs not taken yet, with room for those of all branches that wait for their start.
     pub(crate) jobs: VecDeque<Job>,
 }
@@ -55,7 +54,7 @@ impl Machine {
             moment: 0,
             drained: false,
             conns: Vec::new(alloc),
-            calls: Vec::new(alloc),
+            calls: Calls::new(alloc),
             jobs: VecDeque::new(alloc),
         }
     }
@@ -100,6 +99,14 @@ impl Machine {
         false
     }
 
+    /// Whether the peer of the connection at that place hung up.
+    pub(crate) fn has_hung_up(&self, index: usize) -> bool
+        requires { index < length self.now.conns }
+        ensures { result ≡ (conn_at index self.now.conns).hung_up }
+    {
+        self.conns[index].has_hung_up()
+    }
+
     /// How many replies of the connection at that place can be taken.
     pub(crate) fn untaken(&self, index: usize) -> usize
         requires { index < length self.now.conns }
@@ -120,8 +127,8 @@ impl Machine {
     pub(crate) fn branches_out(&self, id: &CallId) -> u32
         ensures { result ≡ count_by (λ b. b) (call_at id.now self.now.calls).out }
     {
-        match self.find(id) {
-            Some(index) => self.calls[index].outs(),
+        match self.calls.find(id) {
+            Some(call) => call.outs(),
             None => 0,
         }
     }
@@ -131,18 +138,6 @@ impl Machine {
         ensures { result ≡ broken_count self.now.conns }
     {
         broken_in(&self.conns)
-    }
-
-    /// Where the call is kept.
-    pub(crate) fn find(&self, id: &CallId) -> Option<usize>
-        ensures { IsFound id.now self.now.calls result }
-    {
-        for index in 0..self.calls.len() {
-            if self.calls[index].is_of(id) {
-                return Some(index);
-            }
-        }
-        None
     }
 
     /// Memory was refused in a step of the connection: it breaks, and its calls can't be decided any more.
@@ -156,7 +151,7 @@ impl Machine {
         ensures stocks { StocksStay contexts.old contexts.new }
     {
         contexts.close(number);
-        give_up(&mut self.calls, number);
+        self.calls.give_up(number);
         break_in(&mut self.conns, number);
     }
 
@@ -183,17 +178,8 @@ fn broken_in(conns: &Vec<Conn>) -> usize
     count
 }
 
-/// Gives up the calls of the connection.
-pub(crate) fn give_up(calls: &mut Vec<Kept>, number: u64)
-    ensures { calls.new.items ≡ map (given_up_if number) calls.old.items }
-{
-    for index in 0..calls.len() {
-        calls[index].give_up_if(number);
-    }
-}
-
 /// Breaks the connection of that number.
-fn break_in(conns: &mut Vec<Conn>, number: u64)
+pub(crate) fn break_in(conns: &mut Vec<Conn>, number: u64)
     ensures { conns.new.items ≡ map (broken_if number) conns.old.items }
 {
     for index in 0..conns.len() {
@@ -211,7 +197,7 @@ fn hang_up_in(conns: &mut Vec<Conn>, number: u64)
 }
 
 /// Fills the slot of the reply in its connection.
-fn fill_in(conns: &mut Vec<Conn>, reply: Reply)
+pub(crate) fn fill_in(conns: &mut Vec<Conn>, reply: Reply)
     ensures { conns.new.items ≡ fill_first reply conns.old.items }
 {
     let number = reply.id().conn.number();

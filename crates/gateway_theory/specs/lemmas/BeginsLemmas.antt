@@ -14,7 +14,8 @@ use Rattle.gateway_model.specs.Job.{job_of}
 use Rattle.gateway_model.specs.Occurrence.{Occurrence, Comes, Coming, Request, Refused}
 use Rattle.gateway_model.specs.declared.call_event.CallEvent.{CallEvent}
 use Rattle.gateway_model.specs.declared.call_event.CallEvent.TheVariants.{Answer as Answered, Failed, Expired, BranchExpired, HungUp, Drained}
-use Rattle.gateway_model.specs.Past.{Mark, Past, ArrivedCall, call, arrivals, coming_now, asked_now, asked_by, began, answers, started, is_out, is_closed, is_drained, own_event, ends_at_arrival, decides, decided, branch_deadline, branch_deadlines, is_due, now, crowds, mark_of, marked, branches}
+use Rattle.gateway_model.specs.Past.{Mark, Past, ArrivedCall, call, arrivals, coming_now, asked_now, asked_by, began, answers, started, is_out, is_closed, is_drained, own_event, ends_at_arrival, decides, decided, branch_deadlines, is_due, now, crowds, mark_of, marked, branches}
+use Rattle.gateway_theory.specs.lemmas.Deadlines.{branch_deadline}
 use Rattle.gateway_model.specs.declared.entry.ReplyEntry.{ReplyEntry}
 use Rattle.gateway_model.specs.declared.entry.ReplyEntry.TheVariants.{Refused as Refusing, Judged as Judging, Crowded as Crowding}
 use Rattle.gateway_model.specs.Queue.{came, own_events, entry_by, entry, call_entry}

@@ -19,7 +19,8 @@ use Rattle.gateway_model.specs.Occurrence.{Occurrence}
 use Rattle.gateway_model.specs.Past.{mark_of, marked}
 use Rattle.gateway_model.specs.Queue.{IsPrefixOf, front, queued_entries}
 use Rattle.gateway_theory.specs.Served.{QueueIs, Served}
-use Rattle.gateway_model.specs.Starts.{Placed, job_started, jobs, jobs_by, occurrences, start, starts}
+use Rattle.gateway_model.specs.Starts.{Placed, jobs, jobs_by, occurrences, starts}
+use Rattle.gateway_theory.specs.Starting.{job_started, start}
 use Rattle.gateway_theory.specs.Store.{conn_of, machine}
 use Rattle.gateway_theory.specs.lemmas.Concerned.{open_unclosed}
 use Rattle.gateway_theory.specs.lemmas.CutLemmas.{jobs_of_starts}

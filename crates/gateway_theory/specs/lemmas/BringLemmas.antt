@@ -2,7 +2,6 @@
 use Rattle.std.proofs.Common.{◌≡◌, ℕ, zero, suc, ◌<◌, Bool, true, false, List, [], ◌∷◌, length, Option, None, Some, Result, Ok, Err, refl, sym, ap, ◌∙◌, subst, arith}
 use Rattle.std.specs.Prelude.{⊤, ◌+◌, ◌≤◌, IfOk, OnErr, if◌then◌else◌, slice_set}
 use Rattle.std.specs.declared.alloc.AllocError.{AllocError}
-use Rattle.call_plan.specs.Plan.{PlanRecord}
 use Rattle.http_pieces.specs.declared.refusal.Refusal.{Refusal}
 use Rattle.http_pieces.specs.declared.state.State.TheVariants as state
 use Rattle.http_pieces.specs.Reader.{Reading, Partial, Waiting, Stopped, Done, after_request, state_of}
@@ -49,15 +48,6 @@ pub read_number : (r : Result (ℕ × Option HttpRequest) AllocError) (bytes : L
     → IfOk r (λ x. ReadsOn x.0 x.1 bytes s t) → OnErr r (t ≡ s) → t.number ≡ s.number
 read_number (Ok (n, q)) bytes s t ok err = take_number q ok.pushed t ok.takes ∙ ap (λ (x : StreamValue). x.number) ok.reads.rest
 read_number (Err e) bytes s t ok err = ap (λ (x : StreamValue). x.number) err
-
-take_hung : (q : Option HttpRequest) (s t : StreamValue) → MayTake q s t → t.hung_up ≡ s.hung_up
-take_hung None s t m = ap (λ (x : StreamValue). x.hung_up) m.0
-take_hung (Some q) s t m = ap (λ (x : StreamValue). x.hung_up) m.rest
-
-pub read_hung : (r : Result (ℕ × Option HttpRequest) AllocError) (bytes : List ℕ) (s t : StreamValue)
-    → IfOk r (λ x. ReadsOn x.0 x.1 bytes s t) → OnErr r (t ≡ s) → t.hung_up ≡ s.hung_up
-read_hung (Ok (n, q)) bytes s t ok err = take_hung q ok.pushed t ok.takes ∙ ap (λ (x : StreamValue). x.hung_up) ok.reads.rest
-read_hung (Err e) bytes s t ok err = ap (λ (x : StreamValue). x.hung_up) err
 
 pub read_settled : (r : Result (ℕ × Option HttpRequest) AllocError) (bytes : List ℕ) (s t : StreamValue)
     → IfOk r (λ x. ReadsOn x.0 x.1 bytes s t) → OnErr r (t ≡ s) → IsRead s → IsRead t

@@ -1,14 +1,14 @@
 -- No more comes on a connection than its stream brought, and that is no more than may come.
 use Rattle.std.proofs.Common.{◌≡◌, ℕ, zero, suc, ◌+◌, ◌-◌, ◌<◌, ◌≤◌, Bool, true, false, List, [], ◌∷◌, ◌++◌, take, drop, length, Option, None, Some, Result, Ok, Err, refl, sym, ap, ◌∙◌, subst, arith, inl, inr, ⊎_elim}
-use Rattle.std.specs.Prelude.{IfOk, OnErr, ◌⊎◌, ◌||◌, ◌&&◌, ◌==◌, MatchBool, not, if◌then◌else◌, nat_lt, map, option_map, slice_index_or, slice_set}
+use Rattle.std.specs.Prelude.{IfOk, OnErr, ◌⊎◌, ◌||◌, ◌==◌, MatchBool, if◌then◌else◌, nat_lt, option_map, slice_index_or, slice_set}
 use Rattle.std.specs.Option.{option_or}
-use Rattle.std.proofs.lemmas.Bool.{cases_Bool, cond_both, eq-eqb, eqb-true, or_parts}
+use Rattle.std.proofs.lemmas.Bool.{cond_both, eq-eqb, eqb-true}
 use Rattle.std.proofs.lemmas.List.{length-append, length-drop}
 use Rattle.http_pieces.specs.declared.refusal.Refusal.{Refusal}
-use Rattle.http_pieces.specs.Cut.{Asks, Complete, Cut, Incomplete, IsCut, IsCutText, Refused, cut_after, skip_pairs, with_head, without_block, without_head, most_head, Body, Refusal as RefusalAsked}
+use Rattle.http_pieces.specs.Cut.{Complete, Cut, Incomplete, IsCutText, Refused, cut_after, skip_pairs, with_head, without_block, without_head, most_head}
 use Rattle.http_pieces.specs.Fields.{asks_to_close}
 use Rattle.httparse.specs.Grammar.{RequestHead}
-use Rattle.http_pieces.specs.Head.{IsRequestHeadAsking, asks_with, body_length, request_asks, request_kind, request_with, version_of}
+use Rattle.http_pieces.specs.Head.{asks_with, request_kind, request_with}
 use Rattle.http_pieces.specs.Reader.{Done, HasRead, HasReadTo, Partial, ReaderValue, Reading, Stopped, Waiting, is_over, reader_value, state_of}
 use Rattle.http_pieces.specs.declared.state.State.TheVariants as state
 use Rattle.http_pieces.specs.Request.{HttpRequest, closes, is_v10, most_requests}
@@ -31,7 +31,7 @@ use Rattle.gateway_theory.specs.declared.tally.Tally.{Tally}
 use Rattle.gateway_theory.specs.lemmas.Cases.{or_none}
 use Rattle.gateway_theory.specs.lemmas.FeedLemmas.{stream_found, stream_set}
 use Rattle.gateway_theory.specs.lemmas.GatewayOpens.{stream_added}
-use Rattle.gateway_theory.specs.lemmas.GatewaySteps.{Goes, NoCallOf, WasBefore, goes_forgotten, goes_result, goes_starved, goes_then}
+use Rattle.gateway_theory.specs.lemmas.GatewaySteps.{Goes, ListensOn, NoCallOf, WasBefore, goes_forgotten, goes_result, goes_starved, goes_then, going_parts}
 use Rattle.gateway_theory.specs.lemmas.OrderLemmas.{some_same}
 use Rattle.gateway_theory.specs.lemmas.StoreLemmas.{conn_broken}
 use Rattle.gateway_theory.specs.lemmas.StoreMore.{conn_added, conn_found, conn_set}
@@ -110,18 +110,11 @@ has_room k reader b = let few = few_given reader b.text b.given b.reads in let c
 
 -- ---- what steps do to it
 
-both_on : (a b : Bool) → (not a && not b) ≡ true → (a ≡ false) × (b ≡ false)
-both_on false false e = (refl, refl)
-both_on false true e = absurd (cc)
-both_on true b e = absurd (cc)
-
--- connections go on, and streams stay or are hung up
-pub brought_go : (v w : GatewayValue) → Goes v.machine w.machine → ((c : ℕ) (t : StreamValue) → stream_of c w.streams ≡ Some t → t.hung_up ≡ false → stream_of c v.streams ≡ Some t)
-    → StreamsBring v → StreamsBring w
-brought_go v w g same h = λ c l t l_is t_is going.
-    let parts = both_on l.broken t.hung_up going in
-    let k = g.back c l l_is parts.0 in
-    let was = h c k.0 t k.1 (same c t t_is parts.1) (rw (k.2, parts.1) refl) in
+-- connections go on
+pub brought_go : (v w : GatewayValue) → ListensOn v.machine w.machine → w.streams ≡ v.streams → StreamsBring v → StreamsBring w
+brought_go v w on same h = λ c l t l_is t_is going.
+    let k = on c l l_is going in
+    let was = h c k.0 t k.1 (ap (stream_of c) (sym same) ∙ t_is) k.2 in
     record {
       text = was.text;
       given = was.given;
@@ -131,16 +124,16 @@ brought_go v w g same h = λ c l t l_is t_is going.
 
 -- a stream is another
 pub brought_set : (i : ℕ) (t : StreamValue) (v : GatewayValue) → i < length v.streams → StreamsApart v.streams → t.number ≡ (stream_at i v.streams).number
-    → ((k : ConnValue) → conn_of (stream_at i v.streams).number v.machine.conns ≡ Some k → is_listening k t ≡ true → HasBrought k t.reader) → StreamsBring v
+    → ((k : ConnValue) → conn_of (stream_at i v.streams).number v.machine.conns ≡ Some k → is_listening k ≡ true → HasBrought k t.reader) → StreamsBring v
     → StreamsBring (gateway_value v.plans v.machine (slice_set v.streams i t) v.opened v.begun v.tally)
 brought_set i t v lt apart same its h = λ c k s k_is s_is going. by c k s k_is going (c == (stream_at i v.streams).number) refl (sym (stream_set c i t v.streams lt apart same) ∙ s_is)
   where
-    by : (c : ℕ) (k : ConnValue) (s : StreamValue) → conn_of c v.machine.conns ≡ Some k → is_listening k s ≡ true → (b : Bool) → (c == (stream_at i v.streams).number) ≡ b
+    by : (c : ℕ) (k : ConnValue) (s : StreamValue) → conn_of c v.machine.conns ≡ Some k → is_listening k ≡ true → (b : Bool) → (c == (stream_at i v.streams).number) ≡ b
         → (if b then Some t else stream_of c v.streams) ≡ Some s → HasBrought k s.reader
     by c k s k_is going true e s_is =
         let t_is : t ≡ s = some_same s_is in
         subst (λ (x : StreamValue). HasBrought k x.reader) t_is
-        (its k (ap (λ n. conn_of n v.machine.conns) (sym (eqb-true c (stream_at i v.streams).number e)) ∙ k_is) (ap (λ (x : StreamValue). is_listening k x) t_is ∙ going))
+        (its k (ap (λ n. conn_of n v.machine.conns) (sym (eqb-true c (stream_at i v.streams).number e)) ∙ k_is) going)
     by c k s k_is going false e s_is = h c k s k_is s_is going
 
 no_refusal : (r : Reading) → is_over r ≡ false → refusals r ≡ 0
@@ -172,7 +165,7 @@ pub brought_entered : (begun : ℕ) (tally : Tally) (i : ℕ) (x : Coming) (m : 
 brought_entered begun tally i x m v lt apart (inl e) behind h = λ c l s l_is s_is going.
     by c l s going (c == (conn_at i v.machine.conns).number) refl (sym (ap (λ (y : MachineValue). conn_of c y.conns) e ∙ conn_set c i (added (arriving_at i x v.machine).reply (conn_at i v.machine.conns)) v.machine.conns lt apart refl) ∙ l_is) s_is
   where
-    by : (c : ℕ) (l : ConnValue) (s : StreamValue) → is_listening l s ≡ true → (b : Bool) → (c == (conn_at i v.machine.conns).number) ≡ b
+    by : (c : ℕ) (l : ConnValue) (s : StreamValue) → is_listening l ≡ true → (b : Bool) → (c == (conn_at i v.machine.conns).number) ≡ b
         → (if b then Some (added (arriving_at i x v.machine).reply (conn_at i v.machine.conns)) else conn_of c v.machine.conns) ≡ Some l → stream_of c v.streams ≡ Some s → HasBrought l s.reader
     by c l s going true its l_is s_is =
         let was = behind s (ap (λ n. stream_of n v.streams) (sym (eqb-true c (conn_at i v.machine.conns).number its)) ∙ s_is) in
@@ -182,12 +175,12 @@ brought_entered begun tally i x m v lt apart (inl e) behind h = λ c l s l_is s_
 brought_entered begun tally i x m v lt apart (inr e) behind h = λ c l s l_is s_is going.
     by c l s going (c == (conn_at i v.machine.conns).number) (conn_of c v.machine.conns) refl (sym (ap (λ (y : MachineValue). conn_of c y.conns) e ∙ conn_broken c (conn_at i v.machine.conns).number v.machine.conns) ∙ l_is) s_is
   where
-    by : (c : ℕ) (l : ConnValue) (s : StreamValue) → is_listening l s ≡ true → (b : Bool) (o : Option ConnValue) → conn_of c v.machine.conns ≡ o
+    by : (c : ℕ) (l : ConnValue) (s : StreamValue) → is_listening l ≡ true → (b : Bool) (o : Option ConnValue) → conn_of c v.machine.conns ≡ o
         → (if b then option_map broken_conn (conn_of c v.machine.conns) else conn_of c v.machine.conns) ≡ Some l → stream_of c v.streams ≡ Some s → HasBrought l s.reader
     by c l s going true None o_is l_is s_is = absurd (let clash : None ≡ Some l = sym (ap (option_map broken_conn) o_is) ∙ l_is in cc)
     by c l s going true (Some k) o_is l_is s_is =
         let same : broken_conn k ≡ l = some_same (sym (ap (option_map broken_conn) o_is) ∙ l_is) in
-        absurd (let clash : true ≡ false = ap (λ (y : ConnValue). y.broken) same ∙ (both_on l.broken s.hung_up going).0 in cc)
+        absurd (let clash : true ≡ false = ap (λ (y : ConnValue). y.broken) same ∙ (going_parts l.broken l.hung_up going).0 in cc)
     by c l s going false o o_is l_is s_is = h c l s l_is s_is going
 
 -- a connection opens
@@ -196,7 +189,7 @@ pub brought_opened : (v : GatewayValue) → HasRead (reader_value 0 (Partial [])
 brought_opened v fresh no_conn no_stream_is h = λ c l s l_is s_is going.
     by c l s going (v.opened == c) refl (sym (conn_added c (conn_value v.opened 0 [] false false) v.machine.conns) ∙ l_is) (sym (stream_added c (new_stream v.opened) v.streams) ∙ s_is)
   where
-    by : (c : ℕ) (l : ConnValue) (s : StreamValue) → is_listening l s ≡ true → (b : Bool) → (v.opened == c) ≡ b
+    by : (c : ℕ) (l : ConnValue) (s : StreamValue) → is_listening l ≡ true → (b : Bool) → (v.opened == c) ≡ b
         → option_or (conn_of c v.machine.conns) (if b then Some (conn_value v.opened 0 [] false false) else None) ≡ Some l
         → option_or (stream_of c v.streams) (if b then Some (new_stream v.opened) else None) ≡ Some s → HasBrought l s.reader
     by c l s going true its l_is s_is =
@@ -220,7 +213,7 @@ goes_without id branch v u w took starved forgets = goes_then v u w (goes_starve
 -- connections and calls stay
 pub goes_alike : (v w : MachineValue) → w.conns ≡ v.conns → w.calls ≡ v.calls → Goes v w
 goes_alike v w conns_are calls_are = record {
-  back = λ c l l_is on. (l, ap (conn_of c) (sym conns_are) ∙ l_is, on, refl);
+  back = λ c l l_is on. (l, ap (conn_of c) (sym conns_are) ∙ l_is, on, refl, refl);
   none = λ c e. ap (conn_of c) conns_are ∙ e;
   no_call = λ c all. subst (NoCallOf c) (sym calls_are) all;
 }
@@ -256,8 +249,9 @@ goes_given i v w (Some r) lt apart t = record {
           ap (λ (y : ConnValue). y.broken) same ∙ on,
           ap (λ (y : ConnValue). y.taken + length y.slots) (sym same)
               ∙ (let size : length (drop 1 k.slots) ≡ length k.slots - 1 = length-drop 1 k.slots in omega (arith, size, some)),
+          ap (λ (y : ConnValue). y.hung_up) (sym same),
         )
-    back c l on false its l_is = (l, l_is, on, refl)
+    back c l on false its l_is = (l, l_is, on, refl, refl)
 
 -- ---- a stream that is read, or for which memory is refused
 
@@ -278,7 +272,7 @@ set_there (suc i) t (s ∷ streams) lt = set_there i t streams (omega (arith, lt
 
 -- what the stream at a place brought, of a connection that goes on
 pub brought_at : (i : ℕ) (v : GatewayValue) → i < length v.streams → i < length v.machine.conns → ConnsApart v.machine.conns → StreamsApart v.streams → (stream_at i v.streams).number ≡ (conn_at i v.machine.conns).number
-    → (conn_at i v.machine.conns).broken ≡ false → (stream_at i v.streams).hung_up ≡ false → StreamsBring v → HasBrought (conn_at i v.machine.conns) (stream_at i v.streams).reader
+    → (conn_at i v.machine.conns).broken ≡ false → (conn_at i v.machine.conns).hung_up ≡ false → StreamsBring v → HasBrought (conn_at i v.machine.conns) (stream_at i v.streams).reader
 brought_at i v lt there conns_apart apart same on agree h =
     h (conn_at i v.machine.conns).number (conn_at i v.machine.conns) (stream_at i v.streams) (conn_found i v.machine.conns there conns_apart)
     (ap (λ n. stream_of n v.streams) (sym same) ∙ stream_found i v.streams lt apart) (rw (on, agree) refl)

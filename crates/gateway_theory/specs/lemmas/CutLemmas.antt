@@ -10,7 +10,8 @@ use Rattle.gateway_model.specs.Occurrence.{Occurrence, Coming, Comes, Request}
 use Rattle.gateway_model.specs.Arrival.{arrival_of}
 use Rattle.gateway_theory.specs.lemmas.EventLemmas.{at_unique}
 use Rattle.gateway_model.specs.Job.{JobValue}
-use Rattle.gateway_model.specs.Starts.{Placed, start, occurrences, job_started, jobs_by, jobs, starts}
+use Rattle.gateway_model.specs.Starts.{Placed, occurrences, jobs_by, jobs, starts}
+use Rattle.gateway_theory.specs.Starting.{start, job_started}
 use Rattle.gateway_model.specs.Past.{Past, mark_of, marked}
 use Rattle.gateway_model.specs.declared.event.Event.{Event}
 use Rattle.gateway_model.specs.declared.event.Event.TheVariants.{Opening, Piece, HangUp, Moment, BranchResult, Drain, Closing}

@@ -1,6 +1,6 @@
 -- What is known of the deadlines of branches, and of the one that decides.
 use Rattle.std.proofs.Common.{◌≡◌, ℕ, zero, suc, ◌+◌, ◌<◌, ◌≤◌, min, Bool, true, false, List, [], ◌∷◌, ◌++◌, map, length, Option, None, Some, refl, sym, ap, ◌∙◌, arith, ⊎_elim, inl, inr}
-use Rattle.std.specs.Prelude.{◌⊎◌, ◌||◌, ◌==◌, nat_le, nat_lt, if◌then◌else◌, slice_index_or, option_and_then, option_map}
+use Rattle.std.specs.Prelude.{◌⊎◌, ◌||◌, ◌==◌, nat_le, if◌then◌else◌, slice_index_or, option_and_then, option_map}
 use Rattle.std.specs.Option.{option_map_or}
 use Rattle.std.specs.List.{list_any, range_with_len}
 use Rattle.std.proofs.lemmas.Bool.{cases_Bool, eqb-true, le-ltb, lt-ltb}
@@ -10,9 +10,17 @@ use Rattle.call_plan.specs.Plan.{PlanRecord, time_of}
 use Rattle.gateway_model.specs.declared.id.CallId.{CallId}
 use Rattle.gateway_model.specs.declared.call_event.CallEvent.{CallEvent}
 use Rattle.gateway_model.specs.declared.call_event.CallEvent.TheVariants.{Expired, BranchExpired}
-use Rattle.gateway_model.specs.Past.{Mark, Past, ArrivedCall, call, started, started_when, is_out, now, smaller, is_due, least_of, is_at, first_at, due_by, deadline_from, branch_deadline, branch_deadlines, deadline_out, deadlines_out}
+use Rattle.gateway_model.specs.Past.{Mark, Past, ArrivedCall, call, started, started_when, is_out, now, smaller, is_due, least_of, is_at, first_at, due_by, deadline_from, branch_deadlines, deadlines_out}
 use Rattle.gateway_theory.specs.Step.{deadlines_in}
 use Rattle.gateway_theory.specs.lemmas.LimitLemmas.{out_started}
+
+-- the deadline of a branch that has started
+abbrev pub branch_deadline : CallId → PlanRecord → Past → ℕ → Option ℕ
+branch_deadline id plan past i = deadline_from (started_when id i past) plan i
+
+-- that of a branch while it is out
+abbrev pub deadline_out : CallId → PlanRecord → Past → ℕ → Option ℕ
+deadline_out id plan past i = option_and_then (λ t. if is_out id i past then Some (started_when id i past + t) else None) (time_of plan i)
 
 -- ---- the least
 

@@ -271,7 +271,7 @@ settles_start u = record {
   where
     by_conn : (o : Option ConnValue) → MayTakeIn (take 0 u.calls) o o
     by_conn None = tt
-    by_conn (Some k) = record { number_is = refl; taken_is = refl; broken_is = refl; size_is = refl; each = λ j lt. sym (or_none (slot_at j k.slots)) }
+    by_conn (Some k) = record { number_is = refl; taken_is = refl; broken_is = refl; hung_is = refl; size_is = refl; each = λ j lt. sym (or_none (slot_at j k.slots)) }
 
 reply_more : (id : CallId) (calls : List KeptValue) (k : KeptValue) → reply_in id (calls ++ k ∷ []) ≡ option_or (reply_in id calls) (if is_call k.id id then k.reply else None)
 reply_more id [] k = or_none (if is_call k.id id then k.reply else None)
@@ -329,6 +329,7 @@ takes_more id reply calls k (Some x) (Some y) (Some z) id_is r_is p q = record {
   number_is = q.number_is ∙ p.number_is;
   taken_is = q.taken_is ∙ p.taken_is;
   broken_is = q.broken_is ∙ p.broken_is;
+  hung_is = q.hung_is ∙ p.hung_is;
   size_is = q.size_is ∙ p.size_is;
   each = λ j lt.
       let here : CallId = call_id x.number (x.taken + j) in
@@ -439,6 +440,7 @@ conn_ends trigger calls ended (Some x) (Some y) (Some z) p q r =
     record {
       number_is = q.number_is ∙ number;
       taken_is = q.taken_is ∙ taken;
+      hung_is = q.hung_is ∙ ap (λ (k : ConnValue). k.hung_up) same;
       stays_broken = λ e. q.broken_is ∙ p.1 e;
       size_is = q.size_is ∙ ap (λ s. length s) slots;
       each = λ j lt.
@@ -485,24 +487,3 @@ ends_all trigger i n v u w s apart h all g done = record {
     ended = ext_get_or no_call u.calls (map (λ k. ended_below trigger (is_broken_in k.id.conn u.conns) true k) v.calls)
         (h.size_is ∙ sym (length-map v.calls (λ k. ended_below trigger (is_broken_in k.id.conn u.conns) true k)))
         (λ j lt. at_end j lt ∙ sym (get_or-map (λ k. ended_below trigger (is_broken_in k.id.conn u.conns) true k) v.calls j no_call no_call (omega (arith, lt, h.size_is))))
-
--- behind all of them one more makes no difference
-pub settles_end : (i : ℕ) (u w : MachineValue) → SettledBelow i u w → length u.calls ≤ i → SettledBelow (length u.calls) u w
-settles_end i u w h all = record {
-  moment_is = h.moment_is;
-  drained_is = h.drained_is;
-  jobs_are = h.jobs_are;
-  numbers_are = h.numbers_are;
-  conns_are = λ c.
-      subst (λ calls. MayTakeIn calls (conn_of c u.conns) (conn_of c w.conns)) (take_all i u.calls all ∙ sym (take_all (length u.calls) u.calls (omega arith))) (h.conns_are c);
-  size_is = h.size_is;
-  calls_are = λ j. h.calls_are j ∙ by_place j (cases_lt j (length u.calls));
-}
-  where
-    by_place : (j : ℕ) → (j < length u.calls) ⊎ (length u.calls ≤ j)
-        → (if nat_lt j i then without_reply (kept_at j u.calls) else kept_at j u.calls) ≡ (if nat_lt j (length u.calls) then without_reply (kept_at j u.calls) else kept_at j u.calls)
-    by_place j (inl lt) = rw (lt-ltb j i (omega (arith, lt, all)), lt-ltb j (length u.calls) lt) refl
-    by_place j (inr ge) =
-        let none : kept_at j u.calls ≡ no_call = kept_past u.calls j ge in
-        cond_both (nat_lt j i) (without_reply (kept_at j u.calls)) (kept_at j u.calls) (λ x. x ≡ kept_at j u.calls) (λ _. ap without_reply none ∙ sym none) (λ _. refl)
-        ∙ sym (cond_both (nat_lt j (length u.calls)) (without_reply (kept_at j u.calls)) (kept_at j u.calls) (λ x. x ≡ kept_at j u.calls) (λ _. ap without_reply none ∙ sym none) (λ _. refl))

@@ -23,7 +23,7 @@ use Rattle.gateway_theory.specs.lemmas.EndLemmas.{id_below}
 use Rattle.gateway_theory.specs.lemmas.EndSteps.{ends_breaks}
 use Rattle.gateway_theory.specs.lemmas.FateLemmas.{fated_after}
 use Rattle.gateway_theory.specs.lemmas.OrderLemmas.{has_fates, some_same}
-use Rattle.gateway_theory.specs.lemmas.OrderSteps.{ends_order, fates_next}
+use Rattle.gateway_theory.specs.lemmas.OrderSteps.{fates_next}
 
 zero_most : (n : ℕ) → n ≡ max n 0
 zero_most n = omega arith
@@ -80,11 +80,12 @@ module _ (o : Occurrence) (trigger : Trigger) (s v w : MachineValue) (closed : �
       (ends_breaks o trigger s v w closed fates by.no_closing by.no_result (by.no_start closed) by.steps by.machine_is (has_fates fates s orderly are) e)
 
   -- each connection after it was there before, with as many requests, and unbroken if it is
-  pub conn_before : (c : ℕ) (l : ConnValue) → conn_of c w.conns ≡ Some l → (k : ConnValue) × (conn_of c s.conns ≡ Some k) × (l.taken ≡ k.taken) × (length l.slots ≡ length k.slots) × (l.broken ≡ false → k.broken ≡ false)
+  pub conn_before : (c : ℕ) (l : ConnValue) → conn_of c w.conns ≡ Some l
+      → (k : ConnValue) × (conn_of c s.conns ≡ Some k) × (l.taken ≡ k.taken) × (length l.slots ≡ length k.slots) × (l.broken ≡ false → k.broken ≡ false) × (l.hung_up ≡ k.hung_up)
   conn_before c l l_is = by_conn (conn_of c v.conns) (conn_of c w.conns) (ap (conn_of c) conns_are) l_is (e.conns_are c)
     where
       by_conn : (a b : Option ConnValue) → a ≡ conn_of c s.conns → b ≡ Some l → MayEnd trigger v.calls a b
-          → (k : ConnValue) × (conn_of c s.conns ≡ Some k) × (l.taken ≡ k.taken) × (length l.slots ≡ length k.slots) × (l.broken ≡ false → k.broken ≡ false)
+          → (k : ConnValue) × (conn_of c s.conns ≡ Some k) × (l.taken ≡ k.taken) × (length l.slots ≡ length k.slots) × (l.broken ≡ false → k.broken ≡ false) × (l.hung_up ≡ k.hung_up)
       by_conn None None a_is b_is m = absurd (cc)
       by_conn None (Some y) a_is b_is m = absurd m
       by_conn (Some x) None a_is b_is m = absurd m
@@ -95,6 +96,7 @@ module _ (o : Occurrence) (trigger : Trigger) (s v w : MachineValue) (closed : �
             ap (λ (k : ConnValue). k.taken) (sym same) ∙ m.taken_is,
             ap (λ (k : ConnValue). length k.slots) (sym same) ∙ m.size_is,
             λ on. by_broken x.broken refl (ap (λ (k : ConnValue). k.broken) same ∙ on) m.stays_broken,
+            ap (λ (k : ConnValue). k.hung_up) (sym same) ∙ m.hung_is,
           )
         where
           by_broken : (b : Bool) → x.broken ≡ b → y.broken ≡ false → (x.broken ≡ true → y.broken ≡ true) → x.broken ≡ false

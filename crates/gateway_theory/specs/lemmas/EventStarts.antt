@@ -22,7 +22,8 @@ use Rattle.gateway_model.specs.Past.{ArrivedCall, Mark, Past, asked_now, call, c
 use Rattle.gateway_model.specs.Past as past
 use Rattle.gateway_model.specs.Queue.{entry, front, queued_entries}
 use Rattle.gateway_theory.specs.RequestLaws.{RequestLaws}
-use Rattle.gateway_model.specs.Starts.{Placed, branches_started, jobs_by, jobs_started, occurrences, start, starts}
+use Rattle.gateway_model.specs.Starts.{Placed, branches_started, jobs_by, jobs_started, occurrences, starts}
+use Rattle.gateway_theory.specs.Starting.{start}
 use Rattle.gateway_theory.specs.EventAdds.{EventAdds, IsShut}
 use Rattle.gateway_theory.specs.lemmas.Cases.{and_false, or_true}
 use Rattle.gateway_theory.specs.lemmas.CutLemmas.{back, occurrences_onto}

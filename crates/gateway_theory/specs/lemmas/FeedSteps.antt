@@ -112,7 +112,7 @@ module _ (plans : List PlanRecord) (i : ℕ) (text longer left : List ℕ) (give
 module _ (i n : ℕ) (bytes : List ℕ) (v w : GatewayValue) (texts : ℕ → List ℕ) (taken : ℕ → List ReplyEntry) (handed : List JobValue) (os : List Occurrence)
     (within : i < length v.machine.conns) (with_stream : i < length v.streams) (orderly : IsOrderly v.machine) (streams_apart : StreamsApart v.streams)
     (same : (stream_at i v.streams).number ≡ (conn_at i v.machine.conns).number)
-    (unbroken : (conn_at i v.machine.conns).broken ≡ false) (on : (stream_at i v.streams).hung_up ≡ false) (goes : is_over (stream_at i v.streams).reader.reading ≡ false)
+    (unbroken : (conn_at i v.machine.conns).broken ≡ false) (on : (conn_at i v.machine.conns).hung_up ≡ false) (goes : is_over (stream_at i v.streams).reader.reading ≡ false)
     (f : Feeds i n bytes v w) (h : GatewayStands v texts taken handed os) where
   abbrev pub c : ℕ
   c = (conn_at i v.machine.conns).number
@@ -173,7 +173,7 @@ module _ (i n : ℕ) (bytes : List ℕ) (v w : GatewayValue) (texts : ℕ → Li
       → StreamsStand w (with_bytes c more texts)
   streams_then gained b others this = λ d l t l_is t_is going. by_conn d l t l_is t_is going (d == c) refl
     where
-      by_conn : (d : ℕ) (l : ConnValue) (t : StreamValue) → conn_of d w.machine.conns ≡ Some l → stream_of d w.streams ≡ Some t → is_listening l t ≡ true → (x : Bool) → (d == c) ≡ x
+      by_conn : (d : ℕ) (l : ConnValue) (t : StreamValue) → conn_of d w.machine.conns ≡ Some l → stream_of d w.streams ≡ Some t → is_listening l ≡ true → (x : Bool) → (d == c) ≡ x
           → HasCome l t.reader (with_bytes c more texts d)
       by_conn d l t l_is t_is going true e =
           let t_now : record s { reader = f.new } ≡ t = some_same (sym (stream_then d ∙ ap (λ x. if x then Some (record s { reader = f.new }) else stream_of d v.streams) e) ∙ t_is) in
@@ -182,7 +182,7 @@ module _ (i n : ℕ) (bytes : List ℕ) (v w : GatewayValue) (texts : ℕ → Li
           (by_break (this l (ap (λ m. conn_of m w.machine.conns) (sym (eqb-true d c e)) ∙ l_is))))
         where
           by_break : (l.broken ≡ true) ⊎ (l.taken + length l.slots ≡ k.taken + length k.slots + length gained) → HasCome l f.new (texts c ++ more)
-          by_break (inl broke) = absurd (let clash : false ≡ true = ap (λ x. not x && not t.hung_up) (sym broke) ∙ going in cc)
+          by_break (inl broke) = absurd (let clash : false ≡ true = ap (λ x. not x && not l.hung_up) (sym broke) ∙ going in cc)
           by_break (inr size) = come_then gained l b size
       by_conn d l t l_is t_is going false e =
           subst (λ y. HasCome l t.reader y) (sym (texts_then d false e))

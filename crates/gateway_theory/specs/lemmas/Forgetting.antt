@@ -1,11 +1,10 @@
 -- A call of which nothing is left is not kept.
-use Rattle.std.proofs.Common.{◌≡◌, ℕ, zero, suc, ◌<◌, Bool, true, false, List, [], ◌∷◌, length, None, Some, refl, sym, ap, ◌∙◌, arith, ⊎_elim}
+use Rattle.std.proofs.Common.{◌≡◌, ℕ, zero, suc, ◌<◌, Bool, true, false, List, [], ◌∷◌, length, None, refl, sym, ap, ◌∙◌, arith}
 use Rattle.std.specs.Prelude.{filter, if◌then◌else◌, not}
-use Rattle.std.proofs.lemmas.Bool.{cases_lt, cases_eq}
 use Rattle.gateway_model.specs.declared.id.CallId.{CallId}
 use Rattle.gateway_theory.specs.Kept.{KeptValue}
 use Rattle.gateway_model.specs.Past.{is_call}
-use Rattle.gateway_theory.specs.Results.{NoneSpent, is_spent}
+use Rattle.gateway_theory.specs.Results.{NoneSpent}
 use Rattle.gateway_theory.specs.Store.{IsFound, kept_at}
 
 pub none_found : (id : CallId) (calls : List KeptValue) → IsFound id calls None → NoneSpent id calls

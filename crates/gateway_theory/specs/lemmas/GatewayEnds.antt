@@ -22,14 +22,14 @@ use Rattle.gateway_theory.specs.Store.{MachineValue, machine, conn_of, given_up_
 use Rattle.gateway_theory.specs.lemmas.Concerned.{not_broken}
 use Rattle.gateway_theory.specs.lemmas.EndingSteps.{conn_before, ending_calls, ending_fates, ending_stands, none_before}
 use Rattle.gateway_theory.specs.lemmas.FateLemmas.{fated_after}
-use Rattle.gateway_theory.specs.lemmas.GatewaySteps.{Goes, NoCallOf, still_off, streams_go}
+use Rattle.gateway_theory.specs.lemmas.GatewaySteps.{Goes, NoCallOf, goes_listens, still_off, streams_go}
 use Rattle.gateway_theory.specs.lemmas.OpenSteps.{close_breaks}
 use Rattle.gateway_theory.specs.lemmas.OrderLemmas.{has_fates, same_given}
 use Rattle.gateway_theory.specs.lemmas.OrderSteps.{fates_next}
 use Rattle.gateway_theory.specs.lemmas.StoreMore.{conn_without}
 
 module _ (v w : GatewayValue) (texts : ℕ → List ℕ) (taken : ℕ → List ReplyEntry) (handed : List JobValue) (os : List Occurrence)
-    (same : (c : ℕ) (t : StreamValue) → stream_of c w.streams ≡ Some t → t.hung_up ≡ false → stream_of c v.streams ≡ Some t)
+    (same : (c : ℕ) (t : StreamValue) → stream_of c w.streams ≡ Some t → stream_of c v.streams ≡ Some t)
     (none_more : (c : ℕ) → stream_of c v.streams ≡ None → stream_of c w.streams ≡ None)
     (opened_is : w.opened ≡ v.opened) (begun_same : w.begun ≡ v.begun) (orderly : IsOrderly v.machine) (h : GatewayStands v texts taken handed os) where
   -- ---- calls end
@@ -40,7 +40,7 @@ module _ (v w : GatewayValue) (texts : ℕ → List ℕ) (taken : ℕ → List R
     fates = later;
     fated = ending_stands o trigger v.machine told w.machine h.closed h.fates taken handed os by orderly h.fates_are h.fated e;
     fates_are = ending_fates o trigger v.machine told w.machine h.closed h.fates taken handed os by orderly h.fates_are h.fated e;
-    streams_stand = streams_go v w texts g same h.streams_stand;
+    streams_stand = streams_go v w texts (goes_listens v.machine w.machine g) same h.streams_stand;
     unopened = λ c le. still c (h.unopened c (subst (λ m. m ≤ c) opened_is le));
     begun_is = let same = begun_same in let was = h.begun_is in omega (arith, same, was);
   }
@@ -52,7 +52,7 @@ module _ (v w : GatewayValue) (texts : ℕ → List ℕ) (taken : ℕ → List R
       g = record {
         back = λ c l l_is on.
             let k = conn_before o trigger v.machine told w.machine h.closed h.fates taken handed os by orderly h.fates_are h.fated e c l l_is in
-            (k.0, k.1, k.4 on, let a : l.taken ≡ k.0.taken = k.2 in let b : length l.slots ≡ length k.0.slots = k.3 in omega (arith, a, b));
+            (k.0, k.1, k.4 on, let a : l.taken ≡ k.0.taken = k.2 in let b : length l.slots ≡ length k.0.slots = k.3 in omega (arith, a, b), k.5);
         none = λ c none. none_before o trigger v.machine told w.machine h.closed h.fates taken handed os by orderly h.fates_are h.fated e c none;
         no_call = λ c all. ending_calls o trigger v.machine told w.machine h.closed h.fates taken handed os by orderly h.fates_are h.fated e c all;
       }
@@ -75,7 +75,7 @@ module _ (v w : GatewayValue) (texts : ℕ → List ℕ) (taken : ℕ → List R
     fated = fated_after (Closing n) (λ c. is_broken_in c w.machine.conns) (machine h.closed v.machine) (machine (closed_with n v.machine.conns h.closed) w.machine) h.fates taken handed os refl h.fated
         concerned (close_breaks n v.machine w.machine h.closed h.fates k there (has_fates h.fates v.machine orderly h.fates_are) w_is);
     fates_are = fates_next (Closing n) os h.fates w.machine (λ c l l_is on. let x = g.back c l l_is on in sym (h.fates_are c x.0 x.1) ∙ x.2);
-    streams_stand = streams_go v w texts g same h.streams_stand;
+    streams_stand = streams_go v w texts (goes_listens v.machine w.machine g) same h.streams_stand;
     unopened = λ c le. still c (h.unopened c (subst (λ m. m ≤ c) opened_is le));
     begun_is = let same = begun_same in let was = h.begun_is in omega (arith, same, was);
   }
@@ -92,7 +92,7 @@ module _ (v w : GatewayValue) (texts : ℕ → List ℕ) (taken : ℕ → List R
 
       g : Goes v.machine w.machine
       g = record {
-        back = λ c l l_is on. (l, was c l (c == n) (sym (conn_is c) ∙ l_is), on, refl);
+        back = λ c l l_is on. (l, was c l (c == n) (sym (conn_is c) ∙ l_is), on, refl, refl);
         none = λ c none. conn_is c ∙ cond_both (c == n) None (conn_of c v.machine.conns) (λ x. x ≡ None) (λ _. refl) (λ _. none);
         no_call = λ c all. subst (λ (m : MachineValue). NoCallOf c m.calls) (sym w_is)
             (All-map (λ (y : KeptValue). (y.id.conn == c) ≡ false) (given_up_if n) v.machine.calls

@@ -22,7 +22,7 @@ use Rattle.gateway_theory.specs.Store.{MachineValue, machine, conn_at, conn_of, 
 use Rattle.gateway_theory.specs.lemmas.Cases.{or_none}
 use Rattle.gateway_theory.specs.lemmas.Concerned.{not_broken, open_unclosed}
 use Rattle.gateway_theory.specs.lemmas.FateLemmas.{fated_after}
-use Rattle.gateway_theory.specs.lemmas.GatewaySteps.{Goes, goes_broken, streams_go, still_off}
+use Rattle.gateway_theory.specs.lemmas.GatewaySteps.{Goes, WasBefore, goes_broken, goes_listens, streams_go, still_off}
 use Rattle.gateway_theory.specs.lemmas.OpenSteps.{broken_refused, open_breaks, reply_handed}
 use Rattle.gateway_theory.specs.lemmas.OrderLemmas.{has_fates, some_same}
 use Rattle.gateway_theory.specs.lemmas.OrderSteps.{fates_next}
@@ -91,7 +91,7 @@ module _ (v w : GatewayValue) (texts : ℕ → List ℕ) (taken : ℕ → List R
               let none : conn_of c w.machine.conns ≡ None = conn_is c ∙ ap (λ o. option_or o (if n == c then Some (conn_value n 0 [] false false) else None)) e ∙ ap (λ b. if b then Some (conn_value n 0 [] false false) else None) x in
               let clash : None ≡ Some l = sym none ∙ l_is in cc)
 
-      by_number : (c : ℕ) (l : ConnValue) (t : StreamValue) → conn_of c w.machine.conns ≡ Some l → stream_of c w.streams ≡ Some t → is_listening l t ≡ true → (b : Bool) → (n == c) ≡ b
+      by_number : (c : ℕ) (l : ConnValue) (t : StreamValue) → conn_of c w.machine.conns ≡ Some l → stream_of c w.streams ≡ Some t → is_listening l ≡ true → (b : Bool) → (n == c) ≡ b
           → HasCome l t.reader (texts c)
       by_number c l t l_is t_is going true e =
           let same : c ≡ n = sym (eqb-true n c e) in
@@ -137,7 +137,7 @@ module _ (v w : GatewayValue) (texts : ℕ → List ℕ) (taken : ℕ → List R
     fated = refused n (machine h.closed v.machine) (machine h.closed w.machine) h.fates taken handed os fate_is
         (open_unclosed n k v.machine h.closed h.fates taken handed os there fate_is h.fated) h.fated (broken_refused n v.machine w.machine h.closed w_is);
     fates_are = λ c l l_is. by_conn c l l_is (c == n) refl;
-    streams_stand = streams_go v w texts g (λ c t t_is _. ap (stream_of c) (sym streams_are) ∙ t_is) h.streams_stand;
+    streams_stand = streams_go v w texts (goes_listens v.machine w.machine g) (λ c t t_is. ap (stream_of c) (sym streams_are) ∙ t_is) h.streams_stand;
     unopened = λ c le. still c (h.unopened c (subst (λ m. m ≤ c) opened_is le));
     begun_is = let same = begun_same in let was = h.begun_is in omega (arith, same, was);
   }
@@ -186,13 +186,13 @@ module _ (v w : GatewayValue) (texts : ℕ → List ℕ) (taken : ℕ → List R
       jobs_are = append_assoc handed (option_to_list (option_map (λ j. j.job) job)) w.machine.jobs ∙ ap (λ js. handed ++ js) (sym t.first) ∙ h.fated.jobs_are;
     });
     fates_are = subst (λ (m : MachineValue). FatesAre h.fates m.conns) (sym t.rest) h.fates_are;
-    streams_stand = streams_go v w texts g (λ c s s_is _. ap (stream_of c) (sym streams_are) ∙ s_is) h.streams_stand;
+    streams_stand = streams_go v w texts (goes_listens v.machine w.machine g) (λ c s s_is. ap (stream_of c) (sym streams_are) ∙ s_is) h.streams_stand;
     unopened = λ c le. still c (h.unopened c (subst (λ m. m ≤ c) opened_is le));
     begun_is = let same = begun_same in let was = h.begun_is in omega (arith, same, was);
   }
     where
       g : Goes v.machine w.machine
-      g = subst (Goes v.machine) (sym t.rest) (record { back = λ c l l_is on. (l, l_is, on, refl); none = λ c e. e; no_call = λ c all. all })
+      g = subst (Goes v.machine) (sym t.rest) (record { back = λ c l l_is on. (l, l_is, on, refl, refl); none = λ c e. e; no_call = λ c all. all })
 
       still : (c : ℕ) → Unopened v h.closed h.fates c → Unopened w h.closed h.fates c
       still c x = record {
@@ -210,7 +210,7 @@ module _ (v w : GatewayValue) (texts : ℕ → List ℕ) (taken : ℕ → List R
     fates = h.fates;
     fated = reply_handed i r v.machine w.machine h.closed h.fates taken handed os lt orderly.conns_apart t h.fated;
     fates_are = λ c l l_is. by_conn c l l_is (c == k.number) refl;
-    streams_stand = streams_go v w texts g (λ c s s_is _. ap (stream_of c) (sym streams_are) ∙ s_is) h.streams_stand;
+    streams_stand = streams_go v w texts (goes_listens v.machine w.machine g) (λ c s s_is. ap (stream_of c) (sym streams_are) ∙ s_is) h.streams_stand;
     unopened = λ c le. still c (h.unopened c (subst (λ m. m ≤ c) opened_is le));
     begun_is = let same = begun_same in let was = h.begun_is in omega (arith, same, was);
   }
@@ -246,7 +246,7 @@ module _ (v w : GatewayValue) (texts : ℕ → List ℕ) (taken : ℕ → List R
       }
         where
           back : (c : ℕ) (l : ConnValue) → conn_of c w.machine.conns ≡ Some l → l.broken ≡ false → (b : Bool) → (c == k.number) ≡ b
-              → (x : ConnValue) × (conn_of c v.machine.conns ≡ Some x) × (x.broken ≡ false) × (l.taken + length l.slots ≡ x.taken + length x.slots)
+              → WasBefore c v.machine l
           back c l l_is on true e =
               let l_now : without_first k ≡ l = some_same (sym (conn_is c ∙ ap (λ b. if b then Some (without_first k) else conn_of c v.machine.conns) e) ∙ l_is) in (
                 k,
@@ -254,8 +254,9 @@ module _ (v w : GatewayValue) (texts : ℕ → List ℕ) (taken : ℕ → List R
                 ap (λ (y : ConnValue). y.broken) l_now ∙ on,
                 ap (λ (y : ConnValue). y.taken + length y.slots) (sym l_now)
                     ∙ (let size : length (drop 1 k.slots) ≡ length k.slots - 1 = length-drop 1 k.slots in omega (arith, size, some)),
+                ap (λ (y : ConnValue). y.hung_up) (sym l_now),
               )
-          back c l l_is on false e = (l, sym (conn_is c ∙ ap (λ b. if b then Some (without_first k) else conn_of c v.machine.conns) e) ∙ l_is, on, refl)
+          back c l l_is on false e = (l, sym (conn_is c ∙ ap (λ b. if b then Some (without_first k) else conn_of c v.machine.conns) e) ∙ l_is, on, refl, refl)
 
       still : (c : ℕ) → Unopened v h.closed h.fates c → Unopened w h.closed h.fates c
       still c x = record {

@@ -3,7 +3,7 @@ use Rattle.std.proofs.Common.{◌≡◌, ℕ, zero, suc, ◌<◌, arith, Bool, t
 use Rattle.std.specs.Prelude.{⊤, All, if◌then◌else◌, ◌==◌, filter, is_some, option_map}
 use Rattle.std.specs.List.{range_with_len}
 use Rattle.std.specs.Option.{option_map_or, option_or}
-use Rattle.std.proofs.lemmas.Bool.{cases_Bool, eqb-true}
+use Rattle.std.proofs.lemmas.Bool.{cases_Bool, cond_both, eqb-true}
 use Rattle.std.proofs.lemmas.List.Elements.{filter-append}
 use Rattle.connect_codec.specs.declared.answer.Outcome.{Outcome}
 use Rattle.gateway_model.specs.declared.entry.ReplyEntry.{ReplyEntry}
@@ -26,12 +26,12 @@ use Rattle.gateway_model.specs.Queue.{IsPrefixOf, front}
 use Rattle.gateway_theory.specs.Replies.{reply_with}
 use Rattle.gateway_theory.specs.Results.{Forgets, ResultTaken, Starved, back_at, result_at}
 use Rattle.gateway_theory.specs.Step.{Live, Step, result_on}
-use Rattle.gateway_theory.specs.Store.{MachineValue, broken_at, broken_conn, broken_if, conn_at, conn_of, filled_in, kept_at, no_call}
+use Rattle.gateway_theory.specs.Store.{MachineValue, broken_at, broken_conn, broken_if, conn_at, conn_of, filled_in, hung_at, hung_if, kept_at, no_call}
 use Rattle.gateway_theory.specs.lemmas.Cases.{or_none}
 use Rattle.gateway_theory.specs.lemmas.EndLemmas.{open_number}
 use Rattle.gateway_theory.specs.lemmas.PastLemmas.{prefix-trans}
 use Rattle.gateway_theory.specs.lemmas.StoreLemmas.{Fills, conn_broken, conn_filled, filled_fills}
-use Rattle.gateway_theory.specs.lemmas.StoreMore.{conn_found, conn_set}
+use Rattle.gateway_theory.specs.lemmas.StoreMore.{conn_found, conn_hung, conn_set}
 
 -- ---- slots
 
@@ -141,6 +141,14 @@ one_broken false o = stays_so o
 pub grew_broken : (n : ℕ) (v w : MachineValue) → w.conns ≡ map (broken_if n) v.conns → w.jobs ≡ v.jobs → Grew v w
 grew_broken n v w conns_are jobs_are = grew_still v w jobs_are
     (λ c. subst (λ o. MayGrow (conn_of c v.conns) o) (sym (ap (conn_of c) conns_are ∙ conn_broken c n v.conns)) (one_broken (c == n) (conn_of c v.conns)))
+
+-- the peer of a connection hangs up
+pub grew_hung : (n : ℕ) (v : MachineValue) → Grew v (hung_at n v)
+grew_hung n v = grew_still v (hung_at n v) refl (λ c. subst (MayGrow (conn_of c v.conns)) (sym (conn_hung c n v.conns)) (one_hung (conn_of c v.conns)))
+  where
+    one_hung : (o : Option ConnValue) → MayGrow o (option_map (hung_if n) o)
+    one_hung None = tt
+    one_hung (Some k) = cond_both (k.number == n) (record k { hung_up = true }) k (Grown k) (λ _. same_slots k (record k { hung_up = true }) (λ e. e) refl) (λ _. same_slots k k (λ e. e) refl)
 
 -- ---- calls that end
 

@@ -10,7 +10,8 @@ use Rattle.gateway_model.specs.declared.id.CallId.{CallId}
 use Rattle.gateway_model.specs.Occurrence.{Result}
 use Rattle.gateway_model.specs.Past.{Mark, Past, call_id, arrivals, can_be_decided, is_out, how_seen, mark_of}
 use Rattle.gateway_model.specs.declared.entry.ReplyEntry.{ReplyEntry}
-use Rattle.gateway_model.specs.Queue.{answer_of, entry, front, replies}
+use Rattle.gateway_model.specs.Queue.{answer_of, entry, front}
+use Rattle.gateway_theory.specs.Replies.{replies}
 use Rattle.gateway_model.specs.Starts.{jobs_started}
 use Rattle.gateway_model.specs.Starts.{jobs as all_jobs}
 use Rattle.gateway_theory.specs.lemmas.StandsLemmas.{Quiet, entry_same, result_quiet, started_same}

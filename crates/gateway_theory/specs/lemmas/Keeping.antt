@@ -37,20 +37,20 @@ use Rattle.gateway_theory.specs.Results.{Forgets, ResultTaken, Starved, result_a
 use Rattle.gateway_theory.specs.Serving.{IsWhole, TakesSome, WouldBegin, begins_by, BreaksBy, Closes, CountsCalls, IsFault, TellsStep, most_begun, Ends, FedTo, NotListening, came, dropped, not_fed, unread, HangsUp, unnoticed, hung, IsServing, Keeps, KeepsBut, ListensAt, Opens, TakesOnly, TakesReply, absent, taken}
 use Rattle.gateway_model.specs.Starts.{occurrences}
 use Rattle.gateway_theory.specs.Step.{CallState, Live, ended_by, has_out}
-use Rattle.gateway_theory.specs.Store.{MachineValue, broken_at, conn_at, conn_of, given_up_if, kept_at}
+use Rattle.gateway_theory.specs.Store.{MachineValue, broken_at, conn_at, conn_of, given_up_if, hung_at, kept_at}
 use Rattle.gateway_theory.specs.Tally.{tally_of}
 use Rattle.gateway_theory.specs.lemmas.Cases.{or_none}
 use Rattle.gateway_theory.specs.lemmas.Concerned.{ends_concern, result_concern, starved_concern}
 use Rattle.gateway_theory.specs.lemmas.EndLemmas.{fills_in, just_broken, broken_then}
-use Rattle.gateway_theory.specs.lemmas.FeedLemmas.{other_conn, stream_found, stream_set}
-use Rattle.gateway_theory.specs.lemmas.Growing.{Grew, MayGrow, grew_broken, grew_ended, grew_entered, grew_forgotten, grew_result, grew_same, grew_starved, grew_then, is_off, off_then}
+use Rattle.gateway_theory.specs.lemmas.FeedLemmas.{other_conn, stream_set}
+use Rattle.gateway_theory.specs.lemmas.Growing.{Grew, MayGrow, grew_broken, grew_ended, grew_entered, grew_forgotten, grew_hung, grew_result, grew_same, grew_starved, grew_then, is_off, off_then}
 use Rattle.gateway_theory.specs.lemmas.LimitLemmas.{same_call}
 use Rattle.gateway_theory.specs.lemmas.OrderLemmas.{some_same}
 use Rattle.gateway_theory.specs.lemmas.ResultSteps.{fills_broken}
 use Rattle.gateway_theory.specs.lemmas.SeenResults.{forgotten_conns}
-use Rattle.gateway_theory.specs.lemmas.ServedPieces.{feeds_machine}
+use Rattle.gateway_theory.specs.lemmas.ServedPieces.{fed_back, feeds_machine}
 use Rattle.gateway_theory.specs.lemmas.ServingLemmas.{conn_by_number, stream_by_number, streams_apart}
-use Rattle.gateway_theory.specs.lemmas.StoreMore.{conn_added, conn_found, conn_set, conn_without}
+use Rattle.gateway_theory.specs.lemmas.StoreMore.{broken_hung, conn_added, conn_found, conn_set, conn_without}
 
 broken_of : (c : ℕ) (conns : List ConnValue) (k : ConnValue) → conn_of c conns ≡ Some k → is_broken_in c conns ≡ k.broken
 broken_of c conns k k_is = ap (λ o. option_map_or (λ (x : ConnValue). x.broken) o false) k_is
@@ -336,9 +336,10 @@ module _ (n : ℕ) (bytes : List ℕ) (v w : GatewayValue) (serving : IsServing 
 
   pub hung_keeps : (r : std.Result ⊤ StepFault) → HangsUp n v w r → Keeps (λ c. c == n) v w
   hung_keeps r (unnoticed not_listening r_is w_is) = keeps_all (λ c. c == n) v w w_is
-  hung_keeps r (hung i l ends rest r_is) = keeps_grew (λ c. c == n) v w (ap (λ (y : GatewayValue). y.plans) rest) (ap (λ (y : GatewayValue). y.opened) rest)
-      (ap (λ (y : GatewayValue). y.begun) rest) (ap (λ (y : GatewayValue). y.tally) rest) (grew_ended (HungUp n) v.machine v.machine w.machine refl refl ends)
-      (λ c now before. let e = ends.breaks_are c now before in
+  hung_keeps r (hung i l x r_is) = keeps_grew (λ c. c == n) v w (ap (λ (y : GatewayValue). y.plans) x.rest) (ap (λ (y : GatewayValue). y.opened) x.rest)
+      (ap (λ (y : GatewayValue). y.begun) x.rest) (ap (λ (y : GatewayValue). y.tally) x.rest)
+      (grew_then v.machine (hung_at n v.machine) w.machine (grew_hung n v.machine) (grew_ended (HungUp n) (hung_at n v.machine) (hung_at n v.machine) w.machine refl refl x.ends))
+      (λ c now before. let e = x.ends.breaks_are c now (broken_hung n v.machine.conns c ∙ before) in
       ap (λ m. m == n) (sym e.its) ∙ hung_of (kept_at e.place v.machine.calls).id (kept_at e.place v.machine.calls).call.out (kept_at e.place v.machine.calls).call.live e.ends)
     where
       hung_of : (id : CallId) (out : List Bool) (live : Option Live) → is_some (ended_if (HungUp n) id out live).reply ≡ true → (id.conn == n) ≡ true
@@ -351,16 +352,16 @@ module _ (n : ℕ) (bytes : List ℕ) (v w : GatewayValue) (serving : IsServing 
 
   pub hung_gone : (r : std.Result ⊤ StepFault) → HangsUp n v w r → r ≡ Err Gone → w ≡ v
   hung_gone r (unnoticed not_listening r_is w_is) gone = w_is
-  hung_gone r (hung i l ends rest r_is) gone = absurd (not_gone (is_broken_in n w.machine.conns) tt Memory w.begun false r (inl refl) r_is gone)
+  hung_gone r (hung i l x r_is) gone = absurd (not_gone (is_broken_in n w.machine.conns) tt Memory w.begun false r (inl refl) r_is gone)
 
   pub hung_memory : (r : std.Result ⊤ StepFault) → HangsUp n v w r → r ≡ Err Memory → is_broken_conn n w ≡ true
   hung_memory r (unnoticed not_listening r_is w_is) memory = absurd (let clash = sym memory ∙ r_is in cc)
-  hung_memory r (hung i l ends rest r_is) memory = broken_by (is_broken_in n w.machine.conns) tt Memory Memory r r_is memory
+  hung_memory r (hung i l x r_is) memory = broken_by (is_broken_in n w.machine.conns) tt Memory Memory r r_is memory
 
   -- no call begins by it
   pub hung_exhausted : (r : std.Result ⊤ StepFault) → HangsUp n v w r → r ≡ Err Exhausted → ⊥
   hung_exhausted r (unnoticed not_listening r_is w_is) e = let clash = sym e ∙ r_is in cc
-  hung_exhausted r (hung i l ends rest r_is) e = by_broken (is_broken_in n w.machine.conns) r_is
+  hung_exhausted r (hung i l x r_is) e = by_broken (is_broken_in n w.machine.conns) r_is
     where
       by_broken : (b : Bool) → r ≡ (if b then Err Memory else Ok tt) → ⊥
       by_broken true is = let clash = sym e ∙ is in cc
@@ -373,9 +374,8 @@ module _ (n : ℕ) (bytes : List ℕ) (v w : GatewayValue) (serving : IsServing 
 module _ (n : ℕ) (v : GatewayValue) (serving : IsServing v) where
   listens_here : (i : ℕ) → ListensAt n v i → NotListening n v → ⊥
   listens_here i l not_listening =
-      let off : is_listening (conn_at i v.machine.conns) (stream_at i v.streams) ≡ false = not_listening (conn_at i v.machine.conns) (stream_at i v.streams)
-      (ap (λ m. conn_of m v.machine.conns) (sym l.conn_is) ∙ conn_found i v.machine.conns l.conn_there serving.orderly.conns_apart)
-      (ap (λ m. stream_of m v.streams) (sym l.stream_is) ∙ stream_found i v.streams l.stream_there (streams_apart v serving)) in
+      let off : is_listening (conn_at i v.machine.conns) ≡ false = not_listening (conn_at i v.machine.conns)
+      (ap (λ m. conn_of m v.machine.conns) (sym l.conn_is) ∙ conn_found i v.machine.conns l.conn_there serving.orderly.conns_apart) in
       let clash : true ≡ false = sym (rw (l.unbroken, l.on) refl) ∙ off in cc
 
   whole : (i : ℕ) → ListensAt n v i → is_broken_conn n v ≡ false
@@ -389,7 +389,7 @@ module _ (n : ℕ) (v : GatewayValue) (serving : IsServing v) where
 
   pub hung_not_listening : (w : GatewayValue) (r : std.Result ⊤ StepFault) → HangsUp n v w r → (r ≡ Err Gone) ↔ NotListening n v
   hung_not_listening w r (unnoticed not_listening r_is w_is) = (λ e. not_listening, λ d. r_is)
-  hung_not_listening w r (hung i l ends rest r_is) = (λ e. absurd (not_gone n [] v w serving (is_broken_in n w.machine.conns) tt Memory w.begun false r (inl refl) r_is e), λ d. absurd (listens_here i l d))
+  hung_not_listening w r (hung i l x r_is) = (λ e. absurd (not_gone n [] v w serving (is_broken_in n w.machine.conns) tt Memory w.begun false r (inl refl) r_is e), λ d. absurd (listens_here i l d))
 
   fine : {A : Type 0} (b : Bool) (a : A) (why : StepFault) (r : std.Result A StepFault) → r ≡ (if b then Err why else Ok a) → OnOk r (b ≡ false)
   fine true a why r e = subst (λ x. OnOk x (true ≡ false)) (sym e) tt
@@ -403,7 +403,7 @@ module _ (n : ℕ) (v : GatewayValue) (serving : IsServing v) where
 
   pub hung_fine : (w : GatewayValue) (r : std.Result ⊤ StepFault) → HangsUp n v w r → OnOk r (is_broken_conn n w ≡ false)
   hung_fine w r (unnoticed not_listening r_is w_is) = subst (λ x. OnOk x (is_broken_conn n w ≡ false)) (sym r_is) tt
-  hung_fine w r (hung i l ends rest r_is) = fine (is_broken_in n w.machine.conns) tt Memory r r_is
+  hung_fine w r (hung i l x r_is) = fine (is_broken_in n w.machine.conns) tt Memory r r_is
 
 module _ (n : ℕ) (v w : GatewayValue) (serving : IsServing v) (then_serving : IsServing w) where
   -- after bytes were taken it listens as before
@@ -425,8 +425,10 @@ module _ (n : ℕ) (v w : GatewayValue) (serving : IsServing v) (then_serving : 
       by_conn None o_is on not_listening = let clash : true ≡ false = sym there ∙ ap (λ o. is_some o) o_is in cc
       by_conn (Some k) o_is on not_listening =
           let unbroken : k.broken ≡ false = sym (broken_of n w.machine.conns k o_is) ∙ on in
-          let off : (not k.broken && not (stream_at i v.streams).hung_up) ≡ false = not_listening k (record (stream_at i v.streams) { reader = f.new }) o_is stream_is in
-          let clash : true ≡ false = sym (rw (unbroken, l.on) refl) ∙ off in cc
+          let x = fed_back i m bytes v w l.conn_there serving.orderly l.unbroken f n k o_is unbroken in
+          let here : conn_of n v.machine.conns ≡ Some (conn_at i v.machine.conns) = ap (λ c. conn_of c v.machine.conns) (sym l.conn_is) ∙ conn_found i v.machine.conns l.conn_there serving.orderly.conns_apart in
+          let on_still : k.hung_up ≡ false = x.3 ∙ ap (λ (y : ConnValue). y.hung_up) (some_same (sym x.1 ∙ here)) ∙ l.on in
+          let clash : true ≡ false = sym (rw (unbroken, on_still) refl) ∙ not_listening k o_is in cc
 
       by_broken : (b : Bool) → is_broken_in n w.machine.conns ≡ b → r ≡ (if is_broken_in n w.machine.conns then Err why else Ok m) → OnOk r (NotListening n w → ⊥)
       by_broken true e its = subst (λ x. OnOk x (NotListening n w → ⊥)) (sym (its ∙ ap (λ b. if b then Err why else Ok m) e)) tt

@@ -1,6 +1,6 @@
 -- What is known of a gateway, by the events that it stands for.
 use Rattle.std.proofs.Common.{◌≡◌, ℕ, Bool, true, false, List, [], ◌++◌, map, Option, None, Some, refl, sym, ap, ◌∙◌, subst}
-use Rattle.std.specs.Prelude.{◌&&◌, filter, not, is_some}
+use Rattle.std.specs.Prelude.{filter, not, is_some}
 use Rattle.std.specs.Option.{option_map_or}
 use Rattle.std.proofs.lemmas.Bool.{and_parts}
 use Rattle.gateway_model.specs.declared.entry.ReplyEntry.{ReplyEntry}
@@ -17,8 +17,7 @@ use Rattle.gateway_theory.specs.Fate.{BrokenAt, Fate, HasFate, Unbroken, is_brok
 use Rattle.gateway_theory.specs.Fated.{CallFated}
 use Rattle.gateway_theory.specs.Gateway.{GatewayStands, GatewayValue, is_broken_conn, outs_of, shown, untaken_of}
 use Rattle.gateway_theory.specs.Served.{JobsAre, QueueIs, Served}
-use Rattle.gateway_theory.specs.Step.{CallState}
-use Rattle.gateway_theory.specs.Store.{call_at, conn_of, conn_state, machine}
+use Rattle.gateway_theory.specs.Store.{call_at, conn_of, machine}
 use Rattle.gateway_theory.specs.lemmas.KeptCalls.{outs_kept, outs_same, record_lawful}
 use Rattle.gateway_theory.specs.lemmas.Readings.{jobs_of, queued_is}
 use Rattle.gateway_theory.specs.lemmas.Standings.{front_behind, jobs_stand, queue_stands}

@@ -1,7 +1,6 @@
 -- A moment ends a call exactly if it has reached the least deadline.
-use Rattle.std.proofs.Common.{◌≡◌, ℕ, Bool, true, false, List, [], ◌∷◌, Option, None, Some, refl, sym, ap, ◌∙◌, ⊎_elim}
-use Rattle.std.specs.Prelude.{◌||◌, is_some, if◌then◌else◌}
-use Rattle.std.specs.List.{list_any}
+use Rattle.std.proofs.Common.{◌≡◌, ℕ, true, false, List, [], ◌∷◌, Option, None, Some, refl, sym, ap, ◌∙◌, ⊎_elim}
+use Rattle.std.specs.Prelude.{◌||◌, is_some}
 use Rattle.std.proofs.lemmas.Bool.{cases_Bool}
 use Rattle.gateway_model.specs.Past.{is_due, least_of, smaller}
 use Rattle.gateway_theory.specs.declared.trigger.Trigger.TheVariants.{Reached}

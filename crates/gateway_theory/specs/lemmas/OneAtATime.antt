@@ -1,5 +1,5 @@
 -- Bytes that are fed bring one request at most, and of a stream that has ended all are taken.
-use Rattle.std.proofs.Common.{◌≡◌, ℕ, ◌≤◌, Bool, true, false, List, [], ◌∷◌, ◌++◌, length, take, Result, Ok, Err, refl, sym, ap, ◌∙◌, subst, arith, inl, inr, ⊎_elim}
+use Rattle.std.proofs.Common.{◌≡◌, ℕ, ◌≤◌, Bool, true, false, List, [], ◌∷◌, ◌++◌, length, take, Result, Ok, Err, refl, subst, arith, inl, inr}
 use Rattle.std.specs.Prelude.{if◌then◌else◌, ◌⊎◌, IfOk}
 use Rattle.http_pieces.specs.Reader.{HasRead, HasReadTo, Partial, is_over}
 use Rattle.http_pieces.specs.Request.{HttpRequest}

@@ -18,7 +18,7 @@ use Rattle.gateway_theory.specs.Opens.{closed_at, opened_as}
 use Rattle.gateway_theory.specs.Orderly.{ConnsApart, FatesAre, IsInOrder, IsOrderly}
 use Rattle.gateway_model.specs.Past.{is_call}
 use Rattle.gateway_theory.specs.Step.{CallState, Live, Step, gone}
-use Rattle.gateway_theory.specs.Store.{MachineValue, machine_value, call_at, conn_at, conn_of, kept_at, no_call, no_conn, given_up, given_up_if, broken_conn, broken_if, broken_at, IsFound, HasFates}
+use Rattle.gateway_theory.specs.Store.{MachineValue, call_at, conn_at, conn_of, kept_at, no_call, no_conn, given_up, given_up_if, broken_conn, broken_if, broken_at, IsFound, HasFates}
 use Rattle.gateway_theory.specs.lemmas.LimitLemmas.{same_call}
 use Rattle.gateway_theory.specs.lemmas.StoreLemmas.{conn_broken}
 use Rattle.gateway_theory.specs.lemmas.StoreMore.{conn_added, conn_found, conn_set, conn_without}

@@ -23,7 +23,7 @@ use Rattle.gateway_theory.specs.Store.{MachineValue, conn_of, kept_at, no_call, 
 use Rattle.gateway_theory.specs.lemmas.EndLemmas.{id_below, MayFill, fills_in, numbers_filled}
 use Rattle.gateway_theory.specs.lemmas.OrderLemmas.{broken_order, ids_mapped, ids_set, same_numbers, calls_filtered, some_same}
 
-by_numbers : (new conns : List ConnValue) → numbers new ≡ numbers conns → ConnsApart conns → ConnsApart new
+pub by_numbers : (new conns : List ConnValue) → numbers new ≡ numbers conns → ConnsApart conns → ConnsApart new
 by_numbers new conns same apart = same_numbers new conns size
     (λ j lt. sym (get_or-map (λ (k : ConnValue). k.number) new j no_conn 0 (omega (arith, lt, size))) ∙ ap (λ ns. slice_index_or ns j 0) same ∙ get_or-map (λ (k : ConnValue). k.number) conns j no_conn 0 lt)
     apart
@@ -117,13 +117,19 @@ ends_order trigger v w e h = record {
 
 -- a connection that may have got a reply is the same but for its slots
 pub filled_back : (id : CallId) (reply : Option ReplyEntry) (a b : Option ConnValue) (l : ConnValue) → MayFill id reply a b → b ≡ Some l
-    → (x : ConnValue) × (a ≡ Some x) × (l.taken ≡ x.taken) × (length l.slots ≡ length x.slots) × (l.broken ≡ x.broken)
+    → (x : ConnValue) × (a ≡ Some x) × (l.taken ≡ x.taken) × (length l.slots ≡ length x.slots) × (l.broken ≡ x.broken) × (l.hung_up ≡ x.hung_up)
 filled_back id reply None None l m l_is = absurd (cc)
 filled_back id reply None (Some y) l m l_is = absurd m
 filled_back id reply (Some x) None l m l_is = absurd m
 filled_back id reply (Some x) (Some y) l m l_is =
-    let same : y ≡ l = some_same l_is in
-    (x, refl, ap (λ (k : ConnValue). k.taken) (sym same) ∙ m.taken_is, ap (λ (k : ConnValue). length k.slots) (sym same) ∙ m.size_is, ap (λ (k : ConnValue). k.broken) (sym same) ∙ m.broken_is)
+    let same : y ≡ l = some_same l_is in (
+      x,
+      refl,
+      ap (λ (k : ConnValue). k.taken) (sym same) ∙ m.taken_is,
+      ap (λ (k : ConnValue). length k.slots) (sym same) ∙ m.size_is,
+      ap (λ (k : ConnValue). k.broken) (sym same) ∙ m.broken_is,
+      ap (λ (k : ConnValue). k.hung_up) (sym same) ∙ m.hung_is,
+    )
 
 filled_on : (id : CallId) (reply : Option ReplyEntry) (a b : Option ConnValue) (x : ConnValue) → MayFill id reply a b → a ≡ Some x → (l : ConnValue) × (b ≡ Some l) × (l.broken ≡ x.broken)
 filled_on id reply None None x m x_is = absurd (cc)

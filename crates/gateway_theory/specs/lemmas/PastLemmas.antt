@@ -14,7 +14,8 @@ use Rattle.gateway_model.specs.declared.call_event.CallEvent.{CallEvent}
 use Rattle.gateway_model.specs.Past.{Mark, Past, ArrivedCall, call, call_id, decided, arrivals, coming_on}
 use Rattle.gateway_model.specs.declared.entry.ReplyEntry.{ReplyEntry}
 use Rattle.gateway_model.specs.declared.entry.ReplyEntry.TheVariants.{Call as Calling}
-use Rattle.gateway_model.specs.Queue.{came, own_events, record_deadlines, record_of, call_entry, entry_by, entry, front, queued_entries, replies, queued, answer_of, IsPrefixOf}
+use Rattle.gateway_model.specs.Queue.{came, own_events, record_deadlines, record_of, call_entry, entry_by, entry, front, queued_entries, queued, answer_of, IsPrefixOf}
+use Rattle.gateway_theory.specs.Replies.{replies}
 
 pub call_stays : (id : CallId) (m : Mark) (past : Past) (c : ArrivedCall) → call id past ≡ Some c → call id (m ∷ past) ≡ Some c
 call_stays id m past c e = rw e refl

@@ -15,7 +15,8 @@ use Rattle.gateway_model.specs.declared.reply_bytes.ReplyBytes.{ReplyBytes}
 use Rattle.gateway_model.specs.Reply.{reply_of}
 use Rattle.gateway_model.specs.Errors.{cause_error, error_of, cause_of, ending_error}
 use Rattle.gateway_theory.specs.Endings.{ending_with}
-use Rattle.gateway_model.specs.Queue.{call_reply, joined_reply}
+use Rattle.gateway_model.specs.Queue.{call_reply}
+use Rattle.gateway_theory.specs.Replies.{joined_reply}
 use Rattle.gateway_theory.specs.lemmas.StandsLemmas.{answer_after}
 
 -- the reply to a call by the error that its last event tells, if that tells one

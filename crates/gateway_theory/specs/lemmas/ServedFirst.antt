@@ -31,7 +31,7 @@ first_served plans v v_is = subst (λ x. Served x [] [] (λ c. []) []) (sym v_is
     below = λ place its. absurd (cc);
     count_is = refl;
     open_are = λ c. refl;
-    hung_are = λ c k s k_is s_is on. absurd (cc);
+    hung_are = λ c k k_is on. absurd (cc);
     reads_are = λ c k s k_is s_is going. absurd (cc);
   };
   stands = λ occurred none. subst (λ os. GatewayStands (first plans) (λ c. []) (λ c. []) [] os) (sym (ap occurrences none)) (stands_first plans);

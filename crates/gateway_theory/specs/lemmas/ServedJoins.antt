@@ -96,7 +96,7 @@ module _ (laws : RequestLaws) (n : ℕ) (p q : List ℕ) (w : GatewayValue) (ope
       below = λ place its. let lt = below place its in omega (arith, lt);
       count_is = sym joined.connections_are ∙ h.conns.count_is;
       open_are = λ c. sym (joined.open_is c) ∙ h.conns.open_are c;
-      hung_are = λ c k s k_is s_is on. h.conns.hung_are c k s k_is s_is on ∙ joined.hung_is c;
+      hung_are = λ c k k_is on. h.conns.hung_are c k k_is on ∙ joined.hung_is c;
       reads_are = λ c k s k_is s_is going. let read = h.conns.reads_are c k s k_is s_is going in (read.0, subst (λ text. HasRead s.reader text read.0) (joined.stream_is c) read.1);
     };
     stands = λ occurred all. stands_by occurred all;

@@ -32,7 +32,7 @@ use Rattle.gateway_theory.specs.lemmas.CutLemmas.{open_known}
 use Rattle.gateway_theory.specs.lemmas.EndLemmas.{id_below}
 use Rattle.gateway_theory.specs.lemmas.EndingSteps.{drain_ends, moment_ends}
 use Rattle.gateway_theory.specs.lemmas.GatewayEnds.{ended_stands}
-use Rattle.gateway_theory.specs.lemmas.GatewaySteps.{Goes, goes_forgotten, goes_result, goes_starved, goes_then, result_stands, starved_stands}
+use Rattle.gateway_theory.specs.lemmas.GatewaySteps.{Goes, WasBefore, goes_forgotten, goes_listens, goes_result, goes_starved, goes_then, result_stands, starved_stands}
 use Rattle.gateway_theory.specs.lemmas.OrderLemmas.{some_same}
 use Rattle.gateway_theory.specs.lemmas.ServingLemmas.{conn_by_number, keeps_result, keeps_starved, still_none}
 
@@ -67,11 +67,6 @@ text_still opened c e es none = by_it (listens opened c es)
     by_it true = ap (λ bytes. stream opened c es ++ bytes) none ∙ append-nil (stream opened c es)
     by_it false = refl
 
-pub going_parts : (a b : Bool) → (not a && not b) ≡ true → (a ≡ false) × (b ≡ false)
-going_parts false false e = (refl, refl)
-going_parts false true e = absurd (cc)
-going_parts true b e = absurd (cc)
-
 -- the event neither opens, nor closes, nor hangs up, nor brings a piece
 pub record IsPlain (opened : List ℕ) (e : Event) (es : Before) : Type 0 where
   pub opens_none : connections opened (e ∷ es) ≡ connections opened es
@@ -89,19 +84,25 @@ pub record ConnsGo (v w : GatewayValue) : Type 0 where
 pub open_same : (c : ℕ) (new conns : List ConnValue) → numbers new ≡ numbers conns → is_some (conn_of c new) ≡ is_some (conn_of c conns)
 open_same c new conns same = conn_by_number c new ∙ ap (λ ns. list_any (λ n. n == c) ns) same ∙ sym (conn_by_number c conns)
 
-pub conns_plain : (opened : List ℕ) (e : Event) (es : Before) (v w : GatewayValue) → IsPlain opened e es → ConnsGo v w → HasConns v opened es → HasConns w opened (e ∷ es)
-conns_plain opened e es v w p g h = record {
+pub conns_go : (v w : GatewayValue) (opened : List ℕ) (es : Before) → ConnsGo v w → HasConns v opened es → HasConns w opened es
+conns_go v w opened es g h = record {
+  below = h.below;
+  count_is = h.count_is ∙ sym g.opened_is;
+  open_are = λ c. h.open_are c ∙ sym (open_same c w.machine.conns v.machine.conns g.numbers_are);
+  hung_are = λ c l l_is on. let k = g.goes.back c l l_is on in k.4 ∙ h.hung_are c k.0 k.1 k.2;
+  reads_are = λ c l s l_is s_is going.
+      let k = goes_listens v.machine w.machine g.goes c l l_is going in
+      h.reads_are c k.0 s k.1 (ap (stream_of c) (sym g.streams_are) ∙ s_is) k.2;
+}
+
+pub conns_plain : (v : GatewayValue) (opened : List ℕ) (e : Event) (es : Before) → IsPlain opened e es → HasConns v opened es → HasConns v opened (e ∷ es)
+conns_plain v opened e es p h = record {
   below = λ place its. let lt = h.below place its in omega (arith, lt);
-  count_is = p.opens_none ∙ h.count_is ∙ sym g.opened_is;
-  open_are = λ c. open_still opened c e es p.opens_none (p.closes_none c) ∙ h.open_are c ∙ sym (open_same c w.machine.conns v.machine.conns g.numbers_are);
-  hung_are = λ c k s k_is s_is on.
-      let was = g.goes.back c k k_is on in
-      h.hung_are c was.0 s was.1 (ap (stream_of c) (sym g.streams_are) ∙ s_is) was.2 ∙ sym (hung_still opened c e es (p.hangs_none c));
+  count_is = p.opens_none ∙ h.count_is;
+  open_are = λ c. open_still opened c e es p.opens_none (p.closes_none c) ∙ h.open_are c;
+  hung_are = λ c k k_is on. h.hung_are c k k_is on ∙ sym (hung_still opened c e es (p.hangs_none c));
   reads_are = λ c k s k_is s_is going.
-      let parts = going_parts k.broken s.hung_up going in
-      let was = g.goes.back c k k_is parts.0 in
-      let read = h.reads_are c was.0 s was.1 (ap (stream_of c) (sym g.streams_are) ∙ s_is) (rw (was.2, parts.1) refl) in
-      (read.0, subst (λ text. HasRead s.reader text read.0) (sym (text_still opened c e es (p.brings_none c))) read.1);
+      let read = h.reads_are c k s k_is s_is going in (read.0, subst (λ text. HasRead s.reader text read.0) (sym (text_still opened c e es (p.brings_none c))) read.1);
 }
 
 -- ---- what occurs at an event
@@ -151,8 +152,7 @@ goes_ended trigger v w e = record {
   no_call = λ c all. calls c all;
 }
   where
-    by_conn : (c : ℕ) (a b : Option ConnValue) (l : ConnValue) → conn_of c v.conns ≡ a → b ≡ Some l → l.broken ≡ false → MayEnd trigger v.calls a b
-        → (k : ConnValue) × (conn_of c v.conns ≡ Some k) × (k.broken ≡ false) × (l.taken + length l.slots ≡ k.taken + length k.slots)
+    by_conn : (c : ℕ) (a b : Option ConnValue) (l : ConnValue) → conn_of c v.conns ≡ a → b ≡ Some l → l.broken ≡ false → MayEnd trigger v.calls a b → WasBefore c v l
     by_conn c None None l a_is b_is on m = absurd (cc)
     by_conn c None (Some y) l a_is b_is on m = absurd m
     by_conn c (Some x) None l a_is b_is on m = absurd m
@@ -162,6 +162,7 @@ goes_ended trigger v w e = record {
           a_is,
           still_on x.broken refl (ap (λ (k : ConnValue). k.broken) same ∙ on) m.stays_broken,
           ap (λ (k : ConnValue). k.taken + length k.slots) (sym same) ∙ (let a : y.taken ≡ x.taken = m.taken_is in let b : length y.slots ≡ length x.slots = m.size_is in omega (arith, a, b)),
+          ap (λ (k : ConnValue). k.hung_up) (sym same) ∙ m.hung_is,
         )
       where
         still_on : (b : Bool) → x.broken ≡ b → y.broken ≡ false → (x.broken ≡ true → y.broken ≡ true) → x.broken ≡ false
@@ -179,20 +180,20 @@ module _ (v w : GatewayValue) (opened : List ℕ) (es : Before) (taken : ℕ →
       → told.conns ≡ v.machine.conns → told.calls ≡ v.machine.calls
       → EndsBy o trigger v.machine told → Ends trigger told v w → Served w opened (e ∷ es) taken handed
   ended_by e o trigger told plain one conns_are calls_are by x = record {
-    conns = conns_plain opened e es v w plain (record {
+    conns = conns_plain w opened e es plain (conns_go v w opened es (record {
       opened_is = ap (λ (y : GatewayValue). y.opened) x.rest;
       streams_are = ap (λ (y : GatewayValue). y.streams) x.rest;
       numbers_are = x.ends.numbers_are ∙ ap numbers conns_are;
       goes = from_told (goes_ended trigger told w.machine x.ends);
-    }) h.conns;
+    }) h.conns);
     stands = stands_one v w opened e es taken handed (ap (λ (y : GatewayValue). y.plans) x.rest) o one (λ c. text_still opened c e es (plain.brings_none c))
-        (λ os stands. ended_stands v w (λ c. stream opened c es) taken handed os (λ c t t_is on. ap (λ (y : GatewayValue). stream_of c y.streams) (sym x.rest) ∙ t_is)
+        (λ os stands. ended_stands v w (λ c. stream opened c es) taken handed os (λ c t t_is. ap (λ (y : GatewayValue). stream_of c y.streams) (sym x.rest) ∙ t_is)
         (λ c none. ap (λ (y : GatewayValue). stream_of c y.streams) x.rest ∙ none) (ap (λ (y : GatewayValue). y.opened) x.rest) (ap (λ (y : GatewayValue). y.begun) x.rest) serving.orderly stands o trigger told by x.ends) h.stands;
   }
     where
       from_told : Goes told w.machine → Goes v.machine w.machine
       from_told g = record {
-        back = λ c l l_is on. let k = g.back c l l_is on in (k.0, ap (conn_of c) (sym conns_are) ∙ k.1, k.2, k.3);
+        back = λ c l l_is on. let k = g.back c l l_is on in (k.0, ap (conn_of c) (sym conns_are) ∙ k.1, k.2, k.3, k.4);
         none = λ c none. g.none c (ap (conn_of c) conns_are ∙ none);
         no_call = λ c all. g.no_call c (subst (NoCallOf c) (sym calls_are) all);
       }
@@ -213,8 +214,8 @@ module _ (v w : GatewayValue) (opened : List ℕ) (es : Before) (taken : ℕ →
         → GatewayStands w (λ c. stream opened c es) taken handed (occurs.Result id branch outcome ∷ os))
         → Served w opened (BranchResult id.conn id.request branch outcome ∷ es) taken handed
     came_back goes same step = record {
-      conns = conns_plain opened (BranchResult id.conn id.request branch outcome) es v w (record { opens_none = refl; closes_none = λ c. refl; hangs_none = λ c. refl; brings_none = λ c. refl })
-          (record { opened_is = ap (λ (y : GatewayValue). y.opened) rest; streams_are = ap (λ (y : GatewayValue). y.streams) rest; numbers_are = same; goes = goes }) h.conns;
+      conns = conns_plain w opened (BranchResult id.conn id.request branch outcome) es (record { opens_none = refl; closes_none = λ c. refl; hangs_none = λ c. refl; brings_none = λ c. refl })
+          (conns_go v w opened es (record { opened_is = ap (λ (y : GatewayValue). y.opened) rest; streams_are = ap (λ (y : GatewayValue). y.streams) rest; numbers_are = same; goes = goes }) h.conns);
       stands = stands_one v w opened (BranchResult id.conn id.request branch outcome) es taken handed (ap (λ (y : GatewayValue). y.plans) rest) (occurs.Result id branch outcome) (λ os at. at)
           (λ c. text_still opened c (BranchResult id.conn id.request branch outcome) es refl) step h.stands;
     }

@@ -1,9 +1,8 @@
 -- What the gateway stands for after a hang-up, an opening and a closing.
 use Rattle.std.proofs.Common.{◌≡◌, ℕ, suc, ◌+◌, Bool, true, false, List, [], ◌∷◌, map, Option, None, Some, Result, refl, sym, ap, ◌∙◌, subst, arith, All}
 use Rattle.std.specs.Prelude.{⊤, if◌then◌else◌, ◌&&◌, ◌||◌, not, ◌==◌, is_some, slice_index_or}
-use Rattle.std.specs.List.{list_any}
 use Rattle.std.specs.Option.{option_map_or, option_or}
-use Rattle.std.proofs.lemmas.Bool.{eq-eqb, eqb-true, ne_eqb}
+use Rattle.std.proofs.lemmas.Bool.{eqb-true, ne_eqb}
 use Rattle.http_pieces.specs.Reader.{HasRead}
 use Rattle.gateway_model.specs.declared.entry.ReplyEntry.{ReplyEntry}
 use Rattle.gateway_theory.specs.declared.fault.StepFault.{StepFault}
@@ -13,7 +12,7 @@ use Rattle.gateway_theory.specs.Conn.{ConnValue}
 use Rattle.gateway_theory.specs.Ends.{CallsEnd, MayEnd, ended_below, ended_call, is_broken_in, without_reply}
 use Rattle.gateway_model.specs.Events.{Before, hung_up, is_hang_up_of, is_open, listens, once, stream}
 use Rattle.gateway_model.specs.declared.event.Event.TheVariants.{HangUp}
-use Rattle.gateway_theory.specs.Gateway.{GatewayValue, StreamValue, is_listening, stream_at, stream_of}
+use Rattle.gateway_theory.specs.Gateway.{GatewayValue, is_listening, stream_of}
 use Rattle.gateway_model.specs.Job.{JobValue}
 use Rattle.gateway_theory.specs.Kept.{KeptValue}
 use Rattle.gateway_theory.specs.Machine.{slot_at}
@@ -21,17 +20,17 @@ use Rattle.gateway_model.specs.Occurrence as occurs
 use Rattle.gateway_theory.specs.Orderly.{IsInOrder, IsOrderly}
 use Rattle.gateway_model.specs.Past.{call_id}
 use Rattle.gateway_theory.specs.Served.{HasConns, Served, StandsBy}
-use Rattle.gateway_theory.specs.Serving.{HangsUp, hung, unnoticed, NotListening, IsServing, ListensAt, without_more}
+use Rattle.gateway_theory.specs.Serving.{Ends, HangsUp, hung, unnoticed, NotListening, IsServing, ListensAt}
 use Rattle.gateway_theory.specs.Step.{CallState, Live, call_state}
-use Rattle.gateway_theory.specs.Store.{MachineValue, call_at, conn_at, conn_of}
-use Rattle.gateway_theory.specs.lemmas.Cases.{or_true, or_none}
+use Rattle.gateway_theory.specs.Store.{MachineValue, call_at, conn_at, conn_of, hung_at}
+use Rattle.gateway_theory.specs.lemmas.Cases.{or_none, sym_eqb}
 use Rattle.gateway_theory.specs.lemmas.EndingSteps.{hang_up_ends}
-use Rattle.gateway_theory.specs.lemmas.FeedLemmas.{stream_found, stream_set}
 use Rattle.gateway_theory.specs.lemmas.GatewayEnds.{ended_stands}
+use Rattle.gateway_theory.specs.lemmas.GatewaySteps.{hung_listens, hung_stands}
 use Rattle.gateway_theory.specs.lemmas.OrderLemmas.{some_same}
-use Rattle.gateway_theory.specs.lemmas.ServedLemmas.{goes_ended, going_parts, hung_still, open_same, open_still, stands_none, stands_one, text_still}
-use Rattle.gateway_theory.specs.lemmas.ServingLemmas.{conn_by_number, stream_by_number, streams_apart}
-use Rattle.gateway_theory.specs.lemmas.StoreMore.{conn_found}
+use Rattle.gateway_theory.specs.lemmas.ServedLemmas.{conns_go, goes_ended, hung_still, open_same, open_still, stands_none, stands_one, text_still}
+use Rattle.gateway_theory.specs.lemmas.ServingLemmas.{keeps_hung}
+use Rattle.gateway_theory.specs.lemmas.StoreMore.{conn_found, hung_before, numbers_hung}
 
 -- ---- a hang-up of a connection that is broken does nothing
 
@@ -93,6 +92,7 @@ module _ (n : ℕ) (s : MachineValue) (h : IsOrderly s) (broken : is_broken_in n
       by_conn c (Some k) o_is = record {
         number_is = refl;
         taken_is = refl;
+        hung_is = refl;
         stays_broken = λ b. b;
         size_is = refl;
         each = λ j lt. sym (by_break j k.broken refl);
@@ -111,8 +111,8 @@ module _ (n : ℕ) (s : MachineValue) (h : IsOrderly s) (broken : is_broken_in n
 -- ---- a hang-up
 
 -- of a connection whose pieces are taken by the definitions, and are not by the gateway
-pub not_listening_broken : (n : ℕ) (v : GatewayValue) (opened : List ℕ) (es : Before) → IsServing v → HasConns v opened es → NotListening n v → listens opened n es ≡ true → is_broken_in n v.machine.conns ≡ true
-not_listening_broken n v opened es serving h not_listening on = by_conn (conn_of n v.machine.conns) refl (stream_of n v.streams) refl
+pub not_listening_broken : (n : ℕ) (v : GatewayValue) (opened : List ℕ) (es : Before) → HasConns v opened es → NotListening n v → listens opened n es ≡ true → is_broken_in n v.machine.conns ≡ true
+not_listening_broken n v opened es h not_listening on = by_conn (conn_of n v.machine.conns) refl
   where
     parts : (a b : Bool) → (a && not b) ≡ true → (a ≡ true) × (b ≡ false)
     parts true false e = (refl, refl)
@@ -122,18 +122,15 @@ not_listening_broken n v opened es serving h not_listening on = by_conn (conn_of
     both : (is_open opened n es ≡ true) × (hung_up opened n es ≡ false)
     both = parts (is_open opened n es) (hung_up opened n es) on
 
-    by_conn : (k : Option ConnValue) → conn_of n v.machine.conns ≡ k → (s : Option StreamValue) → stream_of n v.streams ≡ s → is_broken_in n v.machine.conns ≡ true
-    by_conn None k_is s s_is = absurd (let clash : true ≡ false = sym both.0 ∙ h.open_are n ∙ ap (λ o. is_some o) k_is in cc)
-    by_conn (Some k) k_is None s_is = absurd (
-        let clash : false ≡ true = sym (ap (λ o. is_some o) s_is) ∙ stream_by_number n v.streams ∙ ap (λ ns. list_any (λ m. m == n) ns) serving.numbers_are
-        ∙ sym (conn_by_number n v.machine.conns) ∙ ap (λ o. is_some o) k_is in cc)
-    by_conn (Some k) k_is (Some s) s_is = ap (λ o. option_map_or (λ (y : ConnValue). y.broken) o false) k_is ∙ by_break k.broken refl
+    by_conn : (k : Option ConnValue) → conn_of n v.machine.conns ≡ k → is_broken_in n v.machine.conns ≡ true
+    by_conn None k_is = absurd (let clash : true ≡ false = sym both.0 ∙ h.open_are n ∙ ap (λ o. is_some o) k_is in cc)
+    by_conn (Some k) k_is = ap (λ o. option_map_or (λ (y : ConnValue). y.broken) o false) k_is ∙ by_break k.broken refl
       where
         by_break : (b : Bool) → k.broken ≡ b → k.broken ≡ true
         by_break true x = x
         by_break false x = absurd (
-            let going : is_listening k s ≡ true = rw (x, h.hung_are n k s k_is s_is x, both.1) refl in
-            let clash : true ≡ false = sym going ∙ not_listening k s k_is s_is in cc)
+            let going : is_listening k ≡ true = rw (x, h.hung_are n k k_is x, both.1) refl in
+            let clash : true ≡ false = sym going ∙ not_listening k k_is in cc)
 
 module _ (n : ℕ) (v : GatewayValue) (opened : List ℕ) (es : Before) (taken : ℕ → List ReplyEntry) (handed : List JobValue) (serving : IsServing v) (h : Served v opened es taken handed) where
   -- the gateway does nothing
@@ -143,20 +140,19 @@ module _ (n : ℕ) (v : GatewayValue) (opened : List ℕ) (es : Before) (taken :
       below = λ place its. let lt = h.conns.below place its in omega (arith, lt);
       count_is = h.conns.count_is;
       open_are = λ c. open_still opened c (HangUp n) es refl refl ∙ h.conns.open_are c;
-      hung_are = λ c k s k_is s_is on. by_number c k s k_is s_is on (n == c) refl;
+      hung_are = λ c k k_is on. by_number c k k_is on (n == c) refl;
       reads_are = λ c k s k_is s_is going.
           let read = h.conns.reads_are c k s k_is s_is going in (read.0, subst (λ text. HasRead s.reader text read.0) (sym (text_still opened c (HangUp n) es refl)) read.1);
     };
     stands = by_listens (listens opened n es) refl;
   }
     where
-      by_number : (c : ℕ) (k : ConnValue) (s : StreamValue) → conn_of c v.machine.conns ≡ Some k → stream_of c v.streams ≡ Some s → k.broken ≡ false
-          → (b : Bool) → (n == c) ≡ b → s.hung_up ≡ hung_up opened c (HangUp n ∷ es)
-      by_number c k s k_is s_is on false x = h.conns.hung_are c k s k_is s_is on ∙ sym (hung_still opened c (HangUp n) es x)
-      by_number c k s k_is s_is on true x =
-          let off : is_listening k s ≡ false = not_listening k s (ap (λ m. conn_of m v.machine.conns) (eqb-true n c x) ∙ k_is) (ap (λ m. stream_of m v.streams) (eqb-true n c x) ∙ s_is) in
-          let hung : s.hung_up ≡ true = by_it s.hung_up (sym (ap (λ b. not b && not s.hung_up) on) ∙ off) in
-          hung ∙ sym (ap (λ b. b || (is_open opened c es && is_hang_up_of c (HangUp n))) (sym (h.conns.hung_are c k s k_is s_is on) ∙ hung))
+      by_number : (c : ℕ) (k : ConnValue) → conn_of c v.machine.conns ≡ Some k → k.broken ≡ false → (b : Bool) → (n == c) ≡ b → k.hung_up ≡ hung_up opened c (HangUp n ∷ es)
+      by_number c k k_is on false x = h.conns.hung_are c k k_is on ∙ sym (hung_still opened c (HangUp n) es x)
+      by_number c k k_is on true x =
+          let off : is_listening k ≡ false = not_listening k (ap (λ m. conn_of m v.machine.conns) (eqb-true n c x) ∙ k_is) in
+          let hung : k.hung_up ≡ true = by_it k.hung_up (sym (ap (λ b. not b && not k.hung_up) on) ∙ off) in
+          hung ∙ sym (ap (λ b. b || (is_open opened c es && is_hang_up_of c (HangUp n))) (sym (h.conns.hung_are c k k_is on) ∙ hung))
         where
           by_it : (b : Bool) → not b ≡ false → b ≡ true
           by_it true e = refl
@@ -166,75 +162,54 @@ module _ (n : ℕ) (v : GatewayValue) (opened : List ℕ) (es : Before) (taken :
       by_listens false x = stands_none v v opened (HangUp n) es taken handed refl (λ os at. at ∙ ap (λ b. once b (occurs.HangUp n)) x) (λ c. text_still opened c (HangUp n) es refl)
           (λ os stands. stands) h.stands
       by_listens true x = stands_one v v opened (HangUp n) es taken handed refl (occurs.HangUp n) (λ os at. at ∙ ap (λ b. once b (occurs.HangUp n)) x) (λ c. text_still opened c (HangUp n) es refl)
-          (λ os stands. ended_stands v v (λ c. stream opened c es) taken handed os (λ c t t_is on. t_is) (λ c none. none) refl refl serving.orderly stands (occurs.HangUp n) (HungUp n) v.machine
-          (hang_up_ends n v.machine) (quiet_hang_up n v.machine serving.orderly (not_listening_broken n v opened es serving h.conns not_listening x))) h.stands
+          (λ os stands. ended_stands v v (λ c. stream opened c es) taken handed os (λ c t t_is. t_is) (λ c none. none) refl refl serving.orderly stands (occurs.HangUp n) (HungUp n) v.machine
+          (hang_up_ends n v.machine) (quiet_hang_up n v.machine serving.orderly (not_listening_broken n v opened es h.conns not_listening x))) h.stands
+
+  -- its peer has hung up
+  hung_conns : HasConns (record v { machine = hung_at n v.machine }) opened (HangUp n ∷ es)
+  hung_conns = record {
+    below = λ place its. let lt = h.conns.below place its in omega (arith, lt);
+    count_is = h.conns.count_is;
+    open_are = λ c. open_still opened c (HangUp n) es refl refl ∙ h.conns.open_are c ∙ sym (open_same c (hung_at n v.machine).conns v.machine.conns (numbers_hung n v.machine.conns));
+    hung_are = λ c l l_is on.
+        let k = hung_before n c v.machine.conns l l_is in
+        let was : k.0.hung_up ≡ hung_up opened c es = h.conns.hung_are c k.0 k.1 (sym (ap (λ (x : ConnValue). x.broken) k.2) ∙ on) in
+        let its : (k.0.number == n) ≡ (n == c) = ap (λ m. m == n) (number_of c v.machine.conns k.0 k.1) ∙ sym_eqb c n in
+        let there : is_open opened c es ≡ true = h.conns.open_are c ∙ ap (λ o. is_some o) k.1 in
+        ap (λ (x : ConnValue). x.hung_up) k.2 ∙ ap (λ b. b || (k.0.number == n)) was ∙ ap (λ b. hung_up opened c es || b) its ∙ sym (ap (λ b. hung_up opened c es || (b && (n == c))) there);
+    reads_are = λ c l s l_is s_is going.
+        let k = hung_listens n v.machine c l l_is going in
+        let read = h.conns.reads_are c k.0 s k.1 s_is k.2 in (read.0, subst (λ text. HasRead s.reader text read.0) (sym (text_still opened c (HangUp n) es refl)) read.1);
+  }
 
   -- its calls end, or it breaks
-  pub hung_served : (i : ℕ) (w : GatewayValue) → ListensAt n v i → CallsEnd (HungUp n) v.machine w.machine → w ≡ record v { machine = w.machine; streams = without_more i v.streams }
-      → Served w opened (HangUp n ∷ es) taken handed
-  hung_served i w l ends rest = record {
-    conns = record {
-      below = λ place its. let lt = h.conns.below place its in omega (arith, lt);
-      count_is = h.conns.count_is ∙ sym opened_is;
-      open_are = λ c. open_still opened c (HangUp n) es refl refl ∙ h.conns.open_are c ∙ sym (open_same c w.machine.conns v.machine.conns ends.numbers_are);
-      hung_are = λ c k s k_is s_is on. by_number c k s k_is s_is on (n == c) refl;
-      reads_are = λ c k s k_is s_is going.
-          let parts = going_parts k.broken s.hung_up going in
-          let was = (goes_ended (HungUp n) v.machine w.machine ends).back c k k_is parts.0 in
-          let read = h.conns.reads_are c was.0 s was.1 (still c s s_is parts.1 (c == (stream_at i v.streams).number) refl) (rw (was.2, parts.1) refl) in
-          (read.0, subst (λ text. HasRead s.reader text read.0) (sym (text_still opened c (HangUp n) es refl)) read.1);
-    };
-    stands = stands_one v w opened (HangUp n) es taken handed (ap (λ (y : GatewayValue). y.plans) rest) (occurs.HangUp n) (λ os at. at ∙ ap (λ b. once b (occurs.HangUp n)) listening)
+  pub hung_served : (i : ℕ) (w : GatewayValue) → ListensAt n v i → Ends (HungUp n) (hung_at n v.machine) v w → Served w opened (HangUp n ∷ es) taken handed
+  hung_served i w l x = record {
+    conns = conns_go u w opened (HangUp n ∷ es) (record { opened_is = opened_is; streams_are = streams_are; numbers_are = x.ends.numbers_are; goes = goes_ended (HungUp n) u.machine w.machine x.ends }) hung_conns;
+    stands = stands_one v w opened (HangUp n) es taken handed (ap (λ (y : GatewayValue). y.plans) x.rest) (occurs.HangUp n) (λ os at. at ∙ ap (λ b. once b (occurs.HangUp n)) listening)
         (λ c. text_still opened c (HangUp n) es refl)
-        (λ os stands. ended_stands v w (λ c. stream opened c es) taken handed os (λ c t t_is on. still c t t_is on (c == (stream_at i v.streams).number) refl)
-        (λ c none. no_more c none (c == (stream_at i v.streams).number) refl) opened_is (ap (λ (y : GatewayValue). y.begun) rest) serving.orderly stands (occurs.HangUp n) (HungUp n) v.machine (hang_up_ends n v.machine) ends) h.stands;
+        (λ os stands. ended_stands u w (λ c. stream opened c es) taken handed os (λ c t t_is. ap (stream_of c) (sym streams_are) ∙ t_is) (λ c none. ap (stream_of c) streams_are ∙ none) opened_is
+        (ap (λ (y : GatewayValue). y.begun) x.rest) ((keeps_hung n v.machine).orderly serving.orderly) (hung_stands n v (λ c. stream opened c es) taken handed os stands) (occurs.HangUp n) (HungUp n) u.machine
+        (hang_up_ends n u.machine) x.ends) h.stands;
   }
     where
+      u : GatewayValue
+      u = record v { machine = hung_at n v.machine }
+
       opened_is : w.opened ≡ v.opened
-      opened_is = ap (λ (y : GatewayValue). y.opened) rest
+      opened_is = ap (λ (y : GatewayValue). y.opened) x.rest
+
+      streams_are : w.streams ≡ v.streams
+      streams_are = ap (λ (y : GatewayValue). y.streams) x.rest
 
       here : conn_of n v.machine.conns ≡ Some (conn_at i v.machine.conns)
       here = ap (λ m. conn_of m v.machine.conns) (sym l.conn_is) ∙ conn_found i v.machine.conns l.conn_there serving.orderly.conns_apart
 
-      stream_here : stream_of n v.streams ≡ Some (stream_at i v.streams)
-      stream_here = ap (λ m. stream_of m v.streams) (sym l.stream_is) ∙ stream_found i v.streams l.stream_there (streams_apart v serving)
-
       listening : listens opened n es ≡ true
-      listening = rw (h.conns.open_are n ∙ ap (λ o. is_some o) here, sym (h.conns.hung_are n (conn_at i v.machine.conns) (stream_at i v.streams) here stream_here l.unbroken) ∙ l.on) refl
-
-      new : StreamValue
-      new = record (stream_at i v.streams) { hung_up = true }
-
-      stream_is : (c : ℕ) → stream_of c w.streams ≡ (if c == (stream_at i v.streams).number then Some new else stream_of c v.streams)
-      stream_is c = ap (λ (y : GatewayValue). stream_of c y.streams) rest ∙ stream_set c i new v.streams l.stream_there (streams_apart v serving) refl
-
-      still : (c : ℕ) (t : StreamValue) → stream_of c w.streams ≡ Some t → t.hung_up ≡ false → (b : Bool) → (c == (stream_at i v.streams).number) ≡ b → stream_of c v.streams ≡ Some t
-      still c t t_is on true x = absurd (
-          let same : new ≡ t = some_same (sym (stream_is c ∙ ap (λ b. if b then Some new else stream_of c v.streams) x) ∙ t_is) in
-          let clash : true ≡ false = ap (λ (s : StreamValue). s.hung_up) same ∙ on in cc)
-      still c t t_is on false x = sym (stream_is c ∙ ap (λ b. if b then Some new else stream_of c v.streams) x) ∙ t_is
-
-      no_more : (c : ℕ) → stream_of c v.streams ≡ None → (b : Bool) → (c == (stream_at i v.streams).number) ≡ b → stream_of c w.streams ≡ None
-      no_more c none true x = absurd (
-          let clash : None ≡ Some (stream_at i v.streams) = sym none ∙ ap (λ m. stream_of m v.streams) (eqb-true c (stream_at i v.streams).number x)
-          ∙ stream_found i v.streams l.stream_there (streams_apart v serving) in cc)
-      no_more c none false x = stream_is c ∙ ap (λ b. if b then Some new else stream_of c v.streams) x ∙ none
-
-      by_number : (c : ℕ) (k : ConnValue) (s : StreamValue) → conn_of c w.machine.conns ≡ Some k → stream_of c w.streams ≡ Some s → k.broken ≡ false
-          → (b : Bool) → (n == c) ≡ b → s.hung_up ≡ hung_up opened c (HangUp n ∷ es)
-      by_number c k s k_is s_is on false x =
-          let was = (goes_ended (HungUp n) v.machine w.machine ends).back c k k_is on in
-          let ne : (c == (stream_at i v.streams).number) ≡ false = ne_eqb c (stream_at i v.streams).number
-          (λ same. let clash : true ≡ false = sym (eq-eqb n c (sym (same ∙ l.stream_is))) ∙ x in absurd (cc)) in
-          h.conns.hung_are c was.0 s was.1 (sym (stream_is c ∙ ap (λ b. if b then Some new else stream_of c v.streams) ne) ∙ s_is) was.2 ∙ sym (hung_still opened c (HangUp n) es x)
-      by_number c k s k_is s_is on true x =
-          let its : (c == (stream_at i v.streams).number) ≡ true = eq-eqb c (stream_at i v.streams).number (sym (eqb-true n c x) ∙ sym l.stream_is) in
-          let same : new ≡ s = some_same (sym (stream_is c ∙ ap (λ b. if b then Some new else stream_of c v.streams) its) ∙ s_is) in
-          let there : is_open opened c es ≡ true = ap (λ m. is_open opened m es) (sym (eqb-true n c x)) ∙ h.conns.open_are n ∙ ap (λ o. is_some o) here in
-          ap (λ (y : StreamValue). y.hung_up) (sym same) ∙ sym (ap (λ b. hung_up opened c es || (b && is_hang_up_of c (HangUp n))) there ∙ ap (λ b. hung_up opened c es || b) x ∙ or_true (hung_up opened c es))
+      listening = rw (h.conns.open_are n ∙ ap (λ o. is_some o) here, sym (h.conns.hung_are n (conn_at i v.machine.conns) here l.unbroken) ∙ l.on) refl
 
 pub hang_up_served : (n : ℕ) (v w : GatewayValue) (result : Result ⊤ StepFault) (opened : List ℕ) (es : Before) (taken : ℕ → List ReplyEntry) (handed : List JobValue)
     → IsServing v → Served v opened es taken handed → HangsUp n v w result → Served w opened (HangUp n ∷ es) taken handed
 hang_up_served n v w result opened es taken handed serving h (unnoticed not_listening r w_is) =
     subst (λ x. Served x opened (HangUp n ∷ es) taken handed) (sym w_is) (unnoticed_served n v opened es taken handed serving h not_listening)
-hang_up_served n v w result opened es taken handed serving h (hung i l ends rest r) = hung_served n v opened es taken handed serving h i w l ends rest
+hang_up_served n v w result opened es taken handed serving h (hung i l x r) = hung_served n v opened es taken handed serving h i w l x

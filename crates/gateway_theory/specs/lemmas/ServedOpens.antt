@@ -23,7 +23,7 @@ use Rattle.gateway_theory.specs.lemmas.CutLemmas.{IsSame, at_same, connections_g
 use Rattle.gateway_theory.specs.lemmas.GatewayEnds.{closed_stands}
 use Rattle.gateway_theory.specs.lemmas.GatewayOpens.{opened_stands, stream_added}
 use Rattle.gateway_theory.specs.lemmas.OrderLemmas.{some_same}
-use Rattle.gateway_theory.specs.lemmas.ServedLemmas.{hung_still, open_after, open_still, stands_none, stands_one, text_still, texts_same}
+use Rattle.gateway_theory.specs.lemmas.ServedLemmas.{conns_plain, hung_still, open_after, stands_none, stands_one, text_still, texts_same}
 use Rattle.gateway_theory.specs.lemmas.ServingLemmas.{none_if, stream_by_number, conn_by_number, stream_without}
 use Rattle.gateway_theory.specs.lemmas.StoreMore.{conn_added, conn_without}
 
@@ -87,14 +87,7 @@ module _ (v w : GatewayValue) (opened : List ℕ) (es : Before) (taken : ℕ →
   -- that does not succeed
   pub unopened_served : Served v opened (Opening ∷ es) taken handed
   unopened_served = record {
-    conns = record {
-      below = λ place its. let lt = h.conns.below place its in omega (arith, lt);
-      count_is = same ∙ h.conns.count_is;
-      open_are = λ c. open_still opened c Opening es same refl ∙ h.conns.open_are c;
-      hung_are = λ c k s k_is s_is on. h.conns.hung_are c k s k_is s_is on ∙ sym (hung_still opened c Opening es refl);
-      reads_are = λ c k s k_is s_is going.
-          let read = h.conns.reads_are c k s k_is s_is going in (read.0, subst (λ text. HasRead s.reader text read.0) (sym (text_still opened c Opening es refl)) read.1);
-    };
+    conns = conns_plain v opened Opening es (record { opens_none = same; closes_none = λ c. refl; hangs_none = λ c. refl; brings_none = λ c. refl }) h.conns;
     stands = stands_none v v opened Opening es taken handed refl (λ os at. at ∙ ap (λ b. once b occurs.Opening) fails) (λ c. text_still opened c Opening es refl) (λ os stands. stands) h.stands;
   }
     where
@@ -110,7 +103,7 @@ module _ (v w : GatewayValue) (opened : List ℕ) (es : Before) (taken : ℕ →
       below = λ place its. places place (succeeds opened place) refl its;
       count_is = count ∙ sym o.opened_is;
       open_are = λ c. opens c (nat_lt c (connections more es)) refl;
-      hung_are = λ c k s k_is s_is on. hangs c k s k_is s_is on (n == c) refl;
+      hung_are = λ c k k_is on. hangs c k k_is on (n == c) refl;
       reads_are = λ c k s k_is s_is going. reads c k s k_is s_is going (n == c) refl;
     };
     stands = λ occurred all. by_past occurred (subst (λ plans. Occurs plans more (Opening ∷ es) occurred) o.plans_are all);
@@ -186,21 +179,19 @@ module _ (v w : GatewayValue) (opened : List ℕ) (es : Before) (taken : ℕ →
               above l ne = ⊎_elim (λ (lt : nat_lt n c ≡ true). let x = ltb-true n c lt in omega (arith, x))
                   (λ (ge : nat_lt n c ≡ false). absurd (ne (let x = ltb-false n c ge in omega (arith, x, l)))) (cases_Bool (nat_lt n c))
 
-      hangs : (c : ℕ) (k : ConnValue) (s : StreamValue) → conn_of c w.machine.conns ≡ Some k → stream_of c w.streams ≡ Some s → k.broken ≡ false
-          → (b : Bool) → (n == c) ≡ b → s.hung_up ≡ hung_up more c (Opening ∷ es)
-      hangs c k s k_is s_is on false e =
-          h.conns.hung_are c k s (sym (conn_other c e) ∙ k_is) (sym (stream_other c e) ∙ s_is) on ∙ sym (same.hung_is c) ∙ sym (hung_still more c Opening es refl)
-      hangs c k s k_is s_is on true e =
+      hangs : (c : ℕ) (k : ConnValue) → conn_of c w.machine.conns ≡ Some k → k.broken ≡ false → (b : Bool) → (n == c) ≡ b → k.hung_up ≡ hung_up more c (Opening ∷ es)
+      hangs c k k_is on false e = h.conns.hung_are c k (sym (conn_other c e) ∙ k_is) on ∙ sym (same.hung_is c) ∙ sym (hung_still more c Opening es refl)
+      hangs c k k_is on true e =
           let at : n ≡ c = eqb-true n c e in
-          let new : new_stream n ≡ s = some_same (sym (stream_is c ∙ ap (λ m. option_or (stream_of m v.streams) (if n == c then Some (new_stream n) else None)) (sym at)
-          ∙ ap (λ a. option_or a (if n == c then Some (new_stream n) else None)) no_stream ∙ ap (λ b. if b then Some (new_stream n) else None) e) ∙ s_is) in
-          ap (λ (x : StreamValue). x.hung_up) (sym new)
+          let new : conn_value n 0 [] false false ≡ k = some_same (sym (conn_is c ∙ ap (λ m. option_or (conn_of m v.machine.conns) (if n == c then Some (conn_value n 0 [] false false) else None)) (sym at)
+          ∙ ap (λ a. option_or a (if n == c then Some (conn_value n 0 [] false false) else None)) (serving.no_conn n (omega arith)) ∙ ap (λ b. if b then Some (conn_value n 0 [] false false) else None) e) ∙ k_is) in
+          ap (λ (x : ConnValue). x.hung_up) (sym new)
           ∙ sym (hung_still more c Opening es refl ∙ same.hung_is c ∙ unopened_hung opened c es (let x = h.conns.count_is in omega (arith, at, x)))
 
       text_is : (c : ℕ) → stream more c (Opening ∷ es) ≡ stream opened c es
       text_is c = text_still more c Opening es refl ∙ same.stream_is c
 
-      reads : (c : ℕ) (k : ConnValue) (s : StreamValue) → conn_of c w.machine.conns ≡ Some k → stream_of c w.streams ≡ Some s → is_listening k s ≡ true
+      reads : (c : ℕ) (k : ConnValue) (s : StreamValue) → conn_of c w.machine.conns ≡ Some k → stream_of c w.streams ≡ Some s → is_listening k ≡ true
           → (b : Bool) → (n == c) ≡ b → (given : List HttpRequest) × HasRead s.reader (stream more c (Opening ∷ es)) given
       reads c k s k_is s_is going false e =
           let read = h.conns.reads_are c k s (sym (conn_other c e) ∙ k_is) (sym (stream_other c e) ∙ s_is) going in
@@ -231,7 +222,7 @@ module _ (v w : GatewayValue) (opened : List ℕ) (es : Before) (taken : ℕ →
       below = λ place its. let lt = h.conns.below place its in omega (arith, lt);
       count_is = h.conns.count_is;
       open_are = λ c. open_after opened c (Closing n) es refl ∙ by_number c (n == c) refl ∙ h.conns.open_are c;
-      hung_are = λ c k s k_is s_is on. h.conns.hung_are c k s k_is s_is on ∙ sym (hung_still opened c (Closing n) es refl);
+      hung_are = λ c k k_is on. h.conns.hung_are c k k_is on ∙ sym (hung_still opened c (Closing n) es refl);
       reads_are = λ c k s k_is s_is going.
           let read = h.conns.reads_are c k s k_is s_is going in (read.0, subst (λ text. HasRead s.reader text read.0) (sym (text_still opened c (Closing n) es refl)) read.1);
     };
@@ -251,7 +242,7 @@ module _ (v w : GatewayValue) (opened : List ℕ) (es : Before) (taken : ℕ →
       below = λ place its. let lt = h.conns.below place its in omega (arith, lt);
       count_is = h.conns.count_is ∙ sym (ap (λ (y : GatewayValue). y.opened) x.1);
       open_are = λ c. open_after opened c (Closing n) es refl ∙ by_number c (c == n) refl;
-      hung_are = λ c k s k_is s_is on. hangs c k s k_is s_is on (c == n) refl;
+      hung_are = λ c k k_is on. hangs c k k_is on (c == n) refl;
       reads_are = λ c k s k_is s_is going. reads c k s k_is s_is going (c == n) refl;
     };
     stands = by_conn (conn_of n v.machine.conns) refl;
@@ -276,14 +267,11 @@ module _ (v w : GatewayValue) (opened : List ℕ) (es : Before) (taken : ℕ →
           ap (λ b. is_open opened c es && not b) (turned c ∙ e) ∙ and_true (is_open opened c es) ∙ h.conns.open_are c
           ∙ sym (ap (λ k. is_some k) (conn_is c ∙ ap (λ b. if b then None else conn_of c v.machine.conns) e))
 
-      hangs : (c : ℕ) (k : ConnValue) (s : StreamValue) → conn_of c w.machine.conns ≡ Some k → stream_of c w.streams ≡ Some s → k.broken ≡ false
-          → (b : Bool) → (c == n) ≡ b → s.hung_up ≡ hung_up opened c (Closing n ∷ es)
-      hangs c k s k_is s_is on true e = absurd (let clash : None ≡ Some k = sym (conn_is c ∙ ap (λ b. if b then None else conn_of c v.machine.conns) e) ∙ k_is in cc)
-      hangs c k s k_is s_is on false e =
-          h.conns.hung_are c k s (sym (conn_is c ∙ ap (λ b. if b then None else conn_of c v.machine.conns) e) ∙ k_is)
-          (sym (stream_is c ∙ ap (λ b. if b then None else stream_of c v.streams) e) ∙ s_is) on ∙ sym (hung_still opened c (Closing n) es refl)
+      hangs : (c : ℕ) (k : ConnValue) → conn_of c w.machine.conns ≡ Some k → k.broken ≡ false → (b : Bool) → (c == n) ≡ b → k.hung_up ≡ hung_up opened c (Closing n ∷ es)
+      hangs c k k_is on true e = absurd (let clash : None ≡ Some k = sym (conn_is c ∙ ap (λ b. if b then None else conn_of c v.machine.conns) e) ∙ k_is in cc)
+      hangs c k k_is on false e = h.conns.hung_are c k (sym (conn_is c ∙ ap (λ b. if b then None else conn_of c v.machine.conns) e) ∙ k_is) on ∙ sym (hung_still opened c (Closing n) es refl)
 
-      reads : (c : ℕ) (k : ConnValue) (s : StreamValue) → conn_of c w.machine.conns ≡ Some k → stream_of c w.streams ≡ Some s → is_listening k s ≡ true
+      reads : (c : ℕ) (k : ConnValue) (s : StreamValue) → conn_of c w.machine.conns ≡ Some k → stream_of c w.streams ≡ Some s → is_listening k ≡ true
           → (b : Bool) → (c == n) ≡ b → (given : List HttpRequest) × HasRead s.reader (stream opened c (Closing n ∷ es)) given
       reads c k s k_is s_is going true e = absurd (let clash : None ≡ Some k = sym (conn_is c ∙ ap (λ b. if b then None else conn_of c v.machine.conns) e) ∙ k_is in cc)
       reads c k s k_is s_is going false e =
@@ -296,7 +284,7 @@ module _ (v w : GatewayValue) (opened : List ℕ) (es : Before) (taken : ℕ →
       by_conn (Some k) k_is = stands_one v w opened (Closing n) es taken handed (ap (λ (y : GatewayValue). y.plans) x.1) (occurs.Closing n)
           (λ os at. at ∙ ap (λ b. once b (occurs.Closing n)) (h.conns.open_are n ∙ x.0)) (λ c. text_still opened c (Closing n) es refl)
           (λ os stands. closed_stands v w (λ c. stream opened c es) taken handed os
-          (λ c t t_is on. was c t (c == n) refl t_is) (λ c none. gone c (c == n) refl none) (ap (λ (y : GatewayValue). y.opened) x.1) (ap (λ (y : GatewayValue). y.begun) x.1) serving.orderly stands n k k_is
+          (λ c t t_is. was c t (c == n) refl t_is) (λ c none. gone c (c == n) refl none) (ap (λ (y : GatewayValue). y.opened) x.1) (ap (λ (y : GatewayValue). y.begun) x.1) serving.orderly stands n k k_is
           (ap (λ (y : GatewayValue). y.machine) x.1)) h.stands
         where
           was : (c : ℕ) (t : StreamValue) (b : Bool) → (c == n) ≡ b → stream_of c w.streams ≡ Some t → stream_of c v.streams ≡ Some t

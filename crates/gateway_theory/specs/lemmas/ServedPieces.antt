@@ -1,20 +1,19 @@
 -- What the gateway stands for after a piece of a stream.
-use Rattle.std.proofs.Common.{◌≡◌, ℕ, ◌+◌, ◌*◌, ◌≤◌, Bool, true, false, List, [], ◌∷◌, ◌++◌, map, take, length, Some, Result, Ok, Err, refl, sym, ap, ◌∙◌, subst, arith, append-nil, ⊎_elim, inl, inr}
+use Rattle.std.proofs.Common.{◌≡◌, ℕ, ◌+◌, ◌<◌, ◌*◌, ◌≤◌, Bool, true, false, List, [], ◌∷◌, ◌++◌, map, take, length, Some, refl, sym, ap, ◌∙◌, subst, arith, append-nil, ⊎_elim, inl, inr}
 use Rattle.std.specs.Prelude.{◌⊎◌, if◌then◌else◌, ◌||◌, ◌==◌, is_some, MatchBool}
 use Rattle.std.specs.Option.{option_map_or}
-use Rattle.std.proofs.lemmas.Bool.{cases_Bool, eq-eqb, eqb-true, ne_eqb}
+use Rattle.std.proofs.lemmas.Bool.{eq-eqb, eqb-true, ne_eqb}
 use Rattle.std.proofs.lemmas.List.{length-append}
 use Rattle.call_plan.specs.Plan.{PlanRecord}
 use Rattle.http_pieces.specs.Reader.{ReaderValue, Reading, Partial, Waiting, Stopped, Done, HasRead, HasReadTo, is_over, left_of}
 use Rattle.http_pieces.specs.Request.{HttpRequest}
 use Rattle.http_pieces.specs.Requests.{RefusedBy, Closed, Requests}
 use Rattle.gateway_model.specs.declared.entry.ReplyEntry.{ReplyEntry}
-use Rattle.gateway_theory.specs.declared.fault.StepFault.{StepFault}
 use Rattle.gateway_model.specs.declared.id.CallId.{CallId}
 use Rattle.gateway_theory.specs.Breaks.{CallAfter, ConnBy, ComingBreaks, is_broken_after}
-use Rattle.gateway_theory.specs.Conn.{ConnValue}
+use Rattle.gateway_theory.specs.Conn.{ConnValue, added}
 use Rattle.gateway_theory.specs.Ends.{is_broken_in}
-use Rattle.gateway_theory.specs.Enters.{Enters}
+use Rattle.gateway_theory.specs.Enters.{Enters, arriving_at}
 use Rattle.gateway_model.specs.Events.{Before, Gains, Occurs, listens, stream}
 use Rattle.gateway_model.specs.declared.event.Event.TheVariants.{Piece}
 use Rattle.gateway_theory.specs.Fate.{fates_after, is_broken}
@@ -25,8 +24,9 @@ use Rattle.gateway_model.specs.Occurrence.{Coming, Comes, Occurrence, Refused, R
 use Rattle.gateway_model.specs.Arrival.{arrival_of}
 use Rattle.gateway_model.specs.Past.{is_call}
 use Rattle.gateway_theory.specs.RequestLaws.{RequestLaws}
-use Rattle.gateway_theory.specs.Served.{HasConns, Served, ServedFed, StandsBy}
-use Rattle.gateway_theory.specs.Serving.{FedTo, came, dropped, not_fed, unread, NotListening, IsServing, ListensAt}
+use Rattle.gateway_theory.specs.Served.{HasConns, Served, StandsBy}
+use Rattle.gateway_theory.specs.Orderly.{IsOrderly}
+use Rattle.gateway_theory.specs.Serving.{NotListening, IsServing, ListensAt}
 use Rattle.gateway_model.specs.Starts.{occurrences}
 use Rattle.gateway_theory.specs.Store.{MachineValue, broken_at, conn_at, conn_of, machine, numbers}
 use Rattle.gateway_theory.specs.lemmas.Cases.{and_true}
@@ -35,13 +35,13 @@ use Rattle.gateway_theory.specs.lemmas.CutLemmas.{back, occurrences_onto}
 use Rattle.gateway_theory.specs.lemmas.EndLemmas.{numbers_broken, just_broken}
 use Rattle.gateway_theory.specs.lemmas.ComingFates.{fated_coming}
 use Rattle.gateway_theory.specs.lemmas.EventLemmas.{gains_unique}
-use Rattle.gateway_theory.specs.lemmas.FeedLemmas.{other_conn, stream_found, stream_set}
+use Rattle.gateway_theory.specs.lemmas.FeedLemmas.{other_conn, this_conn, stream_found, stream_set}
 use Rattle.gateway_theory.specs.lemmas.FeedSteps.{fed_stands}
 use Rattle.gateway_theory.specs.lemmas.GatewayOpens.{refused_stands}
-use Rattle.gateway_theory.specs.lemmas.GatewaySteps.{goes_broken, still_off}
+use Rattle.gateway_theory.specs.lemmas.GatewaySteps.{goes_broken, still_off, going_parts}
 use Rattle.gateway_theory.specs.lemmas.OrderLemmas.{some_same}
 use Rattle.gateway_theory.specs.lemmas.OrderSteps.{fates_next}
-use Rattle.gateway_theory.specs.lemmas.ServedLemmas.{going_parts, hung_still, open_same, open_still, stands_none}
+use Rattle.gateway_theory.specs.lemmas.ServedLemmas.{hung_still, open_same, open_still, stands_none}
 use Rattle.gateway_theory.specs.lemmas.ServedMore.{not_listening_broken}
 use Rattle.gateway_theory.specs.lemmas.ServingLemmas.{keeps_entered, streams_apart}
 use Rattle.gateway_theory.specs.lemmas.StoreMore.{conn_found}
@@ -128,11 +128,11 @@ texts_else v texts others taken handed os same h = record {
   begun_is = h.begun_is;
 }
   where
-    by_text : (c : ℕ) (k : ConnValue) (s : StreamValue) → conn_of c v.machine.conns ≡ Some k → stream_of c v.streams ≡ Some s → is_listening k s ≡ true
+    by_text : (c : ℕ) (k : ConnValue) (s : StreamValue) → conn_of c v.machine.conns ≡ Some k → stream_of c v.streams ≡ Some s → is_listening k ≡ true
         → (others c ≡ texts c) ⊎ (is_broken_in c v.machine.conns ≡ true) → HasCome k s.reader (others c)
     by_text c k s k_is s_is going (inl e) = subst (λ text. HasCome k s.reader text) (sym e) (h.streams_stand c k s k_is s_is going)
     by_text c k s k_is s_is going (inr broken) = absurd (
-        let clash : true ≡ false = sym broken ∙ ap (λ o. option_map_or (λ (y : ConnValue). y.broken) o false) k_is ∙ (going_parts k.broken s.hung_up going).0 in cc)
+        let clash : true ≡ false = sym broken ∙ ap (λ o. option_map_or (λ (y : ConnValue). y.broken) o false) k_is ∙ (going_parts k.broken k.hung_up going).0 in cc)
 
 text_other : (opened : List ℕ) (c n : ℕ) (bytes : List ℕ) (es : Before) → (n == c) ≡ false → stream opened c (Piece n bytes ∷ es) ≡ stream opened c es
 text_other opened c n bytes es ne = by_it (listens opened c es)
@@ -189,20 +189,21 @@ module _ (n : ℕ) (bytes : List ℕ) (v w : GatewayValue) (opened : List ℕ) (
 
 -- the connections after a piece
 conns_piece : (n : ℕ) (bytes : List ℕ) (v w : GatewayValue) (opened : List ℕ) (es : Before) → w.opened ≡ v.opened → numbers w.machine.conns ≡ numbers v.machine.conns
-    → ((c : ℕ) (k : ConnValue) (s : StreamValue) → conn_of c w.machine.conns ≡ Some k → stream_of c w.streams ≡ Some s → k.broken ≡ false
-    → (x : ConnValue) × (y : StreamValue) × (conn_of c v.machine.conns ≡ Some x) × (stream_of c v.streams ≡ Some y) × (x.broken ≡ false) × (s.hung_up ≡ y.hung_up)
+    → ((c : ℕ) (k : ConnValue) → conn_of c w.machine.conns ≡ Some k → k.broken ≡ false → (x : ConnValue) × (conn_of c v.machine.conns ≡ Some x) × (x.broken ≡ false) × (k.hung_up ≡ x.hung_up))
+    → ((c : ℕ) (k : ConnValue) (s : StreamValue) → conn_of c w.machine.conns ≡ Some k → k.broken ≡ false → stream_of c w.streams ≡ Some s → (y : StreamValue) × (stream_of c v.streams ≡ Some y)
     × ((given : List HttpRequest) → HasRead y.reader (stream opened c es) given → (now : List HttpRequest) × HasRead s.reader (stream opened c (Piece n bytes ∷ es)) now))
     → HasConns v opened es → HasConns w opened (Piece n bytes ∷ es)
-conns_piece n bytes v w opened es opened_is same back h = record {
+conns_piece n bytes v w opened es opened_is same back reads h = record {
   below = λ place its. let lt = h.below place its in omega (arith, lt);
   count_is = h.count_is ∙ sym opened_is;
   open_are = λ c. open_still opened c (Piece n bytes) es refl refl ∙ h.open_are c ∙ sym (open_same c w.machine.conns v.machine.conns same);
-  hung_are = λ c k s k_is s_is on. let b = back c k s k_is s_is on in b.5 ∙ h.hung_are c b.0 b.1 b.2 b.3 b.4 ∙ sym (hung_still opened c (Piece n bytes) es refl);
+  hung_are = λ c k k_is on. let x = back c k k_is on in x.3 ∙ h.hung_are c x.0 x.1 x.2 ∙ sym (hung_still opened c (Piece n bytes) es refl);
   reads_are = λ c k s k_is s_is going.
-      let parts = going_parts k.broken s.hung_up going in
-      let b = back c k s k_is s_is parts.0 in
-      let read = h.reads_are c b.0 b.1 b.2 b.3 (rw (b.4, sym b.5 ∙ parts.1) refl) in
-      b.6 read.0 read.1;
+      let parts = going_parts k.broken k.hung_up going in
+      let x = back c k k_is parts.0 in
+      let y = reads c k s k_is parts.0 s_is in
+      let read = h.reads_are c x.0 y.0 x.1 y.1 (rw (x.2, sym x.3 ∙ parts.1) refl) in
+      y.2 read.0 read.1;
 }
 
 pub over_more : RequestLaws → (reader : ReaderValue) (text more : List ℕ) (given : List HttpRequest) → is_over reader.reading ≡ true → HasRead reader text given → HasRead reader (text ++ more) given
@@ -272,13 +273,36 @@ feeds_machine i n bytes v w f = by_reading f.pushed.reading f.brings
     by_reading (Stopped r) b = inr (Refused r, b.1)
     by_reading Done b = inl b.1
 
+-- a connection that is not broken after a piece was so before
+pub fed_back : (i n : ℕ) (bytes : List ℕ) (v w : GatewayValue) → i < length v.machine.conns → IsOrderly v.machine → (conn_at i v.machine.conns).broken ≡ false → Feeds i n bytes v w
+    → (c : ℕ) (k : ConnValue) → conn_of c w.machine.conns ≡ Some k → k.broken ≡ false → (x : ConnValue) × (conn_of c v.machine.conns ≡ Some x) × (x.broken ≡ false) × (k.hung_up ≡ x.hung_up)
+fed_back i n bytes v w lt orderly unbroken f c k k_is on = by_machine (feeds_machine i n bytes v w f)
+  where
+    this : ConnValue
+    this = conn_at i v.machine.conns
+
+    by_enters : (x : Coming) → Enters i x v.machine w.machine → (b : Bool) → (c == this.number) ≡ b → (x : ConnValue) × (conn_of c v.machine.conns ≡ Some x) × (x.broken ≡ false) × (k.hung_up ≡ x.hung_up)
+    by_enters x enters false ne = (k, sym (other_conn i x v.machine w.machine lt orderly unbroken enters c ne) ∙ k_is, on, refl)
+    by_enters x enters true its =
+        let at : c ≡ this.number = eqb-true c this.number its in (
+          this,
+          ap (λ m. conn_of m v.machine.conns) at ∙ conn_found i v.machine.conns lt orderly.conns_apart,
+          unbroken,
+          ⊎_elim (λ (broke : k.broken ≡ true). absurd (let clash : true ≡ false = sym broke ∙ on in cc)) (λ (e : k ≡ added (arriving_at i x v.machine).reply this). ap (λ (y : ConnValue). y.hung_up) e)
+              (this_conn i x v.machine w.machine lt orderly unbroken enters k (ap (λ m. conn_of m w.machine.conns) (sym at) ∙ k_is)),
+        )
+
+    by_machine : (w.machine ≡ v.machine) ⊎ ((x : Coming) × Enters i x v.machine w.machine) → (x : ConnValue) × (conn_of c v.machine.conns ≡ Some x) × (x.broken ≡ false) × (k.hung_up ≡ x.hung_up)
+    by_machine (inl e) = (k, ap (λ (y : MachineValue). conn_of c y.conns) (sym e) ∙ k_is, on, refl)
+    by_machine (inr (x, enters)) = by_enters x enters (c == this.number) refl
+
 -- ---- a piece
 
 module _ (n : ℕ) (v w : GatewayValue) (opened : List ℕ) (es : Before) (taken : ℕ → List ReplyEntry) (handed : List JobValue) (serving : IsServing v) (h : Served v opened es taken handed) where
   same_conns : (bytes : List ℕ) → ((c : ℕ) (k : ConnValue) (s : StreamValue) → conn_of c v.machine.conns ≡ Some k → stream_of c v.streams ≡ Some s → k.broken ≡ false
       → (given : List HttpRequest) → HasRead s.reader (stream opened c es) given → (now : List HttpRequest) × HasRead s.reader (stream opened c (Piece n bytes ∷ es)) now)
       → HasConns v opened (Piece n bytes ∷ es)
-  same_conns bytes read = conns_piece n bytes v v opened es refl refl (λ c k s k_is s_is on. (k, s, k_is, s_is, on, refl, read c k s k_is s_is on)) h.conns
+  same_conns bytes read = conns_piece n bytes v v opened es refl refl (λ c k k_is on. (k, k_is, on, refl)) (λ c k s k_is on s_is. (s, s_is, read c k s k_is s_is on)) h.conns
 
   -- none of it is taken
   pub not_fed_served : (bytes : List ℕ) → NotListening n v → Served v opened (Piece n bytes ∷ es) taken handed
@@ -300,7 +324,7 @@ module _ (n : ℕ) (v w : GatewayValue) (opened : List ℕ) (es : Before) (taken
       }
         where
           broken : is_broken_in n v.machine.conns ≡ true
-          broken = not_listening_broken n v opened es serving h.conns not_listening on
+          broken = not_listening_broken n v opened es h.conns not_listening on
 
           other : (c : ℕ) (k : ConnValue) → conn_of c v.machine.conns ≡ Some k → k.broken ≡ false → (n == c) ≡ false
           other c k k_is unbroken = ne_eqb n c (λ same. let clash : true ≡ false = sym broken ∙ ap (λ m. is_broken_in m v.machine.conns) same
@@ -318,7 +342,7 @@ module _ (n : ℕ) (v w : GatewayValue) (opened : List ℕ) (es : Before) (taken
     stream_here = ap (λ m. stream_of m v.streams) (sym l.stream_is) ∙ stream_found i v.streams l.stream_there (streams_apart v serving)
 
     pub listening : listens opened n es ≡ true
-    listening = rw (h.conns.open_are n ∙ ap (λ o. is_some o) here, sym (h.conns.hung_are n (conn_at i v.machine.conns) (stream_at i v.streams) here stream_here l.unbroken) ∙ l.on) refl
+    listening = rw (h.conns.open_are n ∙ ap (λ o. is_some o) here, sym (h.conns.hung_are n (conn_at i v.machine.conns) here l.unbroken) ∙ l.on) refl
 
     pub read_here : (given : List HttpRequest) × HasRead (stream_at i v.streams).reader (stream opened n es) given
     read_here = h.conns.reads_are n (conn_at i v.machine.conns) (stream_at i v.streams) here stream_here (rw (l.unbroken, l.on) refl)
@@ -374,9 +398,8 @@ module _ (n : ℕ) (v w : GatewayValue) (opened : List ℕ) (es : Before) (taken
     -- the reader found no memory
     pub unread_served : (bytes : List ℕ) → w ≡ record v { machine = broken_at n v.machine } → Served w opened (Piece n bytes ∷ es) taken handed
     unread_served bytes w_is = subst (λ x. Served x opened (Piece n bytes ∷ es) taken handed) (sym w_is) (record {
-      conns = conns_piece n bytes v u opened es refl (numbers_broken n v.machine.conns) (λ c k s k_is s_is on.
-          let was = (goes_broken n v.machine).back c k k_is on in
-          (was.0, s, was.1, s_is, was.2, refl, λ given read. (given, subst (λ text. HasRead s.reader text given) (sym (text_other opened c n bytes es (other c k k_is on))) read))) h.conns;
+      conns = conns_piece n bytes v u opened es refl (numbers_broken n v.machine.conns) (λ c k k_is on. let was = (goes_broken n v.machine).back c k k_is on in (was.0, was.1, was.2, was.4))
+          (λ c k s k_is on s_is. (s, s_is, λ given read. (given, subst (λ text. HasRead s.reader text given) (sym (text_other opened c n bytes es (other c k k_is on))) read))) h.conns;
       stands = stands_gained n bytes v u opened es taken handed refl listening (λ gained os gains stands.
           comings_quiet n gained u (with_bytes n bytes (λ d. stream opened d es)) taken handed os broken
           (texts_else u (λ c. stream opened c es) (with_bytes n bytes (λ d. stream opened d es)) taken handed os (λ c. broken_text c (c == n) refl)
@@ -400,7 +423,7 @@ module _ (n : ℕ) (v w : GatewayValue) (opened : List ℕ) (es : Before) (taken
     -- so many bytes were read, and what they brought came
     pub came_served : RequestLaws → (m : ℕ) (bytes : List ℕ) → is_over (stream_at i v.streams).reader.reading ≡ false → Feeds i m bytes v w → Served w opened (Piece n (take m bytes) ∷ es) taken handed
     came_served laws m bytes going f = record {
-      conns = conns_piece n (take m bytes) v w opened es f.opened_is same_numbers (λ c k s k_is s_is on. by_number c k s k_is s_is on (n == c) refl) h.conns;
+      conns = conns_piece n (take m bytes) v w opened es f.opened_is same_numbers (fed_back i m bytes v w l.conn_there serving.orderly l.unbroken f) (λ c k s k_is on s_is. by_number c s s_is (n == c) refl) h.conns;
       stands = stands_gained n (take m bytes) v w opened es taken handed f.plans_are listening (λ gained os gains stands. by_gain gained os gains
           (fed_stands i m bytes v w (λ c. stream opened c es) taken handed os l.conn_there l.stream_there serving.orderly (streams_apart v serving) (l.stream_is ∙ sym l.conn_is) l.unbroken l.on going f stands)) h.stands;
     }
@@ -421,43 +444,21 @@ module _ (n : ℕ) (v w : GatewayValue) (opened : List ℕ) (es : Before) (taken
         stream_is : (c : ℕ) → stream_of c w.streams ≡ (if c == (stream_at i v.streams).number then Some new else stream_of c v.streams)
         stream_is c = ap (stream_of c) f.streams_are ∙ stream_set c i new v.streams l.stream_there (streams_apart v serving) refl
 
-        conn_back : (c : ℕ) (k : ConnValue) → conn_of c w.machine.conns ≡ Some k → k.broken ≡ false → (x : ConnValue) × (conn_of c v.machine.conns ≡ Some x) × (x.broken ≡ false)
-        conn_back c k k_is on = by_machine (feeds_machine i m bytes v w f)
-          where
-            by_machine : (w.machine ≡ v.machine) ⊎ ((x : Coming) × Enters i x v.machine w.machine) → (x : ConnValue) × (conn_of c v.machine.conns ≡ Some x) × (x.broken ≡ false)
-            by_machine (inl e) = (k, ap (λ (y : MachineValue). conn_of c y.conns) (sym e) ∙ k_is, on)
-            by_machine (inr (x, enters)) = ⊎_elim
-                (λ (its : (c == (conn_at i v.machine.conns).number) ≡ true).
-                (conn_at i v.machine.conns, ap (λ m. conn_of m v.machine.conns) (eqb-true c (conn_at i v.machine.conns).number its) ∙ conn_found i v.machine.conns l.conn_there serving.orderly.conns_apart, l.unbroken))
-                (λ (ne : (c == (conn_at i v.machine.conns).number) ≡ false). (k, sym (other_conn i x v.machine w.machine l.conn_there serving.orderly l.unbroken enters c ne) ∙ k_is, on))
-                (cases_Bool (c == (conn_at i v.machine.conns).number))
-
-        by_number : (c : ℕ) (k : ConnValue) (s : StreamValue) → conn_of c w.machine.conns ≡ Some k → stream_of c w.streams ≡ Some s → k.broken ≡ false → (b : Bool) → (n == c) ≡ b
-            → (x : ConnValue) × (y : StreamValue) × (conn_of c v.machine.conns ≡ Some x) × (stream_of c v.streams ≡ Some y) × (x.broken ≡ false) × (s.hung_up ≡ y.hung_up)
+        by_number : (c : ℕ) (s : StreamValue) → stream_of c w.streams ≡ Some s → (b : Bool) → (n == c) ≡ b → (y : StreamValue) × (stream_of c v.streams ≡ Some y)
             × ((given : List HttpRequest) → HasRead y.reader (stream opened c es) given → (now : List HttpRequest) × HasRead s.reader (stream opened c (Piece n more ∷ es)) now)
-        by_number c k s k_is s_is on false e =
-            let x = conn_back c k k_is on in
+        by_number c s s_is false e =
             let ne : (c == (stream_at i v.streams).number) ≡ false = ne_eqb c (stream_at i v.streams).number
             (λ same. let clash : true ≡ false = sym (eq-eqb n c (sym (same ∙ l.stream_is))) ∙ e in absurd (cc)) in (
-              x.0,
               s,
-              x.1,
               sym (stream_is c ∙ ap (λ b. if b then Some new else stream_of c v.streams) ne) ∙ s_is,
-              x.2,
-              refl,
               λ given read. (given, subst (λ text. HasRead s.reader text given) (sym (text_other opened c n more es e)) read),
             )
-        by_number c k s k_is s_is on true e =
+        by_number c s s_is true e =
             let at : n ≡ c = eqb-true n c e in
-            let x = conn_back c k k_is on in
             let its : (c == (stream_at i v.streams).number) ≡ true = eq-eqb c (stream_at i v.streams).number (sym at ∙ sym l.stream_is) in
             let same : new ≡ s = some_same (sym (stream_is c ∙ ap (λ b. if b then Some new else stream_of c v.streams) its) ∙ s_is) in (
-              x.0,
               stream_at i v.streams,
-              x.1,
               ap (λ m. stream_of m v.streams) (sym at) ∙ stream_here,
-              x.2,
-              ap (λ (y : StreamValue). y.hung_up) (sym same),
               λ given read.
                   let now = feeds_read i m bytes v w (stream opened c es) given f read in (
                     now.0,

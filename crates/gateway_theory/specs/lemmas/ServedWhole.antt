@@ -1,5 +1,5 @@
 -- What the gateway stands for after a piece that is fed in parts.
-use Rattle.std.proofs.Common.{◌≡◌, ℕ, Bool, true, false, List, [], ◌∷◌, ◌++◌, map, take, drop, Result, Ok, Err, refl, sym, ap, ◌∙◌, subst, arith, append-nil, append_assoc}
+use Rattle.std.proofs.Common.{◌≡◌, ℕ, Bool, true, false, List, [], ◌∷◌, ◌++◌, map, take, drop, Result, Ok, Err, refl, sym, ap, ◌∙◌, subst, append-nil, append_assoc}
 use Rattle.std.specs.Prelude.{if◌then◌else◌, ◌&&◌, not, ◌==◌, MatchBool, MatchResult}
 use Rattle.std.specs.Option.{option_map_or}
 use Rattle.std.proofs.lemmas.List.{append_cancel_left, take-append-drop}
@@ -21,7 +21,7 @@ use Rattle.gateway_theory.specs.Served.{IsKnown, Served, ServedUpTo}
 use Rattle.gateway_theory.specs.Serving.{FedTo, came, dropped, not_fed, unread, NotListening, IsServing, ListensAt}
 use Rattle.gateway_theory.specs.lemmas.CutLemmas.{listens_piece, stream_piece}
 use Rattle.gateway_theory.specs.lemmas.ServedJoins.{joined_served}
-use Rattle.gateway_theory.specs.lemmas.ServedLemmas.{hung_still, open_still, stands_none, text_still}
+use Rattle.gateway_theory.specs.lemmas.ServedLemmas.{conns_plain, stands_none, text_still}
 use Rattle.gateway_theory.specs.lemmas.ServedPieces.{came_served, dropped_served, feeds_read, listening, over_more, read_here, not_fed_served, unread_served}
 
 -- so many bytes were taken
@@ -61,14 +61,7 @@ read_requests reader text given h = by_reading reader.reading h.reads
 module _ (laws : RequestLaws) (n : ℕ) (v : GatewayValue) (opened : List ℕ) (es : Before) (taken : ℕ → List ReplyEntry) (handed : List JobValue) (h : Served v opened es taken handed) where
   nothing_served : Served v opened (Piece n [] ∷ es) taken handed
   nothing_served = record {
-    conns = record {
-      below = λ place its. let lt = h.conns.below place its in omega (arith, lt);
-      count_is = h.conns.count_is;
-      open_are = λ c. open_still opened c (Piece n []) es refl refl ∙ h.conns.open_are c;
-      hung_are = λ c k s k_is s_is on. h.conns.hung_are c k s k_is s_is on ∙ sym (hung_still opened c (Piece n []) es refl);
-      reads_are = λ c k s k_is s_is going.
-          let read = h.conns.reads_are c k s k_is s_is going in (read.0, subst (λ text. HasRead s.reader text read.0) (sym (text_still opened c (Piece n []) es (no_bytes c n))) read.1);
-    };
+    conns = conns_plain v opened (Piece n []) es (record { opens_none = refl; closes_none = λ c. refl; hangs_none = λ c. refl; brings_none = λ c. no_bytes c n }) h.conns;
     stands = stands_none v v opened (Piece n []) es taken handed refl (λ os at. none (listens opened n es) os at) (λ c. text_still opened c (Piece n []) es (no_bytes c n)) (λ os stands. stands) h.stands;
   }
     where
@@ -148,9 +141,9 @@ module _ (laws : RequestLaws) (n : ℕ) (p q : List ℕ) (v w : GatewayValue) (o
           (not_fed_served n w w opened (Piece n (p ++ take k q) ∷ es) taken handed then_serving first (drop k q) not_listening))
         where
           not_listening : NotListening n w
-          not_listening x s x_is s_is =
+          not_listening x x_is =
               let broke : x.broken ≡ true = ap (λ o. option_map_or (λ (y : ConnValue). y.broken) o false) (sym x_is) ∙ breaks in
-              ap (λ b. not b && not s.hung_up) broke
+              ap (λ b. not b && not x.hung_up) broke
 
 -- either
 pub fed_stands : RequestLaws → (n : ℕ) (p q : List ℕ) (v w : GatewayValue) (result : Result ℕ StepFault) (opened : List ℕ) (es : Before) (taken : ℕ → List ReplyEntry) (handed : List JobValue)

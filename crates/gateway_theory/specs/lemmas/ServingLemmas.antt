@@ -1,6 +1,6 @@
 -- What the code keeps of the open connections and their streams between two calls.
 use Rattle.std.proofs.Common.{◌≡◌, ℕ, zero, suc, ◌+◌, ◌<◌, ◌≤◌, Bool, true, false, List, [], ◌∷◌, ◌++◌, map, length, Option, None, Some, refl, sym, ap, ◌∙◌, subst, arith, ⊎_elim, inl, inr, All}
-use Rattle.std.specs.Prelude.{◌⊎◌, if◌then◌else◌, ◌&&◌, ◌||◌, not, ◌==◌, is_some, filter, slice_set, slice_index_or}
+use Rattle.std.specs.Prelude.{◌⊎◌, if◌then◌else◌, ◌&&◌, ◌||◌, not, ◌==◌, is_some, filter, option_map, slice_set, slice_index_or}
 use Rattle.std.specs.List.{list_any}
 use Rattle.std.specs.Option.{option_map_or}
 use Rattle.std.proofs.lemmas.Bool.{cases_Bool, cond_both, eq-eqb, eqb-true, ne_eqb}
@@ -17,10 +17,11 @@ use Rattle.gateway_theory.specs.Conn.{ConnValue, added, conn_value, without_firs
 use Rattle.gateway_theory.specs.Ends.{CallsEnd, ended_below, is_broken_in, without_reply}
 use Rattle.gateway_theory.specs.Enters.{Enters, arriving_at}
 use Rattle.http_pieces.specs.Reader.{HasRead, Partial, reader_value}
+use Rattle.gateway_model.specs.Past.{most_calls}
 use Rattle.gateway_model.specs.Queue.{front}
 use Rattle.gateway_theory.specs.Gateway.{GatewayValue, StreamValue, StreamsApart, is_listening, has_ended, is_ended, is_waiting, untaken_of, new_stream, no_stream, stream_at, stream_of}
 use Rattle.gateway_model.specs.Events.{most_open}
-use Rattle.gateway_theory.specs.Serving.{FewCalls, HasBrought, IsBehind, StreamsBring, gateway_value, NotListening, IsPlaced, IsServing, ListensAt, NoCallOf}
+use Rattle.gateway_theory.specs.Serving.{FewCalls, HasBrought, IsBehind, StreamsBring, gateway_value, NotListening, IsPlaced, IsServing, ListensAt, NoCallOf, undecided}
 use Rattle.gateway_theory.specs.Kept.{KeptValue}
 use Rattle.gateway_model.specs.Occurrence.{Coming}
 use Rattle.gateway_theory.specs.Opens.{closed_at, opened_as, JobTaken, ReplyTaken}
@@ -30,16 +31,16 @@ use Rattle.gateway_theory.specs.Task.{HandedJob}
 use Rattle.gateway_theory.specs.Machine.{slot_at}
 use Rattle.gateway_theory.specs.Replies.{ReplyValue}
 use Rattle.gateway_theory.specs.Results.{Forgets, result_at, ResultTaken, Starved, StepsAt}
-use Rattle.gateway_theory.specs.Store.{MachineValue, broken_at, conn_at, conn_of, given_up_if, kept_at, numbers}
+use Rattle.gateway_theory.specs.Store.{MachineValue, broken_at, conn_at, conn_of, given_up_if, hung_at, hung_if, kept_at, numbers}
 use Rattle.gateway_theory.specs.lemmas.BroughtLemmas.{brought_entered, brought_go, brought_opened, brought_set}
 use Rattle.gateway_theory.specs.lemmas.EndLemmas.{id_below, numbers_broken, numbers_filled}
 use Rattle.gateway_theory.specs.lemmas.FeedLemmas.{calls_kept, stream_found}
 use Rattle.gateway_theory.specs.lemmas.FewCalls.{few_broken, few_closed, few_ended, few_entered, few_forgotten, few_opened, few_result, few_same, few_starved, few_taken}
-use Rattle.gateway_theory.specs.lemmas.GatewaySteps.{Goes, goes_broken, goes_forgotten, goes_result, goes_starved}
+use Rattle.gateway_theory.specs.lemmas.GatewaySteps.{Goes, goes_broken, goes_forgotten, goes_listens, goes_result, goes_starved}
 use Rattle.gateway_theory.specs.lemmas.OrderLemmas.{broken_order, closed_order, entered_order, opened_order, same_given, some_same, taken_order}
-use Rattle.gateway_theory.specs.lemmas.OrderSteps.{ends_order, forget_order, result_order, starved_order}
+use Rattle.gateway_theory.specs.lemmas.OrderSteps.{by_numbers, ends_order, forget_order, result_order, starved_order}
 use Rattle.gateway_theory.specs.lemmas.StoreLemmas.{conn_broken}
-use Rattle.gateway_theory.specs.lemmas.StoreMore.{conn_found, conn_without}
+use Rattle.gateway_theory.specs.lemmas.StoreMore.{conn_found, conn_hung, conn_without, hung_before, numbers_hung}
 
 -- ---- numbers
 
@@ -146,6 +147,31 @@ keeps_broken n v = record {
   no_call = λ h c none all. (goes_broken n v).no_call c all;
   few = λ h. few_broken n v.conns (broken_at n v).conns (λ c. conn_broken c n v.conns);
 }
+
+pub keeps_hung : (n : ℕ) (v : MachineValue) → Keeps v (hung_at n v)
+keeps_hung n v = record {
+  orderly = λ h. record {
+    calls_are = λ j d lt. in_order (slice_index_or v.calls j d) (h.calls_are j d lt);
+    apart = h.apart;
+    conns_apart = by_numbers (hung_at n v).conns v.conns (numbers_hung n v.conns) h.conns_apart;
+  };
+  numbers_are = numbers_hung n v.conns;
+  no_call = λ h c none all. all;
+  few = λ h few c l l_is on.
+      let k = hung_before n c v.conns l l_is in
+      subst (λ (x : ConnValue). undecided x ≤ most_calls) (sym k.2) (few c k.0 k.1 (sym (ap (λ (x : ConnValue). x.broken) k.2) ∙ on));
+}
+  where
+    in_order : (k : KeptValue) → IsInOrder v.conns k → IsInOrder (hung_at n v).conns k
+    in_order k o = record {
+      no_reply = o.no_reply;
+      on_unbroken = λ live.
+          let c = o.on_unbroken live in
+          (hung_if n c.0, conn_hung k.id.conn n v.conns ∙ ap (option_map (hung_if n)) c.1, cond_both (c.0.number == n) (record c.0 { hung_up = true }) c.0 (λ x. x.broken ≡ false) (λ _. c.2) (λ _. c.2));
+      came = λ l l_is.
+          let c = hung_before n k.id.conn v.conns l l_is in
+          subst (λ (x : ConnValue). k.id.request < x.taken + length x.slots) (sym c.2) (o.came c.0 c.1);
+    }
 
 pub keeps_entered : (i : ℕ) (x : Coming) (v w : MachineValue) → i < length v.conns → (conn_at i v.conns).broken ≡ false → Enters i x v w → Keeps v w
 keeps_entered i x v w lt on enters = record {
@@ -256,7 +282,7 @@ serving_kept v w k brought same read opened_is h = record {
 -- the machine alone changes
 pub machine_kept : {begun : ℕ} {tally : Tally} (v : GatewayValue) (m : MachineValue) → Keeps v.machine m → Goes v.machine m → IsServing v → IsServing (gateway_value v.plans m v.streams v.opened begun tally)
 machine_kept {begun} {tally} v m k goes h = serving_kept v (gateway_value v.plans m v.streams v.opened begun tally) k
-    (brought_go v (gateway_value v.plans m v.streams v.opened begun tally) goes (λ c t t_is on. t_is) h.brought) refl h.settled refl h
+    (brought_go v (gateway_value v.plans m v.streams v.opened begun tally) (goes_listens v.machine m goes) refl h.brought) refl h.settled refl h
 
 pub streams_apart : (v : GatewayValue) → IsServing v → StreamsApart v.streams
 streams_apart v h i j lt within =
@@ -266,7 +292,7 @@ streams_apart v h i j lt within =
 
 -- a stream is another of its number
 pub stream_kept : (i : ℕ) (t : StreamValue) (v : GatewayValue) → i < length v.streams → t.number ≡ (stream_at i v.streams).number → IsRead t
-    → ((k : ConnValue) → conn_of (stream_at i v.streams).number v.machine.conns ≡ Some k → is_listening k t ≡ true → HasBrought k t.reader) → IsServing v
+    → ((k : ConnValue) → conn_of (stream_at i v.streams).number v.machine.conns ≡ Some k → is_listening k ≡ true → HasBrought k t.reader) → IsServing v
     → IsServing (gateway_value v.plans v.machine (slice_set v.streams i t) v.opened v.begun v.tally)
 stream_kept i t v lt same read brings h =
     serving_kept v (gateway_value v.plans v.machine (slice_set v.streams i t) v.opened v.begun v.tally) (keeps_same v.machine v.machine refl refl)
@@ -376,7 +402,7 @@ closed_serving n v w w_is streams_are opened_is h = record {
   brought = λ c k s k_is s_is going. still c k s going (c == n) (sym (ap (λ (m : MachineValue). conn_of c m.conns) w_is ∙ conn_without c n v.machine.conns) ∙ k_is) (sym (ap (stream_of c) streams_are ∙ stream_without c n v.streams) ∙ s_is);
 }
   where
-    still : (c : ℕ) (k : ConnValue) (s : StreamValue) → is_listening k s ≡ true → (b : Bool) → (if b then None else conn_of c v.machine.conns) ≡ Some k → (if b then None else stream_of c v.streams) ≡ Some s → HasBrought k s.reader
+    still : (c : ℕ) (k : ConnValue) (s : StreamValue) → is_listening k ≡ true → (b : Bool) → (if b then None else conn_of c v.machine.conns) ≡ Some k → (if b then None else stream_of c v.streams) ≡ Some s → HasBrought k s.reader
     still c k s going true k_is s_is = absurd (cc)
     still c k s going false k_is s_is = h.brought c k s k_is s_is going
 
@@ -414,12 +440,12 @@ module _ (number i : ℕ) (v : GatewayValue) (h : IsServing v) (p : IsPlaced num
   pub broken_found : is_broken_in number v.machine.conns ≡ (conn_at i v.machine.conns).broken
   broken_found = ap (λ o. option_map_or (λ (k : ConnValue). k.broken) o false) conn_here
 
-  pub not_listening_off : ((stream_at i v.streams).hung_up ≡ true) ⊎ (is_broken_in number v.machine.conns ≡ true) → NotListening number v
-  not_listening_off off k s k_is s_is = by_it k.broken s.hung_up (at_one off)
+  pub not_listening_off : ((conn_at i v.machine.conns).hung_up ≡ true) ⊎ (is_broken_in number v.machine.conns ≡ true) → NotListening number v
+  not_listening_off off k k_is = ap (λ (x : ConnValue). is_listening x) (some_same (sym k_is ∙ conn_here)) ∙ by_it (conn_at i v.machine.conns).broken (conn_at i v.machine.conns).hung_up (at_one off)
     where
-      at_one : ((stream_at i v.streams).hung_up ≡ true) ⊎ (is_broken_in number v.machine.conns ≡ true) → (s.hung_up ≡ true) ⊎ (k.broken ≡ true)
-      at_one (inl e) = inl (ap (λ (x : StreamValue). x.hung_up) (some_same (sym s_is ∙ stream_here)) ∙ e)
-      at_one (inr e) = inr (ap (λ (x : ConnValue). x.broken) (some_same (sym k_is ∙ conn_here)) ∙ sym broken_found ∙ e)
+      at_one : ((conn_at i v.machine.conns).hung_up ≡ true) ⊎ (is_broken_in number v.machine.conns ≡ true) → ((conn_at i v.machine.conns).hung_up ≡ true) ⊎ ((conn_at i v.machine.conns).broken ≡ true)
+      at_one (inl e) = inl e
+      at_one (inr e) = inr (sym broken_found ∙ e)
 
       by_it : (a b : Bool) → (b ≡ true) ⊎ (a ≡ true) → (not a && not b) ≡ false
       by_it true b off = refl
@@ -427,7 +453,7 @@ module _ (number i : ℕ) (v : GatewayValue) (h : IsServing v) (p : IsPlaced num
       by_it false false (inl e) = absurd (cc)
       by_it false false (inr e) = absurd (cc)
 
-  pub listens_on : (stream_at i v.streams).hung_up ≡ false → is_broken_in number v.machine.conns ≡ false → ListensAt number v i
+  pub listens_on : (conn_at i v.machine.conns).hung_up ≡ false → is_broken_in number v.machine.conns ≡ false → ListensAt number v i
   listens_on on unbroken = record {
     conn_there = conn_there;
     stream_there = p.0;
@@ -445,8 +471,8 @@ module _ (number i : ℕ) (v : GatewayValue) (h : IsServing v) (p : IsPlaced num
   pub untaken_is : untaken_of number v ≡ front (conn_at i v.machine.conns).slots
   untaken_is = ap (λ o. option_map_or (λ (k : ConnValue). front k.slots) o []) conn_here
 
-pub not_listening_none : (number : ℕ) (v : GatewayValue) → IsPlaced number v.streams None → NotListening number v
-not_listening_none number v none k s k_is s_is = absurd (let clash : None ≡ Some s = sym (placed_none number v.streams none) ∙ s_is in cc)
+pub not_listening_none : (number : ℕ) (v : GatewayValue) → IsServing v → IsPlaced number v.streams None → NotListening number v
+not_listening_none number v h none k k_is = absurd (let clash : None ≡ Some k = sym (none_placed number v h none) ∙ k_is in cc)
 
 pub not_placed : (number : ℕ) (streams : List StreamValue) (o : Option ℕ) (b : Bool) → IsPlaced number streams o → is_some o ≡ not b → b ≡ true → IsPlaced number streams None
 not_placed number streams None b p none e = p

@@ -1,9 +1,8 @@
 -- A connection stands for what has occurred: one occurrence more.
 use Rattle.std.proofs.Common.{◌≡◌, ℕ, Bool, true, false, List, [], ◌∷◌, ◌++◌, Option, None, Some, refl, sym, ap, ◌∙◌}
-use Rattle.std.specs.Prelude.{is_some, ◌&&◌, ◌==◌, option_and_then, option_to_list}
+use Rattle.std.specs.Prelude.{◌&&◌, ◌==◌, option_and_then}
 use Rattle.std.specs.Option.{option_or, option_map_or}
 use Rattle.std.proofs.lemmas.Bool.{cond_both}
-use Rattle.std.proofs.lemmas.List.{append-nil}
 use Rattle.connect_codec.specs.declared.answer.Outcome.{Outcome}
 use Rattle.connect_codec.specs.declared.answer.Outcome.TheVariants.{Answer, Fail}
 use Rattle.gateway_model.specs.declared.id.CallId.{CallId}
@@ -12,7 +11,7 @@ use Rattle.gateway_model.specs.Occurrence.{Result, Coming, Request, Refused}
 use Rattle.gateway_model.specs.declared.call_event.CallEvent.{CallEvent}
 use Rattle.gateway_model.specs.Past.{Mark, Past, ArrivedCall, call, arrivals, coming_on, coming_now, asked_now, asked_by, began, answers, started, is_answer_to, is_call, is_closed, event_by, own_event, ends_at_arrival, decided, now}
 use Rattle.gateway_model.specs.CallRecord.{answer_in, answer_of_branch, last_event}
-use Rattle.gateway_model.specs.Queue.{call_entry, came, own_events, entry_by, entry}
+use Rattle.gateway_model.specs.Queue.{call_entry, came, entry_by, entry}
 use Rattle.gateway_theory.specs.lemmas.Cases.{or_false, and_false, or_none}
 
 -- ---- an occurrence that does not concern a call

@@ -14,7 +14,7 @@ use Rattle.gateway_theory.specs.Kept.{KeptValue}
 use Rattle.gateway_theory.specs.Conn.{ConnValue, conn_value, entry_in, fill_at, filled}
 use Rattle.gateway_theory.specs.Replies.{ReplyValue}
 use Rattle.gateway_theory.specs.Ends.{is_broken_in, unanswered}
-use Rattle.gateway_theory.specs.Store.{MachineValue, machine_value, broken_at, call_at, conn_at, conn_of, kept_at, no_call, no_conn, IsFound, given_up, given_up_if, broken_conn, broken_if, fill_first, waiting_in, waiting}
+use Rattle.gateway_theory.specs.Store.{MachineValue, machine_value, broken_at, call_at, conn_at, conn_of, kept_at, no_conn, IsFound, given_up, given_up_if, broken_conn, broken_if, fill_first, waiting_in, waiting}
 use Rattle.gateway_theory.specs.lemmas.LimitLemmas.{same_call}
 use Rattle.gateway_theory.specs.lemmas.Cases.{and_false, or_none}
 
@@ -145,6 +145,7 @@ pub record Fills (id : CallId) (reply : Option ReplyEntry) (old new : ConnValue)
   pub number_is : new.number ≡ old.number
   pub taken_is : new.taken ≡ old.taken
   pub broken_is : new.broken ≡ old.broken
+  pub hung_is : new.hung_up ≡ old.hung_up
   pub size_is : length new.slots ≡ length old.slots
   pub each : (j : ℕ) → j < length old.slots → slot_at j new.slots ≡ option_or (slot_at j old.slots) (if is_call id (call_id old.number (old.taken + j)) then reply else None)
 
@@ -154,6 +155,7 @@ untouched id reply k none = record {
   number_is = refl;
   taken_is = refl;
   broken_is = refl;
+  hung_is = refl;
   size_is = refl;
   each = λ j lt. sym (or_none (slot_at j k.slots)) ∙ ap (λ o. option_or (slot_at j k.slots) o) (sym (none j lt));
 }
@@ -183,6 +185,7 @@ filled_fills r k its = ⊎_elim
       number_is = refl;
       taken_is = refl;
       broken_is = refl;
+      hung_is = refl;
       size_is = fill_size (r.id.request - k.taken) r.entry k.slots;
       each = λ j lt. ⊎_elim
           (λ (here : j ≡ r.id.request - k.taken).
@@ -197,9 +200,6 @@ filled_fills r k its = ⊎_elim
     (cases_Bool (nat_lt r.id.request k.taken))
 
 -- ---- facts as the checker gives them
-
-pub item_is : (items calls : List KeptValue) (i : ℕ) (x : KeptValue) → items ≡ calls → i < length calls → x ≡ slice_index_or items i x → x ≡ kept_at i calls
-item_is items calls i x items_are lt x_is = x_is ∙ ap (λ l. slice_index_or l i x) items_are ∙ get_or_default calls i x no_call lt
 
 pub conn_is : (items conns : List ConnValue) (i : ℕ) (x d : ConnValue) → items ≡ conns → i < length conns → x ≡ slice_index_or items i x → x ≡ slice_index_or conns i d
 conn_is items conns i x d items_are lt x_is = x_is ∙ ap (λ l. slice_index_or l i x) items_are ∙ get_or_default conns i x d lt

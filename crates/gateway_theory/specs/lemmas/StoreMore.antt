@@ -1,16 +1,19 @@
 -- The store of calls and of connections, where one more is kept, one is changed at its place, or one is no longer kept.
-use Rattle.std.proofs.Common.{◌≡◌, ℕ, zero, suc, ◌≤◌, ◌<◌, Bool, true, false, List, [], ◌∷◌, ◌++◌, length, filter, None, Some, refl, sym, ap, ◌∙◌, arith, ⊎_elim, inl, inr}
-use Rattle.std.specs.Prelude.{◌⊎◌, not, if◌then◌else◌, ◌==◌, slice_set}
-use Rattle.std.specs.Option.{option_or}
+use Rattle.std.proofs.Common.{◌≡◌, ℕ, zero, suc, ◌≤◌, ◌<◌, Bool, true, false, List, [], ◌∷◌, ◌++◌, map, length, filter, Option, None, Some, refl, sym, ap, ◌∙◌, arith, ⊎_elim, inl, inr}
+use Rattle.std.specs.Prelude.{◌⊎◌, ◌||◌, not, if◌then◌else◌, ◌==◌, option_map, slice_set}
+use Rattle.std.specs.Option.{option_map_or, option_or}
 use Rattle.std.proofs.lemmas.Bool.{cond_both, cases_Bool, eq-eqb, eqb-true}
 use Rattle.std.proofs.lemmas.List.Sums.{sum_by-cons}
+use Rattle.std.proofs.lemmas.Option.{same_Some}
 use Rattle.gateway_model.specs.declared.id.CallId.{CallId}
 use Rattle.gateway_model.specs.Past.{is_call}
 use Rattle.gateway_theory.specs.Step.{CallState, gone}
 use Rattle.gateway_theory.specs.Kept.{KeptValue}
 use Rattle.gateway_theory.specs.Conn.{ConnValue}
+use Rattle.gateway_theory.specs.Ends.{is_broken_in}
 use Rattle.gateway_theory.specs.Orderly.{ConnsApart}
-use Rattle.gateway_theory.specs.Store.{call_at, conn_at, conn_of, waiting, waiting_in, IsFound}
+use Rattle.gateway_theory.specs.Store.{call_at, conn_at, conn_of, hung_if, numbers, waiting, waiting_in, IsFound}
+use Rattle.gateway_theory.specs.lemmas.Cases.{or_false, or_true}
 use Rattle.gateway_theory.specs.lemmas.LimitLemmas.{same_call}
 use Rattle.gateway_theory.specs.lemmas.StoreLemmas.{call_itself}
 
@@ -123,3 +126,45 @@ waiting_filtered p (k ∷ calls) =
     cond_both (p k) (k ∷ filter p calls) (filter p calls) (λ ks. waiting ks ≤ waiting (k ∷ calls))
     (λ _. let a = sum_by-cons waiting_in k (filter p calls) in let b = sum_by-cons waiting_in k calls in omega (arith, rest, a, b))
     (λ _. let b = sum_by-cons waiting_in k calls in omega (arith, rest, b))
+
+-- ---- the peer of a connection hangs up
+
+pub conn_hung : (c n : ℕ) (conns : List ConnValue) → conn_of c (map (hung_if n) conns) ≡ option_map (hung_if n) (conn_of c conns)
+conn_hung c n [] = refl
+conn_hung c n (k ∷ conns) = ap (λ b. if b then Some (hung_if n k) else conn_of c (map (hung_if n) conns)) same ∙ by_it (k.number == c) (conn_hung c n conns)
+  where
+    same : ((hung_if n k).number == c) ≡ (k.number == c)
+    same = cond_both (k.number == n) (record k { hung_up = true }) k (λ x. (x.number == c) ≡ (k.number == c)) (λ _. refl) (λ _. refl)
+
+    by_it : (b : Bool) → conn_of c (map (hung_if n) conns) ≡ option_map (hung_if n) (conn_of c conns)
+        → (if b then Some (hung_if n k) else conn_of c (map (hung_if n) conns)) ≡ option_map (hung_if n) (if b then Some k else conn_of c conns)
+    by_it true rest = refl
+    by_it false rest = rest
+
+pub numbers_hung : (n : ℕ) (conns : List ConnValue) → numbers (map (hung_if n) conns) ≡ numbers conns
+numbers_hung n [] = refl
+numbers_hung n (k ∷ conns) =
+    ap (λ m. m ∷ numbers (map (hung_if n) conns)) (cond_both (k.number == n) (record k { hung_up = true }) k (λ x. x.number ≡ k.number) (λ _. refl) (λ _. refl))
+    ∙ ap (λ ns. k.number ∷ ns) (numbers_hung n conns)
+
+pub broken_hung : (n : ℕ) (conns : List ConnValue) (c : ℕ) → is_broken_in c (map (hung_if n) conns) ≡ is_broken_in c conns
+broken_hung n conns c = ap (λ o. option_map_or (λ (k : ConnValue). k.broken) o false) (conn_hung c n conns) ∙ breaks (conn_of c conns)
+  where
+    breaks : (o : Option ConnValue) → option_map_or (λ (k : ConnValue). k.broken) (option_map (hung_if n) o) false ≡ option_map_or (λ (k : ConnValue). k.broken) o false
+    breaks None = refl
+    breaks (Some k) = cond_both (k.number == n) (record k { hung_up = true }) k (λ x. x.broken ≡ k.broken) (λ _. refl) (λ _. refl)
+
+-- a connection, as it was before
+pub hung_before : (n c : ℕ) (conns : List ConnValue) (l : ConnValue) → conn_of c (map (hung_if n) conns) ≡ Some l
+    → (k : ConnValue) × (conn_of c conns ≡ Some k) × (l ≡ record k { hung_up = k.hung_up || (k.number == n) })
+hung_before n c conns l l_is = by_it (conn_of c conns) refl (sym (conn_hung c n conns) ∙ l_is)
+  where
+    hung_is : (k : ConnValue) → hung_if n k ≡ record k { hung_up = k.hung_up || (k.number == n) }
+    hung_is k = cond_both (k.number == n) (record k { hung_up = true }) k (λ x. x ≡ record k { hung_up = k.hung_up || (k.number == n) })
+        (λ its. ap (λ b. record k { hung_up = b }) (sym (ap (λ b. k.hung_up || b) its ∙ or_true k.hung_up)))
+        (λ far. ap (λ b. record k { hung_up = b }) (sym (ap (λ b. k.hung_up || b) far ∙ or_false k.hung_up)))
+
+    by_it : (o : Option ConnValue) → conn_of c conns ≡ o → option_map (hung_if n) (conn_of c conns) ≡ Some l
+        → (k : ConnValue) × (conn_of c conns ≡ Some k) × (l ≡ record k { hung_up = k.hung_up || (k.number == n) })
+    by_it None o_is e = absurd (let clash : None ≡ Some l = sym (ap (option_map (hung_if n)) o_is) ∙ e in cc)
+    by_it (Some k) o_is e = (k, o_is, sym (same_Some (hung_if n k) l (sym (ap (option_map (hung_if n)) o_is) ∙ e)) ∙ hung_is k)

@@ -1,5 +1,5 @@
 -- How a result is seen, and whether a job is wanted, by the events that the gateway stands for.
-use Rattle.std.proofs.Common.{◌≡◌, ℕ, Bool, true, false, List, [], Option, None, Some, refl, sym, ap, ◌∙◌, subst}
+use Rattle.std.proofs.Common.{◌≡◌, ℕ, Bool, true, false, List, [], Option, None, Some, refl, sym, ap, ◌∙◌}
 use Rattle.std.specs.Prelude.{if◌then◌else◌, ◌&&◌, not, is_some}
 use Rattle.std.specs.Option.{option_map_or}
 use Rattle.gateway_model.specs.declared.entry.ReplyEntry.{ReplyEntry}
@@ -11,7 +11,7 @@ use Rattle.gateway_model.specs.Known.{is_whole}
 use Rattle.gateway_model.specs.Occurrence.{Occurrence}
 use Rattle.gateway_model.specs.Past.{marked}
 use Rattle.gateway_model.specs.Starts.{Placed, occurrences}
-use Rattle.gateway_theory.specs.Breaks.{how_seen_fated, seen_by}
+use Rattle.gateway_theory.specs.Breaks.{seen_by}
 use Rattle.gateway_theory.specs.Conn.{ConnValue}
 use Rattle.gateway_theory.specs.Ends.{is_broken_in}
 use Rattle.gateway_theory.specs.Fate.{BrokenAt, Fate, Unbroken, is_broken}

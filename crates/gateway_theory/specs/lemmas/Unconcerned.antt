@@ -1,12 +1,13 @@
 -- Of an occurrence that does not concern a connection nothing follows for its calls.
 use Rattle.std.proofs.Common.{◌≡◌, ℕ, zero, suc, ◌≤◌, ◌<◌, Bool, true, false, List, Option, None, Some, refl, sym, ap, ◌∙◌, arith, ⊎_elim}
-use Rattle.std.specs.Prelude.{if◌then◌else◌, ◌&&◌, not, ◌==◌, nat_lt, is_some, slice_set, slice_index_or}
+use Rattle.std.specs.Prelude.{if◌then◌else◌, ◌&&◌, not, ◌==◌, nat_lt, is_some, option_and_then, slice_set, slice_index_or}
 use Rattle.std.specs.Option.{option_map_or}
 use Rattle.std.proofs.lemmas.Bool.{cond_both, cases_Bool, cases_lt, ltb-false, eq-eqb, eqb-true}
 use Rattle.connect_codec.specs.declared.answer.Outcome.{Outcome}
 use Rattle.gateway_model.specs.declared.id.CallId.{CallId}
 use Rattle.gateway_model.specs.Occurrence.{Occurrence, Opening, Comes, HangUp, Moment, Result, Drain, Closing}
 use Rattle.gateway_model.specs.declared.call_event.CallEvent.{CallEvent}
+use Rattle.gateway_model.specs.declared.call_event.CallEvent.TheVariants.{Drained}
 use Rattle.gateway_model.specs.Past.{Past, ArrivedCall, call, call_id, is_call, is_out, is_result_of, is_closed, answers, branches, decides, deadlines_out, due_by, event_by, is_undecided, arrivals, now, own_event, deciding, count_below, mark_of}
 use Rattle.gateway_theory.specs.lemmas.LimitLemmas.{same_call}
 use Rattle.gateway_theory.specs.lemmas.Unborn.{unborn}
@@ -68,6 +69,12 @@ arrived c k a past h =
 own_unshut : (d c : ℕ) (past : Past) → is_closed c past ≡ false → ((d == c) && not (is_closed c past)) ≡ false → (d == c) ≡ false
 own_unshut d c past unclosed e = sym (and_true (d == c)) ∙ (rw unclosed at e)
 
+deciding_drain : (id : CallId) (a : ArrivedCall) (past : Past) → call id past ≡ Some a → is_closed id.conn past ≡ false → is_some (deciding id (mark_of past Drain) past) ≡ true
+deciding_drain id a past call_is unclosed =
+    let own : own_event id (mark_of past Drain) past ≡ Some Drained =
+    own_before id (mark_of past Drain) past (no_entering id Drain past refl) unclosed ∙ ap (λ o. option_map_or (λ c. event_by id c Drain false past) o None) call_is in
+    ap (λ o. is_some (option_and_then (λ x. if decides (answers id past) (branches id past) x then Some x else None) o)) own
+
 deciding_moment : (id : CallId) (t : ℕ) (l : Live) (out : List Bool) (past : Past) (e : CallEvent) → LiveStands id l out past → ((i : ℕ) → slice_index_or out i false ≡ is_out id i past)
     → due_by (moment_after (now past) t) l.asked.deadline (deadlines_in out l.deadlines) ≡ Some e → is_some (deciding id (mark_of past (Moment t)) past) ≡ true
 deciding_moment id t l out past e h out_is due =
@@ -122,9 +129,10 @@ live_nothing c k (Moment t) out l past not_so h = by_event (due_by (moment_after
         let bad : true ≡ false = sym some ∙ none in cc)
 live_nothing c k Drain out l past not_so h = absurd (
     let s : LiveStands (call_id c k) l out past = h.live_is in
-    let none : (is_undecided (call_id c k) past && not (is_closed c past)) ≡ false =
-    below_none (arrivals c past) (λ j. is_undecided (call_id c j) past && not (is_closed c past)) k not_so (arrived c k l.asked past s.call_is) in
-    let some : (is_undecided (call_id c k) past && not (is_closed c past)) ≡ true = rw (s.call_is, s.undecided, s.unclosed) refl in
+    let none : (is_undecided (call_id c k) past && is_some (deciding (call_id c k) (mark_of past Drain) past)) ≡ false =
+    below_none (arrivals c past) (λ j. is_undecided (call_id c j) past && is_some (deciding (call_id c j) (mark_of past Drain) past)) k not_so (arrived c k l.asked past s.call_is) in
+    let some : (is_undecided (call_id c k) past && is_some (deciding (call_id c k) (mark_of past Drain) past)) ≡ true =
+    rw (deciding_drain (call_id c k) l.asked past s.call_is s.unclosed, s.call_is, s.undecided) refl in
     let bad : true ≡ false = sym some ∙ none in cc)
 live_nothing c k (Result of i r) out l past not_so h = by_it (is_call of (call_id c k)) (slice_index_or out i false) refl refl
   where

@@ -7,7 +7,7 @@ use Rattle.gateway_model.specs.declared.seen.Seen.TheVariants.{Unknown}
 use Rattle.gateway_model.specs.declared.id.CallId.{CallId}
 use Rattle.gateway_model.specs.Occurrence.{Occurrence, Result}
 use Rattle.gateway_model.specs.Past.{Mark, Past, is_call, is_closed, can_be_decided, is_out, how_seen, started, mark_of, marked}
-use Rattle.gateway_model.specs.Queue.{replies}
+use Rattle.gateway_theory.specs.Replies.{replies}
 use Rattle.gateway_theory.specs.lemmas.Cases.{and_true}
 use Rattle.gateway_theory.specs.lemmas.JobLemmas.{uncounted_replies}
 use Rattle.gateway_theory.specs.lemmas.LimitLemmas.{out_started, same_call}

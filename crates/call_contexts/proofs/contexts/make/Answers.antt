@@ -1,24 +1,38 @@
-use Rattle.std.proofs.Common.{sym, ap, ◌∙◌, ◌≡◌}
-use Rattle.std.specs.Prelude.{unwrap_or}
-use Rattle.call_contexts.proofs.Making.{call_made, none_alike, some_alike}
+use Rattle.std.proofs.Common.{refl, ◌∷◌}
+use Rattle.context_tree.specs.declared.node.Kind.TheVariants.{Value}
+use Rattle.context_tree.specs.Context.{Makes}
+use Rattle.context_tree.specs.Tree.{StandsFor}
+use Rattle.call_contexts.proofs.Making.{made_alike}
+use Rattle.call_contexts.proofs.Trees.{alike}
 use Rattle.call_contexts.proofs.contexts.make.Goals as goal
-use Rattle.call_contexts.proofs.contexts.make.Goals.{in-Some, in-None, in-Some-holder, in-None-holder}
 
-pub returns-in-Ok-clause-made : goal.returns-in-Ok-clause-made
-returns-in-Ok-clause-made g c = λ past st.
-    let same_holder : c.match-holder.holder ≡ c.in_ok-holder.holder = elim c.match-holder.branch [ in-Some w ↦ w.holder-is ∙ sym w.in-Some.is | in-None w ↦ w.holder-is ] in
-    let parent_is : c.match-holder.parent ≡ unwrap_or c.in_ok-holder.holder c.args.conn =
-    elim c.match-holder.branch [ in-Some w ↦ w.parent-is ∙ ap (λ o. unwrap_or o c.args.conn) (sym w.in-Some.is) | in-None w ↦ w.parent-is ∙ ap (λ o. unwrap_or o c.args.conn) (sym w.in-None.is) ] in
-    call_made c.in-Ok.ctx c.args.conn c.args.deadline c.args.now c.args.request_id past c.derive.new.tree c.in_ok-holder.holder c.match-holder.holder c.match-holder.parent same_holder parent_is
-    (c.in-Ok.ensures.made _ (c.in_ok-holder.ensures.made past st))
+pub returns-in_default-derive-2-clause-refused : goal.returns-in_default-derive-2-clause-refused
+returns-in_default-derive-2-clause-refused g c = λ laws past st.
+    let mid : StandsFor c.with_value.new.self (Makes c.in-Ok-with_value.holder (Value c.args.conn 0 c.in-Some.request_id) 0 ∷ past) = (c.in-Ok-with_value.ensures.answers.made past st).1 in
+    made_alike laws c.args.conn past c.with_value.new.self c.free.new.tree c.in-Ok-with_value.holder c.in-Some.request_id mid
+    (c.free.ensures (Makes c.in-Ok-with_value.holder (Value c.args.conn 0 c.in-Some.request_id) 0 ∷ past) (rw c.in_default-derive-2.ensures.unchanged mid))
 
-pub returns-after-holder-2-clause-refused : goal.returns-after-holder-2-clause-refused
-returns-after-holder-2-clause-refused g c = λ past st.
-    let same_holder : c.match-holder.holder ≡ c.in_ok-holder.holder = elim c.match-holder.branch [ in-Some w ↦ w.holder-is ∙ sym w.in-Some.is | in-None w ↦ w.holder-is ] in
-    elim c.match-holder-2.branch [
-      | in-Some-holder w ↦ rw w.tree-is
-          (some_alike c.tree_laws.ensures c.args.conn past w.free.new.tree c.hold.new.tree c.in_ok-holder.holder c.args.request_id w.in-Some-holder.id (sym same_holder ∙ w.in-Some-holder.is) c.in_ok-holder.ensures.held
-          (c.in_ok-holder.ensures.made past st) (λ free. w.free.ensures _ (rw c.in-Err.ensures.unchanged (c.in_ok-holder.ensures.made past st)) free))
-      | in-None-holder w ↦ rw (w.tree-is, c.in-Err.ensures.unchanged)
-          (none_alike c.tree_laws.ensures c.args.conn past c.hold.new.tree c.in_ok-holder.holder c.args.request_id (sym same_holder ∙ w.in-None-holder.is) (c.in_ok-holder.ensures.made past st))
-    ]
+pub returns-clause-made : goal.returns-clause-made
+returns-clause-made g c = λ past st.
+    rw c.in-Some.is (c.in-Ok-derive.ensures.made (Makes c.in-Ok-with_value.holder (Value c.args.conn 0 c.in-Some.request_id) 0 ∷ past) (c.in-Ok-with_value.ensures.answers.made past st).1)
+
+pub returns-in_default : goal.returns-in_default
+returns-in_default g c = record { made = c.in-Ok.ensures.made; held = rw c.in_default.is refl; refused = tt }
+
+pub returns-in_default-derive : goal.returns-in_default-derive
+returns-in_default-derive g c = record { made = tt; held = tt; refused = λ laws past st. alike c.derive.new.tree past (rw c.in_default-derive.ensures.unchanged st) }
+
+pub returns-in_default-with_value : goal.returns-in_default-with_value
+returns-in_default-with_value g c = record { made = tt; held = tt; refused = λ laws past st. alike c.with_value.new.self past (rw c.in_default-with_value.ensures.answers.unchanged st) }
+
+pub returns-in_default-derive-2-clause-made : goal.returns-in_default-derive-2-clause-made
+returns-in_default-derive-2-clause-made g c = tt
+
+pub returns-in_default-derive-2-clause-held : goal.returns-in_default-derive-2-clause-held
+returns-in_default-derive-2-clause-held g c = tt
+
+pub returns-clause-held : goal.returns-clause-held
+returns-clause-held g c = rw c.in-Some.is refl
+
+pub returns-clause-refused : goal.returns-clause-refused
+returns-clause-refused g c = tt

@@ -1,5 +1,5 @@
 use Rattle.std.specs.Prelude.{◌==◌, ◌&&◌}
-use Rattle.std.proofs.Common.{ap, ◌∙◌, ◌≡◌, true, false, refl, [], ◌∷◌, length, ◌<◌, sym, subst}
+use Rattle.std.proofs.Common.{◌∙◌, ◌≡◌, true, false, refl, [], ◌∷◌, length, ◌<◌, sym, subst}
 use Rattle.gateway_model.specs.Events.{is_closing_of, listens, most_open, open_connections}
 use Rattle.gateway_model.specs.declared.event.Event.TheVariants.{BranchResult, Closing, Drain, HangUp, Moment, Opening, Piece}
 use Rattle.gateway_theory.specs.Served.{Served}

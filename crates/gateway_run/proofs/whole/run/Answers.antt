@@ -1,6 +1,6 @@
 use Rattle.std.proofs.Common.{ap, arith, length}
 use Rattle.std.specs.List.{count_by}
-use Rattle.gateway_model.specs.Run.{is_opening}
+use Rattle.gateway_model.specs.Events.{is_opening}
 use Rattle.gateway_run.proofs.WholeLemmas.{no_stocks, ok_stocked}
 use Rattle.gateway_run.proofs.whole.run.Goals as goal
 

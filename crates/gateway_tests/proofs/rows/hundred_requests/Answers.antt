@@ -4,7 +4,7 @@ use Rattle.http_pieces.specs.Fields.{same_without_case}
 use Rattle.connect_codec.specs.Reply.{bare_reply}
 use Rattle.gateway_model.specs.Reply.{reply_of}
 use Rattle.gateway_model.specs.Past.{marked}
-use Rattle.gateway_model.specs.Queue.{replies}
+use Rattle.gateway_theory.specs.Replies.{replies}
 use Rattle.gateway_tests.specs.Rows.{after_gets}
 use Rattle.gateway_tests.proofs.OnLiterals.{replies_on_literals}
 use Rattle.gateway_tests.proofs.RowLemmas.{EntryStays, gets_answered}

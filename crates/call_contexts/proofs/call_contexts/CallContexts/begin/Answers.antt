@@ -1,4 +1,4 @@
-use Rattle.std.proofs.Common.{◌∙◌, ◌++◌, ◌∷◌, [], ap, ◌≡◌, Some}
+use Rattle.std.proofs.Common.{◌∙◌, ◌++◌, ◌∷◌, [], ap, refl, ◌≡◌, Some}
 use Rattle.context_tree.specs.declared.node.Kind.TheVariants.{Cancel}
 use Rattle.context_tree.specs.Context.{held}
 use Rattle.after_funcs.specs.Hooks.{registered}
@@ -13,29 +13,29 @@ use Rattle.call_contexts.proofs.call_contexts.CallContexts.begin.Goals as goal
 pub invariant_of-self-in_default : goal.invariant_of-self-in_default
 invariant_of-self-in_default g c =
     let s = c.self.invariant in
-    let r = c.in_default.ensures.refused s.past s.tree_is in
-    rw c.reserve.ensures.items (sound_alike c.tree_laws.ensures s r.later c.make.new.tree r.stands r.alike c.self.inside.hooks s.hooks_are)
+    let r = c.in_default.ensures.refused s.laws s.past s.tree_is in
+    rw c.reserve.ensures.items (sound_alike s.laws s r.later c.make.new.tree r.stands r.alike c.self.inside.hooks s.hooks_are)
 
 pub returns-in_default-clause-unchanged : goal.returns-in_default-clause-unchanged
 returns-in_default-clause-unchanged g c =
     let s = c.self.invariant in
-    let r = c.in_default.ensures.refused s.past s.tree_is in
+    let r = c.in_default.ensures.refused s.laws s.past s.tree_is in
     rw c.reserve.ensures.items
-    (pair_is _ _ (seen_alike c.tree_laws.ensures s r.later c.make.new.tree r.stands r.alike ∙ ap (λ (v : WithHooks _ _ _). v.standing) c.self.view_is) (ap (λ (v : WithHooks _ _ _). v.hooks) c.self.view_is))
+    (pair_is _ _ (seen_alike s.laws s r.later c.make.new.tree r.stands r.alike ∙ ap (λ (v : WithHooks _ _ _). v.standing) c.self.view_is) (ap (λ (v : WithHooks _ _ _). v.hooks) c.self.view_is))
 
 pub invariant_of-self-in-Ok-after_func : goal.invariant_of-self-in-Ok-after_func
 invariant_of-self-in-Ok-after_func g c =
     let s = c.self.invariant in
     let is : held c.args.conn s.past ≡ Some (Cancel c.self.inside.base) = conn_held c.self.inside.base s.past c.self.inside.tree.slots c.self.inside.conns.items c.args.conn s.conns_are (ap (λ (v : WithHooks _ _ _). is_conn c.args.conn v.standing.conns) c.self.view_is ∙ c.requires) in
     rw (c.push_reserved.ensures.items, c.reserve.ensures.items)
-    (sound_begun c.tree_laws.ensures s (record { ctx = c.in-Ok.made.0; holder = c.in-Ok.made.1; conn = c.args.conn; deadline = c.args.deadline; hook = c.in-Ok-after_func.id }) c.args.now c.args.request_id
+    (sound_begun s.laws s (record { ctx = c.in-Ok.made.0; holder = c.in-Ok.made.1; conn = c.args.conn; deadline = c.args.deadline; hook = c.in-Ok-after_func.id }) c.args.now c.args.request_id
     c.in-Ok.ensures.held c.make.new.tree is (c.in-Ok.ensures.made s.past s.tree_is) c.args.hook c.after_func.new.self
     (c.in-Ok-after_func.ensures.stands s.hooks s.hooks_are) (c.in-Ok-after_func.ensures.id s.hooks s.hooks_are))
 
 pub invariant_of-self-in-Err : goal.invariant_of-self-in-Err
 invariant_of-self-in-Err g c =
     let s = c.self.invariant in
-    let laws = c.tree_laws.ensures in
+    let laws = s.laws in
     let made = c.in-Ok.ensures.made s.past s.tree_is in
     let free = call_free laws c.in-Ok.made.0 c.args.conn c.args.deadline c.args.now s.past c.in-Ok.made.1 c.args.request_id c.in-Ok.ensures.held made.contexts.lawful in
     rw c.reserve.ensures.items
@@ -50,7 +50,7 @@ returns-in-Ok-after_func-clause-stands g c =
     let is : held c.args.conn s.past ≡ Some (Cancel c.self.inside.base) = conn_held c.self.inside.base s.past c.self.inside.tree.slots c.self.inside.conns.items c.args.conn s.conns_are known in
     rw (c.push_reserved.ensures.items, c.reserve.ensures.items)
     (pair_is _ _
-    (seen_begun c.tree_laws.ensures s (record { ctx = c.in-Ok.made.0; holder = c.in-Ok.made.1; conn = c.args.conn; deadline = c.args.deadline; hook = c.in-Ok-after_func.id }) c.args.now c.args.request_id
+    (seen_begun s.laws s (record { ctx = c.in-Ok.made.0; holder = c.in-Ok.made.1; conn = c.args.conn; deadline = c.args.deadline; hook = c.in-Ok-after_func.id }) c.args.now c.args.request_id
     c.in-Ok.ensures.held c.make.new.tree is (c.in-Ok.ensures.made s.past s.tree_is) known
     ∙ ap (λ (v : WithHooks _ _ _). begun c.in-Ok.made.0 c.args.conn c.args.deadline c.args.now c.args.request_id v.standing) c.self.view_is)
     (more_hooks c.self.inside.hooks c.after_func.new.self s.hooks s.hooks_are c.in-Ok.made.0 c.args.hook (c.in-Ok-after_func.ensures.stands s.hooks s.hooks_are)
@@ -61,7 +61,7 @@ returns-in-Ok-after_func-clause-fresh g c =
     let s = c.self.invariant in
     let is : held c.args.conn s.past ≡ Some (Cancel c.self.inside.base) = conn_held c.self.inside.base s.past c.self.inside.tree.slots c.self.inside.conns.items c.args.conn s.conns_are (ap (λ (v : WithHooks _ _ _). is_conn c.args.conn v.standing.conns) c.self.view_is ∙ c.requires) in
     rw (← c.self.view_is)
-    (is_new s c.in-Ok.made.0 (begun_unheld c.tree_laws.ensures s (record { ctx = c.in-Ok.made.0; holder = c.in-Ok.made.1; conn = c.args.conn; deadline = c.args.deadline; hook = c.in-Ok-after_func.id }) c.args.now c.args.request_id
+    (is_new s c.in-Ok.made.0 (begun_unheld s.laws s (record { ctx = c.in-Ok.made.0; holder = c.in-Ok.made.1; conn = c.args.conn; deadline = c.args.deadline; hook = c.in-Ok-after_func.id }) c.args.now c.args.request_id
     c.in-Ok.ensures.held c.make.new.tree is (c.in-Ok.ensures.made s.past s.tree_is)))
 
 pub returns-in-Err-clause-back : goal.returns-in-Err-clause-back
@@ -72,7 +72,7 @@ returns-in-Err-clause-back g c =
 pub returns-in-Err-clause-unchanged : goal.returns-in-Err-clause-unchanged
 returns-in-Err-clause-unchanged g c =
     let s = c.self.invariant in
-    let laws = c.tree_laws.ensures in
+    let laws = s.laws in
     let made = c.in-Ok.ensures.made s.past s.tree_is in
     let free = call_free laws c.in-Ok.made.0 c.args.conn c.args.deadline c.args.now s.past c.in-Ok.made.1 c.args.request_id c.in-Ok.ensures.held made.contexts.lawful in
     rw c.reserve.ensures.items
@@ -81,3 +81,30 @@ returns-in-Err-clause-unchanged g c =
     (call_unmade laws c.in-Ok.made.0 c.args.conn c.args.deadline c.args.now s.past c.in-Ok.made.1 c.args.request_id c.in-Ok.ensures.held made.contexts.lawful)
     ∙ ap (λ (v : WithHooks _ _ _). v.standing) c.self.view_is)
     (kept_hooks c.self.inside.hooks c.after_func.new.self s.hooks s.hooks_are (c.in-Err.ensures.unchanged s.hooks s.hooks_are) ∙ ap (λ (v : WithHooks _ _ _). v.hooks) c.self.view_is))
+
+pub invariant_of-self : goal.invariant_of-self
+invariant_of-self g c = rw c.reserve.ensures.items c.self.invariant
+
+pub returns-then-is_err : goal.returns-then-is_err
+returns-then-is_err g c = record { stands = tt; fresh = tt; back = refl; unchanged = rw c.reserve.ensures.items c.self.view_is }
+
+pub returns-in_default-clause-stands : goal.returns-in_default-clause-stands
+returns-in_default-clause-stands g c = tt
+
+pub returns-in_default-clause-fresh : goal.returns-in_default-clause-fresh
+returns-in_default-clause-fresh g c = tt
+
+pub returns-in_default-clause-back : goal.returns-in_default-clause-back
+returns-in_default-clause-back g c = refl
+
+pub returns-in-Ok-after_func-clause-back : goal.returns-in-Ok-after_func-clause-back
+returns-in-Ok-after_func-clause-back g c = tt
+
+pub returns-in-Ok-after_func-clause-unchanged : goal.returns-in-Ok-after_func-clause-unchanged
+returns-in-Ok-after_func-clause-unchanged g c = tt
+
+pub returns-in-Err-clause-stands : goal.returns-in-Err-clause-stands
+returns-in-Err-clause-stands g c = tt
+
+pub returns-in-Err-clause-fresh : goal.returns-in-Err-clause-fresh
+returns-in-Err-clause-fresh g c = tt

@@ -13,7 +13,7 @@ use Rattle.call_contexts.proofs.call_contexts.CallContexts.close.Goals as goal
 pub invariant_of-self : goal.invariant_of-self
 invariant_of-self g c =
     let s = c.self.invariant in
-    let laws = c.tree_laws.ensures in
+    let laws = s.laws in
     let is : held c.args.conn s.past ≡ Some (Cancel c.self.inside.base) = conn_held c.self.inside.base s.past c.self.inside.tree.slots c.self.inside.conns.items c.args.conn s.conns_are (ap (λ (v : WithHooks _ _ _). is_conn c.args.conn v.standing.conns) c.self.view_is ∙ c.requires.known) in
     let none : list_any (λ d. same d.conn c.args.conn) (map (seen_call c.self.inside.tree.slots c.self.inside.twigs.items) c.self.inside.calls.items) ≡ false = ap (λ (v : WithHooks _ _ _). list_any (λ d. same d.conn c.args.conn) v.standing.calls) c.self.view_is ∙ c.requires.none in
     let left : c.retain.new.self.items ≡ filter (λ d. not (same d c.args.conn)) c.self.inside.conns.items = filter_same _ _ _ (λ x b f' k. search rules) _ _ c.retain.ensures.filtered in
@@ -22,7 +22,7 @@ invariant_of-self g c =
 pub returns : goal.returns
 returns g c =
     let s = c.self.invariant in
-    let laws = c.tree_laws.ensures in
+    let laws = s.laws in
     let is : held c.args.conn s.past ≡ Some (Cancel c.self.inside.base) = conn_held c.self.inside.base s.past c.self.inside.tree.slots c.self.inside.conns.items c.args.conn s.conns_are (ap (λ (v : WithHooks _ _ _). is_conn c.args.conn v.standing.conns) c.self.view_is ∙ c.requires.known) in
     let none : list_any (λ d. same d.conn c.args.conn) (map (seen_call c.self.inside.tree.slots c.self.inside.twigs.items) c.self.inside.calls.items) ≡ false = ap (λ (v : WithHooks _ _ _). list_any (λ d. same d.conn c.args.conn) v.standing.calls) c.self.view_is ∙ c.requires.none in
     let left : c.retain.new.self.items ≡ filter (λ d. not (same d c.args.conn)) c.self.inside.conns.items = filter_same _ _ _ (λ x b f' k. search rules) _ _ c.retain.ensures.filtered in

@@ -1,21 +1,19 @@
-use Rattle.std.proofs.Common.{◌∙◌, ap, sym, ◌≡◌, true, false}
-use Rattle.std.specs.List.{list_any}
-use Rattle.context_tree.specs.Context.{same}
+use Rattle.std.proofs.Common.{◌∙◌, ap, sym, ◌≡◌, None, Some}
 use Rattle.call_contexts.specs.Standing.{WithHooks, ended_call}
-use Rattle.call_contexts.proofs.Lists.{any_found}
+use Rattle.call_contexts.specs.Sound.{life_at}
+use Rattle.call_contexts.proofs.Lists.{none_found}
 use Rattle.call_contexts.proofs.Leaving.{call_known, ended_told, none_ended}
 use Rattle.call_contexts.proofs.call_contexts.CallContexts.ended.Goals as goal
 
-pub returns-then-has : goal.returns-then-has
-returns-then-has g c =
+pub returns-in-Some : goal.returns-in-Some
+returns-in-Some g c =
     let s = c.self.invariant in
-    let any : list_any (λ l. same l.ctx c.args.ctx) c.self.inside.calls.items ≡ true = ap (list_any (λ l. same l.ctx c.args.ctx)) (sym c.deref.ensures.value) ∙ sym c.has.ensures ∙ c.if-has.true in
-    let found = any_found c.args.ctx c.self.inside.calls.items any in
-    c.cause_of.ensures s.past s.tree_is (call_known c.tree_laws.ensures s c.args.ctx found.0 found.1)
-    ∙ ended_told c.tree_laws.ensures s c.args.ctx found.0 found.1
+    let at : life_at c.args.ctx c.self.inside.calls.items ≡ Some c.in-Some.field-0 = ap (life_at c.args.ctx) (sym c.deref.ensures.value) ∙ sym c.find.ensures ∙ c.in-Some.is in
+    c.cause_of.ensures s.past s.tree_is (call_known s.laws s c.args.ctx c.in-Some.field-0 at)
+    ∙ ended_told s.laws s c.args.ctx c.in-Some.field-0 at
     ∙ ap (λ (v : WithHooks _ _ _). ended_call c.args.ctx v.standing.calls) c.self.view_is
 
-pub returns-else-has : goal.returns-else-has
-returns-else-has g c =
-    let none : list_any (λ l. same l.ctx c.args.ctx) c.self.inside.calls.items ≡ false = ap (list_any (λ l. same l.ctx c.args.ctx)) (sym c.deref.ensures.value) ∙ sym c.has.ensures ∙ c.if-has.false in
-    sym (none_ended c.self.inside.tree.slots c.self.inside.twigs.items c.args.ctx c.self.inside.calls.items none) ∙ ap (λ (v : WithHooks _ _ _). ended_call c.args.ctx v.standing.calls) c.self.view_is
+pub returns-in-None : goal.returns-in-None
+returns-in-None g c =
+    let none : life_at c.args.ctx c.self.inside.calls.items ≡ None = ap (life_at c.args.ctx) (sym c.deref.ensures.value) ∙ sym c.find.ensures ∙ c.in-None.is in
+    sym (none_ended c.self.inside.tree.slots c.self.inside.twigs.items c.args.ctx c.self.inside.calls.items (none_found c.args.ctx c.self.inside.calls.items none)) ∙ ap (λ (v : WithHooks _ _ _). ended_call c.args.ctx v.standing.calls) c.self.view_is

@@ -6,9 +6,9 @@ use Rattle.call_contexts.proofs.call_contexts.CallContexts.expire.Goals as goal
 
 pub invariant_of-self : goal.invariant_of-self
 invariant_of-self g c =
-    let s = c.self.invariant in sound_expired c.tree_laws.ensures s c.advance.new.self c.args.now (c.advance.ensures s.past s.tree_is)
+    let s = c.self.invariant in sound_expired s.laws s c.advance.new.self c.args.now (c.advance.ensures s.past s.tree_is)
 
 pub returns : goal.returns
 returns g c =
     let s = c.self.invariant in
-    pair_is _ _ (seen_expired c.tree_laws.ensures s c.advance.new.self c.args.now (c.advance.ensures s.past s.tree_is) ∙ ap (λ (v : WithHooks _ _ _). expired c.args.now v.standing) c.self.view_is) (ap (λ (v : WithHooks _ _ _). v.hooks) c.self.view_is)
+    pair_is _ _ (seen_expired s.laws s c.advance.new.self c.args.now (c.advance.ensures s.past s.tree_is) ∙ ap (λ (v : WithHooks _ _ _). expired c.args.now v.standing) c.self.view_is) (ap (λ (v : WithHooks _ _ _). v.hooks) c.self.view_is)

@@ -7,6 +7,6 @@ use Rattle.call_contexts.proofs.call_contexts.CallContexts.has_conn.Goals as goa
 
 pub returns : goal.returns
 returns g c =
-    c.is_among.ensures ∙ ap (list_any (λ x. same x c.args.conn)) c.deref.ensures.value
+    c.contains.ensures.value ∙ ap (list_any (λ x. same x c.args.conn)) c.deref.ensures.value
     ∙ sym (any_map (λ d. same d.id c.args.conn) (seen_conn c.self.inside.tree.slots) c.self.inside.conns.items)
     ∙ ap (λ (v : WithHooks _ _ _). is_conn c.args.conn v.standing.conns) c.self.view_is

@@ -16,14 +16,14 @@ returns-in_default g c =
 pub invariant_of-self : goal.invariant_of-self
 invariant_of-self g c =
     let s = c.self.invariant in
-    let laws = c.tree_laws.ensures in
+    let laws = s.laws in
     let at : twig_at c.args.call c.args.branch c.self.inside.twigs.items ≡ Some c.in-Some.twig = ap (twig_at c.args.call c.args.branch) (sym c.deref.ensures.value) ∙ sym c.find.ensures ∙ c.in-Some.is in
     rw c.remove.ensures (sound_unbranched laws s c.args.call c.args.branch c.in-Some.twig at c.free.new.tree (c.free.ensures s.past s.tree_is (twig_free laws s c.args.call c.args.branch c.in-Some.twig at)))
 
 pub returns : goal.returns
 returns g c =
     let s = c.self.invariant in
-    let laws = c.tree_laws.ensures in
+    let laws = s.laws in
     let at : twig_at c.args.call c.args.branch c.self.inside.twigs.items ≡ Some c.in-Some.twig = ap (twig_at c.args.call c.args.branch) (sym c.deref.ensures.value) ∙ sym c.find.ensures ∙ c.in-Some.is in
     rw c.remove.ensures
     (pair_is _ _

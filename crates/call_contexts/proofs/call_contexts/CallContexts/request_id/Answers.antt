@@ -17,12 +17,12 @@ pub unreachable-requires : goal.unreachable-requires
 unreachable-requires g c =
     let s = c.self.invariant in
     let at : life_at c.args.ctx c.self.inside.calls.items ≡ Some c.in-Some.field-0 = ap (life_at c.args.ctx) (sym c.deref.ensures.value) ∙ sym c.find.ensures ∙ c.in-Some.is in
-    none_is_some (c.in-Err.ensures s.past s.tree_is ∙ asked_held (held c.args.ctx s.past) (nearest 0 (line c.args.ctx s.past)) (call_known c.tree_laws.ensures s c.args.ctx c.in-Some.field-0 at))
+    none_is_some (c.in-Err.ensures s.past s.tree_is ∙ asked_held (held c.args.ctx s.past) (nearest 0 (line c.args.ctx s.past)) (call_known s.laws s c.args.ctx c.in-Some.field-0 at))
 
 pub returns : goal.returns
 returns g c =
     let s = c.self.invariant in
     let at : life_at c.args.ctx c.self.inside.calls.items ≡ Some c.in-Some.field-0 = ap (life_at c.args.ctx) (sym c.deref.ensures.value) ∙ sym c.find.ensures ∙ c.in-Some.is in
     same_Some (option_copied c.in-Ok.request_id) (nearest 0 (line c.args.ctx s.past))
-    (c.in-Ok.ensures s.past s.tree_is ∙ asked_held (held c.args.ctx s.past) (nearest 0 (line c.args.ctx s.past)) (call_known c.tree_laws.ensures s c.args.ctx c.in-Some.field-0 at))
-    ∙ request_told c.tree_laws.ensures s c.args.ctx c.in-Some.field-0 at ∙ ap (λ (v : WithHooks _ _ _). request_for c.args.ctx v.standing.calls) c.self.view_is
+    (c.in-Ok.ensures s.past s.tree_is ∙ asked_held (held c.args.ctx s.past) (nearest 0 (line c.args.ctx s.past)) (call_known s.laws s c.args.ctx c.in-Some.field-0 at))
+    ∙ request_told s.laws s c.args.ctx c.in-Some.field-0 at ∙ ap (λ (v : WithHooks _ _ _). request_for c.args.ctx v.standing.calls) c.self.view_is

@@ -1,5 +1,5 @@
 use Rattle.std.specs.Prelude.{◌==◌}
-use Rattle.std.proofs.Common.{Some, ◌≡◌, [], ◌∷◌, false, sym, ap, ◌∙◌, subst, ⊎_elim}
+use Rattle.std.proofs.Common.{[], ◌∷◌, false, sym, ap, ◌∙◌, subst, ⊎_elim}
 use Rattle.gateway_theory.specs.Gateway.{GatewayValue}
 use Rattle.gateway_theory.specs.Served.{Served}
 use Rattle.gateway_theory.specs.Serving.{Breaks, BreaksBy, KeepsBut}
@@ -8,9 +8,7 @@ use Rattle.gateway_theory.specs.lemmas.Keeping.{result_concerns, result_keeps, s
 use Rattle.gateway_theory.specs.Told.{IsSeen}
 use Rattle.gateway_theory.specs.lemmas.Telling.{seen_told}
 use Rattle.gateway_theory.specs.lemmas.SeenResults.{breaks_of, result_breaks_are, result_broke, result_seen, starved_breaks_are, starved_broke, starved_seen}
-use Rattle.gateway_model.specs.Events.{Occurs}
 use Rattle.gateway_model.specs.Occurrence.{Result}
-use Rattle.gateway_theory.specs.Store.{conn_of}
 use Rattle.gateway_core.proofs.gateway.Core.result.Goals as goal
 
 -- its result is taken, or it comes back with nothing: what stands is the same

@@ -1,5 +1,5 @@
 use Rattle.std.specs.Prelude.{◌==◌}
-use Rattle.std.proofs.Common.{Some, ◌≡◌, [], ◌∷◌, false, sym, ap, ◌∙◌, subst}
+use Rattle.std.proofs.Common.{[], ◌∷◌, false, sym, ap, ◌∙◌, subst}
 use Rattle.gateway_theory.specs.Gateway.{GatewayValue}
 use Rattle.gateway_theory.specs.Served.{Served}
 use Rattle.gateway_theory.specs.Serving.{Breaks, BreaksBy, KeepsBut}
@@ -8,9 +8,7 @@ use Rattle.gateway_theory.specs.lemmas.Keeping.{starved_concerns, starved_keeps,
 use Rattle.gateway_theory.specs.Told.{IsSeen}
 use Rattle.gateway_theory.specs.lemmas.Telling.{seen_told}
 use Rattle.gateway_theory.specs.lemmas.SeenResults.{breaks_of, starved_breaks_are, starved_broke, starved_seen}
-use Rattle.gateway_model.specs.Events.{Occurs}
 use Rattle.gateway_model.specs.Occurrence.{Result}
-use Rattle.gateway_theory.specs.Store.{conn_of}
 use Rattle.gateway_core.proofs.gateway.Core.starved.Goals as goal
 
 pub returns : goal.returns

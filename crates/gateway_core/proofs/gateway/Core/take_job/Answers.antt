@@ -1,5 +1,3 @@
-use Rattle.std.specs.Prelude.{is_some}
-use Rattle.gateway_theory.specs.Store.{call_at}
 use Rattle.std.proofs.Common.{sym, ap, ◌∙◌, subst}
 use Rattle.gateway_theory.specs.Gateway.{GatewayValue}
 use Rattle.gateway_theory.specs.Served.{Served}

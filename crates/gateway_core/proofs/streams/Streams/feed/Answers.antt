@@ -10,8 +10,6 @@ use Rattle.gateway_theory.specs.Store.{broken_at, conn_at}
 use Rattle.gateway_theory.specs.lemmas.BringLemmas.{fed}
 use Rattle.gateway_theory.specs.lemmas.Bringing.{counts_read, read_whole, same_fault}
 use Rattle.gateway_theory.specs.lemmas.ServingLemmas.{read_at, stream_is_at}
-use Rattle.gateway_theory.specs.Heads.{HeadsAgree}
-use Rattle.gateway_theory.specs.lemmas.HeadLemmas.{agree_at}
 use Rattle.gateway_core.proofs.streams.Streams.feed.Goals as goal
 
 pub returns-then-is_over : goal.returns-then-is_over
@@ -42,7 +40,7 @@ returns g c =
     came i c.in-Ok.taken c.in-Some.ensures (ap (λ (x : StreamValue). is_over x.reader.reading) (sym x_is) ∙ sym c.is_over.ensures ∙ c.if-is_over.false)
     (fed i c.in-Ok.taken c.in-Ok.request c.args.bytes.now s c.read.new.self c.bring.new.self c.bring.result c.in-Some.ensures.stream_there c.in-Ok.ensures.ok c.bring.ensures)
     c.in-Ok.ensures.ok.reads.reads.within
-    (λ some. c.in-Ok.ensures.ok.reads.reads.moves some (read_at i s c.in-Some.ensures.stream_there (subst IsServing c.self.view_is c.self.invariant.0)))
+    (λ some. c.in-Ok.ensures.ok.reads.reads.moves some (read_at i s c.in-Some.ensures.stream_there (subst IsServing c.self.view_is c.self.invariant)))
     c.in-Ok.request (read_whole i c.in-Ok.taken c.in-Ok.request c.args.bytes.now s c.read.new.self c.in-Ok.ensures.ok)
     Memory (inl refl)
     (counts_read i c.in-Ok.taken c.in-Ok.request c.args.bytes.now s c.read.new.self c.bring.new.self c.in-Ok.ensures.ok c.bring.ensures.counts)
@@ -60,14 +58,11 @@ returns-in_err-bring g c =
     came i c.in-Ok.taken c.in-Some.ensures (ap (λ (x : StreamValue). is_over x.reader.reading) (sym x_is) ∙ sym c.is_over.ensures ∙ c.if-is_over.false)
     (fed i c.in-Ok.taken c.in-Ok.request c.args.bytes.now s c.read.new.self c.bring.new.self c.bring.result c.in-Some.ensures.stream_there c.in-Ok.ensures.ok c.bring.ensures)
     c.in-Ok.ensures.ok.reads.reads.within
-    (λ some. c.in-Ok.ensures.ok.reads.reads.moves some (read_at i s c.in-Some.ensures.stream_there (subst IsServing c.self.view_is c.self.invariant.0)))
+    (λ some. c.in-Ok.ensures.ok.reads.reads.moves some (read_at i s c.in-Some.ensures.stream_there (subst IsServing c.self.view_is c.self.invariant)))
     c.in-Ok.request (read_whole i c.in-Ok.taken c.in-Ok.request c.args.bytes.now s c.read.new.self c.in-Ok.ensures.ok)
     c.in_err-bring.field-0.0 (same_fault i c.in-Ok.taken c.in-Ok.request c.args.bytes.now s c.read.new.self c.in_err-bring.field-0.0 c.bring.new.self.begun c.in-Ok.ensures.ok c.in_err-bring.ensures.fault)
     (counts_read i c.in-Ok.taken c.in-Ok.request c.args.bytes.now s c.read.new.self c.bring.new.self c.in-Ok.ensures.ok c.bring.ensures.counts)
     (given.1 ∙ ap Err given.2 ∙ sym (ap (λ b. if b then Err c.in_err-bring.field-0.0 else Ok c.in-Ok.taken) on))
 
 pub bring-requires-clause-not_hung : goal.bring-requires-clause-not_hung
-bring-requires-clause-not_hung g c =
-    let agree : (conn_at c.in-Some.index c.args.self.now.machine.conns).hung_up ≡ (stream_at c.in-Some.index c.args.self.now.streams).hung_up =
-    agree_at c.in-Some.index c.args.self.now.machine.conns c.args.self.now.streams (subst HeadsAgree c.self.view_is c.self.invariant.1) c.in-Some.ensures.conn_there in
-    ap (λ (v : GatewayValue). (conn_at c.in-Some.index v.machine.conns).hung_up) c.in-Ok.ensures.ok.rest ∙ agree ∙ c.in-Some.ensures.on
+bring-requires-clause-not_hung g c = ap (λ (v : GatewayValue). (conn_at c.in-Some.index v.machine.conns).hung_up) c.in-Ok.ensures.ok.rest ∙ c.in-Some.ensures.on

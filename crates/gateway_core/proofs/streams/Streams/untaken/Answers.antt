@@ -12,7 +12,7 @@ use Rattle.gateway_core.proofs.streams.Streams.untaken.Goals as goal
 pub returns-in-Some : goal.returns-in-Some
 returns-in-Some g c =
     let v : GatewayValue = c.args.self.now in
-    let serving : IsServing v = subst IsServing c.self.view_is c.self.invariant.0 in
+    let serving : IsServing v = subst IsServing c.self.view_is c.self.invariant in
     c.untaken.ensures ∙ ap (λ (w : GatewayValue). length (front (slots_at c.in-Some.index w))) c.self.view_is
     ∙ ap (λ (rs : List ReplyEntry). length rs) (sym (untaken_is c.args.number c.in-Some.index v serving c.in-Some.ensures))
   where
@@ -22,5 +22,5 @@ returns-in-Some g c =
 pub returns-in-None : goal.returns-in-None
 returns-in-None g c =
     let v : GatewayValue = c.args.self.now in
-    let serving : IsServing v = subst IsServing c.self.view_is c.self.invariant.0 in
+    let serving : IsServing v = subst IsServing c.self.view_is c.self.invariant in
     sym (ap (λ o. length (option_map_or (λ (k : ConnValue). front k.slots) o [])) (none_placed c.args.number v serving c.in-None.ensures))

@@ -1,10 +1,8 @@
 use Rattle.gateway_machine.proofs.StockLemmas.{WereBefore, stocked_before}
 use Rattle.std.proofs.Common.{subst, sym}
 use Rattle.gateway_theory.specs.lemmas.GatewaySteps.{goes_broken}
-use Rattle.std.proofs.Common.{◌∙◌, ap}
-use Rattle.gateway_theory.specs.Heads.{conn_heads}
+use Rattle.std.proofs.Common.{ap}
 use Rattle.gateway_theory.specs.Store.{MachineValue}
-use Rattle.gateway_theory.specs.lemmas.HeadLemmas.{heads_broken}
 use Rattle.gateway_replies.specs.Contexts.{ends_of}
 use Rattle.gateway_machine.specs.Linked.{none_over}
 use Rattle.gateway_machine.proofs.LinkedLemmas.{broken_linked}
@@ -18,6 +16,6 @@ invariant_of-self g c = (
       (broken_linked (ends_of c.self.inside.contexts.standing) none_over c.args.number c.self.inside.machine c.break_conn.new.self c.self.inside.contexts.standing c.break_conn.new.contexts.standing
       (linked_but (ends_of c.self.inside.contexts.standing) c.args.number c.self.inside.machine c.self.inside.contexts.standing c.self.invariant.0.are) c.break_conn.ensures.closed c.break_conn.ensures.broken)
       (ap (λ (m : MachineValue). m.drained) c.break_conn.ensures.broken)
-      (ap (λ (m : MachineValue). conn_heads m.conns) c.break_conn.ensures.broken ∙ heads_broken c.args.number c.self.inside.machine.conns),
+      (subst (WereBefore c.self.inside.machine) (sym c.break_conn.ensures.broken) (goes_broken c.args.number c.self.inside.machine).back),
   stocked_before c.self.inside.contexts c.break_conn.new.contexts c.self.inside.machine c.break_conn.new.self c.break_conn.ensures.stocks (subst (WereBefore c.self.inside.machine) (sym c.break_conn.ensures.broken) (goes_broken c.args.number c.self.inside.machine).back) c.self.invariant.1,
 )

@@ -1,15 +1,13 @@
-use Rattle.gateway_machine.proofs.StockLemmas.{WereBefore, stays_same, stocked_before, were_noted}
+use Rattle.gateway_machine.proofs.StockLemmas.{stocked_before, stocked_noted}
 use Rattle.gateway_theory.specs.lemmas.ServedLemmas.{goes_ended}
-use Rattle.std.specs.Prelude.{All}
 use Rattle.std.proofs.Common.{ap, sym, ◌∙◌, subst}
 use Rattle.gateway_theory.specs.Ends.{AreApart, CallsEnd, IsSettled, noted}
-use Rattle.gateway_theory.specs.Heads.{conn_heads, noted_heads}
 use Rattle.gateway_theory.specs.Store.{MachineValue}
-use Rattle.gateway_theory.specs.lemmas.HeadLemmas.{noted_apart, noted_conns, noted_settled}
+use Rattle.gateway_theory.specs.lemmas.NotedLemmas.{noted_apart, noted_settled}
 use Rattle.gateway_machine.proofs.ToldLemmas.{told_linked}
 use Rattle.gateway_replies.specs.Contexts.{ContextsValue, ends_of}
-use Rattle.gateway_machine.specs.Linked.{EndsOnlyByDrain, IsNow, linked_by, over_by}
-use Rattle.gateway_machine.proofs.DrainLemmas.{noted_moment, stays_linked, told_only_drained}
+use Rattle.gateway_machine.specs.Linked.{AreStocked, EndsOnlyByDrain, IsNow, linked_by, over_by}
+use Rattle.gateway_machine.proofs.DrainLemmas.{noted_moment, only_before, stays_linked, told_only_drained}
 use Rattle.gateway_machine.proofs.linked.LinkedMachine.end_calls.Goals as goal
 
 pub end_calls-requires-clause-settled : goal.end_calls-requires-clause-settled
@@ -25,15 +23,11 @@ pub end_calls-requires-clause-linked : goal.end_calls-requires-clause-linked
 end_calls-requires-clause-linked g c =
     told_linked c.args.trigger.now c.self.inside.machine c.self.inside.contexts.standing c.tell.new.self.standing c.self.invariant.0.are c.tell.ensures.ended ∙ ap (linked_by (ends_of c.tell.new.self.standing) (over_by c.args.trigger.now)) (sym c.note.ensures)
 
-pub returns-clause-ended : goal.returns-clause-ended
-returns-clause-ended g c =
-    subst (λ (m : MachineValue). CallsEnd c.args.trigger.now (noted c.args.trigger.now m) c.end_calls.new.self) c.self.view_is
-    (subst (λ (m : MachineValue). CallsEnd c.args.trigger.now m c.end_calls.new.self) c.note.ensures c.end_calls.ensures.ended)
-
-pub returns-clause-heads : goal.returns-clause-heads
-returns-clause-heads g c =
-    c.end_calls.ensures.heads ∙ ap (λ (m : MachineValue). conn_heads m.conns) c.note.ensures ∙ noted_conns c.args.trigger.now c.self.inside.machine
-    ∙ ap (λ (m : MachineValue). noted_heads c.args.trigger.now (conn_heads m.conns)) c.self.view_is
+pub returns : goal.returns
+returns g c = record {
+  ended = subst (λ (m : MachineValue). CallsEnd c.args.trigger.now (noted c.args.trigger.now m) c.end_calls.new.self) c.self.view_is
+      (subst (λ (m : MachineValue). CallsEnd c.args.trigger.now m c.end_calls.new.self) c.note.ensures c.end_calls.ensures.ended);
+}
 
 pub end_calls-requires-clause-now : goal.end_calls-requires-clause-now
 end_calls-requires-clause-now g c = subst (λ (m : MachineValue). IsNow c.args.trigger.now m.moment) (sym c.note.ensures)
@@ -41,12 +35,15 @@ end_calls-requires-clause-now g c = subst (λ (m : MachineValue). IsNow c.args.t
 
 pub invariant_of-self : goal.invariant_of-self
 invariant_of-self g c =
-    let heads = c.end_calls.ensures.heads ∙ ap (λ (m : MachineValue). conn_heads m.conns) c.note.ensures ∙ noted_conns c.args.trigger.now c.self.inside.machine in (
+    let goes = goes_ended c.args.trigger.now c.note.new.self c.end_calls.new.self c.end_calls.ensures.ended in (
       stays_linked c.tell.new.self.standing c.end_calls.new.contexts.standing c.end_calls.new.self c.end_calls.ensures.linked
           (ap (λ (z : ContextsValue). z.drained) (told_linked c.args.trigger.now c.self.inside.machine c.self.inside.contexts.standing c.tell.new.self.standing c.self.invariant.0.are c.tell.ensures.ended)
           ∙ ap (λ (m : MachineValue). m.drained) (sym c.note.ensures) ∙ sym c.end_calls.ensures.ended.drained_is)
-          (subst (λ hs. All (EndsOnlyByDrain c.tell.new.self.standing) hs) (sym heads)
-          (subst (λ x. All (EndsOnlyByDrain x) (noted_heads c.args.trigger.now (conn_heads c.self.inside.machine.conns))) (sym c.tell.ensures.ended)
-          (told_only_drained c.args.trigger.now c.self.inside.contexts.standing (conn_heads c.self.inside.machine.conns) c.self.invariant.0.only_by_drain))),
-      stocked_before c.tell.new.self c.end_calls.new.contexts c.note.new.self c.end_calls.new.self c.end_calls.ensures.stocks (goes_ended c.args.trigger.now c.note.new.self c.end_calls.new.self c.end_calls.ensures.ended).back (stocked_before c.self.inside.contexts c.tell.new.self c.self.inside.machine c.note.new.self (stays_same c.self.inside.contexts c.tell.new.self c.tell.ensures.hooks.stocks_are) (subst (WereBefore c.self.inside.machine) (sym c.note.ensures) (were_noted c.args.trigger.now c.self.inside.machine)) c.self.invariant.1),
+          (only_before c.tell.new.self.standing c.note.new.self c.end_calls.new.self goes.back
+          (subst (λ (m : MachineValue). EndsOnlyByDrain c.tell.new.self.standing m.conns) (sym c.note.ensures)
+          (subst (λ (x : ContextsValue). EndsOnlyByDrain x (noted c.args.trigger.now c.self.inside.machine).conns) (sym c.tell.ensures.ended)
+          (told_only_drained c.args.trigger.now c.self.inside.contexts.standing c.self.inside.machine c.self.invariant.0.only_by_drain)))),
+      stocked_before c.tell.new.self c.end_calls.new.contexts c.note.new.self c.end_calls.new.self c.end_calls.ensures.stocks goes.back
+          (subst (λ (m : MachineValue). AreStocked c.tell.new.self.stocks m.conns) (sym c.note.ensures) (stocked_noted c.args.trigger.now c.tell.new.self.stocks c.self.inside.machine
+          (subst (λ ss. AreStocked ss c.self.inside.machine.conns) (sym c.tell.ensures.hooks.stocks_are) c.self.invariant.1))),
     )

@@ -1,7 +1,7 @@
 use Rattle.std.proofs.Common.{◌≡◌, ◌∷◌, ◌++◌, [], map, sym, ap, ◌∙◌, append-nil, append_assoc}
 use Rattle.gateway_model.specs.declared.id.CallId.{CallId}
 use Rattle.gateway_run.specs.Log.{LogValue}
-use Rattle.gateway_model.specs.Run.{start_at}
+use Rattle.gateway_run.specs.Log.{start_at}
 use Rattle.gateway_run.proofs.Starting.{all_started, log_same, one_started}
 use Rattle.gateway_run.proofs.log.Log.start.Goals as goal
 

@@ -1,5 +1,5 @@
 use Rattle.std.proofs.Common.{◌≡◌, ◌++◌, map, length}
-use Rattle.gateway_model.specs.Run.{start_at}
+use Rattle.gateway_run.specs.Log.{start_at}
 use Rattle.gateway_run.proofs.Starting.{Started}
 use Rattle.gateway_run.proofs.log.Log.start.Given as goal
 

@@ -1,45 +1,52 @@
-use Rattle.std.proofs.Common.{ap, refl, subst, sym, ◌∙◌, arith, length}
-use Rattle.gateway_theory.specs.Store.{MachineValue}
-use Rattle.gateway_theory.specs.lemmas.EndLemmas.{ends_start, ends_next, ends_all}
-use Rattle.gateway_theory.specs.lemmas.HeadLemmas.{heads_ended_at}
-use Rattle.gateway_replies.specs.Contexts.{ends_of}
-use Rattle.gateway_machine.specs.Linked.{IsNow, over_by}
+use Rattle.std.proofs.Common.{◌≡◌, ap, arith, map, refl, subst, sym, ◌∙◌}
 use Rattle.gateway_machine.proofs.BetweenLemmas.{ended_all_linked}
-use Rattle.gateway_machine.proofs.StockLemmas.{stays_same, stays_then}
+use Rattle.gateway_machine.proofs.EndingLemmas.{all_end, drained_so, settled_rooms}
+use Rattle.gateway_machine.specs.Linked.{IsNow, linked_by, linked_calls, linked_conns, over_by}
+use Rattle.gateway_replies.specs.Contexts.{ContextsValue, contexts_value, ends_of}
+use Rattle.gateway_theory.specs.Ends.{AreApart, CallsEnd, IsSettled}
+use Rattle.gateway_theory.specs.Store.{MachineValue, machine_value}
+use Rattle.gateway_theory.specs.Task.{HandedJob}
 use Rattle.gateway_machine.proofs.machine.store.Machine.end_calls.Goals as goal
 
-pub loop-index-init : goal.loop-index-init
-loop-index-init g c = (ends_start c.args.trigger.now c.args.self.now c.requires.settled, c.requires.linked, refl, stays_same c.args.contexts.now c.args.contexts.now refl)
+pub end_listed-requires-clause-now : goal.end_listed-requires-clause-now
+end_listed-requires-clause-now g c = subst (λ (m : MachineValue). IsNow c.args.trigger.now m.moment) (sym c.self.view_is) c.requires.now
 
-pub loop-index-preserved : goal.loop-index-preserved
-loop-index-preserved g c =
-    let now : IsNow c.args.trigger.now c.loop-index.self.moment = subst (IsNow c.args.trigger.now) (sym c.loop-index.invariant.0.moment_is) c.requires.now in (
-      ends_next c.args.trigger.now c.loop-index.index c.args.self.now c.loop-index.self c.end_call.new.self c.loop-index.invariant.0 c.requires.settled
-          (omega (arith, c.loop-index-test.true, c.len-index-end.ensures, c.loop-index.invariant.0.size_is, ap (λ (m : MachineValue). length m.calls) c.self.view_is)) (c.end_call.ensures.ended (ends_of c.args.contexts.now.standing) c.args.trigger.now now c.loop-index.invariant.1),
-      c.end_call.ensures.linked (ends_of c.args.contexts.now.standing) c.args.trigger.now now c.loop-index.invariant.1,
-      heads_ended_at c.args.trigger.now c.loop-index.index c.loop-index.self c.end_call.new.self (c.end_call.ensures.ended (ends_of c.args.contexts.now.standing) c.args.trigger.now now c.loop-index.invariant.1) ∙ c.loop-index.invariant.2,
-      stays_then c.args.contexts.now c.loop-index.contexts c.end_call.new.contexts c.loop-index.invariant.3 c.end_call.ensures.stocks,
-    )
+pub end_listed-requires-clause-settled : goal.end_listed-requires-clause-settled
+end_listed-requires-clause-settled g c =
+    settled_rooms (machine_value c.self.inside.moment c.self.inside.drained c.self.inside.conns.items c.self.inside.calls.items (map (λ (j : HandedJob). j.job) c.self.inside.jobs.items))
+    c.self.inside.moment c.args.contexts.now.standing.drained (subst IsSettled (sym c.self.view_is) c.requires.settled)
+
+pub end_listed-requires-clause-linked : goal.end_listed-requires-clause-linked
+end_listed-requires-clause-linked g c =
+    drained_so (ends_of c.args.contexts.now.standing) (over_by c.args.trigger.now) c.args.contexts.now.standing
+    (machine_value c.self.inside.moment c.self.inside.drained c.self.inside.conns.items c.self.inside.calls.items (map (λ (j : HandedJob). j.job) c.self.inside.jobs.items)) c.self.inside.moment
+    (subst (λ (m : MachineValue). c.args.contexts.now.standing ≡ linked_by (ends_of c.args.contexts.now.standing) (over_by c.args.trigger.now) m) (sym c.self.view_is) c.requires.linked)
+
+pub invariant_of-self : goal.invariant_of-self
+invariant_of-self g c = (let room = c.self.invariant.0 in omega (arith, room, c.end_listed.ensures.waits, c.settle_listed.ensures.waits), c.self.invariant.1)
 
 pub returns-clause-ended : goal.returns-clause-ended
 returns-clause-ended g c =
-    ends_all c.args.trigger.now c.loop-index.index (length c.loop-index.self.calls) c.args.self.now c.loop-index.self c.settle_all.new.self c.requires.settled c.requires.apart c.loop-index.invariant.0
-    (omega (arith, c.loop-index-test.false, c.len-index-end.ensures, c.loop-index.invariant.0.size_is, ap (λ (m : MachineValue). length m.calls) c.self.view_is))
-    c.settle_all.ensures.settled (omega (arith, c.settle_all.ensures.settled.size_is))
+    let jobs = map (λ (j : HandedJob). j.job) c.self.inside.jobs.items in
+    let s : MachineValue = machine_value c.self.inside.moment c.self.inside.drained c.self.inside.conns.items c.self.inside.calls.items jobs in
+    let w : MachineValue = machine_value c.self.inside.moment c.self.inside.drained c.settle_listed.new.conns.items c.settle_listed.new.calls.items jobs in
+    subst (λ (m : MachineValue). CallsEnd c.args.trigger.now m w) c.self.view_is
+    (all_end c.args.trigger.now s w c.self.inside.moment c.args.contexts.now.standing.drained c.end_listed.new.conns.items c.end_listed.new.calls.items
+    (subst IsSettled (sym c.self.view_is) c.requires.settled) (subst (λ (m : MachineValue). AreApart m.calls) (sym c.self.view_is) c.requires.apart)
+    c.end_listed.ensures.ended (c.settle_listed.ensures.settled c.self.inside.moment c.args.contexts.now.standing.drained) refl)
 
 pub returns-clause-linked : goal.returns-clause-linked
 returns-clause-linked g c =
-    ended_all_linked (ends_of c.args.contexts.now.standing) c.args.trigger.now c.args.self.now c.settle_all.new.self c.loop-index.contexts.standing
-    (ends_all c.args.trigger.now c.loop-index.index (length c.loop-index.self.calls) c.args.self.now c.loop-index.self c.settle_all.new.self c.requires.settled c.requires.apart c.loop-index.invariant.0
-    (omega (arith, c.loop-index-test.false, c.len-index-end.ensures, c.loop-index.invariant.0.size_is, ap (λ (m : MachineValue). length m.calls) c.self.view_is))
-    c.settle_all.ensures.settled (omega (arith, c.settle_all.ensures.settled.size_is)))
-    (c.loop-index.invariant.1 ∙ sym (c.settle_all.ensures.linked (ends_of c.args.contexts.now.standing) (over_by c.args.trigger.now)))
-
-pub returns-clause-heads : goal.returns-clause-heads
-returns-clause-heads g c = c.settle_all.ensures.heads ∙ c.loop-index.invariant.2
-
-pub end_call-requires-clause-live : goal.end_call-requires-clause-live
-end_call-requires-clause-live g c = (ends_of c.args.contexts.now.standing, over_by c.args.trigger.now, c.loop-index.invariant.1)
-
-pub returns-clause-stocks : goal.returns-clause-stocks
-returns-clause-stocks g c = c.loop-index.invariant.3
+    let jobs = map (λ (j : HandedJob). j.job) c.self.inside.jobs.items in
+    let s : MachineValue = machine_value c.self.inside.moment c.self.inside.drained c.self.inside.conns.items c.self.inside.calls.items jobs in
+    let w : MachineValue = machine_value c.self.inside.moment c.self.inside.drained c.settle_listed.new.conns.items c.settle_listed.new.calls.items jobs in
+    let ends = ends_of c.args.contexts.now.standing in
+    let over = over_by c.args.trigger.now in
+    let is : c.args.contexts.now.standing.drained ≡ c.self.inside.drained =
+    ap (λ (z : ContextsValue). z.drained) c.requires.linked ∙ ap (λ (m : MachineValue). m.drained) (sym c.self.view_is) in
+    ended_all_linked ends c.args.trigger.now s w c.end_listed.new.contexts.standing
+    (all_end c.args.trigger.now s w c.self.inside.moment c.args.contexts.now.standing.drained c.end_listed.new.conns.items c.end_listed.new.calls.items
+    (subst IsSettled (sym c.self.view_is) c.requires.settled) (subst (λ (m : MachineValue). AreApart m.calls) (sym c.self.view_is) c.requires.apart)
+    c.end_listed.ensures.ended (c.settle_listed.ensures.settled c.self.inside.moment c.args.contexts.now.standing.drained) refl)
+    (c.end_listed.ensures.linked ∙ sym (c.settle_listed.ensures.linked ends over c.self.inside.moment c.args.contexts.now.standing.drained)
+    ∙ ap (λ b. contexts_value b (linked_conns ends c.settle_listed.new.conns.items) (linked_calls over c.settle_listed.new.calls.items)) is)

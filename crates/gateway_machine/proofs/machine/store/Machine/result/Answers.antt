@@ -1,4 +1,4 @@
-use Rattle.std.proofs.Common.{◌≡◌, ℕ, ◌<◌, ◌++◌, true, refl, sym, ap, ◌∙◌, arith, inl, inr, length, map, subst, slice_set}
+use Rattle.std.proofs.Common.{◌≡◌, ℕ, ◌++◌, true, refl, sym, ap, ◌∙◌, arith, inl, inr, map, subst, slice_set}
 use Rattle.std.specs.Prelude.{if◌then◌else◌, is_some, option_to_list, Some}
 use Rattle.gateway_model.specs.declared.seen.Seen.TheVariants.{Counted, Late, Unknown}
 use Rattle.gateway_theory.specs.Kept.{KeptValue}
@@ -11,53 +11,54 @@ use Rattle.gateway_machine.specs.KeptCall.{GoesOn}
 use Rattle.gateway_machine.specs.Linked.{IsLinkedWith, linked, linked_by, none_over, passed_on}
 use Rattle.gateway_machine.proofs.LinkedLemmas.{live_has_life}
 use Rattle.gateway_machine.proofs.BetweenLemmas.{passed_ends, stepped_linked}
-use Rattle.gateway_theory.specs.lemmas.StoreLemmas.{call_missing, item_is, on_err, on_ok}
-use Rattle.gateway_machine.proofs.ResultLemmas.{at_moment, found_out, its_at, next_waits, starved_live, waits_then, steps_at}
+use Rattle.gateway_machine.proofs.CallsLemmas.{finds_at, finds_none, result_steps, result_waits}
+use Rattle.gateway_theory.specs.lemmas.StoreLemmas.{call_missing, on_err, on_ok}
+use Rattle.gateway_machine.proofs.ResultLemmas.{found_out, its_at, starved_live, steps_at}
 use Rattle.gateway_machine.proofs.machine.store.Machine.result.Goals as goal
 
 pub returns-in_default-clause-taken : goal.returns-in_default-clause-taken
-returns-in_default-clause-taken g c = inl (inl (ap (λ x. has_out x c.args.branch) (call_missing c.args.id.now c.args.self.now.calls c.in_default.ensures), c.unknown.ensures, refl))
+returns-in_default-clause-taken g c =
+    let none = finds_none c.args.id.now c.self.inside.calls.items c.args.self.now.calls (ap (λ (m : MachineValue). m.calls) c.self.view_is) c.in_default.ensures in
+    inl (inl (ap (λ x. has_out x c.args.branch) (call_missing c.args.id.now c.args.self.now.calls none), c.unknown.ensures, refl))
 
 pub returns-then-not-is_out-clause-taken : goal.returns-then-not-is_out-clause-taken
 returns-then-not-is_out-clause-taken g c =
     let s : MachineValue = c.args.self.now in
     let items : c.self.inside.calls.items ≡ s.calls = ap (λ (m : MachineValue). m.calls) c.self.view_is in
+    let x : KeptValue = c.in-Some.call.now in
+    let f = finds_at c.args.id.now c.self.inside.calls.items s.calls x items c.in-Some.ensures in
+    let i : ℕ = f.0 in
     inl (inl (
-      found_out c.args.id.now s.calls c.in-Some.index c.args.branch c.index.result.now c.is_out.result c.in-Some.ensures
-          (item_is c.self.inside.calls.items s.calls c.in-Some.index c.index.result.now items c.in-Some.ensures.0 c.index.ensures) c.is_out.ensures
-          ∙ c.if-not-is_out.true,
+      found_out c.args.id.now s.calls i c.args.branch x c.is_out.result f.1 f.2 c.is_out.ensures ∙ c.if-not-is_out.true,
       c.unknown-then-not-is_out.ensures,
       refl,
     ))
 
+pub take_result-taken-requires-clause-out : goal.take_result-taken-requires-clause-out
+take_result-taken-requires-clause-out g c =
+    let it = c.in-Some.ensures in
+    found_out c.args.id.now c.self.inside.calls.items it.0 c.args.branch c.in-Some.call.now c.is_out.result it.1 it.2 c.is_out.ensures ∙ c.if-not-is_out.false
+
 pub start-requires : goal.start-requires
 start-requires g c =
-    let items : c.self.inside.calls.items ≡ c.args.self.now.calls = ap (λ (m : MachineValue). m.calls) c.self.view_is in
-    let x_is : c.index_mut.result.now ≡ kept_at c.in-Some.index c.self.inside.calls.items =
-    item_is c.self.inside.calls.items c.self.inside.calls.items c.in-Some.index c.index_mut.result.now refl (subst (λ xs. c.in-Some.index < length xs) (sym items) c.in-Some.ensures.0) c.index_mut.ensures.value in
+    let it = c.in-Some.ensures in
     omega (
       arith,
       c.self.invariant.0,
-      waits_then c.self.inside.calls.items c.in-Some.index (length (option_to_list c.take_result-taken.result.next)) c.index_mut.result.now c.take_result-taken.new.self
-          (subst (λ xs. c.in-Some.index < length xs) (sym items) c.in-Some.ensures.0) x_is
-          (next_waits c.self.inside.moment c.args.branch c.args.outcome c.index_mut.result.now c.take_result-taken.new.self c.take_result-taken.result.decided c.take_result-taken.result.next
-          c.take_result-taken.ensures),
+      result_waits c.self.inside.moment c.args.branch c.args.outcome c.args.id.now c.self.inside.calls.items c.take_result-taken.new.self.items it.0
+          c.take_result-taken.result.decided c.take_result-taken.result.next it.1 c.take_result-taken.ensures,
     )
 
 pub invariant_of-self : goal.invariant_of-self
 invariant_of-self g c =
-    let items : c.self.inside.calls.items ≡ c.args.self.now.calls = ap (λ (m : MachineValue). m.calls) c.self.view_is in
-    let x_is : c.index_mut.result.now ≡ kept_at c.in-Some.index c.self.inside.calls.items =
-    item_is c.self.inside.calls.items c.self.inside.calls.items c.in-Some.index c.index_mut.result.now refl (subst (λ xs. c.in-Some.index < length xs) (sym items) c.in-Some.ensures.0) c.index_mut.ensures.value in (
+    let it = c.in-Some.ensures in (
       omega (
         arith,
         c.self.invariant.0,
         c.start.ensures.size,
         c.start.ensures.room,
-        waits_then c.self.inside.calls.items c.in-Some.index (length (option_to_list c.take_result-taken.result.next)) c.index_mut.result.now c.take_result-taken.new.self
-            (subst (λ xs. c.in-Some.index < length xs) (sym items) c.in-Some.ensures.0) x_is
-            (next_waits c.self.inside.moment c.args.branch c.args.outcome c.index_mut.result.now c.take_result-taken.new.self c.take_result-taken.result.decided c.take_result-taken.result.next
-            c.take_result-taken.ensures),
+        result_waits c.self.inside.moment c.args.branch c.args.outcome c.args.id.now c.self.inside.calls.items c.take_result-taken.new.self.items it.0
+            c.take_result-taken.result.decided c.take_result-taken.result.next it.1 c.take_result-taken.ensures,
       ),
       c.self.invariant.1,
     )
@@ -65,29 +66,30 @@ invariant_of-self g c =
 pub returns-clause-taken : goal.returns-clause-taken
 returns-clause-taken g c =
     let s : MachineValue = c.args.self.now in
-    let i : ℕ = c.in-Some.index in
     let items : c.self.inside.calls.items ≡ s.calls = ap (λ (m : MachineValue). m.calls) c.self.view_is in
-    let was : c.index.result.now ≡ kept_at i s.calls = item_is c.self.inside.calls.items s.calls i c.index.result.now items c.in-Some.ensures.0 c.index.ensures in
-    let was_4 : c.index-4.result.now ≡ kept_at i s.calls = item_is c.self.inside.calls.items s.calls i c.index-4.result.now items c.in-Some.ensures.0 c.index-4.ensures in
-    let at : c.index_mut.result.now ≡ kept_at i s.calls = item_is c.self.inside.calls.items s.calls i c.index_mut.result.now items c.in-Some.ensures.0 c.index_mut.ensures.value in
+    let x : KeptValue = c.in-Some.call.now in
+    let f = finds_at c.args.id.now c.self.inside.calls.items s.calls x items c.in-Some.ensures in
+    let i : ℕ = f.0 in
     let out : has_out (kept_at i s.calls).call c.args.branch ≡ true =
-    ap (λ (k : KeptValue). has_out k.call c.args.branch) (sym was) ∙ sym c.is_out.ensures ∙ c.if-not-is_out.false in
+    ap (λ (k : KeptValue). has_out k.call c.args.branch) (sym f.2) ∙ sym c.is_out.ensures ∙ c.if-not-is_out.false in
     let seen : c.seen-seen.result ≡ (if has_out (kept_at i s.calls).call c.args.branch then (if is_some (kept_at i s.calls).call.live then Counted else Late) else Unknown) =
-    c.seen-seen.ensures ∙ ap (λ (k : KeptValue). if is_some k.call.live then Counted else Late) was_4
+    c.seen-seen.ensures ∙ ap (λ (k : KeptValue). if is_some k.call.live then Counted else Late) f.2
     ∙ sym (ap (λ b. if b then (if is_some (kept_at i s.calls).call.live then Counted else Late) else Unknown) out) in
+    let after : KeptValue = kept_at i c.take_result-taken.new.self.items in
+    let step = result_steps c.self.inside.moment s.moment c.args.branch c.args.outcome c.args.id.now c.self.inside.calls.items s.calls c.take_result-taken.new.self.items i
+    c.take_result-taken.result.decided c.take_result-taken.result.next (ap (λ (m : MachineValue). m.moment) c.self.view_is) items f.1 c.take_result-taken.ensures in
     inl (inr (
       i,
-      c.in-Some.ensures,
+      f.1,
       out,
       seen,
-      its_at s i c.args.branch c.args.outcome c.index_mut.result.now c.take_result-taken.new.self c.take_result-taken.result.decided c.take_result-taken.result.next at
-          (at_moment c.self.inside.moment s.moment c.args.branch c.args.outcome c.index_mut.result.now c.take_result-taken.new.self c.take_result-taken.result.decided c.take_result-taken.result.next
-          (ap (λ (m : MachineValue). m.moment) c.self.view_is) c.take_result-taken.ensures),
-      steps_at c.args.id.now s _ c.decide-broke.new.self i c.args.branch c.args.outcome c.index_mut.result.now c.take_result-taken.new.self c.take_result-taken.result.decided
-          c.take_result-taken.result.next c.decide-broke.result at (sym (same_call (kept_at i s.calls).id c.args.id.now c.in-Some.ensures.1)) (at_moment c.self.inside.moment s.moment c.args.branch c.args.outcome c.index_mut.result.now c.take_result-taken.new.self c.take_result-taken.result.decided c.take_result-taken.result.next
-          (ap (λ (m : MachineValue). m.moment) c.self.view_is) c.take_result-taken.ensures)
-          (ap (λ js. machine_value c.self.inside.moment c.self.inside.drained c.self.inside.conns.items (slice_set c.self.inside.calls.items i c.take_result-taken.new.self) js) c.start.ensures.jobs_are
-          ∙ ap (λ (m : MachineValue). machine_value m.moment m.drained m.conns (slice_set m.calls i c.take_result-taken.new.self)
+      its_at s i c.args.branch c.args.outcome (kept_at i s.calls) after c.take_result-taken.result.decided c.take_result-taken.result.next refl step.1,
+      steps_at c.args.id.now s _ c.decide-broke.new.self i c.args.branch c.args.outcome (kept_at i s.calls) after c.take_result-taken.result.decided
+          c.take_result-taken.result.next c.decide-broke.result refl (sym (same_call (kept_at i s.calls).id c.args.id.now f.1.1)) step.1
+          (ap (λ js. machine_value c.self.inside.moment c.self.inside.drained c.self.inside.conns.items c.take_result-taken.new.self.items js) c.start.ensures.jobs_are
+          ∙ ap (λ ks. machine_value c.self.inside.moment c.self.inside.drained c.self.inside.conns.items ks
+          (map (λ (j : HandedJob). j.job) c.self.inside.jobs.items ++ map (job_at c.self.inside.moment) (option_to_list c.take_result-taken.result.next))) step.0
+          ∙ ap (λ (m : MachineValue). machine_value m.moment m.drained m.conns (slice_set s.calls i after)
           (m.jobs ++ map (job_at m.moment) (option_to_list c.take_result-taken.result.next))) c.self.view_is)
           c.decide-broke.ensures.decided,
     ))
@@ -95,48 +97,44 @@ returns-clause-taken g c =
 pub pass_on-requires-clause-known : goal.pass_on-requires-clause-known
 pass_on-requires-clause-known g c = λ some.
     let s : MachineValue = c.args.self.now in
-    let i : ℕ = c.in-Some.index in
     let items : c.self.inside.calls.items ≡ s.calls = ap (λ (m : MachineValue). m.calls) c.self.view_is in
-    let was : c.index-3.result.now ≡ kept_at i s.calls = item_is c.self.inside.calls.items s.calls i c.index-3.result.now items c.in-Some.ensures.0 c.index-3.ensures in
-    ap (λ (x : ContextsValue). is_life c.index-3.result.now.id x.calls) c.requires ∙ live_has_life (ends_of c.args.contexts.now.standing) none_over s.calls i c.index-3.result.now was some
+    let x : KeptValue = c.in-Some.call.now in
+    let f = finds_at c.args.id.now c.self.inside.calls.items s.calls x items c.in-Some.ensures in
+    let i : ℕ = f.0 in
+    ap (λ (y : ContextsValue). is_life x.id y.calls) c.requires ∙ live_has_life (ends_of c.args.contexts.now.standing) none_over s.calls i x f.2 some
 
 pub decide-broke-requires : goal.decide-broke-requires
 decide-broke-requires g c =
     let s : MachineValue = c.args.self.now in
-    let i : ℕ = c.in-Some.index in
-    let x : KeptValue = c.index_mut.result.now in
     let items : c.self.inside.calls.items ≡ s.calls = ap (λ (m : MachineValue). m.calls) c.self.view_is in
-    let at : x ≡ kept_at i s.calls = item_is c.self.inside.calls.items s.calls i x items c.in-Some.ensures.0 c.index_mut.ensures.value in
-    let was : c.index.result.now ≡ kept_at i s.calls = item_is c.self.inside.calls.items s.calls i c.index.result.now items c.in-Some.ensures.0 c.index.ensures in
-    let was_2 : c.index-2.result.now ≡ kept_at i s.calls = item_is c.self.inside.calls.items s.calls i c.index-2.result.now items c.in-Some.ensures.0 c.index-2.ensures in
-    let was_3 : c.index-3.result.now ≡ kept_at i s.calls = item_is c.self.inside.calls.items s.calls i c.index-3.result.now items c.in-Some.ensures.0 c.index-3.ensures in
-    let out : has_out x.call c.args.branch ≡ true = ap (λ (k : KeptValue). has_out k.call c.args.branch) (at ∙ sym was) ∙ sym c.is_out.ensures ∙ c.if-not-is_out.false in
-    let goes : (l : Live) → x.call.live ≡ Some l → GoesOn x.id x.call.out l =
-    subst (λ (k : KeptValue). (l : Live) → k.call.live ≡ Some l → GoesOn k.id k.call.out l) (was_2 ∙ sym at) c.going_law.ensures in
-    let passed : c.pass_on.new.contexts.standing ≡ passed_on s.moment c.args.branch c.args.outcome x c.args.contexts.now.standing =
+    let x : KeptValue = c.in-Some.call.now in
+    let f = finds_at c.args.id.now c.self.inside.calls.items s.calls x items c.in-Some.ensures in
+    let i : ℕ = f.0 in
+    let k : KeptValue = kept_at i s.calls in
+    let out : has_out k.call c.args.branch ≡ true = ap (λ (y : KeptValue). has_out y.call c.args.branch) (sym f.2) ∙ sym c.is_out.ensures ∙ c.if-not-is_out.false in
+    let goes : (l : Live) → k.call.live ≡ Some l → GoesOn k.id k.call.out l =
+    subst (λ (y : KeptValue). (l : Live) → y.call.live ≡ Some l → GoesOn y.id y.call.out l) f.2 c.going_law.ensures in
+    let passed : c.pass_on.new.contexts.standing ≡ passed_on s.moment c.args.branch c.args.outcome k c.args.contexts.now.standing =
     on_ok c.pass_on.result _ c.pass_on.ensures.ok (sym c.is_err.ensures.value ∙ c.if-is_err.false)
-    ∙ ap (λ m. passed_on m c.args.branch c.args.outcome c.index-3.result.now c.args.contexts.now.standing) (ap (λ (m : MachineValue). m.moment) c.self.view_is)
-    ∙ ap (λ k. passed_on s.moment c.args.branch c.args.outcome k c.args.contexts.now.standing) (was_3 ∙ sym at) in
+    ∙ ap (λ m. passed_on m c.args.branch c.args.outcome x c.args.contexts.now.standing) (ap (λ (m : MachineValue). m.moment) c.self.view_is)
+    ∙ ap (λ y. passed_on s.moment c.args.branch c.args.outcome y c.args.contexts.now.standing) f.2 in
     let ends : ends_of c.pass_on.new.contexts.standing ≡ ends_of c.args.contexts.now.standing =
-    ap ends_of passed ∙ passed_ends s.moment c.args.branch c.args.outcome x c.args.contexts.now.standing in
-    let w : MachineValue = machine_value c.self.inside.moment c.self.inside.drained c.self.inside.conns.items (slice_set c.self.inside.calls.items i c.take_result-taken.new.self)
+    ap ends_of passed ∙ passed_ends s.moment c.args.branch c.args.outcome k c.args.contexts.now.standing in
+    let w : MachineValue = machine_value c.self.inside.moment c.self.inside.drained c.self.inside.conns.items c.take_result-taken.new.self.items
     (map (λ (j : HandedJob). j.job) c.start.new.jobs.items) in
+    let step = result_steps c.self.inside.moment s.moment c.args.branch c.args.outcome c.args.id.now c.self.inside.calls.items s.calls c.take_result-taken.new.self.items i
+    c.take_result-taken.result.decided c.take_result-taken.result.next (ap (λ (m : MachineValue). m.moment) c.self.view_is) items f.1 c.take_result-taken.ensures in
     subst (λ e. IsLinkedWith e c.args.id.now c.take_result-taken.result.decided c.pass_on.new.contexts.standing w) (sym ends)
-    (stepped_linked (ends_of c.args.contexts.now.standing) s.moment c.args.branch c.args.outcome s w i x c.take_result-taken.new.self
-    c.take_result-taken.result.decided c.take_result-taken.result.next c.args.id.now c.args.contexts.now.standing c.pass_on.new.contexts.standing c.in-Some.ensures.0 at
-    (at_moment c.self.inside.moment s.moment c.args.branch c.args.outcome x c.take_result-taken.new.self c.take_result-taken.result.decided c.take_result-taken.result.next
-    (ap (λ (m : MachineValue). m.moment) c.self.view_is) c.take_result-taken.ensures)
-    out goes (same_call (kept_at i s.calls).id c.args.id.now c.in-Some.ensures.1) c.apart_law.ensures c.requires passed (ap (λ (m : MachineValue). m.drained) c.self.view_is) (ap (λ (m : MachineValue). m.conns) c.self.view_is)
-    (ap (λ (m : MachineValue). slice_set m.calls i c.take_result-taken.new.self) c.self.view_is))
+    (stepped_linked (ends_of c.args.contexts.now.standing) s.moment c.args.branch c.args.outcome s w i k (kept_at i c.take_result-taken.new.self.items)
+    c.take_result-taken.result.decided c.take_result-taken.result.next c.args.id.now c.args.contexts.now.standing c.pass_on.new.contexts.standing f.1.0 refl
+    step.1 out goes (same_call k.id c.args.id.now f.1.1) c.apart_law.ensures c.requires passed (ap (λ (m : MachineValue). m.drained) c.self.view_is) (ap (λ (m : MachineValue). m.conns) c.self.view_is)
+    step.0)
 
 pub returns-clause-linked : goal.returns-clause-linked
 returns-clause-linked g c =
-    let s : MachineValue = c.args.self.now in
-    let i : ℕ = c.in-Some.index in
-    let items : c.self.inside.calls.items ≡ s.calls = ap (λ (m : MachineValue). m.calls) c.self.view_is in
     let ends : ends_of c.pass_on.new.contexts.standing ≡ ends_of c.args.contexts.now.standing =
     ap ends_of (on_ok c.pass_on.result _ c.pass_on.ensures.ok (sym c.is_err.ensures.value ∙ c.if-is_err.false))
-    ∙ passed_ends c.self.inside.moment c.args.branch c.args.outcome c.index-3.result.now c.args.contexts.now.standing in
+    ∙ passed_ends c.self.inside.moment c.args.branch c.args.outcome c.in-Some.call.now c.args.contexts.now.standing in
     c.decide-broke.ensures.linked ∙ ap (λ e. linked_by e none_over c.decide-broke.new.self) ends
 
 pub drop_result-requires : goal.drop_result-requires
@@ -147,14 +145,14 @@ drop_result-requires g c =
 pub returns-then-is_err-clause-taken : goal.returns-then-is_err-clause-taken
 returns-then-is_err-clause-taken g c =
     let s : MachineValue = c.args.self.now in
-    let i : ℕ = c.in-Some.index in
     let items : c.self.inside.calls.items ≡ s.calls = ap (λ (m : MachineValue). m.calls) c.self.view_is in
-    let was : c.index.result.now ≡ kept_at i s.calls = item_is c.self.inside.calls.items s.calls i c.index.result.now items c.in-Some.ensures.0 c.index.ensures in
-    let was_3 : c.index-3.result.now ≡ kept_at i s.calls = item_is c.self.inside.calls.items s.calls i c.index-3.result.now items c.in-Some.ensures.0 c.index-3.ensures in
-    let out : has_out (kept_at i s.calls).call c.args.branch ≡ true = ap (λ (k : KeptValue). has_out k.call c.args.branch) (sym was) ∙ sym c.is_out.ensures ∙ c.if-not-is_out.false in
+    let x : KeptValue = c.in-Some.call.now in
+    let f = finds_at c.args.id.now c.self.inside.calls.items s.calls x items c.in-Some.ensures in
+    let i : ℕ = f.0 in
+    let out : has_out (kept_at i s.calls).call c.args.branch ≡ true = ap (λ (k : KeptValue). has_out k.call c.args.branch) (sym f.2) ∙ sym c.is_out.ensures ∙ c.if-not-is_out.false in
     let live : is_some (kept_at i s.calls).call.live ≡ true =
-    ap (λ (k : KeptValue). is_some k.call.live) (sym was_3) ∙ on_err c.pass_on.result _ c.pass_on.ensures.live (sym c.is_err.ensures.value ∙ c.if-is_err.true) in
-    inr (starved_live c.args.id.now c.args.branch s c.drop_result.new.self c.drop_result.result i c.in-Some.ensures out live c.drop_result.ensures.taken, c.drop_result.ensures.taken)
+    ap (λ (k : KeptValue). is_some k.call.live) (sym f.2) ∙ on_err c.pass_on.result _ c.pass_on.ensures.live (sym c.is_err.ensures.value ∙ c.if-is_err.true) in
+    inr (starved_live c.args.id.now c.args.branch s c.drop_result.new.self c.drop_result.result i f.1 out live c.drop_result.ensures.taken, c.drop_result.ensures.taken)
 
 pub returns-then-is_err-clause-linked : goal.returns-then-is_err-clause-linked
 returns-then-is_err-clause-linked g c =
