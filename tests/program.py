@@ -20,10 +20,10 @@ import threading
 import time
 
 from program_room import (
-    Backend, CASE_TIME, DONE, EMPTY_SCRIPT, HERE, IO, LONGEST, MEMORY, NOT_FOUND, PLANS, Room, SCRIPT, STRAY,
-    Untried, WAIT, WORDS, Wrong, answers, be_nobody, call, client, end_of, expect, free_port, is_refused,
-    limit_now, limit_threads_now, listener, plan, processor_time_of, read_reply, read_to, reply, sees_end,
-    serve_words, size_of, stop_now, threads_of_nobody, waits_of,
+    Backend, CASE_TIME, DONE, EMPTY_SCRIPT, Echo, HERE, IO, LONGEST, MEMORY, NOT_FOUND, PLANS, Room, SCRIPT, STRAY,
+    Trickle, Untried, WAIT, WORDS, Wrong, answers, at_once, be_nobody, call, client, end_of, expect, free_port, is_quiet,
+    is_refused, limit_now, limit_threads_now, listener, plan, processor_time_of, read_message, read_reply, read_to, reply,
+    request, sees_end, serve_words, size_of, stop_now, threads_of_nobody, waits_of,
 )
 
 # ---- the words
@@ -235,19 +235,46 @@ def case_script_memory(room):
 
 
 def case_workers(room):
-    """as many backends are asked at the same time as there are workers"""
+    """workers ask as many backends at the same time as there are workers"""
     with listener() as backend:
         run, port = room.serve(plan([backend.getsockname()[1]] * 4, 4), workers=3, streams=1)
         with client(port) as stream:
-            call(stream)
+            call(stream, body=LONG_BODY)
             asked = [backend.accept()[0] for _ in range(3)]
-            expect("whether a fourth is asked", bool(select.select([backend], [], [], 0.3)[0]), False)
+            expect("whether a fourth is asked", comes_to(backend), False)
             for at in range(4):
                 with asked[at] as one:
                     one.sendall(reply("1"))
                 if at == 0:
                     asked.append(backend.accept()[0])
             wanted = reply('{"b0":1,"b1":1,"b2":1,"b3":1}')
+            expect("the answer", read_to(stream, len(wanted)), wanted)
+    room.ends("the program", run, DONE)
+
+
+def comes_to(backend):
+    """Whether the backend is asked within a while."""
+    return bool(select.select([backend], [], [], 0.3)[0])
+
+
+def case_places(room):
+    """connections' own threads ask for as many calls at the same time as there are workers, each call's branches at once"""
+    with listener() as backend, contextlib.ExitStack() as ends:
+        run, port = room.serve(plan([backend.getsockname()[1]] * 3, 3), workers=2, streams=3)
+        streams = [ends.enter_context(client(port)) for _ in range(3)]
+        for stream in streams:
+            call(stream)
+            time.sleep(0.05)
+        asked = [backend.accept()[0] for _ in range(6)]
+        expect("whether a third call's backends are asked", comes_to(backend), False)
+        for at in range(9):
+            with asked[at] as one:
+                one.sendall(reply("1"))
+            # a place that is free is a worker's, since jobs wait
+            if at in (2, 5, 6):
+                asked.append(backend.accept()[0])
+        wanted = reply('{"b0":1,"b1":1,"b2":1}')
+        for stream in streams:
             expect("the answer", read_to(stream, len(wanted)), wanted)
     room.ends("the program", run, DONE)
 
@@ -352,6 +379,279 @@ def case_branch_deadline(room):
     room.ends("the program", run, DONE)
 
 
+# a body that the thread of a connection leaves to a worker
+LONG_BODY = json.dumps("x" * 5_000)
+
+
+def hangs_up_among_64(room, port, backend, body):
+    """Lets one of 64 streams hang up while its call waits: a 65th is served. Returns the backend's stream."""
+    with contextlib.ExitStack() as opened:
+        for _ in range(63):
+            answers("one of 63", opened.enter_context(client(port)))
+        with client(port) as stream:
+            call(stream, body=body)
+            asked = backend.accept()[0]
+            read_message(asked)
+            with client(port) as one_more:
+                sees_end("a 65th beside them", one_more)
+        end = time.monotonic() + 5
+        while True:
+            with client(port) as one_more:
+                one_more.sendall(STRAY)
+                came = read_to(one_more, len(NOT_FOUND))
+            if came == NOT_FOUND:
+                return asked
+            expect("whether there is no room for long", time.monotonic() < end, True)
+            time.sleep(0.02)
+
+
+def case_hang_up(room):
+    """a client that hangs up while its thread waits for a silent backend makes room, and the backend is given up"""
+    with listener() as backend:
+        _run, port = room.serve(plan([backend.getsockname()[1]], 1), workers=2)
+        with hangs_up_among_64(room, port, backend, "{}") as asked:
+            sees_end("the silent backend", asked)
+
+
+def case_hang_up_beside_a_worker(room):
+    """a client that hangs up while a worker waits for its silent backend makes room, and the worker stays"""
+    with listener() as backend:
+        _run, port = room.serve(plan([backend.getsockname()[1]], 1), workers=2)
+        with hangs_up_among_64(room, port, backend, LONG_BODY) as asked:
+            expect("whether it still waits for the backend", is_quiet(asked), True)
+
+
+def case_named_backend(room):
+    """a backend whose address is a name is left to a worker, since the name must be looked up"""
+    with listener() as backend:
+        named = plan([backend.getsockname()[1]], 1).replace(b"127.0.0.1", b"localhost")
+        _run, port = room.serve(named, workers=2)
+        with hangs_up_among_64(room, port, backend, "{}") as asked:
+            expect("whether it still waits for the backend", is_quiet(asked), True)
+
+
+def case_request_meanwhile(room):
+    """a request that comes while a call of its stream waits is taken, and its backend asked; replies keep their order"""
+    with listener() as first, listener() as second:
+        other = json.loads(plan([second.getsockname()[1]], 1))[0]
+        plans = [*json.loads(plan([first.getsockname()[1]], 1)), {**other, "path": "/other"}]
+        run, port = room.serve(json.dumps(plans).encode(), workers=4, streams=1)
+        with client(port) as stream:
+            for body in ("{}", LONG_BODY):
+                call(stream, body=body)
+                with first.accept()[0] as asked:
+                    read_message(asked)
+                    time.sleep(0.1)
+                    call(stream, path="/other")
+                    with second.accept()[0] as meanwhile:
+                        meanwhile.sendall(reply("2"))
+                        expect("whether its reply waits", is_quiet(stream), True)
+                    asked.sendall(reply("1"))
+                expect("the first reply", read_reply(stream), ("200", b'{"b0":1}'))
+                expect("the second reply", read_reply(stream), ("200", b'{"b0":2}'))
+    room.ends("the program", run, DONE)
+
+
+def case_failed_branch(room):
+    """a branch that fails ends its call though one that is asked at once is silent, and that is given up"""
+    with listener() as silent, listener() as backend:
+        run, port = room.serve(plan([silent.getsockname()[1], backend.getsockname()[1]], 2), workers=4, streams=1)
+        with client(port) as stream:
+            call(stream)
+            with silent.accept()[0] as asked, backend.accept()[0] as failing:
+                read_message(asked)
+                read_message(failing)
+                time.sleep(0.1)
+                failing.sendall(b"HTTP/1.1 500 Internal Server Error\r\nContent-Length: 0\r\n\r\n")
+                wanted = ("500", b'{"code":"unknown","message":"b1: HTTP status 500"}')
+                expect("how it ended", read_reply(stream), wanted)
+                sees_end("the silent backend", asked)
+    room.ends("the program", run, DONE)
+
+
+def case_silent_to_its_deadline(room):
+    """a backend that is silent up to the deadline of a call is given up then, and the call answered so"""
+    took = []
+    with listener() as backend:
+        run, port = room.serve(plan([backend.getsockname()[1]], 1, timeout=200), workers=2, streams=1)
+        with client(port) as stream:
+            for _ in range(5):
+                began = time.monotonic()
+                call(stream)
+                with backend.accept()[0] as asked:
+                    read_message(asked)
+                    expect("the status", read_reply(stream)[0], "504")
+                    took.append(time.monotonic() - began)
+                    sees_end("the silent backend", asked)
+    expect(f"whether none came early, {min(took):.4f} seconds", min(took) > 0.198, True)
+    expect(f"whether one came within a second, {min(took):.4f} seconds", min(took) < 0.8, True)
+    room.ends("the program", run, DONE)
+
+
+def case_changing_pace(room):
+    """the answers of a backend are right while it is slow, and when it is quick again"""
+    with Backend("1", pause=0.06) as backend:
+        run, port = room.serve(plan([backend.port], 1), workers=2, streams=1)
+        with client(port) as stream:
+            for pause in (0.06, 0.001, 0.06, 0.001):
+                backend.pause = pause
+                for _ in range(15):
+                    call(stream)
+                    expect("a reply", read_reply(stream), ("200", b'{"b0":1}'))
+                # until it no longer counts as slow
+                time.sleep(1.1)
+    room.ends("the program", run, DONE)
+
+
+def case_reply_in_pieces(room):
+    """a long reply that comes in pieces, with pauses, is joined byte for byte"""
+    body = json.dumps("".join(f"{number:05}" for number in range(12_000)))
+    with Trickle(body, pause=0.012, piece=1_000) as backend:
+        run, port = room.serve(plan([backend.port] * 2, 2), workers=4, streams=1)
+        with client(port) as stream:
+            for _ in range(5):
+                call(stream)
+                expect("the reply", read_reply(stream), ("200", f'{{"b0":{body},"b1":{body}}}'.encode()))
+    room.ends("the program", run, DONE)
+
+
+def case_asked_at_once(room):
+    """no more threads ask at once than there are workers, each for at most two branches, and each of many answers is right"""
+    def ask(port, number):
+        with client(port) as stream:
+            for each in range(50):
+                body = json.dumps([number, each, "x" * (5_000 if each % 10 == number % 10 else 5)])
+                call(stream, body=body)
+                wanted = f'{{"b0":{body},"b1":{body},"b2":{body}}}'.encode()
+                expect("a reply", read_reply(stream), ("200", wanted))
+
+    with Echo(pause=0.002) as backend:
+        run, port = room.serve(plan([backend.port] * 3, 2), workers=4, streams=16)
+        at_once(16, lambda number: ask(port, number))
+        expect(f"whether so many were asked at once, {backend.most}", 1 < backend.most <= 2 * 4, True)
+    room.ends("the program", run, DONE)
+
+
+def case_trickle(room):
+    """a call ends at its deadline also where its backend goes on sending, a byte at a time"""
+    took = []
+    with Trickle("1" * 60_000, pause=0.003, piece=1) as backend:
+        run, port = room.serve(plan([backend.port], 1, timeout=200), workers=2, streams=1)
+        with client(port) as stream:
+            for _ in range(3):
+                began = time.monotonic()
+                call(stream)
+                expect("the status", read_reply(stream)[0], "504")
+                took.append(time.monotonic() - began)
+    expect(f"whether none came early, {min(took):.4f} seconds", min(took) > 0.198, True)
+    expect(f"whether one came within a second, {min(took):.4f} seconds", min(took) < 0.8, True)
+    room.ends("the program", run, DONE)
+
+
+def case_unread_replies(room):
+    """clients that do not read their replies take no worker's place from the calls of others"""
+    with Backend(json.dumps("x" * 60_000)) as large, listener() as backend, contextlib.ExitStack() as opened:
+        long = json.loads(plan([large.port] * 8, 8))[0]
+        plans = [*json.loads(plan([backend.getsockname()[1]] * 4, 4)), {**long, "path": "/long"}]
+        _run, port = room.serve(json.dumps(plans).encode(), workers=4)
+        for _ in range(2):
+            rude = opened.enter_context(client(port))
+            for _ in range(4):
+                # more than the system takes of their replies
+                rude.sendall(request("/long") * 8)
+                time.sleep(0.5)
+        stream = opened.enter_context(client(port))
+        call(stream)
+        asked = [opened.enter_context(backend.accept()[0]) for _ in range(4)]
+        for one in asked:
+            one.sendall(reply("1"))
+        expect("another's reply", read_reply(stream)[0], "200")
+
+
+def case_one_door(room):
+    """a hang-up is noticed where another waits at the connection's door, which is opened all the time for a busy client"""
+    def be_busy(port, stop):
+        while not stop.is_set():
+            with client(port) as stream:
+                for _ in range(50):
+                    call(stream, path="/other")
+                    expect("a busy client's reply", read_reply(stream), ("200", b'{"b0":1}'))
+
+    stop = threading.Event()
+    with listener() as silent, Backend("1") as backend, contextlib.ExitStack() as opened:
+        other = json.loads(plan([backend.port], 1))[0]
+        plans = [*json.loads(plan([silent.getsockname()[1]], 1)), {**other, "path": "/other"}]
+        _run, port = room.serve(json.dumps(plans).encode(), workers=4)
+        streams = []
+        for number in range(65):
+            with contextlib.ExitStack() as short:
+                # whose numbers differ by 64
+                stream = (opened if number % 64 == 0 else short).enter_context(client(port))
+                answers("a stream", stream)
+            streams.append(stream)
+        for stream in (streams[0], streams[64]):
+            call(stream, body=LONG_BODY)
+            opened.enter_context(silent.accept()[0])
+        busy = threading.Thread(target=be_busy, args=(port, stop))
+        busy.start()
+        time.sleep(0.2)
+        streams[0].shutdown(socket.SHUT_WR)
+        try:
+            expect("the hang-up", bool(select.select([streams[0]], [], [], 5)[0]), True)
+        finally:
+            stop.set()
+            busy.join()
+
+
+@contextlib.contextmanager
+def full_listener():
+    """A socket that listens, but at which no more connections are made: as many wait to be accepted as may."""
+    with contextlib.ExitStack() as opened:
+        made = opened.enter_context(socket.create_server(("127.0.0.1", 0), backlog=0))
+        while True:
+            stream = opened.enter_context(socket.socket())
+            stream.settimeout(0.5)
+            try:
+                stream.connect(made.getsockname())
+            except socket.timeout:
+                break
+        yield made
+
+
+def case_unreachable_to_its_deadline(room):
+    """a call whose backend takes no connection ends at its deadline"""
+    took = []
+    with full_listener() as full:
+        run, port = room.serve(plan([full.getsockname()[1]], 1, timeout=200), workers=4, streams=1)
+        with client(port) as stream:
+            for _ in range(10):
+                began = time.monotonic()
+                call(stream)
+                expect("the status", read_reply(stream)[0], "504")
+                took.append(time.monotonic() - began)
+    expect(f"whether none came early, {min(took):.4f} seconds", min(took) > 0.198, True)
+    expect(f"whether one came within a second, {min(took):.4f} seconds", min(took) < 0.8, True)
+    room.ends("the program", run, DONE)
+
+
+def case_unreachable(room):
+    """a backend that takes no connection holds up neither a branch that fails meanwhile nor a hang-up"""
+    with full_listener() as full, listener() as backend:
+        plans = plan([full.getsockname()[1], backend.getsockname()[1]], 2)
+        _run, port = room.serve(plans, workers=4)
+        with client(port) as stream:
+            call(stream)
+            with backend.accept()[0] as failing:
+                failing.sendall(b"HTTP/1.1 500 Internal Server Error\r\nContent-Length: 0\r\n\r\n")
+                expect("where another fails", read_reply(stream)[0], "500")
+            answers("a request behind it", stream)
+            call(stream)
+            with backend.accept()[0]:
+                stream.shutdown(socket.SHUT_WR)
+                expect("a hang-up", read_reply(stream)[0], "499")
+                sees_end("the stream", stream)
+
+
 def case_waited(room):
     """a worker waits for a job that waited for it no longer than up to the job's deadline"""
     with listener() as silent, Backend("1") as backend:
@@ -392,19 +692,20 @@ def case_whole_time(room):
     room.ends("the program", run, DONE)
 
 
-def case_no_second_thread(room):
-    """a stream whose second thread can't be started is closed at once"""
-    run, port = room.serve(b"[]", streams=3, limit=be_nobody)
-    with client(port) as stream:
-        answers("before", stream)
-    time.sleep(0.2)
-    limit_threads_now(run, threads_of_nobody() + 1)
-    with client(port) as stream:
-        stream.sendall(STRAY)
-        sees_end("a stream without its second thread", stream)
-    limit_threads_now(run, resource.getrlimit(resource.RLIMIT_NPROC)[0])
-    with client(port) as stream:
-        answers("afterwards", stream)
+def case_one_thread(room):
+    """a stream takes one thread: where just one more can be had, it is served whole, with a call to a backend"""
+    with Backend("1") as backend:
+        run, port = room.serve(plan([backend.port], 1), streams=2, limit=be_nobody)
+        with client(port) as stream:
+            answers("before", stream)
+            stream.shutdown(socket.SHUT_WR)
+            sees_end("the stream before", stream)
+        time.sleep(0.2)
+        limit_threads_now(run, threads_of_nobody() + 1)
+        with client(port) as stream:
+            answers("a request", stream)
+            call(stream)
+            expect("a call", read_reply(stream), ("200", b'{"b0":1}'))
     room.ends("the program", run, DONE)
 
 
@@ -710,7 +1011,7 @@ def case_log_of_standing(room):
         run, port = room.serve(plan([backend.getsockname()[1]] * 2, 2), streams=2, log=True)
         with client(port) as stream, client(port):
             answers("a request that is no call", stream)
-            call(stream)
+            call(stream, body=LONG_BODY)
             asked = backend.accept()[0]
             with open(run.stderr.fileno(), "rb", closefd=False) as lines:
                 lines.readline()

@@ -1,8 +1,10 @@
 """What the cases of tests/program.py share: the room that a case has, and what it does to a program, a client and a backend."""
+import concurrent.futures
 import contextlib
 import json
 import os
 import resource
+import select
 import signal
 import socket
 import subprocess
@@ -178,17 +180,21 @@ def plan(backends, limit, timeout=None):
     return json.dumps([{**made, "timeout_ms": timeout} if timeout else made]).encode()
 
 
-def call(stream, further="", path="/call"):
-    fields = "Host: g\r\nContent-Type: application/json\r\nContent-Length: 2\r\n" + further
-    stream.sendall(f"POST {path} HTTP/1.1\r\n{fields}\r\n{{}}".encode())
+def request(path="/call", further="", body="{}"):
+    fields = f"Host: g\r\nContent-Type: application/json\r\nContent-Length: {len(body)}\r\n{further}"
+    return f"POST {path} HTTP/1.1\r\n{fields}\r\n{body}".encode()
+
+
+def call(stream, further="", path="/call", body="{}"):
+    stream.sendall(request(path, further, body))
 
 
 def reply(body):
     return f"HTTP/1.1 200 OK\r\nContent-Type: application/json\r\nContent-Length: {len(body)}\r\n\r\n{body}".encode()
 
 
-def read_reply(stream):
-    """The status and the body of the next reply on a stream."""
+def read_message(stream):
+    """The head and the body of the next request or reply on a stream."""
     head = b""
     while not head.endswith(b"\r\n\r\n"):
         piece = read_to(stream, 1)
@@ -196,7 +202,25 @@ def read_reply(stream):
             raise Wrong(f"the stream ended behind {head!r}")
         head += piece
     length = next(int(line[16:]) for line in head.split(b"\r\n") if line.startswith(b"Content-Length: "))
-    return head[9:12].decode(), read_to(stream, length)
+    return head, read_to(stream, length)
+
+
+def read_reply(stream):
+    """The status and the body of the next reply on a stream."""
+    head, body = read_message(stream)
+    return head[9:12].decode(), body
+
+
+def is_quiet(stream):
+    """Whether nothing comes on a stream, or to a listener, for a while."""
+    return not select.select([stream], [], [], 0.3)[0]
+
+
+def at_once(count, act):
+    """Lets so many threads act at once, each with its number, and raises what one of them raised."""
+    with concurrent.futures.ThreadPoolExecutor(count) as pool:
+        for acting in [pool.submit(act, number) for number in range(count)]:
+            acting.result()
 
 
 class Backend:
@@ -231,6 +255,43 @@ class Backend:
         with contextlib.suppress(OSError):
             self.socket.shutdown(socket.SHUT_RDWR)
         self.socket.close()
+
+
+class Echo(Backend):
+    """A backend that answers each request by its body, after a while, and counts how many it is asked at once."""
+
+    def __init__(self, pause):
+        self.counting, self.asked, self.most = threading.Lock(), 0, 0
+        super().__init__("", pause)
+
+    def count(self, change):
+        with self.counting:
+            self.asked += change
+            self.most = max(self.most, self.asked)
+
+    def answer_on(self, stream):
+        with contextlib.suppress(OSError), stream:
+            self.count(1)
+            body = read_message(stream)[1]
+            time.sleep(self.pause)
+            # who reads the answer may ask anew at once
+            self.count(-1)
+            stream.sendall(reply(body.decode()))
+
+
+class Trickle(Backend):
+    """A backend that sends its answer in pieces of so many bytes, with a pause before each."""
+
+    def __init__(self, body, pause, piece):
+        self.piece = piece
+        super().__init__(body, pause)
+
+    def answer_on(self, stream):
+        with contextlib.suppress(OSError), stream:
+            stream.recv(65536)
+            for at in range(0, len(self.answer), self.piece):
+                time.sleep(self.pause)
+                stream.sendall(self.answer[at:at + self.piece])
 
 
 def stop_now(run):

@@ -5,7 +5,6 @@ use Rattle.http_pieces.specs.Cut.{Complete, IsCut}
 use Rattle.http_pieces.specs.ReplyHead.{reply_kind}
 use Rattle.http_pieces.specs.ReplyReader.{HasReadReply, HasReadReplyTo, ReplyReading, ReplyReaderValue, Partial, Waiting, Stopped, Done}
 use Rattle.http_pieces.specs.declared.reply.HttpReply.{HttpReply}
-use Rattle.backend_pool.specs.declared.asked.Asked.TheVariants.{Reply}
 use Rattle.backend_pool.specs.Exchange.{BeginsWithReply, ReadsReply, TakesIn}
 use Rattle.std.proofs.Math.Seq.{take-add}
 use Rattle.std.proofs.lemmas.List.{take_all, length-take, length-drop, take-append-drop, take-append-le, drop-drop, drop_all}
@@ -57,8 +56,6 @@ takes_in stay bytes piece n pushed reader (Some q) all waits h = begins_longer s
 -- ---- one reply
 
 -- what was read up to a reply
-pub reads_reply : (old mid new : Option (List ℕ)) (bytes piece : List ℕ) (given reply : HttpReply)
-    → Consumes old mid bytes → Consumes mid new piece → BeginsWithReply (bytes ++ piece) given → Reply given ≡ Reply reply → ReadsReply old new reply
-reads_reply old mid new bytes piece given reply first second begins is =
-    let same : given ≡ reply = cc in
-    (bytes ++ piece, Consumes-trans old mid new bytes piece first second, subst (λ q. BeginsWithReply (bytes ++ piece) q) same begins)
+pub reads_reply : (old mid new : Option (List ℕ)) (bytes piece : List ℕ) (reply : HttpReply)
+    → Consumes old mid bytes → Consumes mid new piece → BeginsWithReply (bytes ++ piece) reply → ReadsReply old new reply
+reads_reply old mid new bytes piece reply first second begins = (bytes ++ piece, Consumes-trans old mid new bytes piece first second, begins)

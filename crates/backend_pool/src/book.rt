@@ -1,8 +1,9 @@
+ghost use Rattle.std.specs.Option.{option_map_or};
 ghost use Rattle.gateway_model.specs.Known.{IsKnown};
 ghost use Rattle.gateway_theory.specs.Told.{TellsTook};
 ghost use Rattle.gateway_theory.specs.Serving.{CountsCalls, Keeps, KeepsBut};
-ghost use Rattle.gateway_theory.specs.Gateway.{shown};
-ghost use Rattle.std.specs.Prelude.{◌≡◌, ◌==◌, ◌+◌, ◌<◌, ◌≤◌, ◌^◌, ◌∷◌, ◌++◌, [], Err, IfErr, IfOk, IfSome, IsTrue, List, MatchResult, None, OnErr, OnOk, Some, false, true, is_some, length, option_map, option_to_list, ℕ, ◌↔◌, ◌⊎◌};
+ghost use Rattle.gateway_theory.specs.Gateway.{shown, are_all_there};
+ghost use Rattle.std.specs.Prelude.{◌≡◌, ◌==◌, ◌+◌, ◌<◌, ◌≤◌, ◌^◌, ◌∷◌, ◌++◌, [], Err, IfErr, IfOk, IfSome, IsTrue, List, MatchResult, None, OnErr, OnOk, Some, false, true, is_some, length, option_map, option_to_list, ℕ, ◌↔◌, ◌⊎◌, slice_get};
 ghost use Rattle.gateway_model.specs.declared.id.CallId.{CallId};
 ghost use Rattle.connect_codec.specs.declared.answer.Outcome.{Outcome as Outcomes};
 ghost use Rattle.gateway_model.specs.declared.entry.ReplyEntry.{ReplyEntry};
@@ -332,6 +333,13 @@ impl<H: ReplyHook + Drop, L: Ledger, J: Ledger, K: Ledger> Book<H, L, J, K> {
         self.core.waiting_jobs()
     }
 
+    /// The job that is to be taken next, if one waits.
+    pub fn next_job(&self) -> Option<&Job>
+        ensures { option_map (λ job. job.now.job) result ≡ slice_get self.now.core.machine.jobs 0 }
+    {
+        self.core.next_job()
+    }
+
     /// The least deadline of the undecided calls, and of their branches that are out: no moment before it ends a call.
     pub fn next_deadline(&self) -> Option<u64>
         ensures least { result ≡ least_deadline self.now.core.machine.calls }
@@ -346,6 +354,14 @@ impl<H: ReplyHook + Drop, L: Ledger, J: Ledger, K: Ledger> Book<H, L, J, K> {
         ensures { IsTrue result ↔ ((0 < length (untaken_of conn self.now.core)) ⊎ IsTrue (is_ended conn self.now.core)) }
     {
         0 < self.core.untaken(conn) || self.core.ended(conn)
+    }
+
+    /// Whether each request of the connection has its reply, so that none of its calls is undecided. True where there
+    /// is no such connection.
+    pub fn is_idle(&self, conn: ConnId) -> bool
+        ensures { result ≡ option_map_or (λ k. are_all_there k.slots) (conn_of conn self.now.core.machine.conns) true }
+    {
+        self.core.is_idle(conn)
     }
 
     /// Whether some branch may be asked or is: a job waits to be taken, or one that was taken has no result yet.

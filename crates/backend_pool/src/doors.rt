@@ -4,7 +4,7 @@ use crate::book::Book;
 use gateway_core::{ConnId, ReplyHook};
 use std::sync::ledger::Ledger;
 
-/// So many doors there are for write sides to wait at.
+/// So many doors there are to wait at for replies.
 pub(crate) const DOORS: usize = 64;
 
 /// The door of a connection. Two connections share one where their numbers differ by a multiple of 64.
@@ -14,7 +14,7 @@ pub(crate) fn door_of(conn: ConnId) -> usize
     (conn.number() % 64) as usize
 }
 
-/// Whose write side waits at a door, by its connection's number, as far as it is noted.
+/// For whose replies somebody waits at a door, by the connection's number, as far as it is noted.
 #[derive(Clone, Copy, Debug)]
 enum Waits {
     Nobody,
@@ -22,8 +22,9 @@ enum Waits {
     Several,
 }
 
-/// Whose write sides wait for something new, door by door. Whoever waits notes it before each wait; a note is taken away
-/// as its door is opened, so a door where somebody sleeps has a note or is just being opened.
+/// For whose replies somebody waits, door by door. Whoever waits notes it before each wait. A note is taken away as
+/// its door is opened, or by who waited for too long, so a door where somebody sleeps has a note or is just being
+/// opened.
 #[derive(Drop)]
 pub struct Waiting {
     at: [Waits; DOORS],
@@ -37,7 +38,7 @@ impl Waiting {
         }
     }
 
-    /// Notes that the write side of the connection waits.
+    /// Notes that somebody waits for the connection's replies.
     pub(crate) fn note(&mut self, conn: ConnId) {
         let door = door_of(conn);
         let waits = self.at[door];
@@ -55,6 +56,14 @@ impl Waiting {
         let is_noted = !matches!(self.at[door], Waits::Nobody);
         self.at[door] = Waits::Nobody;
         is_noted
+    }
+
+    /// Takes back the note of who waited for so long that it looks at something else, if no other waits at its door.
+    pub(crate) fn take_back(&mut self, conn: ConnId) {
+        let door = door_of(conn);
+        if matches!(self.at[door], Waits::One(noted) if noted == conn.number()) {
+            self.at[door] = Waits::Nobody;
+        }
     }
 
     /// Takes the notes of those doors away that are to be opened, and tells which they are: where the one who waits has

@@ -1,12 +1,12 @@
 use gateway_core::Job;
 use std::time::Clock;
 
-/// What is called around the asking of each job, by the worker that has it.
+/// What is called around the asking of each job, by the thread that has it.
 pub trait Gate {
     /// The job was taken and was not asked yet.
     fn before<R: Clock>(&self, rt: &R, job: &Job);
 
-    /// The job was asked, or is not wanted, and was not recorded yet.
+    /// The job was asked, or is not wanted or was given up, and was not recorded yet.
     fn after<R: Clock>(&self, rt: &R, job: &Job);
 }
 

@@ -1,7 +1,9 @@
-//! The gateway under a lock: workers that ask backends for the core's jobs, and the sums of what was done.
+//! The gateway under a lock: workers that ask backends for the core's jobs, what connections' own threads need to ask
+//! in their place, and the sums of what was done.
 #![tactic(auto)]
 
 mod asked;
+mod asking;
 mod backend;
 mod book;
 mod clock_waits;
@@ -14,14 +16,17 @@ mod ledger_full;
 mod lock_desk;
 mod moments;
 mod next_reply;
+mod paces;
 mod remote;
 mod shared;
 mod shares;
+mod standing_in;
 mod timed_stream;
 mod wire;
 mod working;
 
 pub use asked::Asked;
+pub use asking::Asking;
 pub use backend::Backend;
 pub use book::Book;
 pub use desk::Desk;
@@ -35,4 +40,4 @@ pub use remote::RemoteBackend;
 pub use shared::{Shared, State};
 pub use shares::{Blanks, Shares, Totals, WorkerShares};
 pub use wire::exchange;
-pub use working::work;
+pub use working::{outcome_of, work};

@@ -33,13 +33,15 @@ impl<H: ReplyHook + Drop, L: Ledger, J: Ledger, K: Ledger> Desk for LockDesk<'_,
     fn next<R: Clock + Wait>(&mut self, rt: &R) -> Option<Job> {
         let mut state = self.shared.state.lock(rt);
         for _ in rt.forever() {
-            let Ok(job) = state.book.take_job(&mut self.jobs) else {
-                self.shared.pass_on(state);
-                return None;
-            };
-            if job.is_some() || state.shut {
-                self.shared.pass_on(state);
-                return job;
+            if state.may_ask() {
+                let Ok(job) = state.book.take_job(&mut self.jobs) else {
+                    self.shared.pass_on(state);
+                    return None;
+                };
+                if job.is_some() || state.shut {
+                    self.shared.pass_on(state);
+                    return job;
+                }
             }
             state = self.shared.wait_for_job(rt, state);
         }
@@ -47,17 +49,11 @@ impl<H: ReplyHook + Drop, L: Ledger, J: Ledger, K: Ledger> Desk for LockDesk<'_,
     }
 
     fn record<R: Clock + Wait>(&mut self, rt: &R, job: &Job, outcome: Option<Outcome>) -> bool {
-        let call = job.call();
         self.shared.tick(rt);
         let mut state = self.shared.state.lock(rt);
-        let took = match outcome {
-            Some(outcome) => state
-                .book
-                .result(&call, job.branch(), outcome, &mut self.results),
-            None => state.book.starved(&call, job.branch(), &mut self.results),
-        };
-        self.shared.let_go(state, call.conn);
-        took.is_ok()
+        let recorded = state.record(job, outcome, &mut self.results);
+        self.shared.let_go(state, job.call().conn);
+        recorded.is_ok()
     }
 }
 

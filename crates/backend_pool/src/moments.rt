@@ -36,7 +36,7 @@ impl<H: ReplyHook + Drop, L: Ledger, J: Ledger, K: Ledger> Shared<H, L, J, K> {
         self.moment.load(Ordering::SeqCst) < moment
     }
 
-    /// Hands the moment in and lets the lock go. Then wakes those write sides that have something to do.
+    /// Hands the moment in and lets the lock go. Then wakes those at the doors who have something to do.
     fn advance(&self, state: MutexGuard<'_, State<H, L, J, K>>, moment: u64) {
         let mut state = state;
         // another thread may have handed it in just before
@@ -45,6 +45,7 @@ impl<H: ReplyHook + Drop, L: Ledger, J: Ledger, K: Ledger> Shared<H, L, J, K> {
         }
         self.moment.store(moment, Ordering::SeqCst);
         let state_now = &mut *state;
+        state_now.moment = moment;
         state_now.book.moment(moment);
         let due: [bool; DOORS] = state_now.waiting.take_due(&state_now.book);
         drop(state);

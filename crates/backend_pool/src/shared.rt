@@ -1,12 +1,13 @@
 use crate::book::Book;
 use crate::clock_waits::ClockWaits;
 use crate::doors::{DOORS, Waiting, door_of};
+use crate::paces::Paces;
 use gateway_core::{ConnId, ReplyHook};
 use std::array;
 use std::sync::atomic::AtomicU64;
 use std::sync::ledger::Ledger;
-use std::sync::{Condvar, Mutex, MutexGuard, Wait};
-use std::time::Instant;
+use std::sync::{Condvar, CondvarTimeouts, Mutex, MutexGuard, Wait};
+use std::time::{Clock, Duration, Instant};
 
 /// What stands under the lock.
 #[derive(Drop)]
@@ -14,10 +15,16 @@ pub struct State<H, L: Ledger, J: Ledger, K: Ledger> {
     pub book: Book<H, L, J, K>,
     /// Whether workers end once no job waits, and the clock's side at once.
     pub shut: bool,
-    /// Whose write sides wait.
+    /// Who waits for replies.
     pub(crate) waiting: Waiting,
     /// So many workers wait for a job, or have been woken and do not have the lock yet.
     pub(crate) idle_workers: u64,
+    /// So many connections' own threads ask backends, each in the place of a worker that waits.
+    pub(crate) standing_in: u64,
+    /// How quick backends were of late.
+    pub(crate) paces: Paces,
+    /// The latest moment that was handed in, in milliseconds.
+    pub(crate) moment: u64,
     /// Until when the clock's side waits.
     pub(crate) clock: ClockWaits,
 }
@@ -29,7 +36,8 @@ pub struct Shared<H, L: Ledger, J: Ledger, K: Ledger> {
     pub state: Mutex<State<H, L, J, K>>,
     /// Workers wait here for a job, or for the shutting.
     pub(crate) jobs: Condvar,
-    /// Write sides wait here for their next reply, or for their connection's end, each at its connection's door.
+    /// Who writes a connection's replies waits here for the next one, or for the connection's end, each at its
+    /// connection's door.
     pub(crate) replies: [Condvar; DOORS],
     /// The clock's side waits here for the least deadline, or for a sooner one.
     pub(crate) deadlines: Condvar,
@@ -37,6 +45,36 @@ pub struct Shared<H, L: Ledger, J: Ledger, K: Ledger> {
     pub(crate) moment: AtomicU64,
     /// From when on the moments count that `tick` hands in.
     pub(crate) start: Option<Instant>,
+}
+
+/// Who has something to do by an event of a connection.
+#[derive(Clone, Copy, Debug)]
+struct Due {
+    /// Who waits at the connection's door.
+    door: bool,
+    /// The clock's side.
+    clock: bool,
+    /// A worker.
+    worker: bool,
+}
+
+impl<H: ReplyHook + Drop, L: Ledger, J: Ledger, K: Ledger> State<H, L, J, K> {
+    /// Who is to be woken behind an event of this connection. Their notes are taken away.
+    fn due_after(&mut self, conn: ConnId) -> Due {
+        let door = self.book.has_news(conn) && self.waiting.take_note(conn);
+        let clock = self.clock.wake_for(self.book.next_deadline());
+        let worker = self.is_worker_due();
+        Due {
+            door,
+            clock,
+            worker,
+        }
+    }
+
+    /// Whether a job waits, and a worker sleeps in whose place nobody asks.
+    fn is_worker_due(&self) -> bool {
+        0 < self.book.waiting_jobs() && self.standing_in < self.idle_workers
+    }
 }
 
 impl<H: ReplyHook + Drop, L: Ledger, J: Ledger, K: Ledger> Shared<H, L, J, K> {
@@ -58,6 +96,9 @@ impl<H: ReplyHook + Drop, L: Ledger, J: Ledger, K: Ledger> Shared<H, L, J, K> {
                 shut: false,
                 waiting: Waiting::nobody(),
                 idle_workers: 0,
+                standing_in: 0,
+                paces: Paces::new(),
+                moment: 0,
                 clock: ClockWaits::Not,
             }),
             jobs: Condvar::new(),
@@ -84,27 +125,32 @@ impl<H: ReplyHook + Drop, L: Ledger, J: Ledger, K: Ledger> Shared<H, L, J, K> {
     }
 
     /// Lets the lock go behind an event of this connection, and wakes those who have something to do by it: one worker where
-    /// a job waits, the connection's write side where it has a reply to take or nothing more to wait for, and the clock's
-    /// side where a deadline is sooner than the one that it waits for.
+    /// a job waits, who writes the connection's replies where there is one to take or nothing more to wait for, and the
+    /// clock's side where a deadline is sooner than the one that it waits for.
     pub fn let_go(&self, state: MutexGuard<'_, State<H, L, J, K>>, conn: ConnId) {
         let mut state = state;
-        let is_due = state.book.has_news(conn) && state.waiting.take_note(conn);
-        let deadline = state.book.next_deadline();
-        let wakes_clock = state.clock.wake_for(deadline);
-        self.pass_on(state);
-        if wakes_clock {
+        let due = state.due_after(conn);
+        drop(state);
+        self.wake_due(due, conn);
+    }
+
+    fn wake_due(&self, due: Due, conn: ConnId) {
+        if due.worker {
+            self.jobs.notify_one();
+        }
+        if due.clock {
             self.deadlines.notify_all();
         }
-        if is_due {
+        if due.door {
             self.replies[door_of(conn)].notify_all();
         }
     }
 
-    /// Lets the lock go, and where a job waits wakes one worker, if one sleeps.
+    /// Lets the lock go, and where a job waits wakes one worker that may take it.
     pub(crate) fn pass_on(&self, state: MutexGuard<'_, State<H, L, J, K>>) {
-        let wakes_worker = 0 < state.book.waiting_jobs() && 0 < state.idle_workers;
+        let is_worker_due = state.is_worker_due();
         drop(state);
-        if wakes_worker {
+        if is_worker_due {
             self.jobs.notify_one();
         }
     }
@@ -132,6 +178,29 @@ impl<H: ReplyHook + Drop, L: Ledger, J: Ledger, K: Ledger> Shared<H, L, J, K> {
         let mut state = state;
         state.waiting.note(conn);
         self.replies[door_of(conn)].wait(rt, state)
+    }
+
+    /// Wakes those who have something to do by an event of the connection, and lets the lock go until the connection's
+    /// door is opened, for so many milliseconds at most. Then takes the lock again, and answers whether the time was
+    /// up.
+    pub fn wait_a_while<'a, R: Clock + Wait>(
+        &'a self,
+        rt: &R,
+        state: MutexGuard<'a, State<H, L, J, K>>,
+        conn: ConnId,
+        milliseconds: u64,
+    ) -> (MutexGuard<'a, State<H, L, J, K>>, bool) {
+        let mut state = state;
+        let due = state.due_after(conn);
+        self.wake_due(due, conn);
+        state.waiting.note(conn);
+        let time = Duration::from_millis(milliseconds);
+        let (mut state, waited) = self.replies[door_of(conn)].wait_timeout(rt, state, time);
+        let is_late = waited.timed_out();
+        if is_late {
+            state.waiting.take_back(conn);
+        }
+        (state, is_late)
     }
 
     /// Wakes those who wait at these doors.

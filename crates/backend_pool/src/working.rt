@@ -67,7 +67,7 @@ fn ask<R: Net + Clock, B: Backend>(rt: &R, job: &Job, backend: &B) -> Asked
 }
 
 /// The outcome that an answer comes to, where memory is found for it.
-fn outcome_of(alloc: Global, asked: Asked) -> Option<Outcome>
+pub fn outcome_of(alloc: Global, asked: Asked) -> Option<Outcome>
     ensures { IfSome result (λ outcome. outcome_of_asked asked ≡ Some outcome) }
 {
     match asked {

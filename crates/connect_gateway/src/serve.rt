@@ -1,4 +1,4 @@
-ghost use Rattle.std.specs.Prelude.{◌≡◌, ◌<◌};
+ghost use Rattle.std.specs.Prelude.{◌≡◌, ◌+◌, ◌<◌};
 
 use crate::connection::Connection;
 use crate::crew::{join_all, start_crew};
@@ -18,8 +18,9 @@ use std::sync::{Arc, Wait};
 use std::thread::{self, Threads};
 use std::time::{Clock, Duration, Instant};
 
-/// How many streams are accepted where the words name no number: more than a program lives to see.
-const MOST_STREAMS: u64 = u64::MAX - 1;
+/// How many streams are accepted where the words name no number: more than a program lives to see. With the workers
+/// they are fewer than the parts of a ledger.
+const MOST_STREAMS: u64 = u64::MAX - (1 << 33);
 
 /// Serves the plans of a file to whoever connects, until so many streams were accepted, if that was asked for, and all of
 /// them have ended. `Plans` for a plan file that is refused; `Io` where it can't be read, at an address that can't be
@@ -71,15 +72,25 @@ pub(crate) fn serve_with<
     requires names { (blanks.bytes.name ≡ L.name) × (blanks.jobs.name ≡ J.name) × (blanks.results.name ≡ K.name) }
     requires parts { (blanks.bytes.parts ≡ L.parts) × (blanks.jobs.parts ≡ J.parts)
         × (blanks.results.parts ≡ K.parts) }
-    requires enough { (most < blanks.bytes.parts) × (workers < blanks.jobs.parts) × (workers < blanks.results.parts) }
+    requires enough { (most < blanks.bytes.parts) × (workers + most + 1 < blanks.jobs.parts)
+        × (workers + most + 1 < blanks.results.parts) }
 {
     let start = Instant::now(&machine)?;
     let (book, shares) = Book::<PlainHook, L, J, K>::new(alloc, plans, blanks)?;
     let Shares {
         bytes,
+        mut jobs,
+        mut results,
+    } = shares;
+    let crew_shares = WorkerShares {
+        jobs: jobs.split_off(u64::from(workers) + 1, 0),
+        results: results.split_off(u64::from(workers) + 1, 0),
+    };
+    let shares = Shares {
+        bytes,
         jobs,
         results,
-    } = shares;
+    };
     let server = Arc::new(
         alloc,
         Server {
@@ -90,8 +101,8 @@ pub(crate) fn serve_with<
         },
     )?;
     let mut crew = Vec::new(alloc);
-    let served = match start_crew(&server, workers, WorkerShares { jobs, results }, &mut crew) {
-        Ok(()) => accept_streams(&server, bytes, listener, most),
+    let served = match start_crew(&server, workers, crew_shares, &mut crew) {
+        Ok(()) => accept_streams(&server, shares, listener, most),
         Err(_) => Err(Fault::Memory),
     };
     server.shared.shut(&machine);
@@ -103,19 +114,23 @@ pub(crate) fn serve_with<
 /// Accepts so many streams, or up to an accept that fails; then nobody listens any more, and it waits until all streams have
 /// ended.
 fn accept_streams<
-    M: Machine,
+    M: Machine + Net<Listener = TcpListener, Stream = TcpStream>,
     L: Ledger + Send + Sync + 'static,
     J: Ledger + Send + Sync + 'static,
     K: Ledger + Send + Sync + 'static,
 >(
     server: &Arc<Server<M, L, J, K>>,
-    bytes: Share<L>,
+    shares: Shares<L, J, K>,
     listener: TcpListener,
     most: u64,
 ) -> Result<(), Fault>
-    requires { most < bytes.parts }
+    requires { (most < shares.bytes.parts) × (most < shares.jobs.parts) × (most < shares.results.parts) }
 {
-    let mut bytes = bytes;
+    let Shares {
+        mut bytes,
+        mut jobs,
+        mut results,
+    } = shares;
     let mut accepted = Ok(());
     let mut connections = Vec::new(server.alloc);
     for _stream in 0..most {
@@ -124,7 +139,11 @@ fn accept_streams<
             break;
         };
         clear(&server.machine, &mut connections);
-        let mine = bytes.split_off(1, 0);
+        let mine = Shares {
+            bytes: bytes.split_off(1, 0),
+            jobs: jobs.split_off(1, 0),
+            results: results.split_off(1, 0),
+        };
         if connections.reserve(1).is_err() {
             continue;
         }

@@ -24,7 +24,7 @@ pub(crate) struct Watch {
     connections: AtomicU64,
     // how many streams linger
     lingering: AtomicU64,
-    // how many workers ask
+    // how many backends are asked
     asking: AtomicU64,
     // held while a line is written
     line: Mutex<()>,

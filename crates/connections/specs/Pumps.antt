@@ -1,10 +1,12 @@
 -- What reading a stream into an inlet makes of both.
-use Rattle.std.specs.Prelude.{◌≡◌, ◌≢◌, ℕ, ◌+◌, ◌<◌, ◌≤◌, All, List, [], ◌++◌, length, map, flat_map, Option}
+use Rattle.std.specs.Prelude.{◌≡◌, ◌≢◌, ℕ, ◌+◌, ◌<◌, ◌≤◌, All, List, [], ◌++◌, ◌∷◌, length, map, flat_map, Option}
 use Rattle.std.specs.Io.KnownBytes.{Consumes}
 use Rattle.connections.specs.declared.inlet.Fed.{Fed}
 use Rattle.connections.specs.declared.inlet.Fed.TheVariants.{Go, Stop, Full}
 use Rattle.connections.specs.declared.inlet.Heard.{Heard}
 use Rattle.connections.specs.declared.inlet.Heard.TheVariants.{Piece, HangUp}
+use Rattle.connections.specs.declared.pumping.Came.{Came}
+use Rattle.connections.specs.declared.pumping.Came.TheVariants.{Piece as Came-piece, Nothing, End}
 use Rattle.connections.specs.Told.{Tells}
 
 -- the bytes of a piece that are taken
@@ -36,6 +38,13 @@ most_read = 4096
 
 abbrev pub IsRead : List ℕ → Type 0
 IsRead piece = (0 < length piece) × (length piece ≤ most_read)
+
+-- What one read brought: one piece, which the inlet was given, or nothing.
+abbrev pub Brings : Option (List ℕ) → Option (List ℕ) → Option (List Heard) → Option (List Heard) → ℕ → ℕ → Came → Type 0
+Brings before after old new took takes (Came-piece fed) =
+    (piece : List ℕ) × IsRead piece × Consumes before after piece × Tells old new (Piece piece fed ∷ []) × (takes ≡ took + length (taken_of piece fed))
+Brings before after old new took takes Nothing = Consumes before after [] × (new ≡ old) × (takes ≡ took)
+Brings before after old new took takes End = Consumes before after [] × (new ≡ old) × (takes ≡ took)
 
 -- how many pieces have this answer as the last: the reading goes on at `Go`
 abbrev pub ends_by : Fed → ℕ

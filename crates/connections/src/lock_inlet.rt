@@ -1,14 +1,17 @@
-ghost use Rattle.std.specs.Prelude.{◌≡◌};
+ghost use Rattle.std.specs.Prelude.{◌≡◌, ◌+◌, length};
+ghost use Rattle.connections.specs.Pumps.{taken_of};
 
 use crate::inlet::{Fed, Inlet};
-use backend_pool::{LedgerFull, Shared};
+use backend_pool::{LedgerFull, Shared, State};
 use gateway_core::{ConnId, ReplyHook};
-use std::sync::Wait;
+use std::mem;
 use std::sync::ledger::{Ledger, Share};
+use std::sync::{MutexGuard, Wait};
 use std::time::Clock;
 
 /// Where the stream of a connection under the lock goes: each call is one hold, and one event,
 /// behind the moment that it is, which is a hold of its own.
+#[derive(Drop)]
 pub(crate) struct LockInlet<'a, H, L: Ledger, J: Ledger, K: Ledger> {
     pub(crate) shared: &'a Shared<H, L, J, K>,
     pub(crate) conn: ConnId,
@@ -20,6 +23,22 @@ impl<H: ReplyHook + Drop, L: Ledger, J: Ledger, K: Ledger> Inlet for LockInlet<'
     ghost took = { λ inlet. inlet.bytes.amount };
 
     fn piece<R: Clock + Wait>(&mut self, rt: &R, bytes: &[u8]) -> Fed {
+        let (state, fed) = self.feed(rt, bytes);
+        self.shared.let_go(state, self.conn);
+        fed
+    }
+
+    fn hang_up<R: Clock + Wait>(&mut self, rt: &R) {
+        let state = self.end(rt);
+        self.shared.let_go(state, self.conn);
+    }
+}
+
+impl<'a, H: ReplyHook + Drop, L: Ledger, J: Ledger, K: Ledger> LockInlet<'a, H, L, J, K> {
+    /// Feeds a piece, and keeps the lock.
+    fn feed<R: Clock + Wait>(&mut self, rt: &R, bytes: &[u8]) -> (Hold<'a, H, L, J, K>, Fed)
+        ensures { self.new.bytes.amount ≡ self.old.bytes.amount + length (taken_of bytes.now result.1) }
+    {
         self.shared.tick(rt);
         let mut state = self.shared.state.lock(rt);
         let fed = match state.book.piece(self.conn, bytes, &mut self.bytes) {
@@ -27,15 +46,67 @@ impl<H: ReplyHook + Drop, L: Ledger, J: Ledger, K: Ledger> Inlet for LockInlet<'
             Ok(Err(_)) => Fed::Stop,
             Err(LedgerFull) => Fed::Full,
         };
-        self.shared.let_go(state, self.conn);
-        fed
+        (state, fed)
     }
 
-    fn hang_up<R: Clock + Wait>(&mut self, rt: &R) {
+    /// Takes that the peer hung up, and keeps the lock.
+    fn end<R: Clock + Wait>(&mut self, rt: &R) -> Hold<'a, H, L, J, K>
+        ensures { self.new.bytes.amount ≡ self.old.bytes.amount }
+    {
         self.shared.tick(rt);
         let mut state = self.shared.state.lock(rt);
         // the connection may be closed or hung up: then nothing changes
         let _ = state.book.hang_up(self.conn);
-        self.shared.let_go(state, self.conn);
+        state
+    }
+}
+
+/// The lock, held.
+pub(crate) type Hold<'a, H, L, J, K> = MutexGuard<'a, State<H, L, J, K>>;
+
+/// The same for who goes on in the hold of a piece or of the hang-up.
+#[derive(Drop)]
+pub(crate) struct HeldInlet<'a, H, L: Ledger, J: Ledger, K: Ledger> {
+    pub(crate) inlet: LockInlet<'a, H, L, J, K>,
+    // the hold of what came last
+    held: Option<Hold<'a, H, L, J, K>>,
+}
+
+impl<'a, H: ReplyHook + Drop, L: Ledger, J: Ledger, K: Ledger> HeldInlet<'a, H, L, J, K> {
+    pub(crate) fn new(inlet: LockInlet<'a, H, L, J, K>) -> HeldInlet<'a, H, L, J, K> {
+        HeldInlet { inlet, held: None }
+    }
+
+    /// Lets the lock go, if it is held behind what came last.
+    pub(crate) fn let_go(&mut self)
+        ensures { self.new.inlet.bytes.amount ≡ self.old.inlet.bytes.amount }
+    {
+        if let Some(state) = mem::replace(&mut self.held, None) {
+            self.inlet.shared.let_go(state, self.inlet.conn);
+        }
+    }
+
+    /// The hold of what came last, or a new one.
+    pub(crate) fn hold<R: Wait>(&mut self, rt: &R) -> Hold<'a, H, L, J, K> {
+        match mem::replace(&mut self.held, None) {
+            Some(state) => state,
+            None => self.inlet.shared.state.lock(rt),
+        }
+    }
+}
+
+impl<H: ReplyHook + Drop, L: Ledger, J: Ledger, K: Ledger> Inlet for HeldInlet<'_, H, L, J, K> {
+    ghost took = { λ held. held.inlet.bytes.amount };
+
+    fn piece<R: Clock + Wait>(&mut self, rt: &R, bytes: &[u8]) -> Fed {
+        self.let_go();
+        let (state, fed) = self.inlet.feed(rt, bytes);
+        self.held = Some(state);
+        fed
+    }
+
+    fn hang_up<R: Clock + Wait>(&mut self, rt: &R) {
+        self.let_go();
+        self.held = Some(self.inlet.end(rt));
     }
 }

@@ -1,9 +1,9 @@
 ghost use Rattle.std.specs.Prelude.{◌^◌, [], ◌∷◌};
-ghost use Rattle.connections.specs.Pumps.{Pumps};
+ghost use Rattle.connections.specs.Pumps.{Brings, Pumps};
 ghost use Rattle.connections.specs.declared.inlet.Heard.{Heard};
 
 use crate::inlet::{Fed, Inlet};
-use std::io::Read;
+use std::io::{ErrorKind, Read};
 use std::sync::Wait;
 use std::time::Clock;
 
@@ -31,16 +31,37 @@ fn give_pieces<R: Clock + Wait, S: Read, I: Inlet>(rt: &R, reader: &mut S, inlet
     ensures { Pumps (2 ^ 40) (S.remaining reader.old) (S.remaining reader.new) (I.told inlet.old) (I.told inlet.new)
         (I.took inlet.old) (I.took inlet.new) result [] }
 {
-    let mut buffer = [0u8; READ_LENGTH];
     for _read in 0..MOST_READS {
-        let length = match reader.read(&mut buffer) {
-            Ok(0) | Err(_) => return Fed::Go,
-            Ok(length) => length,
-        };
-        match inlet.piece(rt, &buffer[..length]) {
-            Fed::Go => {}
-            fed => return fed,
+        match read_piece(rt, reader, inlet) {
+            Came::Piece(Fed::Go) => {}
+            Came::Piece(fed) => return fed,
+            Came::Nothing | Came::End => return Fed::Go,
         }
     }
     Fed::Go
+}
+
+/// What one read of a stream brought.
+#[derive(Clone, Copy, PartialEq, Eq, Debug)]
+pub enum Came {
+    /// A piece, and what the inlet answered to it.
+    Piece(Fed),
+    /// Nothing yet: the read would have had to wait.
+    Nothing,
+    /// Nothing more: the input has ended, or the read failed.
+    End,
+}
+
+/// Reads a stream once into an inlet: what comes is one piece.
+pub fn read_piece<R: Clock + Wait, S: Read, I: Inlet>(rt: &R, reader: &mut S, inlet: &mut I) -> Came
+    ensures { Brings (S.remaining reader.old) (S.remaining reader.new) (I.told inlet.old) (I.told inlet.new)
+        (I.took inlet.old) (I.took inlet.new) result }
+{
+    let mut buffer = [0u8; READ_LENGTH];
+    match reader.read(&mut buffer) {
+        Ok(0) => Came::End,
+        Ok(length) => Came::Piece(inlet.piece(rt, &buffer[..length])),
+        Err(error) if error.kind() == ErrorKind::WouldBlock => Came::Nothing,
+        Err(_) => Came::End,
+    }
 }

@@ -7,14 +7,16 @@ ghost use Rattle.connections.specs.Writes.{WritesOut, calls_of};
 use crate::clock::Clock;
 use crate::inlet::Fed;
 use crate::keeping::Keeping;
-use crate::lock_inlet::LockInlet;
+use crate::lock_inlet::{HeldInlet, LockInlet};
 use crate::lock_replies::LockReplies;
 use crate::pumping::pump;
+use crate::serving::Serving;
 use crate::writing::{write_and_hand_on, write_replies};
-use backend_pool::Shared;
+use backend_pool::{Gate, RemoteBackend, Shared, Shares};
 use gateway_core::{ConnId, Reply, ReplyHook};
 use std::alloc::Global;
 use std::io::{Read, Write};
+use std::net::{Net, TcpStream};
 use std::sync::Wait;
 use std::sync::ledger::{Ledger, Share};
 use std::time;
@@ -71,24 +73,74 @@ pub fn write_side<R: Wait, W: Write, H: ReplyHook + Drop, L: Ledger, J: Ledger, 
     write_replies(rt, alloc, writer, conn, &mut replies)
 }
 
-/// Writes the replies of a connection and then closes it, as `write_side` does, and hands each reply on once it is written,
-/// with the lock let go.
-pub fn answer_side<
-    R: Wait,
+/// Serves a connection by one thread, to its end: reads the stream, asks backends in a worker's place for the jobs of
+/// the call whose reply is next, writes the replies by `write_and_hand_on`, and hands each on once it is written. It
+/// waits for one of these at a time:
+///
+/// - for the stream, while each request was answered;
+/// - for a backend that it asks, eight milliseconds at most, or up to a second for one that accepts no connection.
+///   Then it looks at the stream, and goes on with the next backend;
+/// - for workers, twenty milliseconds at most, where they ask for all jobs of that call that are left: if backends
+///   were slow of late or must be looked up by a name, if bodies are above 4,096 bytes, or if no worker sleeps. Then
+///   it looks at the stream;
+/// - for its client to take a reply. Then it asks no backend.
+///
+/// Each piece, each result and the hang-up is one hold of the lock, and so is the closing at the end.
+pub fn serve_side<
+    M: Net + time::Clock + Wait,
     W: Write,
     T: Keeping,
+    G: Gate,
     H: ReplyHook + Drop,
     L: Ledger,
     J: Ledger,
     K: Ledger,
->(rt: &R, writer: &mut W, shared: &Shared<H, L, J, K>, conn: ConnId, kept: &mut T)
+>(
+    machine: &M,
+    alloc: Global,
+    stream: &TcpStream,
+    writer: &mut W,
+    shared: &Shared<H, L, J, K>,
+    conn: ConnId,
+    shares: Shares<L, J, K>,
+    backend: &RemoteBackend,
+    gate: &G,
+    kept: &mut T,
+)
+    requires { (shares.bytes.parts ≡ 1) × (shares.jobs.parts ≡ 1) × (shares.results.parts ≡ 1) }
     // they are known to the proof alone
     ensures { (written : List ReplyValue) × (map (λ r. r.id) written ≡ calls_of conn 0 (length written))
         × Tells (T.told kept.old) (T.told kept.new) written
         × WritesOut (W.contents writer.old) (W.contents writer.new) written }
 {
-    let mut replies = LockReplies { shared, conn };
-    write_and_hand_on(rt, writer, conn, &mut replies, kept);
+    let Shares {
+        bytes,
+        jobs,
+        results,
+    } = shares;
+    let inlet = HeldInlet::new(LockInlet {
+        shared,
+        conn,
+        bytes,
+    });
+    let mut serving = Serving {
+        machine,
+        alloc,
+        stream,
+        backend,
+        gate,
+        shared,
+        conn,
+        inlet,
+        jobs,
+        results,
+        asking: Vec::new(alloc),
+        next_request: 0,
+        looked: 0,
+        is_idle: true,
+        is_over: false,
+    };
+    write_and_hand_on(machine, writer, conn, &mut serving, kept);
 }
 
 /// Hands the moments of a clock to the gateway, one at each turn, each in one hold of the lock, until that is shut. A moment

@@ -1,7 +1,8 @@
-ghost use Rattle.std.specs.Prelude.{◌≡◌, ◌==◌, ◌∷◌, ◌++◌, ◌<◌, ◌≤◌, [], Err, IfOk, IfErr, IfSome, None, OnErr, OnOk, Some, false, is_some, not, ℕ, List, length, option_map, option_to_list, true};
+ghost use Rattle.std.specs.Option.{option_map_or};
+ghost use Rattle.std.specs.Prelude.{◌≡◌, ◌==◌, ◌∷◌, ◌++◌, ◌<◌, ◌≤◌, [], Err, IfOk, IfErr, IfSome, None, OnErr, OnOk, Some, false, is_some, not, ℕ, List, length, option_map, option_to_list, true, slice_get};
 ghost use Rattle.connect_codec.specs.declared.answer.Outcome.{Outcome as Outcomes};
 ghost use Rattle.gateway_model.specs.declared.entry.ReplyEntry.{ReplyEntry};
-ghost use Rattle.gateway_theory.specs.Gateway.{is_broken_conn, is_ended, shown, next_reply, outs_of, untaken_of};
+ghost use Rattle.gateway_theory.specs.Gateway.{is_broken_conn, is_ended, shown, next_reply, outs_of, untaken_of, are_all_there};
 ghost use Rattle.gateway_model.specs.Occurrence as concerning;
 ghost use Rattle.gateway_theory.specs.Serving.{TakesSome, WouldBegin, Breaks, BreaksBy, CountsCalls, FewCalls, NotListening, Keeps, KeepsBut, TakesOnly, TellsStep};
 ghost use Rattle.gateway_theory.specs.Refused.{RefusesOpening};
@@ -204,6 +205,13 @@ impl<H: ReplyHook + Drop> Core<H> {
         self.streams.waiting_jobs()
     }
 
+    /// The job that is to be taken next, if one waits.
+    pub fn next_job(&self) -> Option<&Job>
+        ensures { option_map (λ job. job.now.job) result ≡ slice_get self.now.machine.jobs 0 }
+    {
+        self.streams.next_job()
+    }
+
     /// The least deadline of the undecided calls, and of their branches that are out.
     pub fn next_deadline(&self) -> Option<u64>
         ensures least { result ≡ least_deadline self.now.machine.calls }
@@ -233,6 +241,14 @@ impl<H: ReplyHook + Drop> Core<H> {
         ensures { result ≡ length (untaken_of conn self.now) }
     {
         self.streams.untaken(conn.number())
+    }
+
+    /// Whether each request of the connection has its reply, so that none of its calls is undecided. True where there
+    /// is no such connection.
+    pub fn is_idle(&self, conn: ConnId) -> bool
+        ensures { result ≡ option_map_or (λ k. are_all_there k.slots) (conn_of conn self.now.machine.conns) true }
+    {
+        self.streams.is_idle(conn.number())
     }
 
     /// Whether the connection is open and broken: memory was refused in a step of it.

@@ -1,8 +1,9 @@
-ghost use Rattle.std.specs.Prelude.{◌≡◌, ◌==◌, ◌<◌, ◌≤◌, ◌^◌, ◌∷◌, IfOk, IfErr, List, OnErr, false, true, not, filter, length, [], ℕ};
+ghost use Rattle.std.specs.Option.{option_map_or};
+ghost use Rattle.std.specs.Prelude.{◌≡◌, ◌==◌, ◌<◌, ◌≤◌, ◌^◌, ◌∷◌, IfOk, IfErr, List, OnErr, false, true, not, filter, length, [], ℕ, option_map, slice_get};
 ghost use Rattle.http_pieces.specs.Reader.{is_over};
 ghost use Rattle.gateway_theory.specs.Ends.{is_broken_in, noted};
 ghost use Rattle.gateway_machine.specs.Linked.{IsNow};
-ghost use Rattle.gateway_theory.specs.Gateway.{stream_at, is_broken_conn, is_done, is_ended, outs_of, untaken_of};
+ghost use Rattle.gateway_theory.specs.Gateway.{stream_at, is_broken_conn, is_done, is_ended, outs_of, untaken_of, are_all_there};
 ghost use Rattle.gateway_theory.specs.Least.{ends_any, least_deadline};
 ghost use Rattle.gateway_theory.specs.Step.{moment_after};
 ghost use Rattle.gateway_model.specs.Past.{is_due};
@@ -12,7 +13,7 @@ ghost use Rattle.gateway_machine.specs.Ended.{BranchEnds};
 ghost use Rattle.gateway_model.specs.declared.seen.Seen.{Seen};
 ghost use Rattle.gateway_theory.specs.Opens.{JobTaken};
 ghost use Rattle.gateway_theory.specs.Serving.{Breaks, BringsAt, IsBehindIf, Closes, Ends, FedTo, gateway_value, HangsUp, IsListening, IsPlaced, IsServing, ListensAt, Opens, ReadsAt, TakesReply};
-ghost use Rattle.gateway_theory.specs.Store.{MachineValue, broken_at, conn_at, machine_value};
+ghost use Rattle.gateway_theory.specs.Store.{MachineValue, broken_at, conn_at, machine_value, conn_of};
 ghost use Rattle.gateway_theory.specs.Tally.{tally_of};
 
 use crate::stream::Stream;
@@ -219,6 +220,13 @@ impl<H: ReplyHook + Drop> Streams<H> {
         self.machine.waiting_jobs()
     }
 
+    /// The job that is to be taken next, if one waits.
+    pub(crate) fn next_job(&self) -> Option<&Job>
+        ensures { option_map (λ job. job.now.job) result ≡ slice_get self.now.machine.jobs 0 }
+    {
+        self.machine.next_job()
+    }
+
     /// The least deadline of the calls that can be decided, and of their branches that are out.
     pub(crate) fn next_deadline(&self) -> Option<u64>
         ensures least { result ≡ least_deadline self.now.machine.calls }
@@ -253,6 +261,17 @@ impl<H: ReplyHook + Drop> Streams<H> {
         match self.place(number) {
             Some(index) => self.machine.untaken(index),
             None => 0,
+        }
+    }
+
+    /// Whether each request of the connection of that number has its reply, so that none of its calls is undecided.
+    /// True where there is no such connection.
+    pub(crate) fn is_idle(&self, number: u64) -> bool
+        ensures { result ≡ option_map_or (λ k. are_all_there k.slots) (conn_of number self.now.machine.conns) true }
+    {
+        match self.place(number) {
+            Some(index) => self.machine.is_idle(index),
+            None => true,
         }
     }
 

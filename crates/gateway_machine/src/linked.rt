@@ -1,5 +1,5 @@
 //! The machine with its contexts.
-ghost use Rattle.std.specs.Prelude.{◌≡◌, ◌<◌, ◌==◌, IfErr, IfOk, None as Nothing, OnErr, OnOk, [], false, length, not, true, ℕ};
+ghost use Rattle.std.specs.Prelude.{◌≡◌, ◌<◌, ◌==◌, IfErr, IfOk, None as Nothing, OnErr, OnOk, [], false, length, not, true, ℕ, option_map, slice_get};
 ghost use Rattle.std.specs.List.{count_by};
 ghost use Rattle.http_pieces.specs.Request.{most_requests};
 ghost use Rattle.gateway_model.specs.Arrival.{arrival_of};
@@ -212,6 +212,13 @@ impl<H: ReplyHook + Drop> LinkedMachine<H> {
         ensures { result ≡ length self.now.jobs }
     {
         self.machine.waiting_jobs()
+    }
+
+    /// The job that is to be taken next, if one waits.
+    pub fn next_job(&self) -> Option<&Job>
+        ensures { option_map (λ job. job.now.job) result ≡ slice_get self.now.jobs 0 }
+    {
+        self.machine.next_job()
     }
 
     /// Whether the connection of that number is open and broken.

@@ -1,4 +1,4 @@
-ghost use Rattle.std.specs.Prelude.{◌≡◌, ◌==◌, ◌<◌, false, not, true, length, map, []};
+ghost use Rattle.std.specs.Prelude.{◌≡◌, ◌==◌, ◌<◌, false, not, true, length, map, [], option_map, slice_get};
 ghost use Rattle.std.specs.List.{count_by};
 ghost use Rattle.gateway_theory.specs.Gateway.{are_all_there};
 ghost use Rattle.gateway_model.specs.Queue.{front};
@@ -64,6 +64,13 @@ impl Machine {
         ensures { result ≡ length self.now.jobs }
     {
         self.jobs.len()
+    }
+
+    /// The job that is to be taken next, if one waits.
+    pub fn next_job(&self) -> Option<&Job>
+        ensures { option_map (λ job. job.now.job) result ≡ slice_get self.now.jobs 0 }
+    {
+        self.jobs.front()
     }
 
     /// Takes a moment, in milliseconds, and answers the greatest so far.
