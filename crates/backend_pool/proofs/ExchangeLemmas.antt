@@ -1,14 +1,18 @@
 -- Lemmas on what was written and read in an exchange.
-use Rattle.std.specs.Prelude.{◌≡◌, ℕ, ◌+◌, ◌-◌, ◌<◌, ◌≤◌, ◌⊎◌, List, [], ◌++◌, length, take, drop, min, Option, Some, None, MatchOption}
-use Rattle.std.proofs.Common.{arith, subst, ap, ◌∙◌, append_assoc, length-append, ⊎_elim}
+use Rattle.std.specs.Prelude.{◌≡◌, ℕ, ◌+◌, ◌-◌, ◌⊎◌, List, [], ◌++◌, length, take, drop, Option, Some, None, MatchOption}
+use Rattle.std.proofs.Common.{arith, subst, sym, ap, ◌∙◌, append_assoc, append-nil, ⊎_elim}
 use Rattle.http_pieces.specs.Cut.{Complete, IsCut}
 use Rattle.http_pieces.specs.ReplyHead.{reply_kind}
 use Rattle.http_pieces.specs.ReplyReader.{HasReadReply, HasReadReplyTo, ReplyReading, ReplyReaderValue, Partial, Waiting, Stopped, Done}
 use Rattle.http_pieces.specs.declared.reply.HttpReply.{HttpReply}
-use Rattle.backend_pool.specs.Exchange.{BeginsWithReply, ReadsReply, TakesIn}
+use Rattle.backend_pool.specs.declared.asked.Asked.{Asked}
+use Rattle.backend_pool.specs.declared.asked.Asked.TheVariants.{Reply, Lost, NoMemory}
+use Rattle.backend_pool.specs.declared.wire.ReplyRead.{ReplyRead}
+use Rattle.backend_pool.specs.declared.wire.ReplyRead.TheVariants.{More, Nothing, Ended}
+use Rattle.backend_pool.specs.Exchange.{BeginsWithReply, ReadsInTurn, ReadsOn, ReadsReply, TakesIn}
 use Rattle.std.proofs.Math.Seq.{take-add}
-use Rattle.std.proofs.lemmas.List.{take_all, length-take, length-drop, take-append-drop, take-append-le, drop-drop, drop_all}
-use Rattle.std.proofs.KnownBytes.{Consumes-trans}
+use Rattle.std.proofs.lemmas.List.{take_all, length-drop, take-append-drop}
+use Rattle.std.proofs.KnownBytes.{Consumes-kept, Consumes-nil, Consumes-trans}
 use Rattle.std.proofs.lemmas.Grind.{common_steps}
 use Rattle.std.specs.Io.KnownBytes.{Appends, Consumes}
 
@@ -59,3 +63,28 @@ takes_in stay bytes piece n pushed reader (Some q) all waits h = begins_longer s
 pub reads_reply : (old mid new : Option (List ℕ)) (bytes piece : List ℕ) (reply : HttpReply)
     → Consumes old mid bytes → Consumes mid new piece → BeginsWithReply (bytes ++ piece) reply → ReadsReply old new reply
 reads_reply old mid new bytes piece reply first second begins = (bytes ++ piece, Consumes-trans old mid new bytes piece first second, begins)
+
+-- ---- a turn of reads
+
+-- before the first read
+pub turn_begins : (start : Option (List ℕ)) (bytes : List ℕ) (reader : ReplyReaderValue) → HasReadReply reader bytes None
+    → ReadsInTurn start start bytes reader None
+turn_begins start bytes reader h =
+    ([], Consumes-nil start, subst (λ (text : List ℕ). HasReadReply reader text None) (sym (append-nil bytes)) h)
+
+-- what is told once that came of a read
+abbrev pub told_by : ReplyRead → Option Asked
+told_by More = None
+told_by Nothing = None
+told_by (Ended asked) = Some asked
+
+-- one read more
+pub turn_read : (old mid new : Option (List ℕ)) (bytes piece : List ℕ) (reader : ReplyReaderValue) (read : ReplyRead)
+    → Consumes old mid piece → ReadsOn mid new (bytes ++ piece) reader read → ReadsInTurn old new bytes reader (told_by read)
+turn_read old mid new bytes piece reader More first (more, second, h) =
+    (piece ++ more, Consumes-trans old mid new piece more first second, subst (λ (text : List ℕ). HasReadReply reader text None) (append_assoc bytes piece more) h)
+turn_read old mid new bytes piece reader Nothing first (kept, h) = (piece, Consumes-kept old mid new piece first kept, h)
+turn_read old mid new bytes piece reader (Ended (Reply reply)) first (more, second, begins) =
+    (piece ++ more, Consumes-trans old mid new piece more first second, subst (λ (text : List ℕ). BeginsWithReply text reply) (append_assoc bytes piece more) begins)
+turn_read old mid new bytes piece reader (Ended Lost) first second = tt
+turn_read old mid new bytes piece reader (Ended NoMemory) first second = tt

@@ -1,5 +1,6 @@
 -- The core with its three totals, and the events that it stands for.
 use Rattle.std.specs.Prelude.{◌≡◌, ℕ, ◌+◌, ◌^◌, ◌<◌, IfOk, MatchResult, Result, true, List, [], ◌∷◌, ◌++◌, length, Option, Some, None, is_some, option_map, option_to_list}
+use Rattle.connect_codec.specs.declared.answer.Outcome.{Outcome}
 use Rattle.gateway_model.specs.declared.entry.ReplyEntry.{ReplyEntry}
 use Rattle.gateway_model.specs.declared.seen.Seen.{Seen}
 use Rattle.gateway_model.specs.declared.seen.Seen.TheVariants.{Counted, Unknown}
@@ -76,6 +77,11 @@ abbrev pub TakesEvent : Event → BookValue → BookValue → Type 0
 TakesEvent e b c =
     (opened : List ℕ) (events : Before) (taken : ℕ → List ReplyEntry) (handed : List JobValue) → BookStands b opened events taken handed
     → BookStands c opened (e ∷ events) taken handed
+
+-- so it does of a job's branch that ended with this outcome; and where no memory was found for one, with whatever outcome
+abbrev pub Records : Option Outcome → JobValue → BookValue → BookValue → Type 0
+Records (Some outcome) job b c = TakesEvent (BranchResult job.call.conn job.call.request job.branch outcome) b c
+Records None job b c = (outcome : Outcome) → TakesEvent (BranchResult job.call.conn job.call.request job.branch outcome) b c
 
 -- an opening more, which succeeded or did not; it succeeds only where fewer are open than may be
 abbrev pub TakesOpening : {E : Type 0} → Result ℕ E → BookValue → BookValue → Type 0

@@ -2,3 +2,4 @@ pub mod Work
 pub mod Exchange
 pub mod Book
 pub mod Clock
+pub mod Asking

@@ -1,3 +1,8 @@
+ghost use Rattle.std.specs.Prelude.{◌≡◌, ℕ, List, [], None, IsSome};
+ghost use Rattle.http_pieces.specs.ReplyReader.{HasReadReply};
+ghost use Rattle.backend_pool.specs.Asking.{IsNoReply, ReadsStream};
+ghost use Rattle.backend_pool.specs.Exchange.{ReadsInTurn};
+
 use crate::asked::Asked;
 use crate::gate::Gate;
 use crate::remote::RemoteBackend;
@@ -6,11 +11,12 @@ use gateway_core::Job;
 use http_pieces::ReplyReader;
 use std::alloc::Global;
 use std::io::Read;
+use std::marker::Model;
 use std::net::Net;
 use std::time::{Clock, Duration};
 
 /// A job that a connection's own thread asks for: it sends the request, and reads the reply bit by bit, so that it can
-/// look at something else meanwhile.
+/// look at something else meanwhile. Contracts see an `AskingValue`.
 #[derive(Drop)]
 pub struct Asking<S> {
     job: Job,
@@ -24,6 +30,20 @@ pub struct Asking<S> {
     replies: ReplyReader,
     // how often the stream was read
     reads: u32,
+}
+
+impl<S> Model for Asking<S> {
+    ghost use Rattle.backend_pool.specs.Asking.{AskingValue, stream_of};
+
+    ghost Value = { AskingValue S };
+
+    ghost view = { λ a. record {
+      job = a.job;
+      since = a.since;
+      connecting = a.connecting;
+      stream = stream_of a.step;
+      replies = a.replies;
+    } };
 }
 
 /// How far it is.
@@ -43,7 +63,13 @@ const READS_IN_TURN: u32 = 4;
 impl<S> Asking<S> {
     /// A job that was just taken, at that moment, and whether its backend is known to accept connections in next to no
     /// time. The reply is kept on this allocator.
-    pub fn new(alloc: Global, job: Job, since: u64, is_near: bool) -> Asking<S> {
+    pub fn new(alloc: Global, job: Job, since: u64, is_near: bool) -> Asking<S>
+        ensures job { result.job ≡ job }
+        ensures since { result.since ≡ since }
+        ensures connecting { result.connecting ≡ None }
+        ensures unsent { result.stream ≡ None }
+        ensures unread { HasReadReply result.replies [] None }
+    {
         Asking {
             job,
             since,
@@ -59,7 +85,11 @@ impl<S> Asking<S> {
 impl<S: Read + Drop> Asking<S> {
     /// Gives the job back, with the moment at which it was taken, and how long it took to connect, if it did. The
     /// stream, if there is one, is closed.
-    pub fn into_job(self) -> (Job, u64, Option<Duration>) {
+    pub fn into_job(self) -> (Job, u64, Option<Duration>)
+        ensures job { result.0 ≡ self.job }
+        ensures since { result.1 ≡ self.since }
+        ensures connecting { result.2 ≡ self.connecting }
+    {
         let Asking {
             job,
             since,
@@ -79,7 +109,13 @@ impl<S: Read + Drop> Asking<S> {
         rt: &R,
         backend: &RemoteBackend,
         gate: &G,
-    ) {
+    )
+        ensures job { self.new.job ≡ self.old.job }
+        ensures since { self.new.since ≡ self.old.since }
+        ensures unread { self.new.replies ≡ self.old.replies }
+        ensures once { IsSome self.old.stream → self.new ≡ self.old }
+        ensures untimed { self.new.stream ≡ None → self.new.connecting ≡ self.old.connecting }
+    {
         let Step::Taken(tries) = self.step else {
             return;
         };
@@ -99,24 +135,44 @@ impl<S: Read + Drop> Asking<S> {
     }
 
     /// Reads what comes, up to the end of the reply. None where it is not whole yet and the turn is over.
-    pub fn read(&mut self) -> Option<Asked> {
-        let stream = match &mut self.step {
-            Step::Sent(stream) => stream,
-            Step::Taken(_) => return None,
-            Step::Failed { memory: true } => return Some(Asked::NoMemory),
-            Step::Failed { memory: false } => return Some(Asked::Lost),
-        };
-        for _read in 0..READS_IN_TURN {
-            if self.reads >= MOST_READS {
-                return Some(Asked::Lost);
-            }
-            self.reads = self.reads.saturating_add(1);
-            match read_once(stream, &mut self.replies) {
-                ReplyRead::Ended(asked) => return Some(asked),
-                ReplyRead::Nothing => return None,
-                ReplyRead::More => {}
-            }
+    pub fn read(&mut self) -> Option<Asked>
+        ensures job { self.new.job ≡ self.old.job }
+        ensures since { self.new.since ≡ self.old.since }
+        ensures connecting { self.new.connecting ≡ self.old.connecting }
+        // Whatever was read before.
+        ensures reads { (bytes : List ℕ) → HasReadReply self.old.replies bytes None
+            → ReadsStream S.remaining self.old.stream self.new.stream bytes self.new.replies result }
+        ensures unsent { self.old.stream ≡ None → (self.new ≡ self.old) × IsNoReply result }
+    {
+        match &mut self.step {
+            Step::Sent(stream) => read_in_turn(stream, &mut self.replies, &mut self.reads),
+            Step::Taken(_) => None,
+            Step::Failed { memory: true } => Some(Asked::NoMemory),
+            Step::Failed { memory: false } => Some(Asked::Lost),
         }
-        None
     }
+}
+
+/// Reads while bytes come, up to the end of the reply or of the turn. None where the reply is not whole yet.
+fn read_in_turn<S: Read>(
+    stream: &mut S,
+    replies: &mut ReplyReader,
+    reads: &mut u32,
+) -> Option<Asked>
+    // Whatever was read before.
+    ensures { (bytes : List ℕ) → HasReadReply replies.old bytes None
+        → ReadsInTurn (S.remaining stream.old) (S.remaining stream.new) bytes replies.new result }
+{
+    for _read in 0..READS_IN_TURN {
+        if *reads >= MOST_READS {
+            return Some(Asked::Lost);
+        }
+        *reads = reads.saturating_add(1);
+        match read_once(stream, replies) {
+            ReplyRead::Ended(asked) => return Some(asked),
+            ReplyRead::Nothing => return None,
+            ReplyRead::More => {}
+        }
+    }
+    None
 }

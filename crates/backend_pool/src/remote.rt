@@ -1,3 +1,6 @@
+ghost use Rattle.std.specs.Prelude.{IfErr, Some};
+ghost use Rattle.backend_pool.specs.Asking.{IsNoReply};
+
 use crate::asked::Asked;
 use crate::backend::Backend;
 use crate::timed_stream::{TimedStream, time_left};
@@ -63,7 +66,9 @@ impl RemoteBackend {
         job: &Job,
         tries: u32,
         is_near: bool,
-    ) -> Result<Option<(R::Stream, Duration)>, Asked> {
+    ) -> Result<Option<(R::Stream, Duration)>, Asked>
+        ensures { IfErr result (λ asked. IsNoReply (Some asked)) }
+    {
         if !job.wanted() {
             return Err(Asked::Lost);
         }

@@ -1,4 +1,6 @@
-ghost use Rattle.std.specs.Prelude.{◌≡◌, ◌+◌, ◌<◌, MatchOption, MatchResult};
+ghost use Rattle.std.specs.Prelude.{◌≡◌, ◌+◌, ◌<◌, ◌≤◌, IfNone, IfSome, IsTrue, MatchOption, MatchResult};
+ghost use Rattle.std.specs.Prelude.{OnErr, OnOk, Some, length, option_map, slice_get};
+ghost use Rattle.backend_pool.specs.Book.{GivesJob, HandsJobs, Records, job_list};
 
 use crate::ledger_full::LedgerFull;
 use crate::shared::State;
@@ -17,6 +19,11 @@ impl<H: ReplyHook + Drop, L: Ledger, J: Ledger, K: Ledger> State<H, L, J, K> {
     /// connects to one after the other.
     pub fn take_own(&mut self, call: &CallId, has_place: bool, mine: &mut Share<J>) -> Option<Job>
         requires { 0 < mine.old.parts }
+        ensures stands { HandsJobs (job_list result) self.old.book self.new.book }
+        ensures unchanged { IfNone result (self.new.book ≡ self.old.book) }
+        ensures gives { IfSome result (λ job. GivesJob result self.old.book.core self.new.book.core) }
+        ensures its { IfSome result (λ job. job.job.call ≡ call.now) }
+        ensures short { IfSome result (λ job. length job.job.body ≤ 4096) }
         ensures parts { mine.new.parts ≡ mine.old.parts }
         ensures counted { MatchOption result (mine.new.amount ≡ mine.old.amount)
             (λ _. mine.new.amount ≡ mine.old.amount + 1) }
@@ -28,14 +35,18 @@ impl<H: ReplyHook + Drop, L: Ledger, J: Ledger, K: Ledger> State<H, L, J, K> {
         let Ok(Some(job)) = self.book.take_job(mine) else {
             return None;
         };
-        if !has_place {
-            self.standing_in = self.standing_in.saturating_add(1);
-        }
+        // a place more, unless it has one
+        self.standing_in = self.standing_in.saturating_add(u64::from(!has_place));
         Some(job)
     }
 
     /// Whether the next job is one of this call that its connection's own thread may ask for, alone or beside others.
-    fn is_own(&self, call: &CallId, beside: bool) -> bool {
+    fn is_own(&self, call: &CallId, beside: bool) -> bool
+        ensures its { IsTrue result
+            → option_map (λ job. job.call) (slice_get self.now.book.core.machine.jobs 0) ≡ Some call.now }
+        ensures short { IsTrue result
+            → IfSome (slice_get self.now.book.core.machine.jobs 0) (λ job. length job.body ≤ 4096) }
+    {
         match self.book.next_job() {
             Some(job) => {
                 job.call() == *call
@@ -54,7 +65,9 @@ impl<H: ReplyHook + Drop, L: Ledger, J: Ledger, K: Ledger> State<H, L, J, K> {
     }
 
     /// A connection's own thread asks no backend any more, and gives the place back.
-    pub fn stand_down(&mut self) {
+    pub fn stand_down(&mut self)
+        ensures { self.new.book ≡ self.old.book }
+    {
         self.standing_in = self.standing_in.saturating_sub(1);
     }
 
@@ -66,7 +79,9 @@ impl<H: ReplyHook + Drop, L: Ledger, J: Ledger, K: Ledger> State<H, L, J, K> {
 
     /// Notes how long the job's backend took, from the moment at which the job was taken, and how long it took to connect
     /// to it, if that was done.
-    pub fn note_pace(&mut self, job: &Job, since: u64, connecting: Option<Duration>) {
+    pub fn note_pace(&mut self, job: &Job, since: u64, connecting: Option<Duration>)
+        ensures { self.new.book ≡ self.old.book }
+    {
         let took = self.moment.saturating_sub(since);
         self.paces
             .note(job.address(), took, connecting, self.moment);
@@ -85,18 +100,22 @@ impl<H: ReplyHook + Drop, L: Ledger, J: Ledger, K: Ledger> State<H, L, J, K> {
         mine: &mut Share<K>,
     ) -> Result<(), LedgerFull>
         requires { 0 < mine.old.parts }
+        ensures stands { OnOk result (Records outcome job.now.job self.old.book self.new.book) }
+        ensures unchanged { OnErr result (self.new.book ≡ self.old.book) }
         ensures parts { mine.new.parts ≡ mine.old.parts }
         ensures counted { MatchResult result (λ _. mine.new.amount ≡ mine.old.amount + 1)
             (λ _. mine.new.amount ≡ mine.old.amount) }
     {
         let call = job.call();
-        let took = match outcome {
-            Some(outcome) => self.book.result(&call, job.branch(), outcome, mine),
-            None => self.book.starved(&call, job.branch(), mine),
-        };
-        match took {
-            Ok(_) => Ok(()),
-            Err(full) => Err(full),
+        match outcome {
+            Some(outcome) => {
+                self.book.result(&call, job.branch(), outcome, mine)?;
+                Ok(())
+            }
+            None => {
+                self.book.starved(&call, job.branch(), mine)?;
+                Ok(())
+            }
         }
     }
 }

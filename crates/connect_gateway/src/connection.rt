@@ -4,7 +4,7 @@ use crate::client_stream::ClientStream;
 use crate::server::{Machine, Server};
 use crate::watch::Telling;
 use backend_pool::{RemoteBackend, Shares};
-use connections::serve_side;
+use connections::{Workplace, serve_side};
 use gateway_core::ConnId;
 use script_replay::stock;
 use std::net::{Net, TcpListener, TcpStream};
@@ -87,18 +87,16 @@ fn serve_stream<
         rt: &server.machine,
         watch: &server.watch,
     };
-    serve_side(
-        &server.machine,
-        server.alloc,
-        client.stream(),
-        &mut writer,
-        &server.shared,
+    let place = Workplace {
+        machine: &server.machine,
+        alloc: server.alloc,
+        shared: &server.shared,
         conn,
-        mine,
-        &backend,
-        &server.watch,
-        &mut telling,
-    );
+        backend: &backend,
+        gate: &server.watch,
+    };
+    // its shares are not needed any more
+    let _ = serve_side(&place, client.stream(), &mut writer, mine, &mut telling);
     server.watch.closed();
     client.end(&server.machine, &server.watch);
 }

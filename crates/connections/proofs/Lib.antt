@@ -1,3 +1,4 @@
 mod TellLemmas
 mod PumpLemmas
+mod ProgressLemmas
 mod WriteLemmas

@@ -1,3 +1,4 @@
 pub mod Told
 pub mod Pumps
 pub mod Writes
+pub mod Progress

@@ -46,6 +46,12 @@ Brings before after old new took takes (Came-piece fed) =
 Brings before after old new took takes Nothing = Consumes before after [] × (new ≡ old) × (takes ≡ took)
 Brings before after old new took takes End = Consumes before after [] × (new ≡ old) × (takes ≡ took)
 
+-- what the inlet said to what came last
+abbrev pub fed_of : Came → Fed
+fed_of (Came-piece fed) = fed
+fed_of Nothing = Go
+fed_of End = Go
+
 -- how many pieces have this answer as the last: the reading goes on at `Go`
 abbrev pub ends_by : Fed → ℕ
 ends_by Go = 0

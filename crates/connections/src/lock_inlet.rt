@@ -73,12 +73,25 @@ pub(crate) struct HeldInlet<'a, H, L: Ledger, J: Ledger, K: Ledger> {
 }
 
 impl<'a, H: ReplyHook + Drop, L: Ledger, J: Ledger, K: Ledger> HeldInlet<'a, H, L, J, K> {
-    pub(crate) fn new(inlet: LockInlet<'a, H, L, J, K>) -> HeldInlet<'a, H, L, J, K> {
+    /// For this connection, with a share of the ledger of bytes.
+    pub(crate) fn new(
+        shared: &'a Shared<H, L, J, K>,
+        conn: ConnId,
+        bytes: Share<L>,
+    ) -> HeldInlet<'a, H, L, J, K>
+        requires { bytes.parts ≡ 1 }
+        ensures { result.inlet.bytes.amount ≡ bytes.amount }
+    {
+        let inlet = LockInlet {
+            shared,
+            conn,
+            bytes,
+        };
         HeldInlet { inlet, held: None }
     }
 
     /// Lets the lock go, if it is held behind what came last.
-    pub(crate) fn let_go(&mut self)
+    fn let_go(&mut self)
         ensures { self.new.inlet.bytes.amount ≡ self.old.inlet.bytes.amount }
     {
         if let Some(state) = mem::replace(&mut self.held, None) {
@@ -87,11 +100,27 @@ impl<'a, H: ReplyHook + Drop, L: Ledger, J: Ledger, K: Ledger> HeldInlet<'a, H, 
     }
 
     /// The hold of what came last, or a new one.
-    pub(crate) fn hold<R: Wait>(&mut self, rt: &R) -> Hold<'a, H, L, J, K> {
+    pub(crate) fn hold<R: Wait>(&mut self, rt: &R) -> Hold<'a, H, L, J, K>
+        ensures { self.new.inlet.bytes.amount ≡ self.old.inlet.bytes.amount }
+    {
         match mem::replace(&mut self.held, None) {
             Some(state) => state,
             None => self.inlet.shared.state.lock(rt),
         }
+    }
+
+    /// Gives the share back.
+    pub(crate) fn into_share(self) -> Share<L>
+        ensures parts { result.parts ≡ 1 }
+        ensures amount { result.amount ≡ self.entry.inlet.bytes.amount }
+    {
+        let HeldInlet { inlet, held: _ } = self;
+        let LockInlet {
+            shared: _,
+            conn: _,
+            bytes,
+        } = inlet;
+        bytes
     }
 }
 

@@ -1,5 +1,5 @@
 ghost use Rattle.std.specs.Prelude.{◌^◌, [], ◌∷◌};
-ghost use Rattle.connections.specs.Pumps.{Brings, Pumps};
+ghost use Rattle.connections.specs.Pumps.{Brings, Pumps, fed_of};
 ghost use Rattle.connections.specs.declared.inlet.Heard.{Heard};
 
 use crate::inlet::{Fed, Inlet};
@@ -21,24 +21,33 @@ pub fn pump<R: Clock + Wait, S: Read, I: Inlet>(rt: &R, reader: &mut S, inlet: &
     ensures { Pumps (2 ^ 40) (S.remaining reader.old) (S.remaining reader.new) (I.told inlet.old) (I.told inlet.new)
         (I.took inlet.old) (I.took inlet.new) result (Heard.HangUp ∷ []) }
 {
-    let fed = give_pieces(rt, reader, inlet);
+    let came = give_pieces(rt, reader, inlet, MOST_READS);
     inlet.hang_up(rt);
-    fed
+    match came {
+        Came::Piece(fed) => fed,
+        Came::Nothing | Came::End => Fed::Go,
+    }
 }
 
-/// Gives the inlet what is read, piece by piece.
-fn give_pieces<R: Clock + Wait, S: Read, I: Inlet>(rt: &R, reader: &mut S, inlet: &mut I) -> Fed
-    ensures { Pumps (2 ^ 40) (S.remaining reader.old) (S.remaining reader.new) (I.told inlet.old) (I.told inlet.new)
-        (I.took inlet.old) (I.took inlet.new) result [] }
+/// Gives the inlet what is read, piece by piece, in so many reads at most. Ends where a read brings nothing, and behind
+/// a piece to which the inlet says `Stop` or `Full`. Answers what came last.
+pub(crate) fn give_pieces<R: Clock + Wait, S: Read, I: Inlet>(
+    rt: &R,
+    reader: &mut S,
+    inlet: &mut I,
+    most: u64,
+) -> Came
+    ensures { Pumps most (S.remaining reader.old) (S.remaining reader.new) (I.told inlet.old) (I.told inlet.new)
+        (I.took inlet.old) (I.took inlet.new) (fed_of result) [] }
 {
-    for _read in 0..MOST_READS {
-        match read_piece(rt, reader, inlet) {
+    for _read in 0..most {
+        let came = read_piece(rt, reader, inlet);
+        match came {
             Came::Piece(Fed::Go) => {}
-            Came::Piece(fed) => return fed,
-            Came::Nothing | Came::End => return Fed::Go,
+            _ => return came,
         }
     }
-    Fed::Go
+    Came::Piece(Fed::Go)
 }
 
 /// What one read of a stream brought.

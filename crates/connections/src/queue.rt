@@ -1,4 +1,5 @@
 ghost use Rattle.std.specs.Prelude.{[], ◌∷◌, List, Option, None};
+ghost use Rattle.connections.specs.Progress.{Advances, Progress};
 ghost use Rattle.connections.specs.Told.{Tells};
 ghost use Rattle.connections.specs.Writes.{told_by};
 ghost use Rattle.connections.specs.declared.queue.Handed.{Handed};
@@ -14,16 +15,21 @@ pub enum Handed {
     Closing,
 }
 
-/// Where the replies of a connection come from. It may tell what it gave.
+/// Where the replies of a connection come from. It may tell what it gave, and what it did for them.
 pub trait ReplyQueue {
     // what it was asked for so far, in order, where it tells it
     ghost told: { Self → Option (List Handed) } = { λ _. None };
 
+    // what it has read and asked so far, where it does so itself
+    ghost progress: { Self → Option Progress } = { λ _. None };
+
     /// Waits for the connection's next reply and gives it. None where no more can come.
     fn next<R: Wait>(&mut self, rt: &R) -> Option<Reply>
-        ensures { Tells (told self.old) (told self.new) (told_by result) };
+        ensures told { Tells (told self.old) (told self.new) (told_by result) }
+        ensures progress { Advances (progress self.old) (progress self.new) };
 
     /// Takes that the connection's writing has ended.
     fn close<R: Wait>(&mut self, rt: &R)
-        ensures { Tells (told self.old) (told self.new) (Handed.Closing ∷ []) };
+        ensures told { Tells (told self.old) (told self.new) (Handed.Closing ∷ []) }
+        ensures progress { Advances (progress self.old) (progress self.new) };
 }

@@ -1,22 +1,27 @@
-ghost use Rattle.std.specs.Prelude.{◌≡◌, ◌≤◌, List, length, map};
+ghost use Rattle.std.specs.Prelude.{◌≡◌, ◌+◌, ◌≤◌, List, length, map, false};
 ghost use Rattle.gateway_theory.specs.Replies.{ReplyValue};
 ghost use Rattle.connections.specs.Pumps.{Counts};
+ghost use Rattle.connections.specs.declared.inlet.Fed.{Fed};
 ghost use Rattle.connections.specs.Told.{Tells};
 ghost use Rattle.connections.specs.Writes.{WritesOut, calls_of};
 
+use crate::client_reader::ClientReader;
 use crate::clock::Clock;
 use crate::inlet::Fed;
 use crate::keeping::Keeping;
 use crate::lock_inlet::{HeldInlet, LockInlet};
 use crate::lock_replies::LockReplies;
+use crate::nonblocking::NonblockingRead;
+use crate::own_jobs::OwnJobs;
 use crate::pumping::pump;
 use crate::serving::Serving;
+use crate::workplace::Workplace;
 use crate::writing::{write_and_hand_on, write_replies};
-use backend_pool::{Gate, RemoteBackend, Shared, Shares};
+use backend_pool::{Gate, Shared, Shares};
 use gateway_core::{ConnId, Reply, ReplyHook};
 use std::alloc::Global;
 use std::io::{Read, Write};
-use std::net::{Net, TcpStream};
+use std::net::Net;
 use std::sync::Wait;
 use std::sync::ledger::{Ledger, Share};
 use std::time;
@@ -73,6 +78,17 @@ pub fn write_side<R: Wait, W: Write, H: ReplyHook + Drop, L: Ledger, J: Ledger, 
     write_replies(rt, alloc, writer, conn, &mut replies)
 }
 
+/// What comes of serving a connection.
+#[derive(Drop)]
+pub struct Served<S, L: Ledger, J: Ledger, K: Ledger> {
+    /// The stream that was read.
+    pub reader: S,
+    /// The shares, in which the bytes, jobs and results are counted.
+    pub shares: Shares<L, J, K>,
+    /// A result was not counted, since their total would pass 2^62.
+    pub is_full: bool,
+}
+
 /// Serves a connection by one thread, to its end: reads the stream, asks backends in a worker's place for the jobs of
 /// the call whose reply is next, writes the replies by `write_and_hand_on`, and hands each on once it is written. It
 /// waits for one of these at a time:
@@ -88,6 +104,7 @@ pub fn write_side<R: Wait, W: Write, H: ReplyHook + Drop, L: Ledger, J: Ledger, 
 /// Each piece, each result and the hang-up is one hold of the lock, and so is the closing at the end.
 pub fn serve_side<
     M: Net + time::Clock + Wait,
+    S: NonblockingRead,
     W: Write,
     T: Keeping,
     G: Gate,
@@ -96,20 +113,25 @@ pub fn serve_side<
     J: Ledger,
     K: Ledger,
 >(
-    machine: &M,
-    alloc: Global,
-    stream: &TcpStream,
+    place: &Workplace<'_, M, G, H, L, J, K>,
+    reader: S,
     writer: &mut W,
-    shared: &Shared<H, L, J, K>,
-    conn: ConnId,
     shares: Shares<L, J, K>,
-    backend: &RemoteBackend,
-    gate: &G,
     kept: &mut T,
-)
+) -> Served<S, L, J, K>
     requires { (shares.bytes.parts ≡ 1) × (shares.jobs.parts ≡ 1) × (shares.results.parts ≡ 1) }
-    // they are known to the proof alone
-    ensures { (written : List ReplyValue) × (map (λ r. r.id) written ≡ calls_of conn 0 (length written))
+    ensures parts { (result.shares.bytes.parts ≡ 1) × (result.shares.jobs.parts ≡ 1)
+        × (result.shares.results.parts ≡ 1) }
+    // how the reading ended is known to the proof alone, and so are the replies
+    ensures read { (fed : Fed) × Counts (S.remaining reader) (S.remaining result.reader)
+        shares.bytes.amount result.shares.bytes.amount fed }
+    // one result for each job that it took
+    ensures each { result.is_full ≡ false → shares.results.amount + result.shares.jobs.amount
+        ≡ result.shares.results.amount + shares.jobs.amount }
+    ensures grown { (shares.jobs.amount ≤ result.shares.jobs.amount)
+        × (shares.results.amount ≤ result.shares.results.amount) }
+    ensures written { (written : List ReplyValue)
+        × (map (λ r. r.id) written ≡ calls_of place.now.conn 0 (length written))
         × Tells (T.told kept.old) (T.told kept.new) written
         × WritesOut (W.contents writer.old) (W.contents writer.new) written }
 {
@@ -118,29 +140,20 @@ pub fn serve_side<
         jobs,
         results,
     } = shares;
-    let inlet = HeldInlet::new(LockInlet {
-        shared,
-        conn,
-        bytes,
-    });
+    let held = HeldInlet::new(place.shared, place.conn, bytes);
+    let client = ClientReader::new(reader, held);
+    let own = OwnJobs::new(place.alloc, jobs, results);
     let mut serving = Serving {
-        machine,
-        alloc,
-        stream,
-        backend,
-        gate,
-        shared,
-        conn,
-        inlet,
-        jobs,
-        results,
-        asking: Vec::new(alloc),
+        place,
+        client,
+        own,
         next_request: 0,
         looked: 0,
         is_idle: true,
-        is_over: false,
     };
-    write_and_hand_on(machine, writer, conn, &mut serving, kept);
+    write_and_hand_on(place.machine, writer, place.conn, &mut serving, kept);
+    serving.give_up();
+    serving.into_served()
 }
 
 /// Hands the moments of a clock to the gateway, one at each turn, each in one hold of the lock, until that is shut. A moment

@@ -1,6 +1,7 @@
 ghost use Rattle.std.specs.Prelude.{◌≡◌, ◌≢◌, ◌+◌, ◌≤◌, [], ◌∷◌, length, take, List, map, false, true, None, Some, IfSome, MatchOption};
 ghost use Rattle.std.specs.Io.KnownBytes.{Appends};
 ghost use Rattle.gateway_theory.specs.Replies.{ReplyValue};
+ghost use Rattle.connections.specs.Progress.{Advances};
 ghost use Rattle.connections.specs.Told.{Tells};
 ghost use Rattle.connections.specs.Writes.{End, Writes, WritesToItsEnd, goes_on, calls_of};
 
@@ -41,9 +42,10 @@ pub fn write_and_hand_on<R: Wait, W: Write, Q: ReplyQueue, K: Keeping>(
     kept: &mut K,
 )
     // they are known to the proof alone
-    ensures { (written : List ReplyValue) × Tells (K.told kept.old) (K.told kept.new) written
+    ensures written { (written : List ReplyValue) × Tells (K.told kept.old) (K.told kept.new) written
         × WritesToItsEnd conn (W.contents writer.old) (W.contents writer.new)
         (Q.told replies.old) (Q.told replies.new) written }
+    ensures progress { Advances (Q.progress replies.old) (Q.progress replies.new) }
 {
     write_all(rt, writer, conn, replies, kept);
     replies.close(rt);
@@ -57,10 +59,11 @@ fn write_all<R: Wait, W: Write, Q: ReplyQueue, K: Keeping>(
     queue: &mut Q,
     kept: &mut K,
 )
-    ensures { (end : End) × (written : List ReplyValue) × (goes_on end ≡ false)
+    ensures written { (end : End) × (written : List ReplyValue) × (goes_on end ≡ false)
         × Tells (K.told kept.old) (K.told kept.new) written
         × Writes conn 0 (W.contents writer.old) (W.contents writer.new)
         (Q.told queue.old) (Q.told queue.new) written end [] }
+    ensures progress { Advances (Q.progress queue.old) (Q.progress queue.new) }
 {
     let mut request = 0;
     for _ in rt.forever() {
@@ -81,11 +84,12 @@ fn write_next<R: Wait, W: Write, Q: ReplyQueue, K: Keeping>(
     queue: &mut Q,
     kept: &mut K,
 ) -> Option<u64>
-    ensures { (end : End) × (written : List ReplyValue)
+    ensures written { (end : End) × (written : List ReplyValue)
         × MatchOption result (goes_on end ≡ false) (λ next. (goes_on end ≡ true) × (next ≡ request + length written))
         × Tells (K.told kept.old) (K.told kept.new) written
         × Writes conn request (W.contents writer.old) (W.contents writer.new)
         (Q.told queue.old) (Q.told queue.new) written end [] }
+    ensures progress { Advances (Q.progress queue.old) (Q.progress queue.new) }
 {
     let Some(reply) = queue.next(rt) else {
         return None;

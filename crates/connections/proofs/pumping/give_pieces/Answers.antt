@@ -1,17 +1,18 @@
 use Rattle.std.proofs.Common.{arith}
-use Rattle.connections.proofs.PumpLemmas.{Pumps-refl, Pumps-more, Pumps-most}
+use Rattle.connections.proofs.PumpLemmas.{Pumps-refl, Pumps-most}
+use Rattle.connections.proofs.ProgressLemmas.{Pumps-came, Pumps-went}
 use Rattle.connections.proofs.pumping.give_pieces.Goals as goal
 
 pub loop-read-init : goal.loop-read-init
 loop-read-init g c = Pumps-refl _ _ _
 
-pub returns-in-Piece : goal.returns-in-Piece
-returns-in-Piece g c =
-    let brought = rw c.in-Piece.is at c.read_piece.ensures in
-    let one = Pumps-more _ _ _ _ _ _ _ _ _ _ _ _ c.loop-read.invariant brought.1 brought.2 brought.3 brought.4 in
+pub returns-in_default : goal.returns-in_default
+returns-in_default g c =
+    let one = Pumps-came _ _ _ _ _ _ _ _ _ _ c.read_piece-came.result c.loop-read.invariant c.read_piece-came.ensures in
     Pumps-most _ _ _ _ _ _ _ _ _ _ one (omega arith)
 
 pub loop-read-preserved : goal.loop-read-preserved
 loop-read-preserved g c =
-    let brought = rw c.in-Piece-Go.field-0-is at rw c.in-Piece-Go.is at c.read_piece.ensures in
-    Pumps-more _ _ _ _ _ _ _ _ _ _ _ _ c.loop-read.invariant brought.1 brought.2 brought.3 brought.4
+    let turn = c.in-Piece-Go in
+    let goes = rw turn.is at turn.field-0-is in
+    Pumps-went _ _ _ _ _ _ _ _ _ _ _ _ turn.is goes c.loop-read.invariant c.read_piece-came.ensures
