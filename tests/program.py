@@ -532,19 +532,25 @@ def case_asked_at_once(room):
     room.ends("the program", run, DONE)
 
 
-def case_trickle(room):
-    """a call ends at its deadline also where its backend goes on sending, a byte at a time"""
+def calls_end_at_deadlines(room, backend, workers, calls):
+    """Makes so many calls of 200 milliseconds, one after the other, and sees that each ends so."""
     took = []
-    with Trickle("1" * 60_000, pause=0.003, piece=1) as backend:
-        run, port = room.serve(plan([backend.port], 1, timeout=200), workers=2, streams=1)
-        with client(port) as stream:
-            for _ in range(3):
-                began = time.monotonic()
-                call(stream)
-                expect("the status", read_reply(stream)[0], "504")
-                took.append(time.monotonic() - began)
+    run, port = room.serve(plan([backend], 1, timeout=200), workers=workers, streams=1)
+    with client(port) as stream:
+        for _ in range(calls):
+            began = time.monotonic()
+            call(stream)
+            expect("the status", read_reply(stream)[0], "504")
+            took.append(time.monotonic() - began)
     expect(f"whether none came early, {min(took):.4f} seconds", min(took) > 0.198, True)
     expect(f"whether one came within a second, {min(took):.4f} seconds", min(took) < 0.8, True)
+    return run
+
+
+def case_trickle(room):
+    """a call ends at its deadline also where its backend goes on sending, a byte at a time"""
+    with Trickle("1" * 60_000, pause=0.003, piece=1) as backend:
+        run = calls_end_at_deadlines(room, backend.port, workers=2, calls=3)
     room.ends("the program", run, DONE)
 
 
@@ -620,17 +626,8 @@ def full_listener():
 
 def case_unreachable_to_its_deadline(room):
     """a call whose backend takes no connection ends at its deadline"""
-    took = []
     with full_listener() as full:
-        run, port = room.serve(plan([full.getsockname()[1]], 1, timeout=200), workers=4, streams=1)
-        with client(port) as stream:
-            for _ in range(10):
-                began = time.monotonic()
-                call(stream)
-                expect("the status", read_reply(stream)[0], "504")
-                took.append(time.monotonic() - began)
-    expect(f"whether none came early, {min(took):.4f} seconds", min(took) > 0.198, True)
-    expect(f"whether one came within a second, {min(took):.4f} seconds", min(took) < 0.8, True)
+        run = calls_end_at_deadlines(room, full.getsockname()[1], workers=4, calls=10)
     room.ends("the program", run, DONE)
 
 
