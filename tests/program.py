@@ -609,11 +609,21 @@ def case_one_door(room):
             busy.join()
 
 
+def pace_of(port):
+    """The place at which the gateway keeps how quick the backend at this port was."""
+    number = 0
+    for byte in f"127.0.0.1:{port}".encode():
+        number = number * 31 + byte
+    return number % 64
+
+
 @contextlib.contextmanager
-def full_listener():
-    """A socket that listens, but at which no more connections are made: as many wait to be accepted as may."""
+def full_listener(is_fit=lambda port: True):
+    """A socket that listens, at a port that fits, but accepts nothing: as many connections wait as may."""
     with contextlib.ExitStack() as opened:
-        made = opened.enter_context(socket.create_server(("127.0.0.1", 0), backlog=0))
+        made = None
+        while made is None or not is_fit(made.getsockname()[1]):
+            made = opened.enter_context(socket.create_server(("127.0.0.1", 0), backlog=0))
         while True:
             stream = opened.enter_context(socket.socket())
             stream.settimeout(0.5)
@@ -647,6 +657,24 @@ def case_unreachable(room):
                 stream.shutdown(socket.SHUT_WR)
                 expect("a hang-up", read_reply(stream)[0], "499")
                 sees_end("the stream", stream)
+
+
+def case_two_at_one_place(room):
+    """a backend that takes no connection is not taken for a near one that the gateway keeps at the same place"""
+    backend = Backend("1")
+    with full_listener(lambda port: pace_of(port) == pace_of(backend.port)) as full:
+        silent = json.loads(plan([full.getsockname()[1]], 1))[0]
+        plans = [{**silent, "path": "/full"}, *json.loads(plan([backend.port], 1))]
+        _run, port = room.serve(json.dumps(plans).encode(), workers=4)
+        with client(port) as stream:
+            for _ in range(5):
+                call(stream)
+                expect("the reply", read_reply(stream), ("200", b'{"b0":1}'))
+            call(stream, path="/full")
+            time.sleep(0.1)
+            stream.shutdown(socket.SHUT_WR)
+            expect("a hang-up", read_reply(stream)[0], "499")
+            sees_end("the stream", stream)
 
 
 def case_waited(room):

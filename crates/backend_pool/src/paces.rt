@@ -2,7 +2,7 @@ ghost use Rattle.std.specs.Prelude.{◌≡◌, ◌<◌};
 
 use std::time::Duration;
 
-/// So many backends are told apart, by a number that is made of the address.
+/// So many backends are known at once. Each has its place, by a number that is made of its address.
 const PACES: usize = 64;
 
 /// A backend that takes longer than this on average is slow, in milliseconds.
@@ -20,8 +20,8 @@ const NEAR: u64 = 250;
 /// It is taken for no farther than this, in microseconds.
 const FARTHEST: u64 = 1_000;
 
-/// How quick backends were of late, as far as connections' own threads asked them. Two whose addresses come to one
-/// number are taken for one.
+/// How quick backends were of late, as far as connections' own threads asked them. Of two that come to one place the
+/// one that was asked last is known.
 #[derive(Drop)]
 pub struct Paces {
     at: [Pace; PACES],
@@ -30,6 +30,8 @@ pub struct Paces {
 /// How quick a backend was.
 #[derive(Clone, Copy, Debug)]
 struct Pace {
+    // whose it is
+    number: u64,
     // eight times what it took on average, the last times counting most, in milliseconds
     answering: u64,
     // how long it takes to connect to it at best, in microseconds: on a busy machine it often takes longer; 0 where nobody did
@@ -38,15 +40,34 @@ struct Pace {
     slow_until: u64,
 }
 
+impl Pace {
+    /// A backend that nobody has asked: it was not slow, and counts as near.
+    fn unknown(number: u64) -> Pace {
+        Pace {
+            number,
+            answering: 0,
+            connecting: 0,
+            slow_until: 0,
+        }
+    }
+}
+
 impl Paces {
-    /// None was slow, and all are near.
+    /// None is known.
     pub(crate) fn new() -> Paces {
         Paces {
-            at: [Pace {
-                answering: 0,
-                connecting: 0,
-                slow_until: 0,
-            }; PACES],
+            at: [Pace::unknown(0); PACES],
+        }
+    }
+
+    /// What is known of a backend.
+    fn of(&self, address: &str) -> Pace {
+        let number = number_of(address);
+        let pace = self.at[place_of(number)];
+        if pace.number == number {
+            pace
+        } else {
+            Pace::unknown(number)
         }
     }
 
@@ -59,8 +80,7 @@ impl Paces {
         connecting: Option<Duration>,
         moment: u64,
     ) {
-        let place = place_of(address);
-        let pace = self.at[place];
+        let pace = self.of(address);
         let before = pace.answering.min(8 * QUICK);
         let answering = (before - before / 8).saturating_add(milliseconds.min(SLOWEST));
         let slow_until = if answering > 8 * QUICK {
@@ -68,7 +88,8 @@ impl Paces {
         } else {
             pace.slow_until
         };
-        self.at[place] = Pace {
+        self.at[place_of(pace.number)] = Pace {
+            number: pace.number,
             answering,
             connecting: match connecting {
                 Some(took) => at_best(pace.connecting, micros_of(took)),
@@ -80,17 +101,17 @@ impl Paces {
 
     /// Whether the backend counts as slow at this moment.
     pub(crate) fn is_slow(&self, address: &str, moment: u64) -> bool {
-        moment < self.at[place_of(address)].slow_until
+        moment < self.of(address).slow_until
     }
 
     /// Whether it takes next to no time to connect to the backend, as far as is known.
     pub(crate) fn is_near(&self, address: &str) -> bool {
-        self.at[place_of(address)].connecting <= NEAR
+        self.of(address).connecting <= NEAR
     }
 
     /// Whether that is known.
     pub(crate) fn is_known(&self, address: &str) -> bool {
-        0 < self.at[place_of(address)].connecting
+        0 < self.of(address).connecting
     }
 }
 
@@ -110,13 +131,18 @@ fn at_best(before: u64, value: u64) -> u64 {
     }
 }
 
-/// The number of an address.
-fn place_of(address: &str) -> usize
+/// The number of an address. Addresses that differ in a few digits alone have different ones.
+fn number_of(address: &str) -> u64 {
+    let mut sum: u64 = 0;
+    for byte in address.as_bytes() {
+        sum = sum.wrapping_mul(31).wrapping_add(u64::from(*byte));
+    }
+    sum
+}
+
+/// The place of a number.
+fn place_of(number: u64) -> usize
     ensures { result < 64 }
 {
-    let mut sum: u32 = 0;
-    for byte in address.as_bytes() {
-        sum = sum.wrapping_mul(31).wrapping_add(u32::from(*byte));
-    }
-    (sum % 64) as usize
+    (number % 64) as usize
 }
