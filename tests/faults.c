@@ -8,6 +8,7 @@
  *   reset        the peer has reset the stream
  *   short        one byte is moved, where more was asked for
  *   interrupted  a signal came before anything was moved
+ *   hasty        it waits for nothing, where it would wait for a limited time (each such `receive` or `wait`, whatever N)
  *
  * As it fails, a byte is written to the descriptor that the variable FAULT_TOLD names, if it is set. Calls that libraries
  * make are left alone, so that N does not depend on them. It is for glibc alone. */
@@ -21,6 +22,7 @@
 #include <string.h>
 #include <sys/socket.h>
 #include <sys/syscall.h>
+#include <sys/time.h>
 #include <unistd.h>
 
 extern void *__libc_malloc(size_t size);
@@ -69,6 +71,8 @@ static int fails(const char *name, void *caller) {
 
 static int is(const char *word) { return strcmp(how, word) == 0; }
 
+static int is_hasty(const char *name) { return is("hasty") && strcmp(name, call) == 0; }
+
 /* Sets the fault of a call that moves nothing. */
 static int faulty(void) {
     errno = is("interrupted") ? EINTR : is("reset") ? ECONNRESET : is("refused") ? ENOMEM : EIO;
@@ -108,7 +112,17 @@ ssize_t read(int file, void *to, size_t most) {
     MOVE("read", most, NEXT(ssize_t, "read", int, void *, size_t)(file, to, most));
 }
 
+/* Whether a stream's reads wait for a limited time. */
+static int is_timed(int file) {
+    struct timeval time = {0};
+    socklen_t length = sizeof time;
+    return getsockopt(file, SOL_SOCKET, SO_RCVTIMEO, &time, &length) == 0 && (time.tv_sec || time.tv_usec);
+}
+
 ssize_t recv(int file, void *to, size_t most, int flags) {
+    if (is_hasty("receive") && is_timed(file)) {
+        flags |= MSG_DONTWAIT;
+    }
     MOVE("receive", most, NEXT(ssize_t, "recv", int, void *, size_t, int)(file, to, most, flags));
 }
 
@@ -129,5 +143,11 @@ int connect(int file, const struct sockaddr *to, socklen_t length) {
 }
 
 int poll(struct pollfd *files, nfds_t count, int most) {
-    return FAILS("wait") ? faulty() : NEXT(int, "poll", struct pollfd *, nfds_t, int)(files, count, most);
+    int hasty = is_hasty("wait") && most > 0;
+    int ready = FAILS("wait") ? faulty() : NEXT(int, "poll", struct pollfd *, nfds_t, int)(files, count, hasty ? 0 : most);
+    if (hasty && ready == 0) {
+        errno = ETIMEDOUT;
+        return -1;
+    }
+    return ready;
 }

@@ -1,6 +1,6 @@
 """The cases of tests/faults, which starts this: python3 tests/faults.py PROGRAM
 
-Each case is a function, named by its first line, over the helpers of tests/program.py. In each one call of the program
+Each case is a function, named by its first line, over the helpers of tests/program_room.py. In each one call of the program
 fails, the first, the second and so on, until there are none so many."""
 import contextlib
 import json
@@ -9,9 +9,10 @@ import signal
 import subprocess
 import sys
 import tempfile
+import time
 
 import program
-from program import DONE, IO, Wrong, call, client, end_of, expect, listener, plan, read_to, reply
+from program_room import DONE, IO, Wrong, call, client, end_of, expect, full_listener, listener, plan, read_to, reply
 
 HERE = os.path.dirname(os.path.abspath(__file__))
 
@@ -179,6 +180,30 @@ def case_serve_short(room):
     """serve: each read and write of a stream short"""
     for what in ("receive", "send"):
         serve_each(room, what, "short", all_answered)
+
+
+def case_serve_looks_often(room):
+    """serve: a call without a deadline waits for a silent backend, however often its thread looks for the reply"""
+    with listener() as backend:
+        plans = plan([backend.getsockname()[1]], 1)
+        _run, port = room.serve(plans, variables={"LD_PRELOAD": LIBRARY[0], "FAULT": "receive 0 hasty"})
+        with client(port) as stream:
+            call(stream)
+            with backend.accept()[0] as asked:
+                # it looks a hundred thousand times a second
+                time.sleep(10)
+                asked.sendall(reply("1"))
+                expect("the reply", read_to(stream, len(ANSWER)), ANSWER)
+
+
+def case_serve_tries_often(room):
+    """serve: a call without a deadline ends where its backend takes no connection, however often that is tried"""
+    with full_listener() as full:
+        plans = plan([full.getsockname()[1]], 1)
+        _run, port = room.serve(plans, variables={"LD_PRELOAD": LIBRARY[0], "FAULT": "wait 0 hasty"})
+        with client(port) as stream:
+            call(stream)
+            expect("the status", read_to(stream, 12), b"HTTP/1.1 503")
 
 
 def is_apart(found):

@@ -119,11 +119,32 @@ def free_port():
         return taken.getsockname()[1]
 
 
+# a body that the thread of a connection leaves to a worker
+LONG_BODY = json.dumps("x" * 5_000)
+
+
 def listener():
     """A socket that listens at a port of its own."""
     made = socket.create_server(("127.0.0.1", 0))
     made.settimeout(WAIT)
     return made
+
+
+@contextlib.contextmanager
+def full_listener(is_fit=lambda port: True):
+    """A socket that listens, at a port that fits, but accepts nothing: as many connections wait as may."""
+    with contextlib.ExitStack() as opened:
+        made = None
+        while made is None or not is_fit(made.getsockname()[1]):
+            made = opened.enter_context(socket.create_server(("127.0.0.1", 0), backlog=0))
+        while True:
+            stream = opened.enter_context(socket.socket())
+            stream.settimeout(0.5)
+            try:
+                stream.connect(made.getsockname())
+            except socket.timeout:
+                break
+        yield made
 
 
 def client(port):

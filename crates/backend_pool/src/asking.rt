@@ -1,4 +1,4 @@
-ghost use Rattle.std.specs.Prelude.{◌≡◌, ℕ, List, [], None, IsSome};
+ghost use Rattle.std.specs.Prelude.{◌≡◌, ℕ, List, [], None, IsSome, IsTrue};
 ghost use Rattle.http_pieces.specs.ReplyReader.{HasReadReply};
 ghost use Rattle.backend_pool.specs.Asking.{IsNoReply, ReadsStream};
 ghost use Rattle.backend_pool.specs.Exchange.{ReadsInTurn};
@@ -28,7 +28,7 @@ pub struct Asking<S> {
     connecting: Option<Duration>,
     step: Step<S>,
     replies: ReplyReader,
-    // how often the stream was read
+    // how often a read of the stream brought something
     reads: u32,
 }
 
@@ -102,13 +102,36 @@ impl<S: Read + Drop> Asking<S> {
         (job, since, connecting)
     }
 
+    /// The moment at which its job expires, in milliseconds, if it does.
+    pub fn deadline(&self) -> Option<u64>
+        ensures { result ≡ self.now.job.deadline }
+    {
+        self.job.deadline()
+    }
+
+    /// Whether nobody tried to connect to its backend yet.
+    pub fn is_new(&self) -> bool
+        ensures { IsTrue result → self.now.stream ≡ None }
+    {
+        matches!(self.step, Step::Taken(0))
+    }
+
+    /// Whether its request was not sent, and is yet to be.
+    pub fn is_unsent(&self) -> bool
+        ensures { IsTrue result → self.now.stream ≡ None }
+    {
+        matches!(self.step, Step::Taken(_))
+    }
+
     /// Connects to the backend and sends the request, unless that was done. The gate is told before. A backend that
-    /// does not accept in time is tried again in the next turn, for twice as long.
+    /// does not accept in time may be tried again, for twice as long, up to a second, and 128 times. It is waited for
+    /// no longer than up to the deadline, a moment in milliseconds.
     pub fn send<R: Net<Stream = S> + Clock, G: Gate>(
         &mut self,
         rt: &R,
         backend: &RemoteBackend,
         gate: &G,
+        deadline: Option<u64>,
     )
         ensures job { self.new.job ≡ self.old.job }
         ensures since { self.new.since ≡ self.old.since }
@@ -122,7 +145,7 @@ impl<S: Read + Drop> Asking<S> {
         if tries == 0 {
             gate.before(rt, &self.job);
         }
-        self.step = match backend.begin(rt, &self.job, tries, self.is_near) {
+        self.step = match backend.begin(rt, &self.job, tries, self.is_near, deadline) {
             Ok(Some((stream, took))) => {
                 self.connecting = Some(took);
                 Step::Sent(stream)
@@ -167,11 +190,10 @@ fn read_in_turn<S: Read>(
         if *reads >= MOST_READS {
             return Some(Asked::Lost);
         }
-        *reads = reads.saturating_add(1);
         match read_once(stream, replies) {
             ReplyRead::Ended(asked) => return Some(asked),
             ReplyRead::Nothing => return None,
-            ReplyRead::More => {}
+            ReplyRead::More => *reads = reads.saturating_add(1),
         }
     }
     None

@@ -45,7 +45,8 @@ use whole_pieces::deliver;
 /// The core with its totals: of the bytes that came, the jobs that were taken, and the results.
 ///
 /// Each book stands for some list of events. Its calls `opening`, `piece`, `hang_up`, `moment`, `result`, `starved`,
-/// `drain` and `closing` are one event each; `take_job` and `take_reply` are none.
+/// `drain` and `closing` are one event each; `take_job` and `take_reply` are none. L, J and K are the ledgers of bytes, jobs
+/// and results.
 #[derive(Drop)]
 pub struct Book<H, L: Ledger, J: Ledger, K: Ledger> {
     core: Core<H>,
@@ -221,7 +222,7 @@ impl<H: ReplyHook + Drop, L: Ledger, J: Ledger, K: Ledger> Book<H, L, J, K> {
         Ok(self.core.result(call, branch, outcome))
     }
 
-    /// A worker found no memory for what a branch ended with, whatever that was. Adds 1 to the total of results.
+    /// Whoever asked a backend found no memory for what the branch ended with, whatever that was. Adds 1 to the total of results.
     pub fn starved(
         &mut self,
         call: &CallId,

@@ -14,7 +14,7 @@ pub fn milliseconds_since(rt: &impl Clock, start: Instant) -> Option<u64> {
 }
 
 impl<H: ReplyHook + Drop, L: Ledger, J: Ledger, K: Ledger> Shared<H, L, J, K> {
-    /// Hands in the moment that it is, in a hold of its own, where this counts moments itself. Whoever brings something from
+    /// Hands in the present moment, in a hold of its own, where this counts moments itself. Whoever brings something from
     /// outside does so first: then a call arrives at its true moment, and a deadline that has passed decides.
     pub fn tick<R: Clock + Wait>(&self, rt: &R) {
         let Some(start) = self.start else {
@@ -52,9 +52,9 @@ impl<H: ReplyHook + Drop, L: Ledger, J: Ledger, K: Ledger> Shared<H, L, J, K> {
         self.open_doors(&due);
     }
 
-    /// One turn of the clock's side: hands the moment in, and waits until the least deadline that is left, or until somebody
-    /// brings a sooner one. False once it is shut.
-    pub fn turn<R: Clock + Wait>(&self, rt: &R, moment: u64) -> bool {
+    /// For the clock's side: hands the moment in, and waits until the least deadline that is left, or until somebody brings
+    /// a sooner one. False once it is shut.
+    pub fn hand_in_and_wait<R: Clock + Wait>(&self, rt: &R, moment: u64) -> bool {
         self.hand_in(rt, moment);
         self.wait_for_deadline(rt, moment)
     }

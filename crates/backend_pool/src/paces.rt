@@ -2,7 +2,7 @@ ghost use Rattle.std.specs.Prelude.{◌≡◌, ◌<◌};
 
 use std::time::Duration;
 
-/// So many backends are known at once. Each has its place, by a number that is made of its address.
+/// So many backends are known at once, each at an index that is made of its address.
 const PACES: usize = 64;
 
 /// A backend that takes longer than this on average is slow, in milliseconds.
@@ -20,7 +20,7 @@ const NEAR: u64 = 250;
 /// It is taken for no farther than this, in microseconds.
 const FARTHEST: u64 = 1_000;
 
-/// How quick backends were of late, as far as connections' own threads asked them. Of two that come to one place the
+/// How quick backends were of late, as far as connections' own threads asked them. Of two that come to one index the
 /// one that was asked last is known.
 #[derive(Drop)]
 pub struct Paces {
@@ -34,7 +34,8 @@ struct Pace {
     number: u64,
     // eight times what it took on average, the last times counting most, in milliseconds
     answering: u64,
-    // how long it takes to connect to it at best, in microseconds: on a busy machine it often takes longer; 0 where nobody did
+    // how long it takes to connect to it at best, in microseconds: on a busy machine it often takes longer; 0 where nobody
+    // tried
     connecting: u64,
     // the moment up to which it counts as slow
     slow_until: u64,
@@ -63,7 +64,7 @@ impl Paces {
     /// What is known of a backend.
     fn of(&self, address: &str) -> Pace {
         let number = number_of(address);
-        let pace = self.at[place_of(number)];
+        let pace = self.at[index_of(number)];
         if pace.number == number {
             pace
         } else {
@@ -71,8 +72,8 @@ impl Paces {
         }
     }
 
-    /// Notes at this moment that a backend took so many milliseconds, and how long it took to connect to it, if that was
-    /// done.
+    /// Notes at this moment that a backend took so many milliseconds, and how long it took to connect to it, unless it
+    /// accepted no connection.
     pub(crate) fn note(
         &mut self,
         address: &str,
@@ -88,13 +89,10 @@ impl Paces {
         } else {
             pace.slow_until
         };
-        self.at[place_of(pace.number)] = Pace {
+        self.at[index_of(pace.number)] = Pace {
             number: pace.number,
             answering,
-            connecting: match connecting {
-                Some(took) => at_best(pace.connecting, micros_of(took)),
-                None => pace.connecting,
-            },
+            connecting: at_best(pace.connecting, connecting.map_or(FARTHEST, micros_of)),
             slow_until,
         };
     }
@@ -140,8 +138,8 @@ fn number_of(address: &str) -> u64 {
     sum
 }
 
-/// The place of a number.
-fn place_of(number: u64) -> usize
+/// The index of a number.
+fn index_of(number: u64) -> usize
     ensures { result < 64 }
 {
     (number % 64) as usize

@@ -57,15 +57,17 @@ impl Backend for RemoteBackend {
 }
 
 impl RemoteBackend {
-    /// Connects to the job's backend and sends the request, for who can't wait for long: a read of the stream then
-    /// waits for a turn at most. Gives the stream, and how long connecting took. `Ok(None)` where the backend did not
-    /// accept in time, after so many tries. `Lost` where the job is not wanted, or its backend can't be reached.
+    /// Connects to the job's backend and sends the request, for who can't wait for long, nor beyond the deadline: a read
+    /// of the stream then waits for a turn at most. Gives the stream, and how long connecting took. `Ok(None)` where the
+    /// backend did not accept in time, after so many tries. `Lost` where the job is not wanted, or its backend can't be
+    /// reached.
     pub(crate) fn begin<R: Net + Clock>(
         &self,
         rt: &R,
         job: &Job,
         tries: u32,
         is_near: bool,
+        deadline: Option<u64>,
     ) -> Result<Option<(R::Stream, Duration)>, Asked>
         ensures { IfErr result (λ asked. IsNoReply (Some asked)) }
     {
@@ -75,7 +77,7 @@ impl RemoteBackend {
         let Ok(request) = self.request_of(job) else {
             return Err(Asked::NoMemory);
         };
-        let until = self.until(job.deadline(), 0);
+        let until = self.until(deadline, 0);
         // without a limit it takes three system calls less
         let time = if is_near && until.is_none() && tries == 0 {
             None
@@ -84,7 +86,7 @@ impl RemoteBackend {
         };
         match send_within(rt, job.address(), request.as_slice(), until, time) {
             Ok(sent) => Ok(Some(sent)),
-            Err(error) if error.kind() == ErrorKind::TimedOut => Ok(None),
+            Err(error) if is_to_be_tried_again(error.kind(), tries, time) => Ok(None),
             Err(_) => Err(Asked::Lost),
         }
     }
@@ -107,6 +109,9 @@ const TURN: u64 = 8;
 
 /// It waits no longer than this for a backend to accept, in milliseconds.
 const LONGEST: u64 = 1_000;
+
+/// A backend that did not accept at so many tries can't be reached.
+const MOST_TRIES: u32 = 128;
 
 /// A request of so many bytes fits a packet: nothing waits to be sent behind it.
 const PACKET: usize = 1_200;
@@ -148,6 +153,11 @@ fn time_of(tries: u32) -> Duration {
     Duration::from_millis((TURN << tries.min(10)).min(LONGEST))
 }
 
+/// Whether a backend that did not accept in this time may still do so. Without a limit the system itself gave up.
+fn is_to_be_tried_again(kind: ErrorKind, tries: u32, time: Option<Duration>) -> bool {
+    kind == ErrorKind::TimedOut && time.is_some() && tries < MOST_TRIES
+}
+
 /// Tries each of the address's own addresses in turn, and waits so long for each at most, if there is a limit. `TimedOut`
 /// where none accepted, and one did not answer.
 fn open_within<R: Net + Clock>(
@@ -186,11 +196,24 @@ fn connect<'a, R: Net + Clock>(
     Ok(TimedStream::new(rt, stream, until))
 }
 
-/// Tries each of the address's own addresses in turn (RFC 9110, section 4.3.3).
+/// So many of the addresses that a name has are tried at most.
+const MOST_ADDRESSES: u32 = 32;
+
+/// Tries each of the address's own addresses in turn (RFC 9110, section 4.3.3). If another follows, that has half of the
+/// time which is left.
 fn open<R: Net + Clock>(rt: &R, address: &str, until: Option<Instant>) -> io::Result<R::Stream> {
-    for at in address.to_socket_addrs(rt)? {
+    let mut addresses = address.to_socket_addrs(rt)?.peekable();
+    for _address in 0..MOST_ADDRESSES {
+        let Some(at) = addresses.next() else {
+            break;
+        };
+        let is_last = addresses.peek().is_none();
         let tried = match time_left(rt, until)? {
-            Some(left) => TcpStream::connect_timeout(rt, &at, left),
+            Some(left) => TcpStream::connect_timeout(
+                rt,
+                &at,
+                if is_last { left } else { half(left) },
+            ),
             None => TcpStream::connect(rt, at),
         };
         if tried.is_ok() {
@@ -198,4 +221,10 @@ fn open<R: Net + Clock>(rt: &R, address: &str, until: Option<Instant>) -> io::Re
         }
     }
     Err(io::Error::from(ErrorKind::ConnectionRefused))
+}
+
+/// Half of this time, at least a millisecond.
+fn half(time: Duration) -> Duration {
+    let half = time.checked_div(2).unwrap_or(time);
+    half.max(Duration::from_millis(1))
 }

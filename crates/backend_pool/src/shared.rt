@@ -24,7 +24,7 @@ pub struct State<H, L: Ledger, J: Ledger, K: Ledger> {
     /// How quick backends were of late.
     pub(crate) paces: Paces,
     /// The latest moment that was handed in, in milliseconds.
-    pub(crate) moment: u64,
+    pub moment: u64,
     /// Until when the clock's side waits.
     pub(crate) clock: ClockWaits,
 }
@@ -41,7 +41,7 @@ pub struct Shared<H, L: Ledger, J: Ledger, K: Ledger> {
     pub(crate) replies: [Condvar; DOORS],
     /// The clock's side waits here for the least deadline, or for a sooner one.
     pub(crate) deadlines: Condvar,
-    /// The latest moment that was handed in.
+    /// The same moment as in the state, so that nobody takes the lock for one that is no later.
     pub(crate) moment: AtomicU64,
     /// From when on the moments count that `tick` hands in.
     pub(crate) start: Option<Instant>,

@@ -6,6 +6,7 @@ use crate::ledger_full::LedgerFull;
 use crate::shared::State;
 use connect_codec::Outcome;
 use gateway_core::{CallId, Job, ReplyHook};
+use std::net::SocketAddr;
 use std::sync::ledger::{Ledger, Share};
 use std::time::Duration;
 
@@ -51,7 +52,7 @@ impl<H: ReplyHook + Drop, L: Ledger, J: Ledger, K: Ledger> State<H, L, J, K> {
             Some(job) => {
                 job.call() == *call
                     && job.body().len() <= SHORT
-                    && is_numeric(job.address())
+                    && is_number(job.address())
                     && !self.paces.is_slow(job.address(), self.moment)
                     && (!beside || self.paces.is_near(job.address()))
             }
@@ -78,18 +79,13 @@ impl<H: ReplyHook + Drop, L: Ledger, J: Ledger, K: Ledger> State<H, L, J, K> {
     }
 
     /// Notes how long the job's backend took, from the moment at which the job was taken, and how long it took to connect
-    /// to it, if that was done.
+    /// to it, unless it accepted no connection.
     pub fn note_pace(&mut self, job: &Job, since: u64, connecting: Option<Duration>)
         ensures { self.new.book ≡ self.old.book }
     {
         let took = self.moment.saturating_sub(since);
         self.paces
             .note(job.address(), took, connecting, self.moment);
-    }
-
-    /// The latest moment that was handed in, in milliseconds.
-    pub fn moment(&self) -> u64 {
-        self.moment
     }
 
     /// Records how a job's branch ended; None where no memory was found for that.
@@ -121,11 +117,6 @@ impl<H: ReplyHook + Drop, L: Ledger, J: Ledger, K: Ledger> State<H, L, J, K> {
 }
 
 /// Whether the host of an address is a number, so that nobody must look it up, which may take seconds.
-fn is_numeric(address: &str) -> bool {
-    for byte in address.as_bytes() {
-        if !matches!(*byte, b'0'..=b'9' | b'.' | b':') {
-            return address.starts_with('[');
-        }
-    }
-    true
+fn is_number(address: &str) -> bool {
+    address.parse::<SocketAddr>().is_ok()
 }

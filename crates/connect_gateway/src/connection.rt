@@ -1,7 +1,7 @@
 ghost use Rattle.std.specs.Prelude.{◌≡◌};
 
 use crate::client_stream::ClientStream;
-use crate::server::{Machine, Server};
+use crate::server::{Host, Server};
 use crate::watch::Telling;
 use backend_pool::{RemoteBackend, Shares};
 use connections::{Workplace, serve_side};
@@ -36,7 +36,7 @@ impl Connection {
     /// Opens a connection for a stream, and starts the thread that serves it. None where the gateway does not open it,
     /// or where memory or a thread is refused: then the stream is closed, and nothing was written to it.
     pub(crate) fn start<
-        M: Machine + Net<Listener = TcpListener, Stream = TcpStream>,
+        M: Host + Net<Listener = TcpListener, Stream = TcpStream>,
         L: Ledger + Send + Sync + 'static,
         J: Ledger + Send + Sync + 'static,
         K: Ledger + Send + Sync + 'static,
@@ -61,7 +61,7 @@ impl Connection {
             serve_stream(&*of, conn, &client, mine);
             at_end.store(true, Ordering::SeqCst);
         };
-        match thread::spawn(&server.machine, job) {
+        match thread::spawn(&server.rt, job) {
             Ok(thread) => Some(Connection { thread, over }),
             Err(_) => {
                 server.close(conn);
@@ -74,7 +74,7 @@ impl Connection {
 
 /// Serves a connection, and ends its stream behind the last reply.
 fn serve_stream<
-    M: Machine + Net<Listener = TcpListener, Stream = TcpStream>,
+    M: Host + Net<Listener = TcpListener, Stream = TcpStream>,
     L: Ledger,
     J: Ledger,
     K: Ledger,
@@ -84,11 +84,11 @@ fn serve_stream<
     let mut writer = client.stream();
     let backend = RemoteBackend::new(server.alloc, server.watch.start());
     let mut telling = Telling {
-        rt: &server.machine,
+        rt: &server.rt,
         watch: &server.watch,
     };
-    let place = Workplace {
-        machine: &server.machine,
+    let workplace = Workplace {
+        rt: &server.rt,
         alloc: server.alloc,
         shared: &server.shared,
         conn,
@@ -96,7 +96,7 @@ fn serve_stream<
         gate: &server.watch,
     };
     // its shares are not needed any more
-    let _ = serve_side(&place, client.stream(), &mut writer, mine, &mut telling);
+    let _ = serve_side(&workplace, client.stream(), &mut writer, mine, &mut telling);
     server.watch.closed();
-    client.end(&server.machine, &server.watch);
+    client.end(&server.rt, &server.watch);
 }

@@ -1,7 +1,7 @@
 ghost use Rattle.std.specs.Prelude.{◌≡◌, ◌<◌};
 
 use crate::clock::SinceStart;
-use crate::server::{Machine, Server};
+use crate::server::{Host, Server};
 use backend_pool::{RemoteBackend, WorkerShares, worker};
 use connections::clock_side;
 use std::alloc::AllocError;
@@ -10,10 +10,10 @@ use std::sync::Arc;
 use std::sync::ledger::Ledger;
 use std::thread::{self, JoinHandle, Threads};
 
-/// Starts so many workers, the thread of the clock, and where it is to be told how the gateway stands one that does, and puts those
-/// that started into the crew, also where it fails. They end once the gateway is shut and the watch has ended.
+/// Starts so many workers, the clock's thread, and with a log the thread that tells how the gateway stands. Those that started
+/// are in the crew, also where it fails. They end once the gateway is shut and the watch has ended.
 pub(crate) fn start_crew<
-    M: Machine + Net<Listener = TcpListener, Stream = TcpStream>,
+    M: Host + Net<Listener = TcpListener, Stream = TcpStream>,
     L: Ledger + Send + Sync + 'static,
     J: Ledger + Send + Sync + 'static,
     K: Ledger + Send + Sync + 'static,
@@ -39,7 +39,7 @@ pub(crate) fn start_crew<
     }
     crew.reserve(1)?;
     crew.push_reserved(start_clock(server)?);
-    if server.watch.is_told() {
+    if server.watch.has_log() {
         crew.reserve(1)?;
         crew.push_reserved(start_teller(server)?);
     }
@@ -48,7 +48,7 @@ pub(crate) fn start_crew<
 
 /// Starts a worker, which asks backends over TCP. Its shares are dropped as it ends: nobody asks for their sum.
 fn start_worker<
-    M: Machine + Net<Listener = TcpListener, Stream = TcpStream>,
+    M: Host + Net<Listener = TcpListener, Stream = TcpStream>,
     L: Ledger + Send + Sync + 'static,
     J: Ledger + Send + Sync + 'static,
     K: Ledger + Send + Sync + 'static,
@@ -60,34 +60,34 @@ fn start_worker<
         requires { (mine.jobs.parts ≡ 1) × (mine.results.parts ≡ 1) }
     {
         let backend = RemoteBackend::new(of.alloc, of.watch.start());
-        let _ = worker(&of.machine, of.alloc, &of.shared, &backend, &of.watch, mine);
+        let _ = worker(&of.rt, of.alloc, &of.shared, &backend, &of.watch, mine);
     };
-    Ok(thread::spawn(&server.machine, job)?)
+    Ok(thread::spawn(&server.rt, job)?)
 }
 
 /// Starts the thread that hands the moments of the clock to the gateway.
 fn start_clock<
-    M: Machine,
+    M: Host,
     L: Ledger + Send + Sync + 'static,
     J: Ledger + Send + Sync + 'static,
     K: Ledger + Send + Sync + 'static,
 >(server: &Arc<Server<M, L, J, K>>) -> Result<JoinHandle<()>, AllocError> {
     let of = Arc::try_clone(server)?;
     let mut clock = SinceStart::new(server.watch.start());
-    let job = move || clock_side(&of.machine, &mut clock, &of.shared);
-    Ok(thread::spawn(&server.machine, job)?)
+    let job = move || clock_side(&of.rt, &mut clock, &of.shared);
+    Ok(thread::spawn(&server.rt, job)?)
 }
 
 /// Starts the thread that tells how the gateway stands.
 fn start_teller<
-    M: Machine,
+    M: Host,
     L: Ledger + Send + Sync + 'static,
     J: Ledger + Send + Sync + 'static,
     K: Ledger + Send + Sync + 'static,
 >(server: &Arc<Server<M, L, J, K>>) -> Result<JoinHandle<()>, AllocError> {
     let of = Arc::try_clone(server)?;
-    let job = move || of.watch.tell_standing(&of.machine, &of.shared);
-    Ok(thread::spawn(&server.machine, job)?)
+    let job = move || of.watch.tell_standing(&of.rt, &of.shared);
+    Ok(thread::spawn(&server.rt, job)?)
 }
 
 /// Waits until all these threads have ended.

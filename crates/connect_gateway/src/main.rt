@@ -14,7 +14,7 @@ mod watch;
 
 use command_line::{Task, read_words, task_of};
 use script_replay::{Fault, replay};
-use server::Machine;
+use server::Host;
 use std::fs::Files;
 use std::io::{self, Eprint};
 use std::net::{Net, TcpListener, TcpStream};
@@ -32,9 +32,9 @@ fn main(rt: HostRuntime) -> ExitCode {
     }
 }
 
-/// Does what the machine's words ask for.
+/// Does what the program's arguments ask for.
 fn run_words<
-    M: Machine
+    M: Host
         + Net<Listener = TcpListener, Stream = TcpStream>
         + AllocGlobal
         + Env

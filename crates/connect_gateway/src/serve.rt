@@ -2,7 +2,7 @@ ghost use Rattle.std.specs.Prelude.{◌≡◌, ◌+◌, ◌<◌};
 
 use crate::connection::Connection;
 use crate::crew::{join_all, start_crew};
-use crate::server::{Machine, Server};
+use crate::server::{Host, Server};
 use crate::watch::Watch;
 use backend_pool::{Blanks, Book, Shared, Shares, WorkerShares};
 use call_plan::Plans;
@@ -26,11 +26,15 @@ const MOST_STREAMS: u64 = u64::MAX - (1 << 33);
 /// them have ended. `Plans` for a plan file that is refused; `Io` where it can't be read, at an address that can't be
 /// listened at, and after a failed accept; `Memory` where the gateway or its threads can't be made.
 pub(crate) fn serve<
-    M: Machine + Net<Listener = TcpListener, Stream = TcpStream> + AllocGlobal + Files,
->(machine: M, service: &Service) -> Result<(), Fault> {
-    let alloc = machine.alloc();
-    let plans = read_plan_file(&machine, alloc, service.plans.as_str())?;
-    let listener = TcpListener::bind(&machine, service.listen.as_str())?;
+    M: Host + Net<Listener = TcpListener, Stream = TcpStream> + AllocGlobal + Files,
+>(rt: M, service: &Service) -> Result<(), Fault> {
+    let alloc = rt.alloc();
+    // if the program was started without standard streams, no socket takes their numbers: lines of the log stay out of it
+    let _input = hold(&rt);
+    let _output = hold(&rt);
+    let _error = hold(&rt);
+    let plans = read_plan_file(&rt, alloc, service.plans.as_str())?;
+    let listener = TcpListener::bind(&rt, service.listen.as_str())?;
     let blanks = Blanks {
         bytes: Blank::new(u64::MAX),
         jobs: Blank::new(u64::MAX),
@@ -41,10 +45,13 @@ pub(crate) fn serve<
         .connections
         .unwrap_or(MOST_STREAMS)
         .min(MOST_STREAMS);
-    let told = service.log;
-    serve_with::<M, Brand, Brand, Brand>(
-        machine, alloc, plans, blanks, listener, workers, most, told,
-    )
+    let has_log = service.log;
+    serve_with::<M, Brand, Brand, Brand>(rt, alloc, plans, blanks, listener, workers, most, has_log)
+}
+
+/// A descriptor that is open and of no use.
+fn hold<R: Files>(rt: &R) -> io::Result<R::File> {
+    File::open(rt, "/dev/null")
 }
 
 fn read_plan_file<R: Files>(rt: &R, alloc: Global, path: &str) -> Result<Plans, Fault> {
@@ -55,19 +62,19 @@ fn read_plan_file<R: Files>(rt: &R, alloc: Global, path: &str) -> Result<Plans, 
 /// Serves so many streams by so many workers, tells of it on standard error if that is asked for, and ends all threads that it
 /// started.
 pub(crate) fn serve_with<
-    M: Machine + Net<Listener = TcpListener, Stream = TcpStream>,
+    M: Host + Net<Listener = TcpListener, Stream = TcpStream>,
     L: Ledger + Send + Sync + 'static,
     J: Ledger + Send + Sync + 'static,
     K: Ledger + Send + Sync + 'static,
 >(
-    machine: M,
+    rt: M,
     alloc: Global,
     plans: Plans,
     blanks: Blanks,
     listener: TcpListener,
     workers: u32,
     most: u64,
-    told: bool,
+    has_log: bool,
 ) -> Result<(), Fault>
     requires names { (blanks.bytes.name ≡ L.name) × (blanks.jobs.name ≡ J.name) × (blanks.results.name ≡ K.name) }
     requires parts { (blanks.bytes.parts ≡ L.parts) × (blanks.jobs.parts ≡ J.parts)
@@ -75,7 +82,7 @@ pub(crate) fn serve_with<
     requires enough { (most < blanks.bytes.parts) × (workers + most + 1 < blanks.jobs.parts)
         × (workers + most + 1 < blanks.results.parts) }
 {
-    let start = Instant::now(&machine)?;
+    let start = Instant::now(&rt)?;
     let (book, shares) = Book::<PlainHook, L, J, K>::new(alloc, plans, blanks)?;
     let Shares {
         bytes,
@@ -94,10 +101,10 @@ pub(crate) fn serve_with<
     let server = Arc::new(
         alloc,
         Server {
-            machine,
+            rt,
             alloc,
             shared: Shared::counting_from(book, start),
-            watch: Watch::new(alloc, start, told),
+            watch: Watch::new(alloc, start, has_log),
         },
     )?;
     let mut crew = Vec::new(alloc);
@@ -105,16 +112,16 @@ pub(crate) fn serve_with<
         Ok(()) => accept_streams(&server, shares, listener, most),
         Err(_) => Err(Fault::Memory),
     };
-    server.shared.shut(&machine);
-    server.watch.end(&machine);
-    join_all(&machine, crew);
+    server.shared.shut(&rt);
+    server.watch.end(&rt);
+    join_all(&rt, crew);
     served
 }
 
 /// Accepts so many streams, or up to an accept that fails; then nobody listens any more, and it waits until all streams have
 /// ended.
 fn accept_streams<
-    M: Machine + Net<Listener = TcpListener, Stream = TcpStream>,
+    M: Host + Net<Listener = TcpListener, Stream = TcpStream>,
     L: Ledger + Send + Sync + 'static,
     J: Ledger + Send + Sync + 'static,
     K: Ledger + Send + Sync + 'static,
@@ -138,7 +145,7 @@ fn accept_streams<
             accepted = Err(Fault::Io);
             break;
         };
-        clear(&server.machine, &mut connections);
+        clear(&server.rt, &mut connections);
         let mine = Shares {
             bytes: bytes.split_off(1, 0),
             jobs: jobs.split_off(1, 0),
@@ -153,7 +160,7 @@ fn accept_streams<
     }
     drop(listener);
     for connection in connections {
-        connection.join(&server.machine);
+        connection.join(&server.rt);
     }
     accepted
 }
@@ -171,11 +178,11 @@ fn accept<M: Clock + Wait, L: Ledger, J: Ledger, K: Ledger>(
     listener: &TcpListener,
 ) -> io::Result<TcpStream> {
     let mut tries: u32 = 0;
-    for _ in server.machine.forever() {
+    for _ in server.rt.forever() {
         match listener.accept() {
             Ok((stream, _peer)) => return Ok(stream),
             Err(error) if tries >= MOST_TRIES => return Err(error),
-            Err(_) => thread::sleep(&server.machine, Duration::from_millis(PAUSE)),
+            Err(_) => thread::sleep(&server.rt, Duration::from_millis(PAUSE)),
         }
         if !server.is_asking() {
             tries = tries.saturating_add(1);

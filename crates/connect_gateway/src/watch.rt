@@ -19,7 +19,7 @@ pub(crate) struct Watch {
     alloc: Global,
     // from when on moments count
     start: Instant,
-    is_told: bool,
+    has_log: bool,
     // how many connections are open
     connections: AtomicU64,
     // how many streams linger
@@ -30,17 +30,17 @@ pub(crate) struct Watch {
     line: Mutex<()>,
     // whether nothing more is to be told of how it stands
     is_over: Mutex<bool>,
-    // who tells that waits here
+    // the thread that tells how it stands waits here
     ending: Condvar,
 }
 
 impl Watch {
     /// Nothing was counted. Moments count from that instant.
-    pub(crate) fn new(alloc: Global, start: Instant, is_told: bool) -> Watch {
+    pub(crate) fn new(alloc: Global, start: Instant, has_log: bool) -> Watch {
         Watch {
             alloc,
             start,
-            is_told,
+            has_log,
             connections: AtomicU64::new(0),
             lingering: AtomicU64::new(0),
             asking: AtomicU64::new(0),
@@ -55,9 +55,9 @@ impl Watch {
         self.start
     }
 
-    /// Whether it tells anything.
-    pub(crate) fn is_told(&self) -> bool {
-        self.is_told
+    /// Whether it tells of replies, and how the gateway stands.
+    pub(crate) fn has_log(&self) -> bool {
+        self.has_log
     }
 
     /// A connection was opened.
@@ -82,7 +82,7 @@ impl Watch {
 
     /// Tells of a reply that was written.
     fn tell_reply<R: Clock + Wait + Eprint>(&self, rt: &R, reply: &Reply) {
-        if !self.is_told {
+        if !self.has_log {
             return;
         }
         let moment = milliseconds_since(rt, self.start).unwrap_or(0);

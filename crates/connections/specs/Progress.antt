@@ -1,4 +1,4 @@
--- What who gives replies has done meanwhile: what it read of a client's stream, and the jobs that it asked for.
+-- What a connection's thread did between two points: how it read the client's stream, and which jobs it asked for.
 use Rattle.std.specs.Prelude.{◌≡◌, ℕ, ◌+◌, ◌≤◌, Bool, true, false, List, [], ◌∷◌, Option, None, Some, ⊤}
 use Rattle.connections.specs.declared.inlet.Fed.{Fed}
 use Rattle.connections.specs.declared.inlet.Fed.TheVariants.{Go}
@@ -72,7 +72,7 @@ pub record Progress : Type 0 where
 abbrev pub progress_of : ReadSoFar → JobsSoFar → Progress
 progress_of client own = record { client = client; own = own }
 
--- it has read and asked so, where it tells it
+-- between two points it read and asked so, where that is told
 abbrev pub Advances : Option Progress → Option Progress → Type 0
 Advances None new = ⊤
 Advances (Some a) None = ⊥

@@ -27,10 +27,10 @@ pub enum Heard {
 
 /// Where a stream goes, piece by piece. It counts the bytes that it took, and may tell all that it was given.
 pub trait Inlet {
-    // what it was given so far, in order, where it tells it
+    // for proofs: what it was given so far, in order; None where it keeps no list
     ghost told: { Self → Option (List Heard) } = { λ _. None };
 
-    // how many bytes it took
+    // for proofs: how many bytes it took
     ghost took: { Self → ℕ };
 
     /// Takes the next piece of the stream, unless it answers `Full`.
@@ -38,7 +38,7 @@ pub trait Inlet {
         ensures told { Tells (told self.old) (told self.new) (Heard.Piece bytes.now result ∷ []) }
         ensures took { took self.new ≡ took self.old + length (taken_of bytes.now result) };
 
-    /// Takes that the peer hung up: the stream brings nothing more.
+    /// Is told that the peer hung up: the stream brings nothing more.
     fn hang_up<R: Clock + Wait>(&mut self, rt: &R)
         ensures told { Tells (told self.old) (told self.new) (Heard.HangUp ∷ []) }
         ensures took { took self.new ≡ took self.old };

@@ -23,6 +23,6 @@ pub use keeping::Keeping;
 pub use nonblocking::NonblockingRead;
 pub use pumping::{Came, pump, read_piece};
 pub use queue::{Handed, ReplyQueue};
-pub use sides::{Served, clock_side, read_side, serve_side, write_side};
+pub use sides::{ServedConnection, clock_side, read_side, serve_side, write_side};
 pub use workplace::Workplace;
 pub use writing::{write_and_hand_on, write_replies};

@@ -9,8 +9,8 @@ use std::sync::ledger::{Ledger, Share};
 use std::sync::{MutexGuard, Wait};
 use std::time::Clock;
 
-/// Where the stream of a connection under the lock goes: each call is one hold, and one event,
-/// behind the moment that it is, which is a hold of its own.
+/// Where the stream of a connection under the lock goes: each call is one hold, and one event, behind the present moment,
+/// which is a hold of its own.
 #[derive(Drop)]
 pub(crate) struct LockInlet<'a, H, L: Ledger, J: Ledger, K: Ledger> {
     pub(crate) shared: &'a Shared<H, L, J, K>,
@@ -49,7 +49,7 @@ impl<'a, H: ReplyHook + Drop, L: Ledger, J: Ledger, K: Ledger> LockInlet<'a, H, 
         (state, fed)
     }
 
-    /// Takes that the peer hung up, and keeps the lock.
+    /// Is told that the peer hung up, and keeps the lock.
     fn end<R: Clock + Wait>(&mut self, rt: &R) -> Hold<'a, H, L, J, K>
         ensures { self.new.bytes.amount ≡ self.old.bytes.amount }
     {
@@ -64,7 +64,7 @@ impl<'a, H: ReplyHook + Drop, L: Ledger, J: Ledger, K: Ledger> LockInlet<'a, H, 
 /// The lock, held.
 pub(crate) type Hold<'a, H, L, J, K> = MutexGuard<'a, State<H, L, J, K>>;
 
-/// The same for who goes on in the hold of a piece or of the hang-up.
+/// The same, but it keeps the lock behind a piece or the hang-up, so that its user goes on in that hold.
 #[derive(Drop)]
 pub(crate) struct HeldInlet<'a, H, L: Ledger, J: Ledger, K: Ledger> {
     pub(crate) inlet: LockInlet<'a, H, L, J, K>,

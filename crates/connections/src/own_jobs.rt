@@ -88,7 +88,7 @@ impl<S: Read + Drop, J: Ledger, K: Ledger> OwnJobs<S, J, K> {
             return false;
         }
         let has_place = !self.asking.is_empty();
-        let moment = state.moment();
+        let moment = state.moment;
         let Some(job) = state.take_own(call, has_place, &mut self.jobs) else {
             return false;
         };
@@ -98,17 +98,55 @@ impl<S: Read + Drop, J: Ledger, K: Ledger> OwnJobs<S, J, K> {
         true
     }
 
-    /// Sends what was not sent, and reads of the first reply: its answer, if that has come. Else the next one is
-    /// read first in the next turn.
+    /// Sends what can be sent, and reads of the first reply: its answer, if that has come. Else the next one is the first
+    /// in the next turn. If the first backend accepts no connection, the replies of all others are read meanwhile.
     pub(crate) fn ask<M, G: Gate, H, L: Ledger>(
         &mut self,
-        place: &Workplace<'_, M, G, H, L, J, K>,
+        workplace: &Workplace<'_, M, G, H, L, J, K>,
     ) -> Option<Asked>
     where
         M: Net<Stream = S> + Clock + Wait,
         ensures { self.new ≡ self.old }
     {
-        send_all(&mut self.asking, place);
+        let many = self.send(workplace);
+        for _read in 0..many {
+            let asked = self.read_first();
+            if asked.is_some() {
+                return asked;
+            }
+        }
+        None
+    }
+
+    /// Sends the first job, unless that was done, and those that nobody tried to send yet. Answers how many are to be read
+    /// in this turn.
+    fn send<M, G: Gate, H, L: Ledger>(
+        &mut self,
+        workplace: &Workplace<'_, M, G, H, L, J, K>,
+    ) -> usize
+    where
+        M: Net<Stream = S> + Clock + Wait,
+        ensures { self.new ≡ self.old }
+    {
+        let deadline = first_deadline(&self.asking);
+        let Some(first) = self.asking.first_mut() else {
+            return 0;
+        };
+        first.send(workplace.rt, workplace.backend, workplace.gate, deadline);
+        let is_unsent = first.is_unsent();
+        send_new(&mut self.asking, workplace, deadline);
+        // once more than there are: so another one is the first then
+        if is_unsent {
+            self.asking.len().saturating_add(1)
+        } else {
+            1
+        }
+    }
+
+    /// Reads of the first reply: its answer, if that has come. Else the next one is the first.
+    fn read_first(&mut self) -> Option<Asked>
+        ensures { self.new ≡ self.old }
+    {
         let asked = self.asking.first_mut()?.read();
         if asked.is_none() {
             self.asking.rotate_left(1);
@@ -116,10 +154,10 @@ impl<S: Read + Drop, J: Ledger, K: Ledger> OwnJobs<S, J, K> {
         asked
     }
 
-    /// Records what came of the first job, in one hold. Who asks for none gives the place back.
+    /// Records what came of the first job, and keeps the lock. With the last job the place goes back.
     pub(crate) fn record<'a, M, G: Gate, H: ReplyHook + Drop, L: Ledger>(
         &mut self,
-        place: &Workplace<'a, M, G, H, L, J, K>,
+        workplace: &Workplace<'a, M, G, H, L, J, K>,
         asked: Asked,
     ) -> Hold<'a, H, L, J, K>
     where
@@ -128,13 +166,13 @@ impl<S: Read + Drop, J: Ledger, K: Ledger> OwnJobs<S, J, K> {
         ensures fewer { self.new.asked ≡ self.old.asked - 1 }
     {
         if self.asking.is_empty() {
-            return place.shared.state.lock(place.machine);
+            return workplace.shared.state.lock(workplace.rt);
         }
         let (job, since, connecting) = self.asking.remove(0).into_job();
-        place.gate.after(place.machine, &job);
-        let outcome = outcome_of(place.alloc, asked);
-        place.shared.tick(place.machine);
-        let mut state = place.shared.state.lock(place.machine);
+        workplace.gate.after(workplace.rt, &job);
+        let outcome = outcome_of(workplace.alloc, asked);
+        workplace.shared.tick(workplace.rt);
+        let mut state = workplace.shared.state.lock(workplace.rt);
         state.note_pace(&job, since, connecting);
         let recorded = state.record(&job, outcome, &mut self.results);
         self.is_full |= recorded.is_err();
@@ -174,16 +212,24 @@ fn make_room<S>(asking: &mut Vec<Asking<S>>) -> bool
     asking.len() < MOST_ASKED && asking.reserve(1).is_ok()
 }
 
-/// Connects to the backends and sends the requests that were not sent.
-fn send_all<S: Read + Drop, M, G: Gate, H, L: Ledger, J: Ledger, K: Ledger>(
+/// Connects to the backends that nobody tried yet, and sends the requests.
+fn send_new<S: Read + Drop, M, G: Gate, H, L: Ledger, J: Ledger, K: Ledger>(
     asking: &mut [Asking<S>],
-    place: &Workplace<'_, M, G, H, L, J, K>,
+    workplace: &Workplace<'_, M, G, H, L, J, K>,
+    deadline: Option<u64>,
 )
 where
     M: Net<Stream = S> + Clock + Wait,
     ensures { length asking.new ≡ length asking.old }
 {
     for asked in asking.iter_mut() {
-        asked.send(place.machine, place.backend, place.gate);
+        if asked.is_new() {
+            asked.send(workplace.rt, workplace.backend, workplace.gate, deadline);
+        }
     }
+}
+
+/// The first of their jobs' deadlines, if there is one: beyond that nobody is waited for.
+fn first_deadline<S: Read + Drop>(asking: &[Asking<S>]) -> Option<u64> {
+    asking.iter().filter_map(|asked| asked.deadline()).min()
 }

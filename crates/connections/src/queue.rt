@@ -17,10 +17,10 @@ pub enum Handed {
 
 /// Where the replies of a connection come from. It may tell what it gave, and what it did for them.
 pub trait ReplyQueue {
-    // what it was asked for so far, in order, where it tells it
+    // for proofs: what it was asked for so far, in order; None where it keeps no list
     ghost told: { Self → Option (List Handed) } = { λ _. None };
 
-    // what it has read and asked so far, where it does so itself
+    // for proofs: what it has read and asked so far, where it does so itself
     ghost progress: { Self → Option Progress } = { λ _. None };
 
     /// Waits for the connection's next reply and gives it. None where no more can come.
@@ -28,7 +28,7 @@ pub trait ReplyQueue {
         ensures told { Tells (told self.old) (told self.new) (told_by result) }
         ensures progress { Advances (progress self.old) (progress self.new) };
 
-    /// Takes that the connection's writing has ended.
+    /// Is told that the connection's writing has ended.
     fn close<R: Wait>(&mut self, rt: &R)
         ensures told { Tells (told self.old) (told self.new) (Handed.Closing ∷ []) }
         ensures progress { Advances (progress self.old) (progress self.new) };

@@ -6,7 +6,7 @@ use crate::lock_inlet::{HeldInlet, Hold};
 use crate::nonblocking::NonblockingRead;
 use crate::own_jobs::OwnJobs;
 use crate::queue::ReplyQueue;
-use crate::sides::Served;
+use crate::sides::ServedConnection;
 use crate::workplace::Workplace;
 use backend_pool::{Asked, Gate, NextReply, Shares};
 use gateway_core::{CallId, Reply, ReplyHook};
@@ -31,7 +31,7 @@ pub(crate) struct Serving<
     J: Ledger,
     K: Ledger,
 > {
-    pub(crate) place: &'a Workplace<'a, M, G, H, L, J, K>,
+    pub(crate) workplace: &'a Workplace<'a, M, G, H, L, J, K>,
     pub(crate) client: ClientReader<S, HeldInlet<'a, H, L, J, K>>,
     pub(crate) own: OwnJobs<M::Stream, J, K>,
     // the request that the next reply is to
@@ -56,7 +56,7 @@ impl<
     fn next<R: Wait>(&mut self, rt: &R) -> Option<Reply> {
         let mut state = self.begin();
         for _ in rt.forever() {
-            match state.book.take_reply(self.place.conn) {
+            match state.book.take_reply(self.workplace.conn) {
                 NextReply::Ready(reply) => {
                     self.is_idle = self.has_answered_all(&state);
                     self.let_go(state);
@@ -76,8 +76,8 @@ impl<
     }
 
     fn close<R: Wait>(&mut self, rt: &R) {
-        let mut state = self.place.shared.state.lock(rt);
-        state.book.closing(self.place.conn);
+        let mut state = self.workplace.shared.state.lock(rt);
+        state.book.closing(self.workplace.conn);
         self.let_go(state);
     }
 }
@@ -100,7 +100,7 @@ impl<
         if self.is_idle {
             self.read()
         } else {
-            self.client.hold(self.place.machine)
+            self.client.hold(self.workplace.rt)
         }
     }
 
@@ -109,17 +109,17 @@ impl<
         ensures client { Reads self.old.client self.new.client }
         ensures own { Settles self.old.own self.new.own }
     {
-        self.client.read(self.place.machine);
-        self.client.hold(self.place.machine)
+        self.client.read(self.workplace.rt);
+        self.client.hold(self.workplace.rt)
     }
 
     /// Whether each request so far has its reply, and none of these waits to be written.
     fn has_answered_all(&self, state: &Hold<'a, H, L, J, K>) -> bool {
-        state.book.is_idle(self.place.conn) && !state.book.has_news(self.place.conn)
+        state.book.is_idle(self.workplace.conn) && !state.book.has_news(self.workplace.conn)
     }
 
     fn let_go(&self, state: Hold<'a, H, L, J, K>) {
-        self.place.shared.let_go(state, self.place.conn);
+        self.workplace.shared.let_go(state, self.workplace.conn);
     }
 
     /// Does what brings the next reply nearer, where there is none and the connection has not ended.
@@ -128,16 +128,16 @@ impl<
         ensures own { Settles self.old.own self.new.own }
     {
         let mut state = state;
-        if state.book.is_idle(self.place.conn) {
+        if state.book.is_idle(self.workplace.conn) {
             self.let_go(state);
             return self.read();
         }
         let call = CallId {
-            conn: self.place.conn,
+            conn: self.workplace.conn,
             request: self.next_request,
         };
         // of the call whose reply is the next: so none is asked any more once there is a reply to be written
-        self.own.take(self.place.alloc, &call, &mut state);
+        self.own.take(self.workplace.alloc, &call, &mut state);
         if self.own.is_empty() {
             return self.wait(state);
         }
@@ -151,8 +151,8 @@ impl<
         ensures client { Reads self.old.client self.new.client }
         ensures own { Settles self.old.own self.new.own }
     {
-        match self.own.ask(self.place) {
-            Some(asked) => self.own.record(self.place, asked),
+        match self.own.ask(self.workplace) {
+            Some(asked) => self.own.record(self.workplace, asked),
             None => self.look(),
         }
     }
@@ -165,7 +165,7 @@ impl<
         ensures none { self.new.own.asked ≡ 0 }
     {
         while !self.own.is_empty() {
-            let state = self.own.record(self.place, Asked::Lost);
+            let state = self.own.record(self.workplace, Asked::Lost);
             self.let_go(state);
         }
     }
@@ -175,14 +175,14 @@ impl<
         ensures client { Reads self.old.client self.new.client }
         ensures own { Settles self.old.own self.new.own }
     {
-        let shared = self.place.shared;
+        let shared = self.workplace.shared;
         let (state, is_late) = shared.wait_a_while(
-            self.place.machine,
+            self.workplace.rt,
             state,
-            self.place.conn,
+            self.workplace.conn,
             LOOK,
         );
-        if !is_late && state.moment() < self.looked.saturating_add(LOOK) {
+        if !is_late && state.moment < self.looked.saturating_add(LOOK) {
             return state;
         }
         self.let_go(state);
@@ -194,15 +194,15 @@ impl<
         ensures client { Reads self.old.client self.new.client }
         ensures own { Settles self.old.own self.new.own }
     {
-        self.place.shared.tick(self.place.machine);
-        self.client.look(self.place.machine);
-        let state = self.client.hold(self.place.machine);
-        self.looked = state.moment();
+        self.workplace.shared.tick(self.workplace.rt);
+        self.client.look(self.workplace.rt);
+        let state = self.client.hold(self.workplace.rt);
+        self.looked = state.moment;
         state
     }
 
     /// Gives back what it was made of.
-    pub(crate) fn into_served(self) -> Served<S, L, J, K>
+    pub(crate) fn into_served(self) -> ServedConnection<S, L, J, K>
         ensures rest { S.remaining result.reader ≡ self.entry.client.rest }
         ensures parts { (result.shares.bytes.parts ≡ 1) × (result.shares.jobs.parts ≡ 1)
             × (result.shares.results.parts ≡ 1) }
@@ -212,7 +212,7 @@ impl<
             × (result.is_full ≡ self.entry.own.is_full) }
     {
         let Serving {
-            place: _,
+            workplace: _,
             client,
             own,
             next_request: _,
@@ -227,7 +227,7 @@ impl<
             jobs,
             results,
         };
-        Served {
+        ServedConnection {
             reader,
             shares,
             is_full,

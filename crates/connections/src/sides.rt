@@ -28,7 +28,7 @@ use std::time;
 
 /// Reads the stream of a connection into the gateway, by `pump`: each piece is one hold of the lock, and so is the
 /// hang-up behind the last. Gives back the share, in which the bytes are counted that were taken, and how it ended:
-/// `Stop` where the connection takes no more, `Full` where the ledger does not.
+/// `Go` where the stream ended by itself, `Stop` where the connection takes no more, `Full` where the ledger does not.
 pub fn read_side<
     R: time::Clock + Wait,
     S: Read,
@@ -80,7 +80,7 @@ pub fn write_side<R: Wait, W: Write, H: ReplyHook + Drop, L: Ledger, J: Ledger, 
 
 /// What comes of serving a connection.
 #[derive(Drop)]
-pub struct Served<S, L: Ledger, J: Ledger, K: Ledger> {
+pub struct ServedConnection<S, L: Ledger, J: Ledger, K: Ledger> {
     /// The stream that was read.
     pub reader: S,
     /// The shares, in which the bytes, jobs and results are counted.
@@ -113,12 +113,12 @@ pub fn serve_side<
     J: Ledger,
     K: Ledger,
 >(
-    place: &Workplace<'_, M, G, H, L, J, K>,
+    workplace: &Workplace<'_, M, G, H, L, J, K>,
     reader: S,
     writer: &mut W,
     shares: Shares<L, J, K>,
     kept: &mut T,
-) -> Served<S, L, J, K>
+) -> ServedConnection<S, L, J, K>
     requires { (shares.bytes.parts ≡ 1) × (shares.jobs.parts ≡ 1) × (shares.results.parts ≡ 1) }
     ensures parts { (result.shares.bytes.parts ≡ 1) × (result.shares.jobs.parts ≡ 1)
         × (result.shares.results.parts ≡ 1) }
@@ -131,7 +131,7 @@ pub fn serve_side<
     ensures grown { (shares.jobs.amount ≤ result.shares.jobs.amount)
         × (shares.results.amount ≤ result.shares.results.amount) }
     ensures written { (written : List ReplyValue)
-        × (map (λ r. r.id) written ≡ calls_of place.now.conn 0 (length written))
+        × (map (λ r. r.id) written ≡ calls_of workplace.now.conn 0 (length written))
         × Tells (T.told kept.old) (T.told kept.new) written
         × WritesOut (W.contents writer.old) (W.contents writer.new) written }
 {
@@ -140,24 +140,24 @@ pub fn serve_side<
         jobs,
         results,
     } = shares;
-    let held = HeldInlet::new(place.shared, place.conn, bytes);
+    let held = HeldInlet::new(workplace.shared, workplace.conn, bytes);
     let client = ClientReader::new(reader, held);
-    let own = OwnJobs::new(place.alloc, jobs, results);
+    let own = OwnJobs::new(workplace.alloc, jobs, results);
     let mut serving = Serving {
-        place,
+        workplace,
         client,
         own,
         next_request: 0,
         looked: 0,
         is_idle: true,
     };
-    write_and_hand_on(place.machine, writer, place.conn, &mut serving, kept);
+    write_and_hand_on(workplace.rt, writer, workplace.conn, &mut serving, kept);
     serving.give_up();
     serving.into_served()
 }
 
-/// Hands the moments of a clock to the gateway, one at each turn, each in one hold of the lock, until that is shut. A moment
-/// that is not later than the one before is not handed in. Between two turns it waits for the least deadline.
+/// Hands the moments of a clock to the gateway, one each time that it wakes, each in one hold of the lock, until that is shut.
+/// A moment that is not later than the one before is not handed in. Between two it waits for the least deadline.
 pub fn clock_side<
     R: time::Clock + Wait,
     C: Clock,
@@ -168,7 +168,7 @@ pub fn clock_side<
 >(rt: &R, clock: &mut C, shared: &Shared<H, L, J, K>) {
     for _ in rt.forever() {
         let moment = clock.now(rt);
-        if !shared.turn(rt, moment) {
+        if !shared.hand_in_and_wait(rt, moment) {
             return;
         }
     }

@@ -7,7 +7,7 @@ use std::sync::ledger::Ledger;
 #[derive(Drop)]
 pub struct Workplace<'a, M, G, H, L: Ledger, J: Ledger, K: Ledger> {
     /// Its clock, its sockets and its waiting.
-    pub machine: &'a M,
+    pub rt: &'a M,
     /// What it asks is kept on this allocator.
     pub alloc: Global,
     /// The gateway under its lock.

@@ -41,7 +41,9 @@ pub(crate) enum Complaint {
     // what is taken and will not work
     IgnoredKey,
     NoTimeout,
+    ZeroTimeout,
     AddressWithSlashes,
+    NoHost,
     NoSuchPort,
     LimitAboveBranches,
     LateTimeout,
@@ -105,7 +107,11 @@ impl Complaint {
             Complaint::NotAType => "a text belongs here, or null for no content type",
             Complaint::IgnoredKey => "no such key, so it is ignored; there is",
             Complaint::NoTimeout => "no timeout_ms: its calls wait as long as a backend lets them",
+            Complaint::ZeroTimeout => {
+                "each call ends as it arrives, with 504; leave the key out for no timeout"
+            }
             Complaint::AddressWithSlashes => "a host and a port alone, with no scheme and no //",
+            Complaint::NoHost => "there is no host before the :",
             Complaint::NoSuchPort => "there are ports from 1 to 65535",
             Complaint::LimitAboveBranches => "more than the plan has branches",
             Complaint::LateTimeout =>

@@ -35,9 +35,7 @@ fn push_warnings_of_plan<'v>(
 ) -> Result<(), AllocError> {
     push_key_warnings(alloc, lines, place, plan, &PLAN_KEYS)?;
     let branches = branches_of(plan);
-    if plan.get("timeout_ms").is_none() && !have_timeouts(branches) {
-        push_warning(alloc, lines, &Finding::at(place, Complaint::NoTimeout))?;
-    }
+    push_plan_timeout_warning(alloc, lines, place, plan, branches)?;
     if is_above(plan.get("limit"), branches.len()) {
         let found = Finding::of(
             place,
@@ -51,7 +49,26 @@ fn push_warnings_of_plan<'v>(
         let place = place.branch(k + 1);
         push_key_warnings(alloc, lines, place, branch, &BRANCH_KEYS)?;
         push_address_warnings(alloc, lines, place, branch)?;
-        push_timeout_warning(alloc, lines, place, plan.get("timeout_ms"), branch)?;
+        push_branch_timeout_warning(alloc, lines, place, plan.get("timeout_ms"), branch)?;
+    }
+    Ok(())
+}
+
+/// Adds a warning for a plan whose calls may wait for ever, or don't wait at all.
+fn push_plan_timeout_warning<'v>(
+    alloc: Global,
+    lines: &mut String,
+    place: Place<'v>,
+    plan: &'v Value,
+    branches: &[Value],
+) -> Result<(), AllocError> {
+    let timeout = plan.get("timeout_ms");
+    if timeout.is_none() && !have_timeouts(branches) {
+        push_warning(alloc, lines, &Finding::at(place, Complaint::NoTimeout))?;
+    }
+    if timeout.and_then(Value::as_u64) == Some(0) {
+        let found = Finding::of(place, "timeout_ms", timeout, Complaint::ZeroTimeout);
+        push_warning(alloc, lines, &found)?;
     }
     Ok(())
 }
@@ -79,29 +96,21 @@ fn push_address_warnings<'v>(
     branch: &'v Value,
 ) -> Result<(), AllocError> {
     let address = text_of(branch, "address");
-    if address.contains("//") {
-        let found = Finding::of(
-            place,
-            "address",
-            branch.get("address"),
-            Complaint::AddressWithSlashes,
-        );
-        push_warning(alloc, lines, &found)?;
-    }
-    if has_no_port(address) {
-        let found = Finding::of(
-            place,
-            "address",
-            branch.get("address"),
-            Complaint::NoSuchPort,
-        );
-        push_warning(alloc, lines, &found)?;
+    for (is_so, complaint) in [
+        (address.contains("//"), Complaint::AddressWithSlashes),
+        (address.starts_with(':'), Complaint::NoHost),
+        (has_no_port(address), Complaint::NoSuchPort),
+    ] {
+        if is_so {
+            let found = Finding::of(place, "address", branch.get("address"), complaint);
+            push_warning(alloc, lines, &found)?;
+        }
     }
     Ok(())
 }
 
 /// Adds a warning for a branch that expires no sooner than its call by the timeout of its plan.
-fn push_timeout_warning<'v>(
+fn push_branch_timeout_warning<'v>(
     alloc: Global,
     lines: &mut String,
     place: Place<'v>,

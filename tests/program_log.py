@@ -1,0 +1,133 @@
+"""Cases of tests/program.py: the log."""
+import json
+import os
+import threading
+import time
+
+from program_room import (
+    Backend, LONG_BODY, STRAY, WAIT, answers, call, client, expect, listener, plan, read_reply, reply, request,
+)
+
+
+def told(lines):
+    """The lines of a log that tell of replies, and those that tell how the gateway stands."""
+    parsed = [json.loads(line) for line in lines.splitlines()]
+    return [line for line in parsed if "status" in line], [line for line in parsed if "asking" in line]
+
+
+def brief(line):
+    """What a line tells, without the times."""
+    return tuple(line[key] for key in ("connection", "request", "path", "status", "code", "ended", "branch"))
+
+
+def case_log_of_each_end(room):
+    """a line of the log tells what ended each call, and when"""
+    with listener() as backend:
+        run, port = room.serve(plan([backend.getsockname()[1]], 1), streams=2, log=True)
+        with client(port) as stream:
+            began = time.time()
+            call(stream)
+            asked = backend.accept()[0]
+            time.sleep(0.3)
+            with asked:
+                asked.sendall(reply("1"))
+            expect("the first reply", read_reply(stream)[0], "200")
+            call(stream)
+            backend.accept()[0].close()
+            expect("where the backend closes", read_reply(stream)[0], "503")
+            call(stream, "Connect-Timeout-Ms: 100\r\n")
+            with backend.accept()[0]:
+                expect("at the deadline", read_reply(stream)[0], "504")
+            answers("a request that is no call", stream)
+            stream.sendall(b"GET / HTTP/1.1\r\nHost: g\r\nTransfer-Encoding: chunked\r\n\r\n")
+            expect("the refusal", read_reply(stream)[0], "411")
+        with client(port) as stream:
+            call(stream)
+            silent = backend.accept()[0]
+        with silent:
+            said = b"".join(run.stderr.readline() for _ in range(6))
+        said += run.communicate(timeout=WAIT)[1]
+    replies, _ = told(said)
+    expect("the lines", [brief(line) for line in replies], [
+        (0, 0, "/call", 200, None, "answers", None),
+        (0, 1, "/call", 503, "unavailable", "branch", "b0"),
+        (0, 2, "/call", 504, "deadline_exceeded", "deadline", None),
+        (0, 3, None, 404, None, "no call", None),
+        (0, 4, None, 411, None, "refusal", None),
+        (1, 0, "/call", 499, "canceled", "hang-up", None),
+    ])
+    took = [line["ms"] for line in replies]
+    expect(f"the milliseconds {took}", (took[0] >= 300, took[2] >= 100, took[3:5]), (True, True, [None, None]))
+    expect("the times", all(began - 1 < line["time"] / 1000 < time.time() + 1 for line in replies), True)
+    expect("the status", run.returncode, 0)
+
+
+def case_log_adds_up(room):
+    """the lines of the log are the replies that clients counted, under load"""
+    counted, counting = {}, threading.Lock()
+
+    def be_client(port):
+        with client(port) as stream:
+            for asked in range(50):
+                call(stream) if asked % 5 else stream.sendall(STRAY)
+                status = int(read_reply(stream)[0])
+                with counting:
+                    counted[status] = counted.get(status, 0) + 1
+
+    with Backend("1") as backend, open(f"{room.folder}/log", "w+b") as log:
+        run, port = room.serve(plan([backend.port] * 3, 2), workers=16, streams=40, log=True, stderr=log)
+        threads = [threading.Thread(target=be_client, args=(port,)) for _ in range(40)]
+        for thread in threads:
+            thread.start()
+        for thread in threads:
+            thread.join()
+        expect("the status", run.wait(timeout=WAIT), 0)
+        log.seek(0)
+        replies, _ = told(log.read())
+    found = {}
+    for line in replies:
+        found[line["status"]] = found.get(line["status"], 0) + 1
+    expect("how many of each status", found, counted)
+    expect("how many", sum(found.values()), 2000)
+    expect("who was answered", {(line["connection"], line["request"]) for line in replies},
+           {(conn, request) for conn in range(40) for request in range(50)})
+
+
+def case_log_that_fails(room):
+    """a standard error that is closed, full or no longer read harms nobody, and without --log there is nothing on it"""
+    for name in ("closed", "full", "not asked for"):
+        reader, writer = os.pipe()
+        if name == "full":
+            os.close(writer)
+            writer = os.open("/dev/full", os.O_WRONLY)
+        if name == "closed":
+            os.close(reader)
+        with Backend("1") as backend:
+            run, port = room.serve(plan([backend.port], 1), streams=1, log=name != "not asked for", stderr=writer)
+            with client(port) as stream:
+                for _ in range(20):
+                    call(stream)
+                    expect(f"a reply, where it is {name}", read_reply(stream), ("200", b'{"b0":1}'))
+            expect(f"the status, where it is {name}", run.wait(timeout=WAIT), 0)
+        os.close(writer)
+        if name == "not asked for":
+            expect("what was said", os.read(reader, 1000), b"")
+
+
+def case_log_of_standing(room):
+    """each ten seconds a line tells how the gateway stands"""
+    with listener() as backend:
+        run, port = room.serve(plan([backend.getsockname()[1]] * 2, 2), streams=2, log=True)
+        with client(port) as stream, client(port):
+            answers("a request that is no call", stream)
+            call(stream, body=LONG_BODY)
+            asked = backend.accept()[0]
+            with open(run.stderr.fileno(), "rb", closefd=False) as lines:
+                lines.readline()
+                standing = json.loads(lines.readline())
+            asked.close()
+            expect("the reply", read_reply(stream)[0], "503")
+    standing.pop("time")
+    expect("how it stands", standing, {
+        "asking": 1, "connections": 2, "counted": 0, "late": 0, "lingering": 0, "unknown": 0, "waiting": 1})
+    expect("the status", (run.communicate(timeout=WAIT), run.returncode)[1], 0)

@@ -1,0 +1,307 @@
+"""Cases of tests/program.py: clients, backends and those who ask them."""
+import contextlib
+import json
+import select
+import socket
+import struct
+import time
+
+from program_room import (
+    Backend, DONE, Echo, LONG_BODY, NOT_FOUND, STRAY, Trickle, answers, at_once, call, client, expect, is_quiet,
+    is_refused, listener, plan, read_message, read_reply, read_to, reply, request, sees_end, size_of,
+)
+
+
+def case_workers(room):
+    """workers ask as many backends at the same time as there are workers"""
+    with listener() as backend:
+        run, port = room.serve(plan([backend.getsockname()[1]] * 4, 4), workers=3, streams=1)
+        with client(port) as stream:
+            call(stream, body=LONG_BODY)
+            asked = [backend.accept()[0] for _ in range(3)]
+            expect("whether a fourth is asked", comes_to(backend), False)
+            for at in range(4):
+                with asked[at] as one:
+                    one.sendall(reply("1"))
+                if at == 0:
+                    asked.append(backend.accept()[0])
+            wanted = reply('{"b0":1,"b1":1,"b2":1,"b3":1}')
+            expect("the answer", read_to(stream, len(wanted)), wanted)
+    room.ends("the program", run, DONE)
+
+
+def comes_to(backend):
+    """Whether the backend is asked within a while."""
+    return bool(select.select([backend], [], [], 0.3)[0])
+
+
+def case_places(room):
+    """connections' own threads ask for as many calls at the same time as there are workers, each call's branches at once"""
+    with listener() as backend, contextlib.ExitStack() as ends:
+        run, port = room.serve(plan([backend.getsockname()[1]] * 3, 3), workers=2, streams=3)
+        streams = [ends.enter_context(client(port)) for _ in range(3)]
+        for stream in streams:
+            call(stream)
+            time.sleep(0.05)
+        asked = [backend.accept()[0] for _ in range(6)]
+        expect("whether a third call's backends are asked", comes_to(backend), False)
+        for at in range(9):
+            with asked[at] as one:
+                one.sendall(reply("1"))
+            # a place that is free is a worker's, since jobs wait
+            if at in (2, 5, 6):
+                asked.append(backend.accept()[0])
+        wanted = reply('{"b0":1,"b1":1,"b2":1}')
+        for stream in streams:
+            expect("the answer", read_to(stream, len(wanted)), wanted)
+    room.ends("the program", run, DONE)
+
+
+def case_streams(room):
+    """streams are served beside each other, and to their end behind the last, and then the program ends"""
+    run, port = room.serve(b"[]", workers=2, streams=4)
+    with client(port) as first, client(port) as second:
+        answers("the second", second)
+        second.shutdown(socket.SHUT_WR)
+        sees_end("the second", second)
+        with client(port) as third, client(port) as last:
+            for what, stream in (("the first", first), ("the third", third), ("the last", last)):
+                answers(what, stream)
+            third.shutdown(socket.SHUT_WR)
+            sees_end("the third", third)
+            expect("whether a fifth is refused at once", is_refused(port), True)
+            expect("whether it goes on while streams are open", run.poll(), None)
+            answers("the first, later", first)
+            answers("the last, later", last)
+    room.ends("the program", run, DONE)
+
+
+def case_full(room):
+    """a stream beside 64 open ones is closed without a byte, and one is served again when one has ended"""
+    run, port = room.serve(b"[]", streams=66)
+    with contextlib.ExitStack() as opened:
+        streams = [opened.enter_context(client(port)) for _ in range(64)]
+        for stream in streams:
+            answers("one of 64", stream)
+        with client(port) as one_more:
+            sees_end("the 65th", one_more)
+        streams[7].shutdown(socket.SHUT_WR)
+        sees_end("one of 64", streams[7])
+        answers("a stream in its place", opened.enter_context(client(port)))
+    room.ends("the program", run, DONE)
+
+
+def case_rude_clients(room):
+    """clients that go away before their answers cost nobody else anything"""
+    run, port = room.serve(b"[]", streams=21)
+    for _ in range(20):
+        with client(port) as stream:
+            stream.setsockopt(socket.SOL_SOCKET, socket.SO_LINGER, struct.pack("ii", 1, 0))
+            stream.sendall(STRAY * 20)
+    with client(port) as stream:
+        answers("who comes behind them", stream)
+    room.ends("the program", run, DONE)
+
+
+def case_spent_threads(room):
+    """the memory of threads comes back while others are served"""
+    # or each thread would be given much that it does not use
+    run, port = room.serve(b"[]", streams=61, variables={"GLIBC_TUNABLES": "glibc.malloc.arena_max=1"})
+    with client(port) as stays:
+        answers("who stays", stays)
+        before = size_of(run)
+        for _ in range(60):
+            with client(port) as stream:
+                answers("one of many", stream)
+                stream.shutdown(socket.SHUT_WR)
+                sees_end("one of many", stream)
+        grown = size_of(run) - before
+        expect(f"whether it has kept little of 60 threads, {grown} bytes", grown < 200_000_000, True)
+    room.ends("the program", run, DONE)
+
+
+def case_deadline(room):
+    """a call that waits for a worker ends at its deadline"""
+    with listener() as backend:
+        run, port = room.serve(plan([backend.getsockname()[1]], 1), streams=2)
+        with client(port) as busy, client(port) as stream:
+            call(busy)
+            with backend.accept()[0]:
+                call(stream, "Connect-Timeout-Ms: 300\r\n")
+                expect("the status", read_to(stream, 12), b"HTTP/1.1 504")
+    room.ends("the program", run, DONE)
+
+
+def case_branch_deadline(room):
+    """a silent backend ends its call by the time of its branch, and its worker asks the next one"""
+    with listener() as silent, Backend("1") as backend:
+        branches = [("first", backend.port, {}), ("hotel", silent.getsockname()[1], {"timeout_ms": 50})]
+        made = [{"name": name, "address": f"127.0.0.1:{port}", "path": "/ask", **time} for name, port, time in branches]
+        slow = {"path": "/slow", "limit": 1, "branches": made}
+        run, port = room.serve(json.dumps(json.loads(plan([backend.port], 1)) + [slow]).encode(), streams=1)
+        late = ("504", b'{"code":"deadline_exceeded","message":"hotel: context deadline exceeded"}')
+        took = []
+        with client(port) as stream:
+            for _ in range(10):
+                began = time.monotonic()
+                call(stream, path="/slow")
+                expect("how it ended", read_reply(stream), late)
+                took.append(time.monotonic() - began)
+                with silent.accept()[0] as asked:
+                    line = b"POST /ask HTTP/1.1\r\n"
+                    expect("what the silent one was asked", read_to(asked, len(line)), line)
+                    call(stream)
+                    expect("what its worker asked next", read_reply(stream), ("200", b'{"b0":1}'))
+        expect(f"whether none came early, {min(took):.4f} seconds", min(took) > 0.048, True)
+        expect(f"whether one came within a second, {min(took):.4f} seconds", min(took) < 1, True)
+    room.ends("the program", run, DONE)
+
+
+def hangs_up_among_64(room, port, backend, body):
+    """Lets one of 64 streams hang up while its call waits: a 65th is served. Returns the backend's stream."""
+    with contextlib.ExitStack() as opened:
+        for _ in range(63):
+            answers("one of 63", opened.enter_context(client(port)))
+        with client(port) as stream:
+            call(stream, body=body)
+            asked = backend.accept()[0]
+            read_message(asked)
+            with client(port) as one_more:
+                sees_end("a 65th beside them", one_more)
+        end = time.monotonic() + 5
+        while True:
+            with client(port) as one_more:
+                one_more.sendall(STRAY)
+                came = read_to(one_more, len(NOT_FOUND))
+            if came == NOT_FOUND:
+                return asked
+            expect("whether there is no room for long", time.monotonic() < end, True)
+            time.sleep(0.02)
+
+
+def case_hang_up(room):
+    """a client that hangs up while its thread waits for a silent backend makes room, and the backend is given up"""
+    with listener() as backend:
+        _run, port = room.serve(plan([backend.getsockname()[1]], 1), workers=2)
+        with hangs_up_among_64(room, port, backend, "{}") as asked:
+            sees_end("the silent backend", asked)
+
+
+def case_hang_up_beside_a_worker(room):
+    """a client that hangs up while a worker waits for its silent backend makes room, and the worker stays"""
+    with listener() as backend:
+        _run, port = room.serve(plan([backend.getsockname()[1]], 1), workers=2)
+        with hangs_up_among_64(room, port, backend, LONG_BODY) as asked:
+            expect("whether it still waits for the backend", is_quiet(asked), True)
+
+
+def case_named_backend(room):
+    """a backend whose address is a name is left to a worker, since the name must be looked up"""
+    with listener() as backend:
+        for name in (b"localhost", b"127.1"):
+            named = plan([backend.getsockname()[1]], 1).replace(b"127.0.0.1", name)
+            _run, port = room.serve(named, workers=2)
+            with hangs_up_among_64(room, port, backend, "{}") as asked:
+                expect("whether it still waits for the backend", is_quiet(asked), True)
+
+
+def case_request_meanwhile(room):
+    """a request that comes while a call of its stream waits is taken, and its backend asked; replies keep their order"""
+    with listener() as first, listener() as second:
+        other = json.loads(plan([second.getsockname()[1]], 1))[0]
+        plans = [*json.loads(plan([first.getsockname()[1]], 1)), {**other, "path": "/other"}]
+        run, port = room.serve(json.dumps(plans).encode(), workers=4, streams=1)
+        with client(port) as stream:
+            for body in ("{}", LONG_BODY):
+                call(stream, body=body)
+                with first.accept()[0] as asked:
+                    read_message(asked)
+                    time.sleep(0.1)
+                    call(stream, path="/other")
+                    with second.accept()[0] as meanwhile:
+                        meanwhile.sendall(reply("2"))
+                        expect("whether its reply waits", is_quiet(stream), True)
+                    asked.sendall(reply("1"))
+                expect("the first reply", read_reply(stream), ("200", b'{"b0":1}'))
+                expect("the second reply", read_reply(stream), ("200", b'{"b0":2}'))
+    room.ends("the program", run, DONE)
+
+
+def case_failed_branch(room):
+    """a branch that fails ends its call though one that is asked at once is silent, and that is given up"""
+    with listener() as silent, listener() as backend:
+        run, port = room.serve(plan([silent.getsockname()[1], backend.getsockname()[1]], 2), workers=4, streams=1)
+        with client(port) as stream:
+            call(stream)
+            with silent.accept()[0] as asked, backend.accept()[0] as failing:
+                read_message(asked)
+                read_message(failing)
+                time.sleep(0.1)
+                failing.sendall(b"HTTP/1.1 500 Internal Server Error\r\nContent-Length: 0\r\n\r\n")
+                wanted = ("500", b'{"code":"unknown","message":"b1: HTTP status 500"}')
+                expect("how it ended", read_reply(stream), wanted)
+                sees_end("the silent backend", asked)
+    room.ends("the program", run, DONE)
+
+
+def case_silent_to_its_deadline(room):
+    """a backend that is silent up to the deadline of a call is given up then, and the call answered so"""
+    took = []
+    with listener() as backend:
+        run, port = room.serve(plan([backend.getsockname()[1]], 1, timeout=200), workers=2, streams=1)
+        with client(port) as stream:
+            for _ in range(5):
+                began = time.monotonic()
+                call(stream)
+                with backend.accept()[0] as asked:
+                    read_message(asked)
+                    expect("the status", read_reply(stream)[0], "504")
+                    took.append(time.monotonic() - began)
+                    sees_end("the silent backend", asked)
+    expect(f"whether none came early, {min(took):.4f} seconds", min(took) > 0.198, True)
+    expect(f"whether one came within a second, {min(took):.4f} seconds", min(took) < 0.8, True)
+    room.ends("the program", run, DONE)
+
+
+def case_changing_pace(room):
+    """the answers of a backend are right while it is slow, and when it is quick again"""
+    with Backend("1", pause=0.06) as backend:
+        run, port = room.serve(plan([backend.port], 1), workers=2, streams=1)
+        with client(port) as stream:
+            for pause in (0.06, 0.001, 0.06, 0.001):
+                backend.pause = pause
+                for _ in range(15):
+                    call(stream)
+                    expect("a reply", read_reply(stream), ("200", b'{"b0":1}'))
+                # until it no longer counts as slow
+                time.sleep(1.1)
+    room.ends("the program", run, DONE)
+
+
+def case_reply_in_pieces(room):
+    """a long reply that comes in pieces, with pauses, is joined byte for byte"""
+    body = json.dumps("".join(f"{number:05}" for number in range(12_000)))
+    with Trickle(body, pause=0.012, piece=1_000) as backend:
+        run, port = room.serve(plan([backend.port] * 2, 2), workers=4, streams=1)
+        with client(port) as stream:
+            for _ in range(5):
+                call(stream)
+                expect("the reply", read_reply(stream), ("200", f'{{"b0":{body},"b1":{body}}}'.encode()))
+    room.ends("the program", run, DONE)
+
+
+def case_asked_at_once(room):
+    """no more threads ask at once than there are workers, each for at most two branches, and each of many answers is right"""
+    def ask(port, number):
+        with client(port) as stream:
+            for each in range(50):
+                body = json.dumps([number, each, "x" * (5_000 if each % 10 == number % 10 else 5)])
+                call(stream, body=body)
+                wanted = f'{{"b0":{body},"b1":{body},"b2":{body}}}'.encode()
+                expect("a reply", read_reply(stream), ("200", wanted))
+
+    with Echo(pause=0.002) as backend:
+        run, port = room.serve(plan([backend.port] * 3, 2), workers=4, streams=16)
+        at_once(16, lambda number: ask(port, number))
+        expect(f"whether so many were asked at once, {backend.most}", 1 < backend.most <= 2 * 4, True)
+    room.ends("the program", run, DONE)
