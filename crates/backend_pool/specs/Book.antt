@@ -8,7 +8,7 @@ use Rattle.gateway_theory.specs.declared.fault.Took.{Took}
 use Rattle.gateway_model.specs.Events.{Before, most_open, open_connections}
 use Rattle.gateway_model.specs.declared.event.Event.TheVariants.{BranchResult, Opening, Piece}
 use Rattle.gateway_model.specs.declared.event.Event.{Event}
-use Rattle.gateway_theory.specs.Gateway.{GatewayValue}
+use Rattle.gateway_theory.specs.Gateway.{GatewayValue, jobs_of}
 use Rattle.gateway_theory.specs.Task.{HandedJob}
 use Rattle.gateway_model.specs.Job.{JobValue}
 use Rattle.gateway_model.specs.Occurrence.{Occurrence}
@@ -117,8 +117,8 @@ job_list job = option_to_list (option_map (λ j. j.job) job)
 
 -- the first job that waits is given, and whether it is wanted; none only where none waits
 pub record GivesJob (job : Option HandedJob) (v w : GatewayValue) : Type 0 where
-  pub first : v.machine.jobs ≡ job_list job ++ w.machine.jobs
-  pub none : job ≡ None → v.machine.jobs ≡ []
+  pub first : jobs_of v ≡ job_list job ++ jobs_of w
+  pub none : job ≡ None → jobs_of v ≡ []
   pub wanted : (j : HandedJob) → job ≡ Some j → IsWanted j.job.call v j.wanted
 
 -- the reply that is given, if one is

@@ -1,29 +1,23 @@
-ghost use Rattle.std.specs.Option.{option_map_or};
-ghost use Rattle.gateway_model.specs.Known.{IsKnown};
+ghost use Rattle.gateway_model.specs.Known.{IsKnown, is_whole};
 ghost use Rattle.gateway_theory.specs.Told.{TellsTook};
 ghost use Rattle.gateway_theory.specs.Serving.{CountsCalls, Keeps, KeepsBut};
-ghost use Rattle.gateway_theory.specs.Gateway.{shown, are_all_there};
-ghost use Rattle.std.specs.Prelude.{◌≡◌, ◌==◌, ◌+◌, ◌<◌, ◌≤◌, ◌^◌, ◌∷◌, ◌++◌, [], Err, IfErr, IfOk, IfSome, IsTrue, List, MatchResult, None, OnErr, OnOk, Some, false, true, is_some, length, option_map, option_to_list, ℕ, ◌↔◌, ◌⊎◌, slice_get};
+ghost use Rattle.gateway_theory.specs.Gateway.{conn_count, deadline_ahead, ends_calls, is_ended, is_idle_conn, is_open_conn, jobs_of, kept_record, next_reply, open_count, outs_of, shown, untaken_of, with_jobs};
+ghost use Rattle.std.specs.Prelude.{◌≡◌, ◌==◌, ◌+◌, ◌<◌, ◌≤◌, ◌^◌, ◌∷◌, ◌++◌, [], Err, IfErr, IfOk, IfSome, IsTrue, List, MatchResult, None, OnErr, OnOk, Some, false, true, length, option_map, option_to_list, ℕ, ◌↔◌, ◌⊎◌, slice_get};
 ghost use Rattle.gateway_model.specs.declared.id.CallId.{CallId};
 ghost use Rattle.connect_codec.specs.declared.answer.Outcome.{Outcome as Outcomes};
+ghost use Rattle.gateway_model.specs.CallRecord.{CallRecord};
 ghost use Rattle.gateway_model.specs.declared.entry.ReplyEntry.{ReplyEntry};
-ghost use Rattle.gateway_theory.specs.Conn.{ConnValue};
 ghost use Rattle.gateway_model.specs.Events.{Occurs, most_open};
 ghost use Rattle.gateway_model.specs.declared.event.Event.{Event};
 ghost use Rattle.gateway_model.specs.declared.event.Event.TheVariants.{BranchResult, Closing, Drain, HangUp, Moment, Piece};
-ghost use Rattle.gateway_theory.specs.Gateway.{is_ended, next_reply, outs_of, untaken_of};
 ghost use Rattle.gateway_model.specs.Job.{JobValue};
 ghost use Rattle.gateway_model.specs.Past.{ArrivedCall, call, is_due, marked};
-ghost use Rattle.gateway_model.specs.Queue.{record_of};
 ghost use Rattle.gateway_model.specs.Record.{is_decided, is_lawful};
-ghost use Rattle.gateway_theory.specs.Least.{ends_any, least_deadline};
 ghost use Rattle.gateway_theory.specs.Refused.{RefusesOpening};
 ghost use Rattle.gateway_theory.specs.Served.{Served};
 ghost use Rattle.gateway_model.specs.Occurrence as concerning;
-ghost use Rattle.gateway_theory.specs.Serving.{Breaks, BreaksBy, FewCalls, TakesOnly, TellsStep};
+ghost use Rattle.gateway_theory.specs.Serving.{Breaks, BreaksBy, HasFewCalls, TakesOnly, TellsStep};
 ghost use Rattle.gateway_model.specs.Starts.{Placed, occurrences};
-ghost use Rattle.gateway_theory.specs.Step.{Live};
-ghost use Rattle.gateway_theory.specs.Store.{call_at, conn_of};
 ghost use Rattle.backend_pool.specs.declared.next_reply.NextReply.{NextReply};
 ghost use Rattle.backend_pool.specs.Book.{book_value, BookStands, GivesJob, HandsJobs, HandsReply, job_list, most_total, OpensFew, reply_given, TakesEvent, TakesOpening, totals_of};
 
@@ -110,7 +104,7 @@ impl<H: ReplyHook + Drop, L: Ledger, J: Ledger, K: Ledger> Book<H, L, J, K> {
     pub fn opening(&mut self, stock: Stock<H>) -> Result<ConnId, (Stock<H>, OpenError)>
         ensures stands { TakesOpening result self.old self.new }
         ensures few { OpensFew result self.old }
-        ensures number { IfOk result (λ conn. conn ≡ self.old.core.opened) }
+        ensures number { IfOk result (λ conn. conn ≡ conn_count self.old.core) }
         ensures refused { IfErr result (λ e. RefusesOpening e.1 self.old.core) }
         ensures back { IfErr result (λ e. e.0 ≡ stock) }
         ensures unchanged { OnErr result (self.new ≡ self.old) }
@@ -185,7 +179,7 @@ impl<H: ReplyHook + Drop, L: Ledger, J: Ledger, K: Ledger> Book<H, L, J, K> {
     /// Closes a connection, and answers whether it was open.
     pub fn closing(&mut self, conn: ConnId) -> bool
         ensures stands { TakesEvent (Closing conn) self.old self.new }
-        ensures closed { result ≡ is_some (conn_of conn self.old.core.machine.conns) }
+        ensures closed { result ≡ is_open_conn conn self.old.core }
         ensures counts { self.new ≡ record self.old { core = self.new.core } }
         ensures keeps { KeepsBut (λ c. c == conn) (λ c. false) [] self.old.core self.new.core }
     {
@@ -260,7 +254,7 @@ impl<H: ReplyHook + Drop, L: Ledger, J: Ledger, K: Ledger> Book<H, L, J, K> {
         ensures stands { IfOk result (λ job. HandsJobs (job_list job) self.old self.new) }
         ensures gives { IfOk result (λ job. GivesJob job self.old.core self.new.core) }
         ensures rest { IfOk result (λ job. self.new ≡ record self.old {
-          core = record self.old.core { machine = record self.old.core.machine { jobs = self.new.core.machine.jobs } };
+          core = with_jobs (jobs_of self.new.core) self.old.core;
           jobs = self.old.jobs + length (job_list job);
         }) }
         ensures full { MatchResult result (λ _. self.old.jobs + 1 ≤ most_total)
@@ -301,13 +295,13 @@ impl<H: ReplyHook + Drop, L: Ledger, J: Ledger, K: Ledger> Book<H, L, J, K> {
     /// not broken, has a lawful record, which is not decided; and no call has more branches out than its plan's limit. It does
     /// nothing.
     pub fn bounds_law(&self)
-        ensures few { length self.now.core.streams ≤ most_open }
-        ensures calls { FewCalls self.now.core.machine.conns }
-        ensures records { (id : CallId) (k : ConnValue) (l : Live) (opened : List ℕ) (es : List Event) (taken : ℕ → List ReplyEntry)
+        ensures few { open_count self.now.core ≤ most_open }
+        ensures calls { HasFewCalls self.now.core }
+        ensures records { (id : CallId) (kept : CallRecord) (opened : List ℕ) (es : List Event) (taken : ℕ → List ReplyEntry)
             (handed : List JobValue) (occurred : List Placed)
             → Served self.now.core opened es taken handed → Occurs self.now.core.plans opened es occurred
-            → conn_of id.conn self.now.core.machine.conns ≡ Some k → k.broken ≡ false → (call_at id self.now.core.machine.calls).live ≡ Some l
-            → (is_lawful (record_of l.asked l.deadlines l.events) ≡ true) × (is_decided (record_of l.asked l.deadlines l.events) ≡ false) }
+            → is_whole id.conn (shown self.now.core) ≡ true → kept_record id self.now.core ≡ Some kept
+            → (is_lawful kept ≡ true) × (is_decided kept ≡ false) }
         ensures limit { (id : CallId) (a : ArrivedCall) (opened : List ℕ) (es : List Event) (taken : ℕ → List ReplyEntry)
             (handed : List JobValue) (occurred : List Placed)
             → Served self.now.core opened es taken handed → Occurs self.now.core.plans opened es occurred
@@ -329,23 +323,23 @@ impl<H: ReplyHook + Drop, L: Ledger, J: Ledger, K: Ledger> Book<H, L, J, K> {
 
     /// How many jobs wait to be taken.
     pub fn waiting_jobs(&self) -> usize
-        ensures { result ≡ length self.now.core.machine.jobs }
+        ensures { result ≡ length (jobs_of self.now.core) }
     {
         self.core.waiting_jobs()
     }
 
     /// The job that is to be taken next, if one waits.
     pub fn next_job(&self) -> Option<&Job>
-        ensures { option_map (λ job. job.now.job) result ≡ slice_get self.now.core.machine.jobs 0 }
+        ensures { option_map (λ job. job.now.job) result ≡ slice_get (jobs_of self.now.core) 0 }
     {
         self.core.next_job()
     }
 
     /// The least deadline of the undecided calls, and of their branches that are out: no moment before it ends a call.
     pub fn next_deadline(&self) -> Option<u64>
-        ensures least { result ≡ least_deadline self.now.core.machine.calls }
+        ensures least { result ≡ deadline_ahead self.now.core }
         // a moment ends a call exactly if it has reached this
-        ensures quiet { (moment : ℕ) → ends_any moment self.now.core.machine.calls ≡ is_due moment result }
+        ensures quiet { (moment : ℕ) → ends_calls moment self.now.core ≡ is_due moment result }
     {
         self.core.next_deadline()
     }
@@ -360,14 +354,14 @@ impl<H: ReplyHook + Drop, L: Ledger, J: Ledger, K: Ledger> Book<H, L, J, K> {
     /// Whether each request of the connection has its reply, so that none of its calls is undecided. True where there
     /// is no such connection.
     pub fn is_idle(&self, conn: ConnId) -> bool
-        ensures { result ≡ option_map_or (λ k. are_all_there k.slots) (conn_of conn self.now.core.machine.conns) true }
+        ensures { result ≡ is_idle_conn conn self.now.core }
     {
         self.core.is_idle(conn)
     }
 
     /// Whether some branch may be asked or is: a job waits to be taken, or one that was taken has no result yet.
     pub fn is_asking(&self) -> bool
-        ensures { IsTrue result ↔ ((self.now.results < self.now.jobs) ⊎ (0 < length self.now.core.machine.jobs)) }
+        ensures { IsTrue result ↔ ((self.now.results < self.now.jobs) ⊎ (0 < length (jobs_of self.now.core))) }
     {
         self.results.total() < self.jobs.total() || 0 < self.core.waiting_jobs()
     }

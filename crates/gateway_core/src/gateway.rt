@@ -1,16 +1,13 @@
-ghost use Rattle.std.specs.Option.{option_map_or};
-ghost use Rattle.std.specs.Prelude.{◌≡◌, ◌==◌, ◌∷◌, ◌++◌, ◌<◌, ◌≤◌, [], Err, IfOk, IfErr, IfSome, None, OnErr, OnOk, Some, false, is_some, not, ℕ, List, length, option_map, option_to_list, true, slice_get};
+ghost use Rattle.std.specs.Prelude.{◌≡◌, ◌==◌, ◌∷◌, ◌++◌, ◌<◌, ◌≤◌, [], Err, IfOk, IfErr, IfSome, None, OnErr, OnOk, Some, false, not, ℕ, List, length, option_map, option_to_list, true, slice_get};
 ghost use Rattle.connect_codec.specs.declared.answer.Outcome.{Outcome as Outcomes};
 ghost use Rattle.gateway_model.specs.declared.entry.ReplyEntry.{ReplyEntry};
-ghost use Rattle.gateway_theory.specs.Gateway.{is_broken_conn, is_ended, shown, next_reply, outs_of, untaken_of, are_all_there};
+ghost use Rattle.gateway_theory.specs.Gateway.{conn_count, deadline_ahead, ends_calls, is_broken_conn, is_ended, is_idle_conn, is_open_conn, jobs_of, next_reply, open_count, outs_of, shown, untaken_of, with_jobs};
 ghost use Rattle.gateway_model.specs.Occurrence as concerning;
-ghost use Rattle.gateway_theory.specs.Serving.{TakesSome, WouldBegin, Breaks, BreaksBy, CountsCalls, FewCalls, NotListening, Keeps, KeepsBut, TakesOnly, TellsStep};
+ghost use Rattle.gateway_theory.specs.Serving.{TakesSome, WouldBegin, Breaks, BreaksBy, CountsCalls, HasFewCalls, NotListening, Keeps, KeepsBut, TakesOnly, TellsStep};
 ghost use Rattle.gateway_theory.specs.Refused.{RefusesOpening};
-ghost use Rattle.gateway_theory.specs.Least.{ends_any, least_deadline};
 ghost use Rattle.gateway_theory.specs.Tally.{tally_of};
 ghost use Rattle.gateway_model.specs.Past.{is_due};
 ghost use Rattle.gateway_model.specs.Starts.{Placed, occurrences};
-ghost use Rattle.gateway_theory.specs.Store.{conn_of};
 ghost use Rattle.gateway_model.specs.Events.{most_open, Occurs};
 ghost use Rattle.gateway_model.specs.declared.event.Event.TheVariants.{BranchResult, Closing, Drain, HangUp, Moment};
 ghost use Rattle.gateway_model.specs.declared.event.Event.{Event};
@@ -62,7 +59,7 @@ impl<H: ReplyHook + Drop> Core<H> {
     pub fn open_conn(&mut self, stock: Stock<H>) -> Result<ConnId, (Stock<H>, OpenError)>
         ensures stands { TakesOpening result self.old self.new }
         ensures few { OpensFew result self.old }
-        ensures number { IfOk result (λ conn. conn ≡ self.old.opened) }
+        ensures number { IfOk result (λ conn. conn ≡ conn_count self.old) }
         ensures refused { IfErr result (λ e. RefusesOpening e.1 self.old) }
         ensures back { IfErr result (λ e. e.0 ≡ stock) }
         ensures unchanged { OnErr result (self.new ≡ self.old) }
@@ -128,7 +125,7 @@ impl<H: ReplyHook + Drop> Core<H> {
     /// Closes a connection, and answers whether it was open.
     pub fn close(&mut self, conn: ConnId) -> bool
         ensures stands { TakesEvent (Closing conn) self.old self.new }
-        ensures closed { result ≡ is_some (conn_of conn self.old.machine.conns) }
+        ensures closed { result ≡ is_open_conn conn self.old }
         ensures keeps { KeepsBut (λ c. c == conn) (λ c. false) [] self.old self.new }
     {
         self.streams.serving_law();
@@ -159,10 +156,10 @@ impl<H: ReplyHook + Drop> Core<H> {
     /// Hands out the next job, in order of start.
     pub fn take_job(&mut self) -> Option<Job>
         ensures stands { HandsJobs (option_to_list (option_map (λ j. j.job) result)) self.old self.new }
-        ensures first { self.old.machine.jobs ≡ option_to_list (option_map (λ j. j.job) result) ++ self.new.machine.jobs }
-        ensures none { result ≡ None → self.old.machine.jobs ≡ [] }
+        ensures first { jobs_of self.old ≡ option_to_list (option_map (λ j. j.job) result) ++ jobs_of self.new }
+        ensures none { result ≡ None → jobs_of self.old ≡ [] }
         ensures wanted { (j : HandedJob) → result ≡ Some j → IsWanted j.job.call self.old j.wanted }
-        ensures rest { self.new ≡ record self.old { machine = record self.old.machine { jobs = self.new.machine.jobs } } }
+        ensures rest { self.new ≡ with_jobs (jobs_of self.new) self.old }
     {
         self.streams.serving_law();
         self.streams.take_job()
@@ -183,8 +180,8 @@ impl<H: ReplyHook + Drop> Core<H> {
     /// At most 64 connections are open, and no more than 8 requests of one that is not broken wait for their replies. It does
     /// nothing.
     pub fn bounds_law(&self)
-        ensures few { length self.now.streams ≤ most_open }
-        ensures calls { FewCalls self.now.machine.conns }
+        ensures few { open_count self.now ≤ most_open }
+        ensures calls { HasFewCalls self.now }
     {
         self.streams.serving_law();
     }
@@ -200,23 +197,23 @@ impl<H: ReplyHook + Drop> Core<H> {
 
     /// How many jobs wait to be taken.
     pub fn waiting_jobs(&self) -> usize
-        ensures { result ≡ length self.now.machine.jobs }
+        ensures { result ≡ length (jobs_of self.now) }
     {
         self.streams.waiting_jobs()
     }
 
     /// The job that is to be taken next, if one waits.
     pub fn next_job(&self) -> Option<&Job>
-        ensures { option_map (λ job. job.now.job) result ≡ slice_get self.now.machine.jobs 0 }
+        ensures { option_map (λ job. job.now.job) result ≡ slice_get (jobs_of self.now) 0 }
     {
         self.streams.next_job()
     }
 
     /// The least deadline of the undecided calls, and of their branches that are out.
     pub fn next_deadline(&self) -> Option<u64>
-        ensures least { result ≡ least_deadline self.now.machine.calls }
+        ensures least { result ≡ deadline_ahead self.now }
         // a moment ends a call exactly if it has reached this
-        ensures quiet { (moment : ℕ) → ends_any moment self.now.machine.calls ≡ is_due moment result }
+        ensures quiet { (moment : ℕ) → ends_calls moment self.now ≡ is_due moment result }
     {
         self.streams.next_deadline()
     }
@@ -246,7 +243,7 @@ impl<H: ReplyHook + Drop> Core<H> {
     /// Whether each request of the connection has its reply, so that none of its calls is undecided. True where there
     /// is no such connection.
     pub fn is_idle(&self, conn: ConnId) -> bool
-        ensures { result ≡ option_map_or (λ k. are_all_there k.slots) (conn_of conn self.now.machine.conns) true }
+        ensures { result ≡ is_idle_conn conn self.now }
     {
         self.streams.is_idle(conn.number())
     }

@@ -10,13 +10,13 @@ use Rattle.gateway_model.specs.Events.{Before, IsRising, Occurs}
 use Rattle.gateway_model.specs.declared.event.Event.TheVariants.{Closing, Opening}
 use Rattle.gateway_model.specs.declared.event.Event.{Event}
 use Rattle.gateway_model.specs.declared.event.Event.TheVariants as events
-use Rattle.gateway_theory.specs.Gateway.{GatewayValue, is_broken_conn}
+use Rattle.gateway_theory.specs.Gateway.{GatewayValue, is_broken_conn, is_open_conn}
 use Rattle.gateway_model.specs.Past.{marked}
 use Rattle.gateway_model.specs.Queue.{queued, queued_entries}
 use Rattle.gateway_theory.specs.Served.{QueueIs, Served}
 use Rattle.gateway_model.specs.Starts.{Placed, occurrences, starts}
 use Rattle.gateway_theory.specs.Store.{conn_of}
-use Rattle.gateway_run.specs.Log.{Collects, absent, gathers, HasRun, LogValue, flag_at, is_flagged, is_open_conn, is_started_on, log_value, queue_at}
+use Rattle.gateway_run.specs.Log.{Collects, absent, gathers, HasRun, LogValue, flag_at, is_flagged, is_started_on, log_value, queue_at}
 use Rattle.gateway_model.specs.Run.{BrokeAs, IsSublist, bytes_of, is_listed, is_start_of, run_start, starts_of}
 use Rattle.gateway_run.specs.Running.{IsRun}
 use Rattle.gateway_run.specs.Stepping.{CollectsFor}

@@ -14,7 +14,7 @@ use Rattle.gateway_theory.specs.EventAdds.{EventAdds, IsShut}
 use Rattle.gateway_model.specs.Events.{Before, IsOpened, Occurs, connections, is_closing_of, is_open, listens}
 use Rattle.gateway_model.specs.declared.event.Event.{Event}
 use Rattle.gateway_model.specs.declared.event.Event.TheVariants.{Opening, Piece, HangUp, Moment, BranchResult, Drain, Closing}
-use Rattle.gateway_theory.specs.Gateway.{GatewayValue, is_broken_conn, untaken_of}
+use Rattle.gateway_theory.specs.Gateway.{GatewayValue, is_broken_conn, is_open_conn, untaken_of}
 use Rattle.gateway_model.specs.Job.{JobValue}
 use Rattle.gateway_model.specs.Past.{Past, marked}
 use Rattle.gateway_model.specs.Queue.{IsPrefixOf, front, queued_entries}
@@ -24,7 +24,7 @@ use Rattle.gateway_theory.specs.Serving.{KeepsBut, is_silent}
 use Rattle.gateway_model.specs.Starts.{Placed, jobs, occurrences, starts}
 use Rattle.gateway_theory.specs.Starting.{job_started, start}
 use Rattle.gateway_theory.specs.Store.{conn_of}
-use Rattle.gateway_run.specs.Log.{BrokeSo, HasRun, LogValue, StartsAll, flag_at, is_flagged, is_open_conn, is_started_on, queue_at}
+use Rattle.gateway_run.specs.Log.{BrokeSo, HasRun, LogValue, StartsAll, flag_at, is_flagged, is_started_on, queue_at}
 use Rattle.gateway_model.specs.Run.{IsSublist, run_start}
 use Rattle.gateway_run.specs.Log.{start_at}
 use Rattle.gateway_run.specs.Stepping.{BreaksAt}

@@ -11,7 +11,7 @@ use Rattle.gateway_run.specs.declared.stepping.Stepped.TheVariants.{Fault, Opene
 use Rattle.gateway_model.specs.declared.entry.ReplyEntry.{ReplyEntry}
 use Rattle.gateway_model.specs.Events.{Before}
 use Rattle.gateway_theory.specs.Refused.{RefusesOpening}
-use Rattle.gateway_theory.specs.Gateway.{GatewayValue}
+use Rattle.gateway_theory.specs.Gateway.{GatewayValue, with_jobs}
 use Rattle.gateway_theory.specs.Serving.{Breaks, KeepsBut, TellsStep}
 use Rattle.gateway_theory.specs.declared.fault.StepFault.TheVariants.{Exhausted, Gone, Memory}
 use Rattle.gateway_theory.specs.Task.{HandedJob}
@@ -19,9 +19,6 @@ use Rattle.gateway_model.specs.Job.{JobValue}
 use Rattle.gateway_theory.specs.Served.{Served}
 use Rattle.gateway_run.specs.Log.{log_value}
 use Rattle.gateway_model.specs.declared.run.Start.{Start}
-
-abbrev pub with_jobs : List JobValue → GatewayValue → GatewayValue
-with_jobs js v = record v { machine = record v.machine { jobs = js } }
 
 -- the first jobs were taken
 pub record Started (v w : GatewayValue) : Type 0 where

@@ -1,10 +1,10 @@
 -- What a run takes down as it goes, and how it stands for the events so far.
-use Rattle.std.specs.Prelude.{◌≡◌, ℕ, ◌<◌, ◌≤◌, Bool, true, false, ◌||◌, if◌then◌else◌, ◌==◌, List, [], ◌++◌, length, map, filter, is_some, slice_index_or, slice_set}
+use Rattle.std.specs.Prelude.{◌≡◌, ℕ, ◌<◌, ◌≤◌, Bool, true, false, ◌||◌, if◌then◌else◌, ◌==◌, List, [], ◌++◌, length, map, filter, slice_index_or, slice_set}
 use Rattle.gateway_model.specs.declared.entry.ReplyEntry.{ReplyEntry}
 use Rattle.call_plan.specs.Plan.{PlanRecord}
 use Rattle.gateway_model.specs.Known.{is_of}
 use Rattle.gateway_model.specs.Events.{Before, IsOpened, Occurs}
-use Rattle.gateway_theory.specs.Gateway.{GatewayValue, is_broken_conn, untaken_of}
+use Rattle.gateway_theory.specs.Gateway.{GatewayValue, is_broken_conn, is_open_conn, untaken_of}
 use Rattle.gateway_model.specs.Job.{JobValue}
 use Rattle.gateway_model.specs.Past.{marked}
 use Rattle.gateway_model.specs.Queue.{queued_entries}
@@ -12,7 +12,6 @@ use Rattle.gateway_theory.specs.Served.{QueueIs, Served}
 use Rattle.gateway_theory.specs.Serving.{TakesOnly}
 use Rattle.gateway_model.specs.Starts.{Placed, occurrences, starts}
 use Rattle.gateway_theory.specs.Starting.{StartedJob, job_started}
-use Rattle.gateway_theory.specs.Store.{conn_of}
 use Rattle.gateway_model.specs.declared.run.Start.{Start}
 use Rattle.gateway_model.specs.Run.{Breakage, IsSublist, bytes_of, run_start}
 
@@ -63,9 +62,6 @@ pub record StartsAll (place : ℕ) (v w : GatewayValue) (log later : LogValue) :
   pub log_is : later ≡ record log { starts = log.starts ++ map (start_at place) v.machine.jobs }
 
 -- ---- how it stands for the events
-
-abbrev pub is_open_conn : ℕ → GatewayValue → Bool
-is_open_conn c v = is_some (conn_of c v.machine.conns)
 
 abbrev pub is_flagged : ℕ → GatewayValue → LogValue → Bool
 is_flagged c v log = flag_at c log || is_broken_conn c v

@@ -1,5 +1,5 @@
 -- The open connections with their streams, and what they stand for.
-use Rattle.std.specs.Prelude.{◌≡◌, ℕ, ◌+◌, ◌<◌, ◌≤◌, Bool, true, false, ◌&&◌, ◌||◌, not, is_none, is_some, if◌then◌else◌, ◌==◌, All, List, [], ◌∷◌, ◌++◌, take, length, Option, None, Some, slice_set, slice_index_or}
+use Rattle.std.specs.Prelude.{◌≡◌, ℕ, ◌+◌, ◌<◌, ◌≤◌, Bool, true, false, ◌&&◌, ◌||◌, not, is_none, is_some, if◌then◌else◌, ◌==◌, All, List, [], ◌∷◌, ◌++◌, take, length, Option, None, Some, option_map, slice_set, slice_index_or}
 use Rattle.std.specs.List.{count_by, list_any}
 use Rattle.std.specs.Option.{option_map_or}
 use Rattle.http_pieces.specs.Reader.{ReaderValue, Reading, reader_value, Partial, Waiting, Stopped, Done, HasRead, after_request, is_over}
@@ -13,15 +13,18 @@ use Rattle.gateway_theory.specs.Fate.{Fate, is_broken}
 use Rattle.gateway_theory.specs.Fated.{FatedStands}
 use Rattle.gateway_model.specs.Job.{JobValue}
 use Rattle.gateway_theory.specs.Kept.{KeptValue}
+use Rattle.gateway_theory.specs.Least.{ends_any, least_deadline}
 use Rattle.gateway_theory.specs.Machine.{ConnState, new_conn}
 use Rattle.gateway_model.specs.Occurrence.{Occurrence, Request, Refused}
 use Rattle.gateway_theory.specs.Arrivals.{calls_arrived, calls_in}
 use Rattle.gateway_theory.specs.Orderly.{FatesAre}
+use Rattle.gateway_theory.specs.Step.{Live}
 use Rattle.gateway_theory.specs.Store.{MachineValue, call_at, machine, conn_of}
 use Rattle.gateway_theory.specs.Ends.{is_broken_in}
 use Rattle.gateway_model.specs.Known.{Shown}
+use Rattle.gateway_model.specs.CallRecord.{CallRecord}
 use Rattle.gateway_model.specs.Past.{call_id}
-use Rattle.gateway_model.specs.Queue.{front}
+use Rattle.gateway_model.specs.Queue.{front, record_of}
 use Rattle.gateway_model.specs.declared.id.CallId.{CallId}
 use Rattle.gateway_theory.specs.declared.tally.Tally.{Tally}
 
@@ -144,6 +147,10 @@ with_bytes c bytes texts d = if d == c then texts d ++ bytes else texts d
 
 -- ---- what can be asked of it
 
+-- the connection is open
+abbrev pub is_open_conn : ℕ → GatewayValue → Bool
+is_open_conn c v = is_some (conn_of c v.machine.conns)
+
 -- the connection is open and broken
 abbrev pub is_broken_conn : ℕ → GatewayValue → Bool
 is_broken_conn c v = is_broken_in c v.machine.conns
@@ -164,6 +171,10 @@ is_done k s = is_over s.reader.reading || k.hung_up
 abbrev pub are_all_there : List (Option ReplyEntry) → Bool
 are_all_there slots = not (list_any is_none slots)
 
+-- each request of the connection has its reply; so it is where there is no such connection
+abbrev pub is_idle_conn : ℕ → GatewayValue → Bool
+is_idle_conn c v = option_map_or (λ k. are_all_there k.slots) (conn_of c v.machine.conns) true
+
 abbrev pub has_ended : ConnValue → StreamValue → Bool
 has_ended k s = k.broken || (is_done k s && are_all_there k.slots)
 
@@ -175,12 +186,39 @@ is_ended c v = option_map_or (λ k. option_map_or (λ s. has_ended k s) (stream_
 abbrev pub outs_of : CallId → GatewayValue → ℕ
 outs_of id v = count_by (λ b. b) (call_at id v.machine.calls).out
 
+-- how many connections were opened, and how many are open
+abbrev pub conn_count : GatewayValue → ℕ
+conn_count v = v.opened
+
+abbrev pub open_count : GatewayValue → ℕ
+open_count v = length v.streams
+
+-- the jobs that wait to be taken, in order of start
+abbrev pub jobs_of : GatewayValue → List JobValue
+jobs_of v = v.machine.jobs
+
+-- the same gateway, in which these jobs wait
+abbrev pub with_jobs : List JobValue → GatewayValue → GatewayValue
+with_jobs jobs v = record v { machine = record v.machine { jobs = jobs } }
+
+-- the least deadline of the calls that can be decided, and of their branches that are out
+abbrev pub deadline_ahead : GatewayValue → Option ℕ
+deadline_ahead v = least_deadline v.machine.calls
+
+-- the moment ends a call
+abbrev pub ends_calls : ℕ → GatewayValue → Bool
+ends_calls moment v = ends_any moment v.machine.calls
+
+-- the record so far of a call that can be decided, as it is kept
+abbrev pub kept_record : CallId → GatewayValue → Option CallRecord
+kept_record id v = option_map (λ (l : Live). record_of l.asked l.deadlines l.events) (call_at id v.machine.calls).live
+
 -- what is seen of it
 abbrev pub shown : GatewayValue → Shown
 shown v = record {
-  is_open = λ c. is_some (conn_of c v.machine.conns);
+  is_open = λ c. is_open_conn c v;
   is_broken = λ c. is_broken_conn c v;
   untaken = λ c. untaken_of c v;
-  waiting = v.machine.jobs;
+  waiting = jobs_of v;
   outs = λ id. outs_of id v;
 }

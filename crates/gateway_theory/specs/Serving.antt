@@ -55,6 +55,10 @@ undecided k = count_by is_none k.slots
 abbrev pub FewCalls : List ConnValue → Type 0
 FewCalls conns = (c : ℕ) (k : ConnValue) → conn_of c conns ≡ Some k → k.broken ≡ false → undecided k ≤ most_calls
 
+-- so it is of the gateway's connections
+abbrev pub HasFewCalls : GatewayValue → Type 0
+HasFewCalls v = FewCalls v.machine.conns
+
 -- the text of a stream was read, and no more has come on its connection than it brought
 pub record HasBrought (k : ConnValue) (reader : ReaderValue) : Type 0 where
   pub text : List ℕ

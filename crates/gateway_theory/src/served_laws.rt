@@ -7,19 +7,19 @@ ghost use Rattle.gateway_model.specs.declared.id.CallId.{CallId};
 ghost use Rattle.gateway_model.specs.declared.event.Event.TheVariants.{Opening, Piece};
 ghost use Rattle.gateway_model.specs.Events.{Occurs, onto, succeeds};
 ghost use Rattle.gateway_model.specs.declared.event.Event.{Event};
-ghost use Rattle.gateway_theory.specs.Gateway.{GatewayValue, outs_of, shown, untaken_of};
+ghost use Rattle.gateway_theory.specs.Gateway.{GatewayValue, kept_record, outs_of, shown, untaken_of};
 ghost use Rattle.gateway_model.specs.Job.{JobValue};
-ghost use Rattle.gateway_model.specs.Known.{IsKnown};
+ghost use Rattle.gateway_model.specs.Known.{IsKnown, is_whole};
 ghost use Rattle.gateway_theory.specs.Conn.{ConnValue};
 ghost use Rattle.gateway_theory.specs.Breaking.{BrokeNow};
 ghost use Rattle.gateway_model.specs.Past.{ArrivedCall, call, marked};
-ghost use Rattle.gateway_model.specs.Queue.{IsPrefixOf, front, record_of};
+ghost use Rattle.gateway_model.specs.Queue.{IsPrefixOf, front};
+ghost use Rattle.gateway_model.specs.CallRecord.{CallRecord};
 ghost use Rattle.gateway_model.specs.Record.{is_decided, is_lawful};
 ghost use Rattle.gateway_theory.specs.Served.{JobsAre, QueueIs, Served, ServedUpTo};
 ghost use Rattle.gateway_model.specs.Starts.{Placed, occurrences};
 ghost use Rattle.gateway_theory.specs.Serving.{FedTo, IsServing, Opens};
-ghost use Rattle.gateway_theory.specs.Step.{Live};
-ghost use Rattle.gateway_theory.specs.Store.{call_at, conn_of};
+ghost use Rattle.gateway_theory.specs.Store.{conn_of};
 
 use crate::request_laws::request_laws;
 use http_pieces::laws::fresh_law;
@@ -65,11 +65,10 @@ pub fn standing_law()
 /// What is kept of a call is what has occurred of it: one that can be decided, of a connection that is not broken, has a lawful
 /// record, which is not decided; and no call has more branches out than its plan's limit.
 pub fn calls_law()
-    ensures records { (id : CallId) (k : ConnValue) (l : Live) (v : GatewayValue) (opened : List ℕ) (es : List Event)
+    ensures records { (id : CallId) (kept : CallRecord) (v : GatewayValue) (opened : List ℕ) (es : List Event)
         (taken : ℕ → List ReplyEntry) (handed : List JobValue) (occurred : List Placed)
-        → Served v opened es taken handed → Occurs v.plans opened es occurred
-        → conn_of id.conn v.machine.conns ≡ Some k → k.broken ≡ false → (call_at id v.machine.calls).live ≡ Some l
-        → (is_lawful (record_of l.asked l.deadlines l.events) ≡ true) × (is_decided (record_of l.asked l.deadlines l.events) ≡ false) }
+        → Served v opened es taken handed → Occurs v.plans opened es occurred → is_whole id.conn (shown v) ≡ true
+        → kept_record id v ≡ Some kept → (is_lawful kept ≡ true) × (is_decided kept ≡ false) }
     ensures limit { (id : CallId) (a : ArrivedCall) (v : GatewayValue) (opened : List ℕ) (es : List Event)
         (taken : ℕ → List ReplyEntry) (handed : List JobValue) (occurred : List Placed)
         → Served v opened es taken handed → Occurs v.plans opened es occurred → call id (marked (occurrences occurred)) ≡ Some a

@@ -1,6 +1,6 @@
 -- What is kept of a call, by the events that a gateway stands for: its record so far, and how many of its branches are out.
 use Rattle.std.proofs.Common.{◌≡◌, ℕ, zero, suc, ◌≤◌, ◌<◌, Bool, true, false, List, [], ◌∷◌, ◌++◌, length, Option, None, Some, refl, sym, ap, ◌∙◌, subst, arith, append_assoc, append-nil, ⊎_elim}
-use Rattle.std.specs.Prelude.{is_none, not, option_to_list, slice_index_or}
+use Rattle.std.specs.Prelude.{◌&&◌, is_none, is_some, not, option_map, option_to_list, slice_index_or}
 use Rattle.std.specs.List.{count_by}
 use Rattle.std.specs.Option.{option_map_or}
 use Rattle.std.proofs.lemmas.Bool.{cases_Bool, cases_eq, cond_both, and_parts}
@@ -14,8 +14,9 @@ use Rattle.gateway_theory.specs.Conn.{ConnValue}
 use Rattle.gateway_model.specs.Events.{Before, Occurs, stream}
 use Rattle.gateway_theory.specs.Fate.{BrokenAt, Fate, HasFate, Unbroken, has_result, is_broken}
 use Rattle.gateway_theory.specs.Fated.{CallFated}
-use Rattle.gateway_theory.specs.Gateway.{GatewayStands, GatewayValue, outs_of}
+use Rattle.gateway_theory.specs.Gateway.{GatewayStands, GatewayValue, is_broken_conn, kept_record, outs_of, shown}
 use Rattle.gateway_model.specs.Job.{JobValue}
+use Rattle.gateway_model.specs.Known.{is_whole}
 use Rattle.gateway_theory.specs.LiveStands.{LiveStands, MayLive}
 use Rattle.gateway_model.specs.Occurrence.{Occurrence}
 use Rattle.gateway_model.specs.Past.{ArrivedCall, Past, began, branches, call, can_be_decided, count_below, decided, decides, is_closed, is_out, mark_of, marked, outs, started}
@@ -26,6 +27,7 @@ use Rattle.gateway_model.specs.Starts.{Placed, occurrences}
 use Rattle.gateway_theory.specs.Step.{CallState, Live}
 use Rattle.gateway_theory.specs.Store.{call_at, conn_of}
 use Rattle.gateway_theory.specs.lemmas.LimitLemmas.{count_less, out_started, outs_limit}
+use Rattle.gateway_theory.specs.lemmas.OrderLemmas.{some_same}
 use Rattle.gateway_theory.specs.lemmas.PastLemmas.{call_stays}
 use Rattle.gateway_theory.specs.lemmas.RecordLemmas.{Going, among_more, none_decides, lawful, same_follow}
 use Rattle.gateway_theory.specs.lemmas.SlotLemmas.{count_take}
@@ -176,10 +178,10 @@ record_lawful id a os a_is on =
     unclosed false is = refl
     unclosed true is = absurd (cc)
 
-pub record_kept : (id : CallId) (k : ConnValue) (l : Live) (v : GatewayValue) (opened : List ℕ) (es : Before) (taken : ℕ → List ReplyEntry) (handed : List JobValue)
+record_stands : (id : CallId) (k : ConnValue) (l : Live) (v : GatewayValue) (opened : List ℕ) (es : Before) (taken : ℕ → List ReplyEntry) (handed : List JobValue)
     (occurred : List Placed) → Served v opened es taken handed → Occurs v.plans opened es occurred → conn_of id.conn v.machine.conns ≡ Some k → k.broken ≡ false
     → (call_at id v.machine.calls).live ≡ Some l → (is_lawful (record_of l.asked l.deadlines l.events) ≡ true) × (is_decided (record_of l.asked l.deadlines l.events) ≡ false)
-record_kept id k l v opened es taken handed occurred h o k_is on l_is = by_fate (stands.fates id.conn) (sym (stands.fates_are id.conn k k_is) ∙ on) (stands.fated.calls_stand id)
+record_stands id k l v opened es taken handed occurred h o k_is on l_is = by_fate (stands.fates id.conn) (sym (stands.fates_are id.conn k k_is) ∙ on) (stands.fated.calls_stand id)
   where
     os : List Occurrence
     os = occurrences occurred
@@ -201,3 +203,28 @@ record_kept id k l v opened es taken handed occurred h o k_is on l_is = by_fate 
     by_fate : (f : Fate) → is_broken f ≡ false → CallFated id c f os → (is_lawful (record_of l.asked l.deadlines l.events) ≡ true) × (is_decided (record_of l.asked l.deadlines l.events) ≡ false)
     by_fate Unbroken unbroken is = by_live (subst (λ x. MayLive id x c.out (marked os)) l_is is.live_is)
     by_fate (BrokenAt since at older) unbroken is = absurd (cc)
+
+-- the record that is kept of a call of a connection that goes on
+pub record_kept : (id : CallId) (kept : CallRecord) (v : GatewayValue) (opened : List ℕ) (es : Before) (taken : ℕ → List ReplyEntry) (handed : List JobValue)
+    (occurred : List Placed) → Served v opened es taken handed → Occurs v.plans opened es occurred → is_whole id.conn (shown v) ≡ true
+    → kept_record id v ≡ Some kept → (is_lawful kept ≡ true) × (is_decided kept ≡ false)
+record_kept id kept v opened es taken handed occurred h o whole kept_is = by_conn (conn_of id.conn v.machine.conns) refl
+  where
+    off : (b : Bool) → (true && not b) ≡ true → b ≡ false
+    off false e = refl
+    off true e = absurd (cc)
+
+    by_conn : (k : Option ConnValue) → conn_of id.conn v.machine.conns ≡ k → (is_lawful kept ≡ true) × (is_decided kept ≡ false)
+    by_conn None k_is = absurd (let clash : false ≡ true = sym (ap (λ x. is_some x && not (is_broken_conn id.conn v)) k_is) ∙ whole in cc)
+    by_conn (Some k) k_is = by_live (call_at id v.machine.calls).live refl
+      where
+        on : k.broken ≡ false
+        on = sym (ap (λ x. option_map_or (λ (y : ConnValue). y.broken) x false) k_is)
+            ∙ off (is_broken_conn id.conn v) (sym (ap (λ x. is_some x && not (is_broken_conn id.conn v)) k_is) ∙ whole)
+
+        by_live : (l : Option Live) → (call_at id v.machine.calls).live ≡ l → (is_lawful kept ≡ true) × (is_decided kept ≡ false)
+        by_live None l_is = absurd (
+            let clash : None ≡ Some kept = sym (ap (λ x. option_map (λ (y : Live). record_of y.asked y.deadlines y.events) x) l_is) ∙ kept_is in cc)
+        by_live (Some l) l_is = subst (λ (r : CallRecord). (is_lawful r ≡ true) × (is_decided r ≡ false))
+            (some_same (sym (ap (λ x. option_map (λ (y : Live). record_of y.asked y.deadlines y.events) x) l_is) ∙ kept_is))
+            (record_stands id k l v opened es taken handed occurred h o k_is on l_is)
