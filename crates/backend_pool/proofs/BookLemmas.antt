@@ -14,8 +14,9 @@ use Rattle.gateway_theory.specs.Gateway.{GatewayValue}
 use Rattle.gateway_model.specs.Job.{JobValue}
 use Rattle.gateway_model.specs.Past.{how_seen, marked}
 use Rattle.gateway_theory.specs.Replies.{ReplyValue}
-use Rattle.gateway_theory.specs.Served.{Served, with_reply}
+use Rattle.gateway_theory.specs.Served.{Served, after_reply}
 use Rattle.gateway_model.specs.Starts.{Placed, occurrences}
+use Rattle.gateway_model.specs.History.{History, after_event, after_opening, after_jobs}
 use Rattle.gateway_theory.specs.Store.{conn_of}
 use Rattle.gateway_theory.specs.Tally.{is_counted, is_late, is_unknown, most_counted, tally_of}
 use Rattle.gateway_theory.specs.Serving.{KeepsBut}
@@ -49,21 +50,20 @@ tally_sums v results few h =
     ap (λ (t : Tally). t.counted + t.late + t.unknown) h.1 ∙ omega (arith, all, size, few)
 
 pub reached_tallied : (v : GatewayValue) (bytes jobs results : ℕ) → IsReached (book_value v bytes jobs results) → IsTallied v results
-reached_tallied v bytes jobs results h = h.4.tallied
+reached_tallied v bytes jobs results h = h.1.tallied
 
 -- ---- one event
 
 -- the core stands for one event more
 abbrev pub CoreTakes : Event → GatewayValue → GatewayValue → Type 0
 CoreTakes e v w =
-    (opened : List ℕ) (events : Before) (taken : ℕ → List ReplyEntry) (handed : List JobValue) → Served v opened events taken handed
-    → Served w opened (e ∷ events) taken handed
+    (history : History) → Served v history → Served w (after_event e history)
 
 takes : (e : Event) (v w : GatewayValue) (bytes jobs results more_bytes more_results : ℕ)
     → CoreTakes e v w → CoreTallies (results_in e) v w → more_bytes ≡ bytes + bytes_in e → more_results ≡ results + results_in e
     → TakesEvent e (book_value v bytes jobs results) (book_value w more_bytes jobs more_results)
-takes e v w bytes jobs results more_bytes more_results core tallies bytes_is results_is opened events taken handed h = record {
-  served = core opened events taken handed h.served;
+takes e v w bytes jobs results more_bytes more_results core tallies bytes_is results_is history h = record {
+  served = core history h.served;
   bytes_are = omega (arith, h.bytes_are, bytes_is);
   jobs_are = h.jobs_are;
   results_are = omega (arith, h.results_are, results_is);
@@ -82,26 +82,25 @@ pub reached_by : (e : Event) (v w : GatewayValue) (bytes jobs results more_bytes
     → CoreTakes e v w → CoreTallies (results_in e) v w → more_bytes ≡ bytes + bytes_in e → more_results ≡ results + results_in e
     → IsReached (book_value v bytes jobs results) → IsReached (book_value w more_bytes jobs more_results)
 reached_by e v w bytes jobs results more_bytes more_results core tallies bytes_is results_is h =
-    (h.0, e ∷ h.1, h.2, h.3, takes e v w bytes jobs results more_bytes more_results core tallies bytes_is results_is h.0 h.1 h.2 h.3 h.4)
+    (after_event e h.0, takes e v w bytes jobs results more_bytes more_results core tallies bytes_is results_is h.0 h.1)
 
 -- ---- openings
 
 abbrev pub CoreOpens : {E : Type 0} → Result ℕ E → GatewayValue → GatewayValue → Type 0
 CoreOpens result v w =
-    (opened : List ℕ) (es : Before) (taken : ℕ → List ReplyEntry) (handed : List JobValue) → Served v opened es taken handed
-    → MatchResult result (λ _. Served w (opened ++ length es ∷ []) (Opening ∷ es) taken handed) (λ _. Served w opened (Opening ∷ es) taken handed)
+    (history : History) → Served v history → MatchResult result (λ _. Served w (after_opening history)) (λ _. Served w (after_event Opening history))
 
 opens : {E : Type 0} → (result : Result ℕ E) (v w : GatewayValue) (bytes jobs results : ℕ) → CoreOpens result v w → CoreTallies 0 v w
     → TakesOpening result (book_value v bytes jobs results) (book_value w bytes jobs results)
-opens (Ok n) v w bytes jobs results core tallies opened es taken handed h = record {
-  served = core opened es taken handed h.served;
+opens (Ok n) v w bytes jobs results core tallies history h = record {
+  served = core history h.served;
   bytes_are = omega (arith, h.bytes_are);
   jobs_are = h.jobs_are;
   results_are = omega (arith, h.results_are);
   tallied = tallied_then 0 results results v w tallies (omega arith) h.tallied;
 }
-opens (Err e) v w bytes jobs results core tallies opened es taken handed h = record {
-  served = core opened es taken handed h.served;
+opens (Err e) v w bytes jobs results core tallies history h = record {
+  served = core history h.served;
   bytes_are = omega (arith, h.bytes_are);
   jobs_are = h.jobs_are;
   results_are = omega (arith, h.results_are);
@@ -114,33 +113,32 @@ book_opens result b v w bytes jobs results is core tallies =
     subst (λ (x : BookValue). TakesOpening result x (book_value w bytes jobs results)) is (opens result v w bytes jobs results core tallies)
 
 reached_opened : {E : Type 0} → (result : Result ℕ E) (b c : BookValue) → TakesOpening result b c → IsReached b → IsReached c
-reached_opened (Ok n) b c more h = (h.0 ++ length h.1 ∷ [], Opening ∷ h.1, h.2, h.3, more h.0 h.1 h.2 h.3 h.4)
-reached_opened (Err e) b c more h = (h.0, Opening ∷ h.1, h.2, h.3, more h.0 h.1 h.2 h.3 h.4)
+reached_opened (Ok n) b c more h = (after_opening h.0, more h.0 h.1)
+reached_opened (Err e) b c more h = (after_event Opening h.0, more h.0 h.1)
 
 pub reached_by_opening : {E : Type 0} → (result : Result ℕ E) (v w : GatewayValue) (bytes jobs results : ℕ) → CoreOpens result v w → CoreTallies 0 v w
     → IsReached (book_value v bytes jobs results) → IsReached (book_value w bytes jobs results)
 reached_by_opening result v w bytes jobs results core tallies h = reached_opened result _ _ (opens result v w bytes jobs results core tallies) h
 
 -- what was known of the core is known of the book's
-pub served_in : (b : BookValue) (v : GatewayValue) (bytes jobs results : ℕ) (opened : List ℕ) (es : Before) (taken : ℕ → List ReplyEntry) (handed : List JobValue)
-    → book_value v bytes jobs results ≡ b → BookStands b opened es taken handed → Served v opened es taken handed
-served_in b v bytes jobs results opened es taken handed is h =
+pub served_in : (b : BookValue) (v : GatewayValue) (bytes jobs results : ℕ) (history : History)
+    → book_value v bytes jobs results ≡ b → BookStands b history → Served v history
+served_in b v bytes jobs results history is h =
     let same : v ≡ b.core = ap (λ (x : BookValue). x.core) is in
-    subst (λ (x : GatewayValue). Served x opened es taken handed) (sym same) h.served
+    subst (λ (x : GatewayValue). Served x history) (sym same) h.served
 
 -- ---- what is taken
 
 abbrev pub CoreHands : List JobValue → GatewayValue → GatewayValue → Type 0
 CoreHands jobs v w =
-    (opened : List ℕ) (es : Before) (taken : ℕ → List ReplyEntry) (handed : List JobValue) → Served v opened es taken handed
-    → Served w opened es taken (handed ++ jobs)
+    (history : History) → Served v history → Served w (after_jobs jobs history)
 
 hands : (job : List JobValue) (v w : GatewayValue) (bytes jobs results more : ℕ) → CoreHands job v w → CoreTallies 0 v w → more ≡ jobs + length job
     → HandsJobs job (book_value v bytes jobs results) (book_value w bytes more results)
-hands job v w bytes jobs results more core tallies more_is opened es taken handed h = record {
-  served = core opened es taken handed h.served;
+hands job v w bytes jobs results more core tallies more_is history h = record {
+  served = core history h.served;
   bytes_are = h.bytes_are;
-  jobs_are = omega (arith, h.jobs_are, more_is, length-append handed job);
+  jobs_are = omega (arith, h.jobs_are, more_is, length-append history.handed job);
   results_are = h.results_are;
   tallied = tallied_then 0 results results v w tallies (omega arith) h.tallied;
 }
@@ -153,17 +151,16 @@ book_hands job b v w bytes jobs results more is core tallies more_is =
 pub reached_by_job : (job : List JobValue) (v w : GatewayValue) (bytes jobs results more : ℕ) → CoreHands job v w → CoreTallies 0 v w → more ≡ jobs + length job
     → IsReached (book_value v bytes jobs results) → IsReached (book_value w bytes more results)
 reached_by_job job v w bytes jobs results more core tallies more_is h =
-    (h.0, h.1, h.2, h.3 ++ job, hands job v w bytes jobs results more core tallies more_is h.0 h.1 h.2 h.3 h.4)
+    (after_jobs job h.0, hands job v w bytes jobs results more core tallies more_is h.0 h.1)
 
 abbrev pub CoreReplies : ℕ → Option ReplyValue → GatewayValue → GatewayValue → Type 0
 CoreReplies conn reply v w =
-    (opened : List ℕ) (es : Before) (taken : ℕ → List ReplyEntry) (handed : List JobValue) → Served v opened es taken handed
-    → Served w opened es (with_reply conn reply taken) handed
+    (history : History) → Served v history → Served w (after_reply conn reply history)
 
 replies : (conn : ℕ) (reply : Option ReplyValue) (v w : GatewayValue) (bytes jobs results : ℕ) → CoreReplies conn reply v w → CoreTallies 0 v w
     → HandsReply conn reply (book_value v bytes jobs results) (book_value w bytes jobs results)
-replies conn reply v w bytes jobs results core tallies opened es taken handed h = record {
-  served = core opened es taken handed h.served;
+replies conn reply v w bytes jobs results core tallies history h = record {
+  served = core history h.served;
   bytes_are = h.bytes_are;
   jobs_are = h.jobs_are;
   results_are = h.results_are;
@@ -179,7 +176,7 @@ book_replies conn reply given b v w bytes jobs results same is core tallies =
 pub reached_by_reply : (conn : ℕ) (reply : Option ReplyValue) (v w : GatewayValue) (bytes jobs results : ℕ) → CoreReplies conn reply v w → CoreTallies 0 v w
     → IsReached (book_value v bytes jobs results) → IsReached (book_value w bytes jobs results)
 reached_by_reply conn reply v w bytes jobs results core tallies h =
-    (h.0, h.1, with_reply conn reply h.2, h.3, replies conn reply v w bytes jobs results core tallies h.0 h.1 h.2 h.3 h.4)
+    (after_reply conn reply h.0, replies conn reply v w bytes jobs results core tallies h.0 h.1)
 
 -- what the core keeps, the book's keeps
 pub core_keeps : (closed breaks : ℕ → Bool) (seen : List Seen) (b : BookValue) (v w : GatewayValue) (bytes jobs results : ℕ)

@@ -12,8 +12,9 @@ use Rattle.gateway_theory.specs.Gateway.{GatewayValue, jobs_of}
 use Rattle.gateway_theory.specs.Task.{HandedJob}
 use Rattle.gateway_model.specs.Job.{JobValue}
 use Rattle.gateway_model.specs.Occurrence.{Occurrence}
+use Rattle.gateway_model.specs.History.{History, after_event, after_opening, after_jobs}
 use Rattle.gateway_theory.specs.Replies.{ReplyValue}
-use Rattle.gateway_theory.specs.Served.{Served, with_reply}
+use Rattle.gateway_theory.specs.Served.{Served, after_reply}
 use Rattle.gateway_theory.specs.Serving.{Breaks, BreaksBy}
 use Rattle.gateway_theory.specs.Told.{IsWanted}
 use Rattle.gateway_theory.specs.Tally.{tally_of}
@@ -64,19 +65,17 @@ IsTallied v results = (seen : List Seen) × (v.tally ≡ tally_of seen) × (leng
 
 -- ---- what a book stands for
 
--- the core after these events, newest first, with these replies and jobs taken; and the totals are those of the pieces, the jobs taken and the results
-pub record BookStands (b : BookValue) (opened : List ℕ) (events : Before) (taken : ℕ → List ReplyEntry) (handed : List JobValue) : Type 0 where
-  pub served : Served b.core opened events taken handed
-  pub bytes_are : b.bytes ≡ bytes_of events
-  pub jobs_are : b.jobs ≡ length handed
-  pub results_are : b.results ≡ results_of events
+-- the core after all that came; and the totals are those of the pieces, the jobs taken and the results
+pub record BookStands (b : BookValue) (h : History) : Type 0 where
+  pub served : Served b.core h
+  pub bytes_are : b.bytes ≡ bytes_of h.events
+  pub jobs_are : b.jobs ≡ length h.handed
+  pub results_are : b.results ≡ results_of h.events
   pub tallied : IsTallied b.core b.results
 
 -- whatever it stood for, it stands for that and this event more
 abbrev pub TakesEvent : Event → BookValue → BookValue → Type 0
-TakesEvent e b c =
-    (opened : List ℕ) (events : Before) (taken : ℕ → List ReplyEntry) (handed : List JobValue) → BookStands b opened events taken handed
-    → BookStands c opened (e ∷ events) taken handed
+TakesEvent e b c = (h : History) → BookStands b h → BookStands c (after_event e h)
 
 -- so it does of a job's branch that ended with this outcome; and where no memory was found for one, with whatever outcome
 abbrev pub Records : Option Outcome → JobValue → BookValue → BookValue → Type 0
@@ -85,30 +84,21 @@ Records None job b c = (outcome : Outcome) → TakesEvent (BranchResult job.call
 
 -- an opening more, which succeeded or did not; it succeeds only where fewer are open than may be
 abbrev pub TakesOpening : {E : Type 0} → Result ℕ E → BookValue → BookValue → Type 0
-TakesOpening result b c =
-    (opened : List ℕ) (es : Before) (taken : ℕ → List ReplyEntry) (handed : List JobValue) → BookStands b opened es taken handed
-    → MatchResult result (λ _. BookStands c (opened ++ length es ∷ []) (Opening ∷ es) taken handed) (λ _. BookStands c opened (Opening ∷ es) taken handed)
+TakesOpening result b c = (h : History) → BookStands b h → MatchResult result (λ _. BookStands c (after_opening h)) (λ _. BookStands c (after_event Opening h))
 
 abbrev pub OpensFew : {E : Type 0} → Result ℕ E → BookValue → Type 0
-OpensFew result b =
-    (opened : List ℕ) (es : Before) (taken : ℕ → List ReplyEntry) (handed : List JobValue) → BookStands b opened es taken handed
-    → IfOk result (λ _. open_connections opened es < most_open)
+OpensFew result b = (h : History) → BookStands b h → IfOk result (λ _. open_connections h.opened h.events < most_open)
 
 -- these jobs were taken, or the reply of that connection, if there was one, and no event came
 abbrev pub HandsJobs : List JobValue → BookValue → BookValue → Type 0
-HandsJobs jobs b c =
-    (opened : List ℕ) (es : Before) (taken : ℕ → List ReplyEntry) (handed : List JobValue) → BookStands b opened es taken handed
-    → BookStands c opened es taken (handed ++ jobs)
+HandsJobs jobs b c = (h : History) → BookStands b h → BookStands c (after_jobs jobs h)
 
 abbrev pub HandsReply : ℕ → Option ReplyValue → BookValue → BookValue → Type 0
-HandsReply conn reply b c =
-    (opened : List ℕ) (es : Before) (taken : ℕ → List ReplyEntry) (handed : List JobValue) → BookStands b opened es taken handed
-    → BookStands c opened es (with_reply conn reply taken) handed
+HandsReply conn reply b c = (h : History) → BookStands b h → BookStands c (after_reply conn reply h)
 
--- there are events that it stands for
+-- there is a history that it stands for
 abbrev pub IsReached : BookValue → Type 0
-IsReached b =
-    (opened : List ℕ) × (events : Before) × (taken : ℕ → List ReplyEntry) × (handed : List JobValue) × BookStands b opened events taken handed
+IsReached b = (h : History) × BookStands b h
 
 -- ---- what a call tells
 

@@ -6,11 +6,8 @@ ghost use Rattle.std.specs.Prelude.{◌≡◌, ◌==◌, ◌+◌, ◌<◌, ◌�
 ghost use Rattle.gateway_model.specs.declared.id.CallId.{CallId};
 ghost use Rattle.connect_codec.specs.declared.answer.Outcome.{Outcome as Outcomes};
 ghost use Rattle.gateway_model.specs.CallRecord.{CallRecord};
-ghost use Rattle.gateway_model.specs.declared.entry.ReplyEntry.{ReplyEntry};
 ghost use Rattle.gateway_model.specs.Events.{Occurs, most_open};
-ghost use Rattle.gateway_model.specs.declared.event.Event.{Event};
 ghost use Rattle.gateway_model.specs.declared.event.Event.TheVariants.{BranchResult, Closing, Drain, HangUp, Moment, Piece};
-ghost use Rattle.gateway_model.specs.Job.{JobValue};
 ghost use Rattle.gateway_model.specs.Past.{ArrivedCall, call, is_due, marked};
 ghost use Rattle.gateway_model.specs.Record.{is_decided, is_lawful};
 ghost use Rattle.gateway_theory.specs.Refused.{RefusesOpening};
@@ -18,6 +15,7 @@ ghost use Rattle.gateway_theory.specs.Served.{Served};
 ghost use Rattle.gateway_model.specs.Occurrence as concerning;
 ghost use Rattle.gateway_theory.specs.Serving.{Breaks, BreaksBy, HasFewCalls, TakesOnly, TellsStep};
 ghost use Rattle.gateway_model.specs.Starts.{Placed, occurrences};
+ghost use Rattle.gateway_model.specs.History.{History, no_history};
 ghost use Rattle.backend_pool.specs.declared.next_reply.NextReply.{NextReply};
 ghost use Rattle.backend_pool.specs.Book.{book_value, BookStands, GivesJob, HandsJobs, HandsReply, job_list, most_total, OpensFew, reply_given, TakesEvent, TakesOpening, totals_of};
 
@@ -69,7 +67,7 @@ impl<H: ReplyHook + Drop, L: Ledger, J: Ledger, K: Ledger> Book<H, L, J, K> {
         requires names { (blanks.bytes.name ≡ L.name) × (blanks.jobs.name ≡ J.name) × (blanks.results.name ≡ K.name) }
         requires parts { (blanks.bytes.parts ≡ L.parts) × (blanks.jobs.parts ≡ J.parts)
             × (blanks.results.parts ≡ K.parts) }
-        ensures stands { IfOk result (λ r. BookStands r.0 [] [] (λ c. []) []) }
+        ensures stands { IfOk result (λ r. BookStands r.0 no_history) }
         ensures plans { IfOk result (λ r. r.0.core.plans ≡ plans) }
         ensures whole { IfOk result (λ r. (r.1.bytes.parts ≡ L.parts) × (r.1.jobs.parts ≡ J.parts)
             × (r.1.results.parts ≡ K.parts)) }
@@ -297,14 +295,12 @@ impl<H: ReplyHook + Drop, L: Ledger, J: Ledger, K: Ledger> Book<H, L, J, K> {
     pub fn bounds_law(&self)
         ensures few { open_count self.now.core ≤ most_open }
         ensures calls { HasFewCalls self.now.core }
-        ensures records { (id : CallId) (kept : CallRecord) (opened : List ℕ) (es : List Event) (taken : ℕ → List ReplyEntry)
-            (handed : List JobValue) (occurred : List Placed)
-            → Served self.now.core opened es taken handed → Occurs self.now.core.plans opened es occurred
+        ensures records { (id : CallId) (kept : CallRecord) (h : History) (occurred : List Placed)
+            → Served self.now.core h → Occurs self.now.core.plans h.opened h.events occurred
             → is_whole id.conn (shown self.now.core) ≡ true → kept_record id self.now.core ≡ Some kept
             → (is_lawful kept ≡ true) × (is_decided kept ≡ false) }
-        ensures limit { (id : CallId) (a : ArrivedCall) (opened : List ℕ) (es : List Event) (taken : ℕ → List ReplyEntry)
-            (handed : List JobValue) (occurred : List Placed)
-            → Served self.now.core opened es taken handed → Occurs self.now.core.plans opened es occurred
+        ensures limit { (id : CallId) (a : ArrivedCall) (h : History) (occurred : List Placed)
+            → Served self.now.core h → Occurs self.now.core.plans h.opened h.events occurred
             → call id (marked (occurrences occurred)) ≡ Some a → outs_of id self.now.core ≤ a.plan.limit }
     {
         self.core.bounds_law();
@@ -313,10 +309,8 @@ impl<H: ReplyHook + Drop, L: Ledger, J: Ledger, K: Ledger> Book<H, L, J, K> {
 
     /// What is known of the gateway by the events that it stands for, whichever they are. It does nothing.
     pub fn known_law(&self)
-        ensures known { (opened : List ℕ) (es : List Event) (taken : ℕ → List ReplyEntry) (handed : List JobValue)
-            (occurred : List Placed) → BookStands self.now opened es taken handed
-            → Occurs self.now.core.plans opened es occurred
-            → IsKnown (shown self.now.core) opened es (occurrences occurred) taken handed }
+        ensures known { (h : History) (occurred : List Placed) → BookStands self.now h → Occurs self.now.core.plans h.opened h.events occurred
+            → IsKnown (shown self.now.core) h (occurrences occurred) }
     {
         known_law();
     }

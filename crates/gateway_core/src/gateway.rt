@@ -1,6 +1,5 @@
 ghost use Rattle.std.specs.Prelude.{◌≡◌, ◌==◌, ◌∷◌, ◌++◌, ◌<◌, ◌≤◌, [], Err, IfOk, IfErr, IfSome, None, OnErr, OnOk, Some, false, not, ℕ, List, length, option_map, option_to_list, true, slice_get};
 ghost use Rattle.connect_codec.specs.declared.answer.Outcome.{Outcome as Outcomes};
-ghost use Rattle.gateway_model.specs.declared.entry.ReplyEntry.{ReplyEntry};
 ghost use Rattle.gateway_theory.specs.Gateway.{conn_count, deadline_ahead, ends_calls, is_broken_conn, is_ended, is_idle_conn, is_open_conn, jobs_of, next_reply, open_count, outs_of, shown, untaken_of, with_jobs};
 ghost use Rattle.gateway_model.specs.Occurrence as concerning;
 ghost use Rattle.gateway_theory.specs.Serving.{TakesSome, WouldBegin, Breaks, BreaksBy, CountsCalls, HasFewCalls, NotListening, Keeps, KeepsBut, TakesOnly, TellsStep};
@@ -10,11 +9,10 @@ ghost use Rattle.gateway_model.specs.Past.{is_due};
 ghost use Rattle.gateway_model.specs.Starts.{Placed, occurrences};
 ghost use Rattle.gateway_model.specs.Events.{most_open, Occurs};
 ghost use Rattle.gateway_model.specs.declared.event.Event.TheVariants.{BranchResult, Closing, Drain, HangUp, Moment};
-ghost use Rattle.gateway_model.specs.declared.event.Event.{Event};
 ghost use Rattle.gateway_theory.specs.Task.{HandedJob};
 ghost use Rattle.gateway_theory.specs.Told.{HandsJobs, HandsReply, IsWanted, OpensFew, TakesBytes, TakesEvent, TakesOneOf, TakesOpening, TellsTook};
 ghost use Rattle.gateway_model.specs.Known.{IsKnown};
-ghost use Rattle.gateway_model.specs.Job.{JobValue};
+ghost use Rattle.gateway_model.specs.History.{History, no_history};
 ghost use Rattle.gateway_theory.specs.Served.{Served};
 
 use crate::streams::Streams;
@@ -48,7 +46,7 @@ impl<H: ReplyHook + Drop> Core<H> {
     pub fn new(alloc: Global, plans: Plans) -> Result<Core<H>, AllocError>
         ensures plans { IfOk result (λ core. core.plans ≡ plans) }
         ensures tally { IfOk result (λ core. core.tally ≡ tally_of []) }
-        ensures stands { IfOk result (λ core. Served core [] [] (λ c. []) []) }
+        ensures stands { IfOk result (λ core. Served core no_history) }
     {
         let streams = Streams::new(alloc, plans)?;
         Ok(Core { streams })
@@ -188,9 +186,8 @@ impl<H: ReplyHook + Drop> Core<H> {
 
     /// What is known of the gateway by the events that it stands for, whichever they are. It does nothing.
     pub fn known_law(&self)
-        ensures known { (opened : List ℕ) (es : List Event) (taken : ℕ → List ReplyEntry) (handed : List JobValue) (occurred : List Placed)
-            → Served self.now opened es taken handed → Occurs self.now.plans opened es occurred
-            → IsKnown (shown self.now) opened es (occurrences occurred) taken handed }
+        ensures known { (h : History) (occurred : List Placed) → Served self.now h → Occurs self.now.plans h.opened h.events occurred
+            → IsKnown (shown self.now) h (occurrences occurred) }
     {
         known_law();
     }

@@ -3,13 +3,14 @@ use Rattle.std.specs.Prelude.{◌≡◌, ℕ, ◌≤◌, Bool, true, false, ◌&
 use Rattle.gateway_model.specs.declared.entry.ReplyEntry.{ReplyEntry}
 use Rattle.gateway_model.specs.declared.id.CallId.{CallId}
 use Rattle.gateway_model.specs.Concerns.{breaks_at}
-use Rattle.gateway_model.specs.Events.{Before, is_open}
+use Rattle.gateway_model.specs.Events.{is_open}
 use Rattle.gateway_model.specs.Job.{JobValue}
 use Rattle.gateway_model.specs.Occurrence.{Occurrence}
 use Rattle.gateway_model.specs.Past.{ArrivedCall, call, can_be_decided, marked, outs}
 use Rattle.gateway_model.specs.Queue.{own_events, queued_entries, record_deadlines, record_of}
 use Rattle.gateway_model.specs.Record.{is_decided, is_lawful}
 use Rattle.gateway_model.specs.Starts.{jobs}
+use Rattle.gateway_model.specs.History.{History}
 
 -- what is seen of the gateway
 pub record Shown : Type 0 where
@@ -42,16 +43,16 @@ pub record BrokeBefore (c : ℕ) (queue : List ReplyEntry) (started : List JobVa
   pub queue_is : queue ≡ queued_entries c (marked older)
   pub started_are : started ≡ filter (is_of c) (jobs (marked older))
 
--- after these events, by which this occurred, where these replies and jobs were taken
-pub record IsKnown (s : Shown) (opened : List ℕ) (events : Before) (os : List Occurrence) (taken : ℕ → List ReplyEntry) (handed : List JobValue) : Type 0 where
+-- after all that came, by which this occurred
+pub record IsKnown (s : Shown) (h : History) (os : List Occurrence) : Type 0 where
   -- the connections that are open are those of the events
-  pub open_are : (c : ℕ) → s.is_open c ≡ is_open opened c events
+  pub open_are : (c : ℕ) → s.is_open c ≡ is_open h.opened c h.events
   -- of one that is whole, the replies, taken or not, are its queue, and the jobs, taken or waiting, are all that started
-  pub queue_is : (c : ℕ) → is_whole c s ≡ true → taken c ++ s.untaken c ≡ queued_entries c (marked os)
-  pub jobs_are : (c : ℕ) → is_whole c s ≡ true → filter (is_of c) (handed ++ s.waiting) ≡ filter (is_of c) (jobs (marked os))
+  pub queue_is : (c : ℕ) → is_whole c s ≡ true → h.taken c ++ s.untaken c ≡ queued_entries c (marked os)
+  pub jobs_are : (c : ℕ) → is_whole c s ≡ true → filter (is_of c) (h.handed ++ s.waiting) ≡ filter (is_of c) (jobs (marked os))
   -- of one that broke they are those of what had occurred before it did; of any, the jobs begin those that started
-  pub broke : (c : ℕ) → s.is_broken c ≡ true → BrokeBefore c (taken c ++ s.untaken c) (filter (is_of c) (handed ++ s.waiting)) os
-  pub no_more : (c : ℕ) → (rest : List JobValue) × (filter (is_of c) (jobs (marked os)) ≡ filter (is_of c) (handed ++ s.waiting) ++ rest)
+  pub broke : (c : ℕ) → s.is_broken c ≡ true → BrokeBefore c (h.taken c ++ s.untaken c) (filter (is_of c) (h.handed ++ s.waiting)) os
+  pub no_more : (c : ℕ) → (rest : List JobValue) × (filter (is_of c) (jobs (marked os)) ≡ filter (is_of c) (h.handed ++ s.waiting) ++ rest)
   -- the branches that are out are those of the definitions, and a call that can be decided has a lawful record, which is not decided
   pub outs_are : (id : CallId) → is_whole id.conn s ≡ true → s.outs id ≡ outs id (marked os)
   pub records : (id : CallId) (a : ArrivedCall) → call id (marked os) ≡ Some a → can_be_decided id (marked os) ≡ true

@@ -12,6 +12,7 @@ pub mod Starts
 pub mod Record
 pub mod Decided
 pub mod Events
+pub mod History
 pub mod Concerns
 pub mod Run
 pub mod Known

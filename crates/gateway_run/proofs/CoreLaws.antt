@@ -14,6 +14,7 @@ use Rattle.gateway_model.specs.Past.{marked}
 use Rattle.gateway_model.specs.Queue.{IsPrefixOf, front}
 use Rattle.gateway_theory.specs.Served.{JobsAre, QueueIs, Served}
 use Rattle.gateway_model.specs.Starts.{Placed, jobs, occurrences, starts}
+use Rattle.gateway_model.specs.History.{History}
 use Rattle.gateway_theory.specs.Starting.{job_started}
 use Rattle.gateway_theory.specs.Store.{conn_of}
 
@@ -25,19 +26,19 @@ pub record EventLaws : Type 0 where
 
 -- what the core has queued and started, by the events that it stands for
 pub record StandingLaws : Type 0 where
-  pub queue : (c : ℕ) (k : ConnValue) (v : GatewayValue) (opened : List ℕ) (es : Before) (taken : ℕ → List ReplyEntry) (handed : List JobValue) (occurred : List Placed)
-      → Served v opened es taken handed → Occurs v.plans opened es occurred → conn_of c v.machine.conns ≡ Some k → QueueIs c (taken c ++ front k.slots) k.broken occurred
-  pub jobs : (v : GatewayValue) (opened : List ℕ) (es : Before) (taken : ℕ → List ReplyEntry) (handed : List JobValue) (occurred : List Placed)
-      → Served v opened es taken handed → Occurs v.plans opened es occurred → JobsAre v (handed ++ v.machine.jobs) occurred
+  pub queue : (c : ℕ) (k : ConnValue) (v : GatewayValue) (history : History) (occurred : List Placed)
+      → Served v history → Occurs v.plans history.opened history.events occurred → conn_of c v.machine.conns ≡ Some k → QueueIs c (history.taken c ++ front k.slots) k.broken occurred
+  pub jobs : (v : GatewayValue) (history : History) (occurred : List Placed)
+      → Served v history → Occurs v.plans history.opened history.events occurred → JobsAre v (history.handed ++ v.machine.jobs) occurred
 
 -- a connection that breaks at an event
 abbrev pub BreakingLaw : Type 0
-BreakingLaw = (c place : ℕ) (v w : GatewayValue) (opened later : List ℕ) (e : Event) (es : Before) (taken : ℕ → List ReplyEntry) (handed added : List JobValue)
-    (os : List Occurrence) (before after : List Placed) → Served v opened es taken handed → Served w later (e ∷ es) taken handed
-    → Occurs v.plans opened es before → Occurs w.plans later (e ∷ es) after → after ≡ onto place os before
+BreakingLaw = (c place : ℕ) (v w : GatewayValue) (later : List ℕ) (e : Event) (history : History) (added : List JobValue)
+    (os : List Occurrence) (before after : List Placed) → Served v history → Served w (record history { opened = later; events = e ∷ history.events })
+    → Occurs v.plans history.opened history.events before → Occurs w.plans later (e ∷ history.events) after → after ≡ onto place os before
     → w.machine.jobs ≡ v.machine.jobs ++ added → IsPrefixOf (untaken_of c v) (untaken_of c w) → (k l : ConnValue)
     → conn_of c v.machine.conns ≡ Some k → k.broken ≡ false → conn_of c w.machine.conns ≡ Some l → l.broken ≡ true
-    → BrokeNow c place (taken c ++ untaken_of c w) added before after
+    → BrokeNow c place (history.taken c ++ untaken_of c w) added before after
 
 -- one more opening that succeeds, behind some events and all others that do, changes nothing of what these come to
 pub record OpeningsLaws : Type 0 where

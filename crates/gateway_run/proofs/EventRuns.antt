@@ -12,10 +12,11 @@ use Rattle.gateway_theory.specs.Gateway.{GatewayValue}
 use Rattle.gateway_model.specs.Job.{JobValue}
 use Rattle.gateway_theory.specs.Served.{HasConns, Served}
 use Rattle.gateway_model.specs.declared.seen.Seen.{Seen}
+use Rattle.gateway_model.specs.History.{History, history_of}
 use Rattle.gateway_theory.specs.Serving.{KeepsBut}
 use Rattle.gateway_theory.specs.Starting.{job_started}
 use Rattle.gateway_run.specs.Log.{HasRun, LogValue, StartsAll}
-use Rattle.gateway_run.specs.Stepping.{BreaksAt, CollectsFor, log_after, opened_by}
+use Rattle.gateway_run.specs.Stepping.{BreaksAt, CollectsFor, after_step, log_after, opened_by}
 use Rattle.gateway_run.specs.declared.stepping.Stepped.{Stepped}
 use Rattle.gateway_run.specs.declared.stepping.Stepped.TheVariants.{Done, Opened, NotOpened, Saw, Fault, Broke}
 use Rattle.gateway_run.proofs.Flags.{more_default}
@@ -91,7 +92,7 @@ opens_later opened e es place o = record {
 
 module _ (e : Event) (es : Before) (v w : GatewayValue) (opened : List ℕ) where
   -- none succeeded at this event
-  steps_on : {seen : List Seen} → ((taken : ℕ → List ReplyEntry) (handed : List JobValue) → Served v opened es taken handed → Served w opened (e ∷ es) taken handed)
+  steps_on : {seen : List Seen} → ((taken : ℕ → List ReplyEntry) (handed : List JobValue) → Served v (history_of opened es taken handed) → Served w (history_of opened (e ∷ es) taken handed))
       → BreaksAt e v w → KeepsBut (λ c. is_closing_of c e) (λ c. true) seen v w → Steps e es v w opened opened
   steps_on {seen} served concerned keeps = record {
     served = served;
@@ -108,7 +109,7 @@ module _ (e : Event) (es : Before) (v w : GatewayValue) (opened : List ℕ) wher
 
   -- one did
   steps_open : {seen : List Seen} → OpeningsLaws → e ≡ Opening → open_connections opened es < most_open
-      → ((taken : ℕ → List ReplyEntry) (handed : List JobValue) → Served v opened es taken handed → Served w (opened ++ length es ∷ []) (e ∷ es) taken handed)
+      → ((taken : ℕ → List ReplyEntry) (handed : List JobValue) → Served v (history_of opened es taken handed) → Served w (history_of (opened ++ length es ∷ []) (e ∷ es) taken handed))
       → BreaksAt e v w → KeepsBut (λ c. is_closing_of c e) (λ c. true) seen v w → Steps e es v w opened (opened ++ length es ∷ [])
   steps_open {seen} openings e_is few served concerned keeps = record {
     served = served;
@@ -155,11 +156,9 @@ module _ (e : Event) (es : Before) (v w : GatewayValue) (opened : List ℕ) wher
 
 module _ {H : Type 0} (event : EventLaws) (openings : OpeningsLaws) (standing : StandingLaws) (breaking : BreakingLaw) (e : Event) (es : Before) (v u w x : GatewayValue) (log gathered next end : LogValue) (stepped : Stepped H) where
   pub event_run : {seen : List Seen} → HasRun (λ c. false) v log es → CollectsFor e v u log gathered
-      → ((opened : List ℕ) (es : Before) (taken : ℕ → List ReplyEntry) (handed : List JobValue) → Served u opened es taken handed
-      → Served w (opened_by stepped (length es) opened) (e ∷ es) taken handed)
+      → ((history : History) → Served u history → Served w (after_step stepped e history))
       → ((conn : ℕ) → stepped ≡ Opened conn → e ≡ Opening)
-      → ((conn : ℕ) (opened : List ℕ) (es : Before) (taken : ℕ → List ReplyEntry) (handed : List JobValue) → stepped ≡ Opened conn → Served u opened es taken handed
-      → open_connections opened es < most_open)
+      → ((conn : ℕ) (history : History) → stepped ≡ Opened conn → Served u history → open_connections history.opened history.events < most_open)
       → BreaksAt e u w → KeepsBut (λ c. is_closing_of c e) (λ c. true) seen u w → next ≡ log_after stepped (length es) gathered → StartsAll (length es) w x next end
       → HasRun (λ c. false) x end (e ∷ es)
   event_run h collects served opens few concerned keeps next_is starts = by_step stepped refl
@@ -168,26 +167,26 @@ module _ {H : Type 0} (event : EventLaws) (openings : OpeningsLaws) (standing : 
       mid = collected_for standing e v u log gathered es h collects
 
       -- how many connections there are then
-      still_open : (r : Stepped H) → Served w (opened_by r (length es) gathered.opened) (e ∷ es) mid.taken (map job_started mid.started)
+      still_open : (r : Stepped H) → Served w (history_of (opened_by r (length es) gathered.opened) (e ∷ es) mid.taken (map job_started mid.started))
           → connections (opened_by r (length es) gathered.opened) (e ∷ es) ≡ w.opened
       still_open r s = s.conns.count_is
 
       starts_on : (l : LogValue) → next ≡ l → StartsAll (length es) w x l end
       starts_on l is = subst (λ y. StartsAll (length es) w x y end) is starts
 
-      now : Served w (opened_by stepped (length es) gathered.opened) (e ∷ es) mid.taken (map job_started mid.started)
-      now = served gathered.opened es mid.taken (map job_started mid.started) mid.served
+      now : Served w (history_of (opened_by stepped (length es) gathered.opened) (e ∷ es) mid.taken (map job_started mid.started))
+      now = served (history_of gathered.opened es mid.taken (map job_started mid.started)) mid.served
 
       none_new : (r : Stepped H) → stepped ≡ r → ((opened : List ℕ) → opened_by r (length es) opened ≡ opened) → log_after r (length es) gathered ≡ gathered
           → (e ≡ Opening → succeeds gathered.opened (length es) ≡ false) → HasRun (λ c. false) x end (e ∷ es)
       none_new r r_is same kept fails = run_on event standing breaking e es u w gathered gathered mid
-          (steps_on e es u w gathered.opened (λ taken handed s. subst (λ o. Served w o (e ∷ es) taken handed) (ap (λ y. opened_by y (length es) gathered.opened) r_is ∙ same gathered.opened)
-          (served gathered.opened es taken handed s)) concerned keeps)
+          (steps_on e es u w gathered.opened (λ taken handed s. subst (λ o. Served w (history_of o (e ∷ es) taken handed)) (ap (λ y. opened_by y (length es) gathered.opened) r_is ∙ same gathered.opened)
+          (served (history_of gathered.opened es taken handed) s)) concerned keeps)
           (λ c. refl) (λ c. refl) refl x end (starts_on gathered (next_is ∙ ap (λ y. log_after y (length es) gathered) r_is ∙ kept))
           (mid.opened_size ∙ size) (mid.queued_size ∙ size) (mid.broke_size ∙ size)
         where
-          served_now : Served w gathered.opened (e ∷ es) mid.taken (map job_started mid.started)
-          served_now = subst (λ o. Served w o (e ∷ es) mid.taken (map job_started mid.started)) (ap (λ y. opened_by y (length es) gathered.opened) r_is ∙ same gathered.opened) now
+          served_now : Served w (history_of gathered.opened (e ∷ es) mid.taken (map job_started mid.started))
+          served_now = subst (λ o. Served w (history_of o (e ∷ es) mid.taken (map job_started mid.started))) (ap (λ y. opened_by y (length es) gathered.opened) r_is ∙ same gathered.opened) now
 
           no_more : (f : Event) → e ≡ f → connections gathered.opened (f ∷ es) ≡ connections gathered.opened es
           no_more Opening f_is = ap (λ b. if b then suc (connections gathered.opened es) else connections gathered.opened es) (fails f_is)
@@ -210,8 +209,8 @@ module _ {H : Type 0} (event : EventLaws) (openings : OpeningsLaws) (standing : 
 
       by_step : (r : Stepped H) → stepped ≡ r → HasRun (λ c. false) x end (e ∷ es)
       by_step (Opened conn) r_is = run_on event standing breaking e es u w gathered (log_after {H = H} (Opened conn) (length es) gathered) mid
-          (steps_open e es u w gathered.opened openings e_is (few conn gathered.opened es mid.taken (map job_started mid.started) r_is mid.served)
-          (λ taken handed s. subst (λ o. Served w o (e ∷ es) taken handed) (ap (λ y. opened_by y (length es) gathered.opened) r_is) (served gathered.opened es taken handed s)) concerned keeps)
+          (steps_open e es u w gathered.opened openings e_is (few conn (history_of gathered.opened es mid.taken (map job_started mid.started)) r_is mid.served)
+          (λ taken handed s. subst (λ o. Served w (history_of o (e ∷ es) taken handed)) (ap (λ y. opened_by y (length es) gathered.opened) r_is) (served (history_of gathered.opened es taken handed) s)) concerned keeps)
           (λ c. more_default gathered.queued c []) (λ c. more_default gathered.broke c false) refl x end (starts_on (log_after {H = H} (Opened conn) (length es) gathered) (next_is ∙ ap (λ y. log_after y (length es) gathered) r_is))
           (length-append gathered.opened (length es ∷ []) ∙ (let a = mid.opened_size in omega (arith, a, size)))
           (length-append gathered.queued ([] ∷ []) ∙ (let a = mid.queued_size in omega (arith, a, size)))
@@ -220,8 +219,8 @@ module _ {H : Type 0} (event : EventLaws) (openings : OpeningsLaws) (standing : 
           e_is : e ≡ Opening
           e_is = opens conn r_is
 
-          served_now : Served w (gathered.opened ++ length es ∷ []) (e ∷ es) mid.taken (map job_started mid.started)
-          served_now = subst (λ o. Served w o (e ∷ es) mid.taken (map job_started mid.started)) (ap (λ y. opened_by y (length es) gathered.opened) r_is) now
+          served_now : Served w (history_of (gathered.opened ++ length es ∷ []) (e ∷ es) mid.taken (map job_started mid.started))
+          served_now = subst (λ o. Served w (history_of o (e ∷ es) mid.taken (map job_started mid.started))) (ap (λ y. opened_by y (length es) gathered.opened) r_is) now
 
           succeeded : succeeds (gathered.opened ++ length es ∷ []) (length es) ≡ true
           succeeded = succeeds_more gathered.opened (length es) (length es) ∙ ap (λ b. succeeds gathered.opened (length es) || b) (eq-eqb (length es) (length es) refl) ∙ or_true (succeeds gathered.opened (length es))

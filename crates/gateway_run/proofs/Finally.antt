@@ -18,6 +18,7 @@ use Rattle.gateway_model.specs.Starts.{Placed, occurrences, starts}
 use Rattle.gateway_theory.specs.Store.{conn_of}
 use Rattle.gateway_run.specs.Log.{Collects, absent, gathers, HasRun, LogValue, flag_at, is_flagged, is_started_on, log_value, queue_at}
 use Rattle.gateway_model.specs.Run.{BrokeAs, IsSublist, bytes_of, is_listed, is_start_of, run_start, starts_of}
+use Rattle.gateway_model.specs.History.{no_history}
 use Rattle.gateway_run.specs.Running.{IsRun}
 use Rattle.gateway_run.specs.Stepping.{CollectsFor}
 use Rattle.gateway_run.proofs.CoreLaws.{StandingLaws}
@@ -68,12 +69,12 @@ at_default (y ∷ xs) (suc n) x d lt e = at_default xs n x d (omega (arith, lt))
 
 -- ---- a run of no events
 
-pub run_first : (standing : StandingLaws) (v : GatewayValue) (log : LogValue) → Served v [] [] (λ c. []) [] → log ≡ log_value [] [] [] [] → HasRun (λ c. false) v log []
+pub run_first : (standing : StandingLaws) (v : GatewayValue) (log : LogValue) → Served v no_history → log ≡ log_value [] [] [] [] → HasRun (λ c. false) v log []
 run_first standing v log served log_is = subst (λ l. HasRun (λ c. false) v l []) (sym log_is) (record {
   taken = λ c. [];
   started = [];
   served = served;
-  no_jobs = same_jobs 0 v.machine.jobs [] refl (λ c. (standing.jobs v [] [] (λ n. []) [] [] served refl).unopened c (let n = served.conns.count_is in omega (arith, n)));
+  no_jobs = same_jobs 0 v.machine.jobs [] refl (λ c. (standing.jobs v no_history [] served refl).unopened c (let n = served.conns.count_is in omega (arith, n)));
   opened_are = record { rising = tt; openings = λ place its. absurd (cc) };
   opened_size = served.conns.count_is;
   queued_size = served.conns.count_is;

@@ -13,13 +13,14 @@ use Rattle.gateway_theory.specs.Gateway.{GatewayValue, is_broken_conn, is_open_c
 use Rattle.gateway_model.specs.Job.{JobValue}
 use Rattle.gateway_model.specs.Queue.{answer_of, front}
 use Rattle.gateway_theory.specs.Replies.{ReplyValue}
-use Rattle.gateway_theory.specs.Served.{QueueIs, Served, with_reply}
+use Rattle.gateway_theory.specs.Served.{QueueIs, Served, with_reply, after_reply}
 use Rattle.gateway_theory.specs.Serving.{TakesOnly}
 use Rattle.gateway_model.specs.Starts.{Placed}
 use Rattle.gateway_theory.specs.Starting.{job_started}
 use Rattle.gateway_theory.specs.Store.{conn_of}
 use Rattle.gateway_run.specs.Log.{BrokeSo, Collects, absent, gathers, HasRun, LogValue, TookReplies, flag_at, is_flagged, log_with, queue_at}
 use Rattle.gateway_model.specs.Run.{bytes_of}
+use Rattle.gateway_model.specs.History.{History, history_of}
 use Rattle.gateway_run.proofs.CoreLaws.{StandingLaws}
 use Rattle.gateway_run.proofs.Flags.{or_false_right, set_here, set_other}
 use Rattle.gateway_theory.specs.lemmas.CutLemmas.{open_known}
@@ -41,7 +42,7 @@ pub took_none : (n : ℕ) (v : GatewayValue) → TookReplies n [] v v
 took_none n v = record {
   only = record { plans_are = refl; opened_is = refl; begun_is = refl; tally_is = refl; jobs_are = refl; open_are = λ c. refl; broken_are = λ c. refl; others_are = λ c ne. refl };
   untaken_are = refl;
-  served = λ opened es taken handed h. (taken, h, λ c. same c (c == n) (taken c));
+  served = λ history h. (history.taken, h, λ c. same c (c == n) (history.taken c));
 }
   where
     same : (c : ℕ) (b : Bool) (es : List ReplyEntry) → es ≡ (if b then es ++ [] else es)
@@ -49,15 +50,15 @@ took_none n v = record {
     same c false es = refl
 
 pub took_more : (n : ℕ) (entries : List ReplyEntry) (reply : Option ReplyValue) (u v w : GatewayValue) → TookReplies n entries u v
-    → ((opened : List ℕ) (es : Before) (taken : ℕ → List ReplyEntry) (handed : List JobValue) → Served v opened es taken handed → Served w opened es (with_reply n reply taken) handed)
+    → ((history : History) → Served v history → Served w (after_reply n reply history))
     → untaken_of n v ≡ option_to_list (option_map (λ (r : ReplyValue). r.entry) reply) ++ untaken_of n w → TakesOnly n v w
     → TookReplies n (entries ++ option_to_list (option_map (λ (r : ReplyValue). r.entry) reply)) u w
 took_more n entries reply u v w t stands first only = record {
   only = only_then n u v w t.only only;
   untaken_are = t.untaken_are ∙ ap (λ xs. entries ++ xs) first ∙ sym (append_assoc entries (option_to_list (option_map (λ (r : ReplyValue). r.entry) reply)) (untaken_of n w));
-  served = λ opened es taken handed h.
-      let was = t.served opened es taken handed h in
-      (with_reply n reply was.0, stands opened es was.0 handed was.1, λ c. both taken was.0 c (was.2 c) (c == n));
+  served = λ history h.
+      let was = t.served history h in
+      (with_reply n reply was.0, stands (record history { taken = was.0 }) was.1, λ c. both history.taken was.0 c (was.2 c) (c == n));
 }
   where
     both : (taken later : ℕ → List ReplyEntry) (c : ℕ) → later c ≡ (if c == n then taken c ++ entries else taken c) → (b : Bool)
@@ -144,8 +145,8 @@ module _ (standing : StandingLaws) (gathered : ℕ → Bool) (n : ℕ) (v w : Ga
     abbrev next : LogValue
     next = log_with n (bytes_of (untaken_of n v)) (is_broken_conn n v) log
 
-    s : (after : ℕ → List ReplyEntry) × Served w log.opened es after (map job_started h.started) × ((c : ℕ) → after c ≡ (if c == n then h.taken c ++ untaken_of n v else h.taken c))
-    s = t.served log.opened es h.taken (map job_started h.started) h.served
+    s : (after : ℕ → List ReplyEntry) × Served w (history_of log.opened es after (map job_started h.started)) × ((c : ℕ) → after c ≡ (if c == n then h.taken c ++ untaken_of n v else h.taken c))
+    s = t.served (history_of log.opened es h.taken (map job_started h.started)) h.served
 
     plain : (occurred : List Placed) → Occurs w.plans log.opened es occurred → Occurs v.plans log.opened es occurred
     plain occurred o = subst (λ plans. Occurs plans log.opened es occurred) t.only.plans_are o
@@ -218,7 +219,7 @@ module _ (standing : StandingLaws) (gathered : ℕ → Bool) (n : ℕ) (v w : Ga
             let broken : flag_at n next ≡ k.broken = flag_now there (gathered n) refl ∙ ap (λ x. option_map_or (λ (y : ConnValue). y.broken) x false) k_is in
             subst (λ b. QueueIs n (s.0 n) b occurred) (sym broken)
             (subst (λ q. QueueIs n q k.broken occurred) (ap (λ xs. s.0 n ++ xs) none ∙ append-nil (s.0 n))
-            (standing.queue n k w log.opened es s.0 (map job_started h.started) occurred s.1 o k_is))
+            (standing.queue n k w (history_of log.opened es s.0 (map job_started h.started)) occurred s.1 o k_is))
 
     gather : (c : ℕ) → (gathered c || c == n) ≡ true → is_open_conn c w ≡ true → (occurred : List Placed) → Occurs w.plans log.opened es occurred → (c ≡ n) ⊎ (c ≡ n → ⊥)
         → QueueIs c (s.0 c) (flag_at c next) occurred

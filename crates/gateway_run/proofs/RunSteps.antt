@@ -26,6 +26,7 @@ use Rattle.gateway_theory.specs.Starting.{job_started, start}
 use Rattle.gateway_theory.specs.Store.{conn_of}
 use Rattle.gateway_run.specs.Log.{BrokeSo, HasRun, LogValue, StartsAll, flag_at, is_flagged, is_started_on, queue_at}
 use Rattle.gateway_model.specs.Run.{IsSublist, run_start}
+use Rattle.gateway_model.specs.History.{history_of}
 use Rattle.gateway_run.specs.Log.{start_at}
 use Rattle.gateway_run.specs.Stepping.{BreaksAt}
 use Rattle.gateway_run.proofs.CoreLaws.{BreakingLaw, EventLaws, StandingLaws}
@@ -73,7 +74,7 @@ break_same c opened later (Closing n) before p same h = h
 
 -- what the step of an event comes to
 pub record Steps (e : Event) (es : Before) (v w : GatewayValue) (opened later : List ℕ) : Type 0 where
-  pub served : (taken : ℕ → List ReplyEntry) (handed : List JobValue) → Served v opened es taken handed → Served w later (e ∷ es) taken handed
+  pub served : (taken : ℕ → List ReplyEntry) (handed : List JobValue) → Served v (history_of opened es taken handed) → Served w (history_of later (e ∷ es) taken handed)
   pub seen : List Seen
   pub keeps : KeepsBut (λ c. is_closing_of c e) (λ c. true) seen v w
   pub concerned : BreaksAt e v w
@@ -86,7 +87,7 @@ pub record Steps (e : Event) (es : Before) (v w : GatewayValue) (opened later : 
 
 module _ (event : EventLaws) (standing : StandingLaws) (breaking : BreakingLaw) (e : Event) (es : Before) (v w : GatewayValue) (log next : LogValue) (h : HasRun (λ c. is_closing_of c e) v log es) (s : Steps e es v w log.opened next.opened)
     (queued_are : (c : ℕ) → queue_at c next ≡ queue_at c log) (flags_are : (c : ℕ) → flag_at c next ≡ flag_at c log) (starts_same : next.starts ≡ log.starts) where
-  served : Served w next.opened (e ∷ es) h.taken (map job_started h.started)
+  served : Served w (history_of next.opened (e ∷ es) h.taken (map job_started h.started))
   served = s.served h.taken (map job_started h.started) h.served
 
   abbrev new : List JobValue
@@ -124,7 +125,7 @@ module _ (event : EventLaws) (standing : StandingLaws) (breaking : BreakingLaw) 
     adds = event.adds v.plans next.opened e es past occurred was_next now
 
     stand : JobsAre w (map job_started h.started ++ new) occurred
-    stand = standing.jobs w next.opened (e ∷ es) h.taken (map job_started h.started) occurred served o
+    stand = standing.jobs w (history_of next.opened (e ∷ es) h.taken (map job_started h.started)) occurred served o
 
     jobs_then : jobs (marked (occurrences occurred)) ≡ jobs (marked (occurrences past)) ++ adds.started
     jobs_then =
@@ -362,7 +363,7 @@ module _ (event : EventLaws) (standing : StandingLaws) (breaking : BreakingLaw) 
     whole = or_false_right (flag_at c log) (is_broken_conn c v) off
 
     concerned : can_break c log.opened e es (marked (occurrences (past occurred o))) ≡ true
-    concerned = s.concerned log.opened es h.taken (map job_started h.started) (past occurred o) h.served (was occurred o) c on whole
+    concerned = s.concerned (history_of log.opened es h.taken (map job_started h.started)) (past occurred o) h.served (was occurred o) c on whole
 
     broke_now : BrokeNow c (length es) (h.taken c ++ untaken_of c w) s.keeps.jobs (past occurred o) occurred
     broke_now = by_conns (conn_of c v.machine.conns) refl (conn_of c w.machine.conns) refl
@@ -375,7 +376,7 @@ module _ (event : EventLaws) (standing : StandingLaws) (breaking : BreakingLaw) 
             let clash : true ≡ false = sym there ∙ ap (λ x. is_some x) k_is in cc)
         by_conns (Some k) k_is (Some l) l_is =
             let unclosed : is_closing_of c e ≡ false = (was_open c log.opened (marked (occurrences (past occurred o))) concerned (ap (λ x. is_some x) l_is)).1 in
-            breaking c (length es) v w log.opened next.opened e es h.taken (map job_started h.started) s.keeps.jobs (now occurred o).2.0 (past occurred o) occurred h.served served (was occurred o) o
+            breaking c (length es) v w next.opened e (history_of log.opened es h.taken (map job_started h.started)) s.keeps.jobs (now occurred o).2.0 (past occurred o) occurred h.served served (was occurred o) o
             (now occurred o).2.2 s.keeps.jobs_are (s.keeps.replies_stay c unclosed) k l k_is (sym (ap (λ x. option_map_or (λ (y : ConnValue). y.broken) x false) k_is) ∙ whole) l_is
             (sym (ap (λ x. option_map_or (λ (y : ConnValue). y.broken) x false) l_is) ∙ on)
 
@@ -481,8 +482,8 @@ module _ (event : EventLaws) (standing : StandingLaws) (breaking : BreakingLaw) 
   run_on x end t opened_size queued_size broke_size = subst (λ y. HasRun (λ c. false) y end (e ∷ es)) (sym t.rest) (subst (λ l. HasRun (λ c. false) last l (e ∷ es)) (sym t.log_is) (record {
     taken = h.taken;
     started = h.started ++ map (start (length es)) new;
-    served = subst (λ js. Served last next.opened (e ∷ es) h.taken js) (sym handed_are)
-        (subst (λ y. Served y next.opened (e ∷ es) h.taken (map job_started h.started ++ new)) t.rest (t.served next.opened (e ∷ es) h.taken (map job_started h.started) served));
+    served = subst (λ js. Served last (history_of next.opened (e ∷ es) h.taken js)) (sym handed_are)
+        (subst (λ y. Served y (history_of next.opened (e ∷ es) h.taken (map job_started h.started ++ new))) t.rest (t.served (history_of next.opened (e ∷ es) h.taken (map job_started h.started)) served));
     no_jobs = refl;
     opened_are = s.opened_are h.opened_are h.served.conns;
     opened_size = opened_size;

@@ -19,33 +19,33 @@ use Rattle.gateway_model.specs.Job.{JobValue}
 use Rattle.gateway_theory.specs.Served.{Served}
 use Rattle.gateway_run.specs.Log.{log_value}
 use Rattle.gateway_model.specs.declared.run.Start.{Start}
+use Rattle.gateway_model.specs.History.{History, after_jobs}
 
 -- the first jobs were taken
 pub record Started (v w : GatewayValue) : Type 0 where
   pub gone : List JobValue
   pub jobs_are : v.machine.jobs ≡ gone ++ w.machine.jobs
   pub rest : w ≡ with_jobs w.machine.jobs v
-  pub served : (opened : List ℕ) (es : Before) (taken : ℕ → List ReplyEntry) (handed : List JobValue) → Served v opened es taken handed → Served w opened es taken (handed ++ gone)
+  pub served : (history : History) → Served v history → Served w (after_jobs gone history)
 
 pub one_started : (u v w : GatewayValue) (job : Option HandedJob) → Started u v
-    → ((opened : List ℕ) (es : Before) (taken : ℕ → List ReplyEntry) (handed : List JobValue) → Served v opened es taken handed
-    → Served w opened es taken (handed ++ option_to_list (option_map (λ (j : HandedJob). j.job) job)))
+    → ((history : History) → Served v history → Served w (after_jobs (option_to_list (option_map (λ (j : HandedJob). j.job) job)) history))
     → v.machine.jobs ≡ option_to_list (option_map (λ (j : HandedJob). j.job) job) ++ w.machine.jobs
     → w ≡ with_jobs w.machine.jobs v → Started u w
 one_started u v w job s stands first rest = record {
   gone = s.gone ++ option_to_list (option_map (λ (j : HandedJob). j.job) job);
   jobs_are = s.jobs_are ∙ ap (λ js. s.gone ++ js) first ∙ sym (append_assoc s.gone (option_to_list (option_map (λ (j : HandedJob). j.job) job)) w.machine.jobs);
   rest = rest ∙ ap (with_jobs w.machine.jobs) s.rest;
-  served = λ opened es taken handed h. subst (λ js. Served w opened es taken js) (append_assoc handed s.gone (option_to_list (option_map (λ (j : HandedJob). j.job) job)))
-      (stands opened es taken (handed ++ s.gone) (s.served opened es taken handed h));
+  served = λ history h. subst (λ js. Served w (record history { handed = js })) (append_assoc history.handed s.gone (option_to_list (option_map (λ (j : HandedJob). j.job) job)))
+      (stands (after_jobs s.gone history) (s.served history h));
 }
 
 -- where none is left, all were
 pub all_started : (v w : GatewayValue) → Started v w → w.machine.jobs ≡ [] → (w ≡ with_jobs [] v)
-    × ((opened : List ℕ) (es : Before) (taken : ℕ → List ReplyEntry) (handed : List JobValue) → Served v opened es taken handed → Served w opened es taken (handed ++ v.machine.jobs))
+    × ((history : History) → Served v history → Served w (after_jobs v.machine.jobs history))
 all_started v w s none = (
   s.rest ∙ ap (λ js. with_jobs js v) none,
-  λ opened es taken handed h. subst (λ js. Served w opened es taken (handed ++ js)) (sym (s.jobs_are ∙ ap (λ js. s.gone ++ js) none ∙ append-nil s.gone)) (s.served opened es taken handed h),
+  λ history h. subst (λ js. Served w (after_jobs js history)) (sym (s.jobs_are ∙ ap (λ js. s.gone ++ js) none ∙ append-nil s.gone)) (s.served history h),
 )
 
 -- a log by its parts

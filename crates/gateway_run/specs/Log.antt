@@ -4,7 +4,7 @@ use Rattle.gateway_model.specs.declared.entry.ReplyEntry.{ReplyEntry}
 use Rattle.call_plan.specs.Plan.{PlanRecord}
 use Rattle.gateway_model.specs.Known.{is_of}
 use Rattle.gateway_model.specs.Events.{Before, IsOpened, Occurs}
-use Rattle.gateway_theory.specs.Gateway.{GatewayValue, is_broken_conn, is_open_conn, untaken_of}
+use Rattle.gateway_theory.specs.Gateway.{GatewayValue, is_broken_conn, is_open_conn, jobs_of, untaken_of, with_jobs}
 use Rattle.gateway_model.specs.Job.{JobValue}
 use Rattle.gateway_model.specs.Past.{marked}
 use Rattle.gateway_model.specs.Queue.{queued_entries}
@@ -14,6 +14,7 @@ use Rattle.gateway_model.specs.Starts.{Placed, occurrences, starts}
 use Rattle.gateway_theory.specs.Starting.{StartedJob, job_started}
 use Rattle.gateway_model.specs.declared.run.Start.{Start}
 use Rattle.gateway_model.specs.Run.{Breakage, IsSublist, bytes_of, run_start}
+use Rattle.gateway_model.specs.History.{History, history_of, after_jobs}
 
 -- the start of a job's branch at the event of that place
 abbrev pub start_at : ℕ → JobValue → Start
@@ -42,8 +43,8 @@ flag_at c log = slice_index_or log.broke c false
 pub record TookReplies (n : ℕ) (entries : List ReplyEntry) (v w : GatewayValue) : Type 0 where
   pub only : TakesOnly n v w
   pub untaken_are : untaken_of n v ≡ entries ++ untaken_of n w
-  pub served : (opened : List ℕ) (es : Before) (taken : ℕ → List ReplyEntry) (handed : List JobValue) → Served v opened es taken handed
-      → (later : ℕ → List ReplyEntry) × Served w opened es later handed × ((c : ℕ) → later c ≡ (if c == n then taken c ++ entries else taken c))
+  pub served : (h : History) → Served v h
+      → (later : ℕ → List ReplyEntry) × Served w (record h { taken = later }) × ((c : ℕ) → later c ≡ (if c == n then h.taken c ++ entries else h.taken c))
 
 -- the log, in which this stands behind what was queued for the connection, and whether it is broken
 abbrev pub log_with : ℕ → List ℕ → Bool → LogValue → LogValue
@@ -56,10 +57,9 @@ pub data Collects (n : ℕ) (v w : GatewayValue) (log later : LogValue) : Type 0
 
 -- all jobs were taken
 pub record StartsAll (place : ℕ) (v w : GatewayValue) (log later : LogValue) : Type 0 where
-  pub rest : w ≡ record v { machine = record v.machine { jobs = [] } }
-  pub served : (opened : List ℕ) (es : Before) (taken : ℕ → List ReplyEntry) (handed : List JobValue) → Served v opened es taken handed
-      → Served w opened es taken (handed ++ v.machine.jobs)
-  pub log_is : later ≡ record log { starts = log.starts ++ map (start_at place) v.machine.jobs }
+  pub rest : w ≡ with_jobs [] v
+  pub served : (h : History) → Served v h → Served w (after_jobs (jobs_of v) h)
+  pub log_is : later ≡ record log { starts = log.starts ++ map (start_at place) (jobs_of v) }
 
 -- ---- how it stands for the events
 
@@ -80,8 +80,8 @@ BrokeSo c plans opened queue started es occurred =
 pub record HasRun (gathered : ℕ → Bool) (v : GatewayValue) (log : LogValue) (es : Before) : Type 0 where
   pub taken : ℕ → List ReplyEntry
   pub started : List StartedJob
-  pub served : Served v log.opened es taken (map job_started started)
-  pub no_jobs : v.machine.jobs ≡ []
+  pub served : Served v (history_of log.opened es taken (map job_started started))
+  pub no_jobs : jobs_of v ≡ []
   pub opened_are : IsOpened log.opened es
   pub opened_size : length log.opened ≡ v.opened
   pub queued_size : length log.queued ≡ v.opened

@@ -1,5 +1,5 @@
 -- What a step answers, and what a run takes down of it.
-use Rattle.std.specs.Prelude.{◌≡◌, ◌≤◌, ⊤, ℕ, Bool, true, false, List, [], ◌∷◌, ◌++◌, Result, Ok, Err}
+use Rattle.std.specs.Prelude.{◌≡◌, ◌≤◌, ⊤, ℕ, Bool, true, false, List, [], ◌∷◌, ◌++◌, length, Result, Ok, Err}
 use Rattle.gateway_model.specs.declared.entry.ReplyEntry.{ReplyEntry}
 use Rattle.gateway_model.specs.Concerns.{can_break}
 use Rattle.gateway_model.specs.Job.{JobValue}
@@ -12,6 +12,7 @@ use Rattle.gateway_model.specs.Events.{Before, Occurs}
 use Rattle.gateway_model.specs.declared.event.Event.{Event}
 use Rattle.gateway_model.specs.declared.event.Event.TheVariants.{Opening, Piece, HangUp, Moment, BranchResult, Drain, Closing}
 use Rattle.gateway_model.specs.declared.seen.Seen.{Seen}
+use Rattle.gateway_model.specs.History.{History}
 use Rattle.gateway_theory.specs.Told.{TellsTook}
 use Rattle.gateway_theory.specs.declared.fault.OpenError.{OpenError}
 use Rattle.gateway_theory.specs.Refused.{RefusesOpening}
@@ -27,6 +28,10 @@ use Rattle.gateway_run.specs.declared.stepping.Stepped.TheVariants.{Broke, Done,
 abbrev pub opened_by : {H : Type 0} → Stepped H → ℕ → List ℕ → List ℕ
 opened_by (Opened conn) place opened = opened ++ place ∷ []
 opened_by _ place opened = opened
+
+-- what has come, with this event more, which came to that
+abbrev pub after_step : {H : Type 0} → Stepped H → Event → History → History
+after_step stepped e h = record h { opened = opened_by stepped (length h.events) h.opened; events = e ∷ h.events }
 
 -- how a result was seen, where the event was one
 abbrev pub seen_in : {H : Type 0} → Stepped H → List Seen
@@ -100,6 +105,5 @@ Tells (Closing conn) stepped v w = stepped ≡ Done
 -- a connection that breaks in the step is one that the event can break
 abbrev pub BreaksAt : Event → GatewayValue → GatewayValue → Type 0
 BreaksAt e v w =
-    (opened : List ℕ) (es : Before) (taken : ℕ → List ReplyEntry) (handed : List JobValue) (occurred : List Placed)
-    → Served v opened es taken handed → Occurs v.plans opened es occurred
-    → (c : ℕ) → is_broken_conn c w ≡ true → is_broken_conn c v ≡ false → can_break c opened e es (marked (occurrences occurred)) ≡ true
+    (h : History) (occurred : List Placed) → Served v h → Occurs v.plans h.opened h.events occurred
+    → (c : ℕ) → is_broken_conn c w ≡ true → is_broken_conn c v ≡ false → can_break c h.opened e h.events (marked (occurrences occurred)) ≡ true

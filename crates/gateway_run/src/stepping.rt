@@ -1,12 +1,11 @@
-ghost use Rattle.std.specs.Prelude.{◌≡◌, ◌<◌, ◌∷◌, ℕ, List, Some, is_some, length, true};
-ghost use Rattle.gateway_model.specs.declared.entry.ReplyEntry.{ReplyEntry};
+ghost use Rattle.std.specs.Prelude.{◌≡◌, ◌<◌, ℕ, List, Some, is_some, true};
 ghost use Rattle.gateway_model.specs.declared.event.Event.{Event};
 ghost use Rattle.gateway_model.specs.Events.{is_closing_of, most_open, open_connections};
-ghost use Rattle.gateway_model.specs.Job.{JobValue};
 ghost use Rattle.gateway_theory.specs.Served.{Served};
 ghost use Rattle.gateway_theory.specs.Serving.{KeepsBut};
 ghost use Rattle.gateway_model.specs.Events.{is_opening};
-ghost use Rattle.gateway_run.specs.Stepping.{BreaksAt, Tells, done_of, opened_by, opening_of, seen_in, taken_of};
+ghost use Rattle.gateway_model.specs.History.{History};
+ghost use Rattle.gateway_run.specs.Stepping.{BreaksAt, Tells, after_step, done_of, opening_of, seen_in, taken_of};
 
 use gateway_core::{CallId, ConnId, Core, OpenError, ReplyHook, StepFault, Stock, Took};
 use gateway_model::Event;
@@ -36,13 +35,11 @@ pub fn step<H: ReplyHook + Drop>(
     stock: Option<Stock<H>>,
 ) -> Stepped<H>
     requires { is_some stock ≡ is_opening event }
-    ensures stands { (opened : List ℕ) (es : List Event) (taken : ℕ → List ReplyEntry) (handed : List JobValue)
-        → Served core.old opened es taken handed
-        → Served core.new (opened_by result (length es) opened) (event ∷ es) taken handed }
+    ensures stands { (h : History) → Served core.old h → Served core.new (after_step result event h) }
     ensures tells { Tells event result core.old core.new }
     ensures opens { (conn : ℕ) → result ≡ Stepped.Opened conn → event ≡ Event.Opening }
-    ensures few { (conn : ℕ) (opened : List ℕ) (es : List Event) (taken : ℕ → List ReplyEntry) (handed : List JobValue)
-        → result ≡ Stepped.Opened conn → Served core.old opened es taken handed → open_connections opened es < most_open }
+    ensures few { (conn : ℕ) (h : History) → result ≡ Stepped.Opened conn → Served core.old h
+        → open_connections h.opened h.events < most_open }
     ensures back { (hooks : List H) (error : _) → result ≡ Stepped.NotOpened hooks error → stock ≡ Some hooks }
     ensures concerned { BreaksAt event core.old core.new }
     ensures keeps { KeepsBut (λ c. is_closing_of c event) (λ c. true) (seen_in result) core.old core.new }

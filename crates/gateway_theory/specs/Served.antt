@@ -1,5 +1,5 @@
 -- What the gateway stands for after events.
-use Rattle.std.specs.Prelude.{◌≡◌, ℕ, ◌<◌, ◌≤◌, Bool, true, false, filter, List, ◌∷◌, ◌++◌, ◌==◌, if◌then◌else◌, length, Option, Some, option_map, option_to_list, is_some}
+use Rattle.std.specs.Prelude.{◌≡◌, ℕ, ◌<◌, ◌≤◌, Bool, true, false, filter, List, ◌++◌, ◌==◌, if◌then◌else◌, length, Option, Some, option_map, option_to_list, is_some}
 use Rattle.http_pieces.specs.Reader.{HasRead}
 use Rattle.http_pieces.specs.Request.{HttpRequest}
 use Rattle.http_pieces.specs.Requests.{StreamEnd, Requests}
@@ -16,6 +16,7 @@ use Rattle.gateway_model.specs.Known.{is_of}
 use Rattle.gateway_model.specs.Past.{marked}
 use Rattle.gateway_model.specs.Queue.{IsPrefixOf, queued_entries}
 use Rattle.gateway_model.specs.Starts.{Placed, jobs, occurrences}
+use Rattle.gateway_model.specs.History.{History, after_event}
 use Rattle.gateway_theory.specs.Store.{conn_of}
 
 -- the connections of the gateway are those of these events, newest first, of which the openings at those places succeeded
@@ -29,19 +30,23 @@ pub record HasConns (v : GatewayValue) (opened : List ℕ) (events : Before) : T
   pub reads_are : (c : ℕ) (k : ConnValue) (s : StreamValue) → conn_of c v.machine.conns ≡ Some k → stream_of c v.streams ≡ Some s → is_listening k ≡ true
       → (given : List HttpRequest) × HasRead s.reader (stream opened c events) given
 
--- it stands for what occurs by them, where these replies and jobs were taken
-abbrev pub StandsBy : GatewayValue → List ℕ → Before → (ℕ → List ReplyEntry) → List JobValue → Type 0
-StandsBy v opened events taken handed =
-    (occurred : List Placed) → Occurs v.plans opened events occurred → GatewayStands v (λ c. stream opened c events) taken handed (occurrences occurred)
+-- it stands for what occurs by the events, where these replies and jobs were taken
+abbrev pub StandsBy : GatewayValue → History → Type 0
+StandsBy v h =
+    (occurred : List Placed) → Occurs v.plans h.opened h.events occurred → GatewayStands v (λ c. stream h.opened c h.events) h.taken h.handed (occurrences occurred)
 
--- the gateway after these events
-pub record Served (v : GatewayValue) (opened : List ℕ) (events : Before) (taken : ℕ → List ReplyEntry) (handed : List JobValue) : Type 0 where
-  pub conns : HasConns v opened events
-  pub stands : StandsBy v opened events taken handed
+-- the gateway after all that came
+pub record Served (v : GatewayValue) (h : History) : Type 0 where
+  pub conns : HasConns v h.opened h.events
+  pub stands : StandsBy v h
 
 -- the replies taken, and one of that connection more, if it is given
 abbrev pub with_reply : ℕ → Option ReplyValue → (ℕ → List ReplyEntry) → ℕ → List ReplyEntry
 with_reply n reply taken c = if c == n then taken c ++ option_to_list (option_map (λ r. r.entry) reply) else taken c
+
+-- the reply of that connection taken more, if it is given
+abbrev pub after_reply : ℕ → Option ReplyValue → History → History
+after_reply n reply h = record h { taken = with_reply n reply h.taken }
 
 -- ---- a piece that is fed in parts
 
@@ -49,11 +54,12 @@ with_reply n reply taken c = if c == n then taken c ++ option_to_list (option_ma
 abbrev pub IsKnown : List ℕ → Type 0
 IsKnown text = (given : List HttpRequest) × (ending : StreamEnd) × Requests 0 text given ending
 
--- the gateway after these events and the first bytes of one more, a piece of that connection's stream
-pub record ServedUpTo (n : ℕ) (fed : List ℕ) (v : GatewayValue) (opened : List ℕ) (es : Before) (taken : ℕ → List ReplyEntry) (handed : List JobValue) : Type 0 where
-  pub below : (place : ℕ) → succeeds opened place ≡ true → place < length es
-  pub served : Served v opened (Piece n fed ∷ es) taken handed
-  pub known : (rest : List ℕ) (gained : List Coming) → Gains v.plans (stream opened n es) (stream opened n es ++ (fed ++ rest)) gained → IsKnown (stream opened n es ++ fed)
+-- the gateway after all that came and the first bytes of one event more, a piece of that connection's stream
+pub record ServedUpTo (n : ℕ) (fed : List ℕ) (v : GatewayValue) (h : History) : Type 0 where
+  pub below : (place : ℕ) → succeeds h.opened place ≡ true → place < length h.events
+  pub served : Served v (after_event (Piece n fed) h)
+  pub known : (rest : List ℕ) (gained : List Coming) → Gains v.plans (stream h.opened n h.events) (stream h.opened n h.events ++ (fed ++ rest)) gained
+      → IsKnown (stream h.opened n h.events ++ fed)
 
 -- ---- what is queued and what starts
 

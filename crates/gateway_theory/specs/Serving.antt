@@ -16,9 +16,8 @@ use Rattle.gateway_theory.specs.Conn.{ConnValue}
 use Rattle.gateway_theory.specs.Ends.{CallsEnd, is_broken_in}
 use Rattle.gateway_model.specs.Arrival.{arrival_of}
 use Rattle.gateway_model.specs.Known.{is_of}
-use Rattle.gateway_model.specs.declared.entry.ReplyEntry.{ReplyEntry}
 use Rattle.gateway_theory.specs.Enters.{Enters, arriving_at, entered_at}
-use Rattle.gateway_model.specs.Events.{Before, Occurs, most_open}
+use Rattle.gateway_model.specs.Events.{Occurs, most_open}
 use Rattle.gateway_model.specs.Concerns.{concerns}
 use Rattle.gateway_model.specs.Occurrence.{Coming, Occurrence, Request, Refused}
 use Rattle.gateway_theory.specs.Arrivals.{calls_in}
@@ -32,6 +31,7 @@ use Rattle.gateway_model.specs.Queue.{IsPrefixOf}
 use Rattle.gateway_theory.specs.Replies.{ReplyValue}
 use Rattle.gateway_theory.specs.Served.{Served}
 use Rattle.gateway_model.specs.Starts.{Placed, occurrences}
+use Rattle.gateway_model.specs.History.{History}
 use Rattle.gateway_theory.specs.Store.{MachineValue, broken_at, conn_at, conn_of, hung_at, numbers}
 use Rattle.gateway_theory.specs.Tally.{tally_of}
 use Rattle.gateway_theory.specs.declared.tally.Tally.{Tally}
@@ -316,8 +316,8 @@ pub record TellsStep {A : Type 0} (c : ℕ) (v w : GatewayValue) (result : Resul
 -- a connection that breaks in the step is one that this occurrence concerns
 abbrev pub BreaksBy : Occurrence → GatewayValue → GatewayValue → Type 0
 BreaksBy o v w =
-    (opened : List ℕ) (es : Before) (taken : ℕ → List ReplyEntry) (handed : List JobValue) (occurred : List Placed)
-    → Served v opened es taken handed → Occurs v.plans opened es occurred
+    (h : History) (occurred : List Placed)
+    → Served v h → Occurs v.plans h.opened h.events occurred
     → (c : ℕ) → is_broken_conn c w ≡ true → is_broken_conn c v ≡ false → concerns c o (marked (occurrences occurred)) ≡ true
 
 -- nothing changes but what can be taken of the connection of that number

@@ -1,22 +1,22 @@
 -- What the calls of the core say: what the gateway stands for after each, how a result is seen, and whether a job is wanted.
-use Rattle.std.specs.Prelude.{◌≡◌, ℕ, ◌<◌, ◌≤◌, Bool, true, false, List, [], ◌∷◌, ◌++◌, length, take, Option, Some, is_some, Result, IfOk, MatchResult}
+use Rattle.std.specs.Prelude.{◌≡◌, ℕ, ◌<◌, ◌≤◌, Bool, true, false, List, ◌++◌, length, take, Option, Some, is_some, Result, IfOk, MatchResult}
 use Rattle.http_pieces.specs.Request.{HttpRequest}
 use Rattle.http_pieces.specs.Requests.{Open, Requests, StreamEnd}
 use Rattle.connect_codec.specs.declared.answer.Outcome.{Outcome}
 use Rattle.call_plan.specs.Plan.{PlanRecord}
-use Rattle.gateway_model.specs.declared.entry.ReplyEntry.{ReplyEntry}
 use Rattle.gateway_model.specs.declared.event.Event.{Event}
 use Rattle.gateway_model.specs.declared.event.Event.TheVariants.{Opening, Piece}
 use Rattle.gateway_model.specs.declared.id.CallId.{CallId}
 use Rattle.gateway_model.specs.declared.seen.Seen.{Seen}
 use Rattle.gateway_model.specs.declared.seen.Seen.TheVariants.{Counted, Unknown}
-use Rattle.gateway_model.specs.Events.{Before, Gains, Occurs, most_open, open_connections, stream}
+use Rattle.gateway_model.specs.Events.{Gains, Occurs, most_open, open_connections, stream}
 use Rattle.gateway_model.specs.Job.{JobValue}
 use Rattle.gateway_model.specs.Known.{is_whole}
 use Rattle.gateway_model.specs.Occurrence.{Coming, Occurrence}
 use Rattle.gateway_model.specs.Occurrence as occurs
 use Rattle.gateway_model.specs.Past.{how_seen, marked}
 use Rattle.gateway_model.specs.Starts.{Placed, occurrences}
+use Rattle.gateway_model.specs.History.{History, after_event, after_opening, after_jobs}
 use Rattle.gateway_theory.specs.declared.fault.StepFault.{StepFault}
 use Rattle.gateway_theory.specs.declared.fault.Took.{Took}
 use Rattle.gateway_theory.specs.Breaks.{how_seen_fated, seen_by}
@@ -26,7 +26,7 @@ use Rattle.gateway_theory.specs.Gateway.{GatewayValue, shown}
 use Rattle.gateway_theory.specs.LiveStands.{is_live}
 use Rattle.gateway_theory.specs.Replies.{ReplyValue}
 use Rattle.gateway_theory.specs.Results.{NoneSpent}
-use Rattle.gateway_theory.specs.Served.{Served, ServedUpTo, with_reply}
+use Rattle.gateway_theory.specs.Served.{Served, ServedUpTo, after_reply}
 use Rattle.gateway_theory.specs.Serving.{Breaks, BreaksBy}
 use Rattle.gateway_theory.specs.Store.{call_at, conn_of}
 
@@ -35,26 +35,26 @@ use Rattle.gateway_theory.specs.Store.{call_at, conn_of}
 -- whatever it stood for, it stands for that, and for this event more
 abbrev pub TakesEvent : Event → GatewayValue → GatewayValue → Type 0
 TakesEvent e v w =
-    (opened : List ℕ) (es : Before) (taken : ℕ → List ReplyEntry) (handed : List JobValue) → Served v opened es taken handed
-    → Served w opened (e ∷ es) taken handed
+    (h : History) → Served v h
+    → Served w (after_event e h)
 
 -- an opening more, which succeeded or did not
 abbrev pub TakesOpening : {E : Type 0} → Result ℕ E → GatewayValue → GatewayValue → Type 0
 TakesOpening result v w =
-    (opened : List ℕ) (es : Before) (taken : ℕ → List ReplyEntry) (handed : List JobValue) → Served v opened es taken handed
-    → MatchResult result (λ _. Served w (opened ++ length es ∷ []) (Opening ∷ es) taken handed) (λ _. Served w opened (Opening ∷ es) taken handed)
+    (h : History) → Served v h
+    → MatchResult result (λ _. Served w (after_opening h)) (λ _. Served w (after_event Opening h))
 
 -- it succeeds only where fewer are open than may be
 abbrev pub OpensFew : {E : Type 0} → Result ℕ E → GatewayValue → Type 0
 OpensFew result v =
-    (opened : List ℕ) (es : Before) (taken : ℕ → List ReplyEntry) (handed : List JobValue) → Served v opened es taken handed
-    → IfOk result (λ _. open_connections opened es < most_open)
+    (h : History) → Served v h
+    → IfOk result (λ _. open_connections h.opened h.events < most_open)
 
 -- bytes more of a piece, of which the first were fed before: as many as were taken; at a fault all of them
 abbrev pub TakesBytes : ℕ → List ℕ → Result ℕ StepFault → GatewayValue → GatewayValue → Type 0
 TakesBytes conn bytes result v w =
-    (fed : List ℕ) (opened : List ℕ) (es : Before) (taken : ℕ → List ReplyEntry) (handed : List JobValue) → ServedUpTo conn fed v opened es taken handed
-    → MatchResult result (λ n. ServedUpTo conn (fed ++ take n bytes) w opened es taken handed) (λ _. Served w opened (Piece conn (fed ++ bytes) ∷ es) taken handed)
+    (fed : List ℕ) (h : History) → ServedUpTo conn fed v h
+    → MatchResult result (λ n. ServedUpTo conn (fed ++ take n bytes) w h) (λ _. Served w (after_event (Piece conn (fed ++ bytes)) h))
 
 -- of a stream that goes on, the bytes taken bring one request at most, or the stream's refusal; of one that has ended all are taken
 pub record TakesOne (plans : List PlanRecord) (text bytes : List ℕ) (n : ℕ) : Type 0 where
@@ -63,20 +63,20 @@ pub record TakesOne (plans : List PlanRecord) (text bytes : List ℕ) (n : ℕ) 
 
 abbrev pub TakesOneOf : ℕ → List ℕ → Result ℕ StepFault → GatewayValue → Type 0
 TakesOneOf conn bytes result v =
-    (opened : List ℕ) (es : Before) (taken : ℕ → List ReplyEntry) (handed : List JobValue) → Served v opened es taken handed
-    → IfOk result (λ n. TakesOne v.plans (stream opened conn es) bytes n)
+    (h : History) → Served v h
+    → IfOk result (λ n. TakesOne v.plans (stream h.opened conn h.events) bytes n)
 
 -- these jobs were taken, and no event came
 abbrev pub HandsJobs : List JobValue → GatewayValue → GatewayValue → Type 0
 HandsJobs jobs v w =
-    (opened : List ℕ) (es : Before) (taken : ℕ → List ReplyEntry) (handed : List JobValue) → Served v opened es taken handed
-    → Served w opened es taken (handed ++ jobs)
+    (h : History) → Served v h
+    → Served w (after_jobs jobs h)
 
 -- the reply of that connection was taken, if there was one, and no event came
 abbrev pub HandsReply : ℕ → Option ReplyValue → GatewayValue → GatewayValue → Type 0
 HandsReply conn reply v w =
-    (opened : List ℕ) (es : Before) (taken : ℕ → List ReplyEntry) (handed : List JobValue) → Served v opened es taken handed
-    → Served w opened es (with_reply conn reply taken) handed
+    (h : History) → Served v h
+    → Served w (after_reply conn reply h)
 
 -- ---- results
 
@@ -92,8 +92,8 @@ pub record IsSeenBy (id : CallId) (branch : ℕ) (v : GatewayValue) (seen : Seen
 -- how a result is seen, whatever its connection: by what is kept of its call, and by what occurred
 pub record IsSeen (id : CallId) (branch : ℕ) (v : GatewayValue) (seen : Seen) : Type 0 where
   pub kept : seen ≡ seen_by (call_at id v.machine.calls) branch
-  pub by_events : (opened : List ℕ) (es : Before) (taken : ℕ → List ReplyEntry) (handed : List JobValue) (occurred : List Placed)
-      → Served v opened es taken handed → Occurs v.plans opened es occurred → IsSeenBy id branch v seen (occurrences occurred)
+  pub by_events : (h : History) (occurred : List Placed)
+      → Served v h → Occurs v.plans h.opened h.events occurred → IsSeenBy id branch v seen (occurrences occurred)
 
 -- what the answer to a result tells: a connection breaks only by one that counts, and by one that concerns it; one of a branch that is not out
 -- changes nothing but the tally; and a call that is kept behind it can be decided or has a branch out
@@ -112,6 +112,6 @@ pub record TellsTook (id : CallId) (branch : ℕ) (outcome : Outcome) (took : To
 pub record IsWanted (id : CallId) (v : GatewayValue) (wanted : Bool) : Type 0 where
   pub kept : wanted ≡ is_some (call_at id v.machine.calls).live
   pub broken : is_whole id.conn (shown v) ≡ false → wanted ≡ false
-  pub by_events : (opened : List ℕ) (es : Before) (taken : ℕ → List ReplyEntry) (handed : List JobValue) (occurred : List Placed)
-      → Served v opened es taken handed → Occurs v.plans opened es occurred → is_whole id.conn (shown v) ≡ true
+  pub by_events : (h : History) (occurred : List Placed)
+      → Served v h → Occurs v.plans h.opened h.events occurred → is_whole id.conn (shown v) ≡ true
       → wanted ≡ is_live id (marked (occurrences occurred))

@@ -1,11 +1,10 @@
 //! What the gateway stands for after each event, by what a call makes of its value. The functions do nothing.
-ghost use Rattle.std.specs.Prelude.{◌≡◌, ℕ, List, ◌++◌, ◌∷◌, [], ◌≤◌, length, false, take, Ok, Err, Some, true};
+ghost use Rattle.std.specs.Prelude.{◌≡◌, ℕ, List, ◌++◌, ◌∷◌, [], ◌≤◌, false, take, Ok, Err, Some, true};
 ghost use Rattle.gateway_model.specs.Occurrence.{Occurrence};
-ghost use Rattle.gateway_model.specs.declared.entry.ReplyEntry.{ReplyEntry};
 ghost use Rattle.gateway_theory.specs.declared.fault.StepFault.{StepFault};
 ghost use Rattle.gateway_model.specs.declared.id.CallId.{CallId};
 ghost use Rattle.gateway_model.specs.declared.event.Event.TheVariants.{Opening, Piece};
-ghost use Rattle.gateway_model.specs.Events.{Occurs, onto, succeeds};
+ghost use Rattle.gateway_model.specs.Events.{Occurs, onto};
 ghost use Rattle.gateway_model.specs.declared.event.Event.{Event};
 ghost use Rattle.gateway_theory.specs.Gateway.{GatewayValue, kept_record, outs_of, shown, untaken_of};
 ghost use Rattle.gateway_model.specs.Job.{JobValue};
@@ -18,6 +17,7 @@ ghost use Rattle.gateway_model.specs.CallRecord.{CallRecord};
 ghost use Rattle.gateway_model.specs.Record.{is_decided, is_lawful};
 ghost use Rattle.gateway_theory.specs.Served.{JobsAre, QueueIs, Served, ServedUpTo};
 ghost use Rattle.gateway_model.specs.Starts.{Placed, occurrences};
+ghost use Rattle.gateway_model.specs.History.{History, after_event, after_opening};
 ghost use Rattle.gateway_theory.specs.Serving.{FedTo, IsServing, Opens};
 ghost use Rattle.gateway_theory.specs.Store.{conn_of};
 
@@ -26,70 +26,59 @@ use http_pieces::laws::fresh_law;
 
 /// An opening, whether it succeeds or not.
 pub fn opening_law()
-    ensures opened { (number : ℕ) (v w : GatewayValue) (opened : List ℕ) (es : List Event)
-        (taken : ℕ → List ReplyEntry) (handed : List JobValue) → IsServing v → Served v opened es taken handed
-        → Opens v w number → Served w (opened ++ length es ∷ []) (Opening ∷ es) taken handed }
-    ensures refused { (v : GatewayValue) (opened : List ℕ) (es : List Event)
-        (taken : ℕ → List ReplyEntry) (handed : List JobValue) → IsServing v → Served v opened es taken handed
-        → Served v opened (Opening ∷ es) taken handed }
+    ensures opened { (number : ℕ) (v w : GatewayValue) (h : History) → IsServing v → Served v h
+        → Opens v w number → Served w (after_opening h) }
+    ensures refused { (v : GatewayValue) (h : History) → IsServing v → Served v h
+        → Served v (after_event Opening h) }
 {
     fresh_law();
 }
 
 /// A piece that is fed in parts, from its beginning to its end or to a fault.
 pub fn parts_law()
-    ensures begins { (n : ℕ) (v : GatewayValue) (opened : List ℕ) (es : List Event)
-        (taken : ℕ → List ReplyEntry) (handed : List JobValue) → Served v opened es taken handed
-        → ServedUpTo n [] v opened es taken handed }
-    ensures goes_on { (n m : ℕ) (p q : List ℕ) (v w : GatewayValue) (opened : List ℕ) (es : List Event)
-        (taken : ℕ → List ReplyEntry) (handed : List JobValue) → IsServing v → ServedUpTo n p v opened es taken handed
-        → FedTo n q v w (Ok m) → ServedUpTo n (p ++ take m q) w opened es taken handed }
-    ensures ends { (n : ℕ) (fault : StepFault) (p q : List ℕ) (v w : GatewayValue) (opened : List ℕ)
-        (es : List Event) (taken : ℕ → List ReplyEntry) (handed : List JobValue)
-        → IsServing v → IsServing w → ServedUpTo n p v opened es taken handed
-        → FedTo n q v w (Err fault) → Served w opened (Piece n (p ++ q) ∷ es) taken handed }
+    ensures begins { (n : ℕ) (v : GatewayValue) (h : History) → Served v h
+        → ServedUpTo n [] v h }
+    ensures goes_on { (n m : ℕ) (p q : List ℕ) (v w : GatewayValue) (h : History) → IsServing v → ServedUpTo n p v h
+        → FedTo n q v w (Ok m) → ServedUpTo n (p ++ take m q) w h }
+    ensures ends { (n : ℕ) (fault : StepFault) (p q : List ℕ) (v w : GatewayValue) (h : History)
+        → IsServing v → IsServing w → ServedUpTo n p v h
+        → FedTo n q v w (Err fault) → Served w (after_event (Piece n (p ++ q)) h) }
 {
     request_laws();
 }
 
 /// What a gateway has queued and started is what the definitions say of the events that it stands for.
 pub fn standing_law()
-    ensures queue { (c : ℕ) (k : ConnValue) (v : GatewayValue) (opened : List ℕ) (es : List Event) (taken : ℕ → List ReplyEntry)
-        (handed : List JobValue) (occurred : List Placed) → Served v opened es taken handed → Occurs v.plans opened es occurred
-        → conn_of c v.machine.conns ≡ Some k → QueueIs c (taken c ++ front k.slots) k.broken occurred }
-    ensures jobs { (v : GatewayValue) (opened : List ℕ) (es : List Event) (taken : ℕ → List ReplyEntry)
-        (handed : List JobValue) (occurred : List Placed) → Served v opened es taken handed → Occurs v.plans opened es occurred
-        → JobsAre v (handed ++ v.machine.jobs) occurred }
+    ensures queue { (c : ℕ) (k : ConnValue) (v : GatewayValue) (h : History) (occurred : List Placed) → Served v h → Occurs v.plans h.opened h.events occurred
+        → conn_of c v.machine.conns ≡ Some k → QueueIs c (h.taken c ++ front k.slots) k.broken occurred }
+    ensures jobs { (v : GatewayValue) (h : History) (occurred : List Placed) → Served v h → Occurs v.plans h.opened h.events occurred
+        → JobsAre v (h.handed ++ v.machine.jobs) occurred }
 {}
 
 /// What is kept of a call is what has occurred of it: one that can be decided, of a connection that is not broken, has a lawful
 /// record, which is not decided; and no call has more branches out than its plan's limit.
 pub fn calls_law()
-    ensures records { (id : CallId) (kept : CallRecord) (v : GatewayValue) (opened : List ℕ) (es : List Event)
-        (taken : ℕ → List ReplyEntry) (handed : List JobValue) (occurred : List Placed)
-        → Served v opened es taken handed → Occurs v.plans opened es occurred → is_whole id.conn (shown v) ≡ true
+    ensures records { (id : CallId) (kept : CallRecord) (v : GatewayValue) (h : History) (occurred : List Placed)
+        → Served v h → Occurs v.plans h.opened h.events occurred → is_whole id.conn (shown v) ≡ true
         → kept_record id v ≡ Some kept → (is_lawful kept ≡ true) × (is_decided kept ≡ false) }
-    ensures limit { (id : CallId) (a : ArrivedCall) (v : GatewayValue) (opened : List ℕ) (es : List Event)
-        (taken : ℕ → List ReplyEntry) (handed : List JobValue) (occurred : List Placed)
-        → Served v opened es taken handed → Occurs v.plans opened es occurred → call id (marked (occurrences occurred)) ≡ Some a
+    ensures limit { (id : CallId) (a : ArrivedCall) (v : GatewayValue) (h : History) (occurred : List Placed)
+        → Served v h → Occurs v.plans h.opened h.events occurred → call id (marked (occurrences occurred)) ≡ Some a
         → outs_of id v ≤ a.plan.limit }
 {}
 
 /// Whatever events a gateway stands for, this is known of what is seen of it.
 pub fn known_law()
-    ensures { (v : GatewayValue) (opened : List ℕ) (es : List Event) (taken : ℕ → List ReplyEntry)
-        (handed : List JobValue) (occurred : List Placed) → Served v opened es taken handed → Occurs v.plans opened es occurred
-        → IsKnown (shown v) opened es (occurrences occurred) taken handed }
+    ensures { (v : GatewayValue) (h : History) (occurred : List Placed) → Served v h → Occurs v.plans h.opened h.events occurred
+        → IsKnown (shown v) h (occurrences occurred) }
 {}
 
 /// A connection that breaks at an event, whose jobs that started at it are these: what is queued for it, and what has started, is by
 /// what had occurred before an occurrence of the event, and no more.
 pub fn breaking_law()
-    ensures { (c place : ℕ) (v w : GatewayValue) (opened later : List ℕ) (e : Event) (es : List Event)
-        (taken : ℕ → List ReplyEntry) (handed added : List JobValue) (os : List Occurrence) (before after : List Placed)
-        → Served v opened es taken handed → Served w later (e ∷ es) taken handed
-        → Occurs v.plans opened es before → Occurs w.plans later (e ∷ es) after → after ≡ onto place os before
+    ensures { (c place : ℕ) (v w : GatewayValue) (later : List ℕ) (e : Event) (h : History) (added : List JobValue) (os : List Occurrence) (before after : List Placed)
+        → Served v h → Served w (record h { opened = later; events = e ∷ h.events })
+        → Occurs v.plans h.opened h.events before → Occurs w.plans later (e ∷ h.events) after → after ≡ onto place os before
         → w.machine.jobs ≡ v.machine.jobs ++ added → IsPrefixOf (untaken_of c v) (untaken_of c w) → (k l : ConnValue)
         → conn_of c v.machine.conns ≡ Some k → k.broken ≡ false → conn_of c w.machine.conns ≡ Some l → l.broken ≡ true
-        → BrokeNow c place (taken c ++ untaken_of c w) added before after }
+        → BrokeNow c place (h.taken c ++ untaken_of c w) added before after }
 {}

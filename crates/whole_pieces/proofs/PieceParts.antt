@@ -12,6 +12,7 @@ use Rattle.gateway_model.specs.declared.event.Event.TheVariants.{Piece}
 use Rattle.gateway_model.specs.Known.{is_of}
 use Rattle.gateway_theory.specs.Gateway.{GatewayValue, is_broken_conn, untaken_of}
 use Rattle.gateway_model.specs.Job.{JobValue}
+use Rattle.gateway_model.specs.History.{History, after_event}
 use Rattle.gateway_theory.specs.Served.{Served, ServedUpTo}
 use Rattle.gateway_theory.specs.Serving.{CountsCalls, NotListening, Keeps, TellsStep, most_begun}
 
@@ -24,13 +25,13 @@ pub data Listening (conn : ℕ) (v w : GatewayValue) : Type 0 where
 pub record Delivery (conn : ℕ) (piece rest : List ℕ) (v w : GatewayValue) : Type 0 where
   pub done : List ℕ
   pub whole : done ++ rest ≡ piece
-  pub served : (opened : List ℕ) (es : Before) (taken : ℕ → List ReplyEntry) (handed : List JobValue) → Served v opened es taken handed → ServedUpTo conn done w opened es taken handed
+  pub served : (history : History) → Served v history → ServedUpTo conn done w history
   pub keeps : Keeps (λ c. c == conn) v w
   pub counts : CountsCalls v w
   pub listening : Listening conn v w
 
 abbrev pub Begins : Type 0
-Begins = (n : ℕ) (v : GatewayValue) (opened : List ℕ) (es : Before) (taken : ℕ → List ReplyEntry) (handed : List JobValue) → Served v opened es taken handed → ServedUpTo n [] v opened es taken handed
+Begins = (n : ℕ) (v : GatewayValue) (history : History) → Served v history → ServedUpTo n [] v history
 
 -- nothing changed
 keeps_still : (breaks : ℕ → Bool) (v : GatewayValue) → Keeps breaks v v
@@ -68,7 +69,7 @@ pub begun : Begins → (conn : ℕ) (piece : List ℕ) (v : GatewayValue) → De
 begun begins conn piece v = record {
   done = [];
   whole = refl;
-  served = λ opened es taken handed h. begins conn v opened es taken handed h;
+  served = λ history h. begins conn v history h;
   keeps = keeps_still (λ c. c == conn) v;
   counts = counts_still v;
   listening = first refl;
@@ -138,27 +139,27 @@ from_err (Ok t) f bad same = absurd (cc)
 from_err (Err e) f bad same = ap Err same
 
 pub fed_on : (conn n : ℕ) (piece rest : List ℕ) (u v w : GatewayValue) → Delivery conn piece rest u v
-    → ((fed : List ℕ) (opened : List ℕ) (es : Before) (taken : ℕ → List ReplyEntry) (handed : List JobValue) → ServedUpTo conn fed v opened es taken handed → ServedUpTo conn (fed ++ take n rest) w opened es taken handed)
+    → ((fed : List ℕ) (history : History) → ServedUpTo conn fed v history → ServedUpTo conn (fed ++ take n rest) w history)
     → Keeps (λ c. c == conn) v w → CountsCalls v w → (NotListening conn v → ⊥) → (NotListening conn w → ⊥) → Delivery conn piece (drop n rest) u w
 fed_on conn n piece rest u v w d stands keeps counts was now = record {
   done = d.done ++ take n rest;
   whole = append_assoc d.done (take n rest) (drop n rest) ∙ ap (λ xs. d.done ++ xs) (take-append-drop n rest) ∙ d.whole;
-  served = λ opened es taken handed h. stands d.done opened es taken handed (d.served opened es taken handed h);
+  served = λ history h. stands d.done history (d.served history h);
   keeps = keeps_then (λ c. c == conn) u v w d.keeps keeps (counts_then u v w d.counts counts);
   counts = counts_then u v w d.counts counts;
   listening = later now (at_first conn u v d.listening was);
 }
 
 pub fed_whole : (conn : ℕ) (piece rest : List ℕ) (v w : GatewayValue) → Delivery conn piece rest v w → rest ≡ []
-    → (opened : List ℕ) (es : Before) (taken : ℕ → List ReplyEntry) (handed : List JobValue) → Served v opened es taken handed → Served w opened (Piece conn piece ∷ es) taken handed
-fed_whole conn piece rest v w d none opened es taken handed h =
-    subst (λ bytes. Served w opened (Piece conn bytes ∷ es) taken handed) (sym (append-nil d.done) ∙ ap (λ xs. d.done ++ xs) (sym none) ∙ d.whole) (d.served opened es taken handed h).served
+    → (history : History) → Served v history → Served w (after_event (Piece conn piece) history)
+fed_whole conn piece rest v w d none history h =
+    subst (λ bytes. Served w (after_event (Piece conn bytes) history)) (sym (append-nil d.done) ∙ ap (λ xs. d.done ++ xs) (sym none) ∙ d.whole) (d.served history h).served
 
 pub fed_fault : (conn : ℕ) (piece rest : List ℕ) (u v w : GatewayValue) → Delivery conn piece rest u v
-    → ((fed : List ℕ) (opened : List ℕ) (es : Before) (taken : ℕ → List ReplyEntry) (handed : List JobValue) → ServedUpTo conn fed v opened es taken handed → Served w opened (Piece conn (fed ++ rest) ∷ es) taken handed)
-    → (opened : List ℕ) (es : Before) (taken : ℕ → List ReplyEntry) (handed : List JobValue) → Served u opened es taken handed → Served w opened (Piece conn piece ∷ es) taken handed
-fed_fault conn piece rest u v w d stands opened es taken handed h =
-    subst (λ bytes. Served w opened (Piece conn bytes ∷ es) taken handed) d.whole (stands d.done opened es taken handed (d.served opened es taken handed h))
+    → ((fed : List ℕ) (history : History) → ServedUpTo conn fed v history → Served w (after_event (Piece conn (fed ++ rest)) history))
+    → (history : History) → Served u history → Served w (after_event (Piece conn piece) history)
+fed_fault conn piece rest u v w d stands history h =
+    subst (λ bytes. Served w (after_event (Piece conn bytes) history)) d.whole (stands d.done history (d.served history h))
 
 -- ---- what is left of a slice
 

@@ -1,10 +1,7 @@
-ghost use Rattle.std.specs.Prelude.{◌==◌, ◌∷◌, ℕ, List};
-ghost use Rattle.gateway_model.specs.declared.entry.ReplyEntry.{ReplyEntry};
-ghost use Rattle.gateway_model.specs.declared.event.Event.{Event};
+ghost use Rattle.std.specs.Prelude.{◌==◌};
 ghost use Rattle.gateway_model.specs.declared.event.Event.TheVariants.{Piece};
-ghost use Rattle.gateway_model.specs.Job.{JobValue};
-ghost use Rattle.gateway_theory.specs.Served.{Served};
 ghost use Rattle.gateway_theory.specs.Serving.{CountsCalls, Keeps, TellsStep};
+ghost use Rattle.gateway_theory.specs.Told.{TakesEvent};
 
 use gateway_core::{ConnId, Core, ReplyHook, StepFault};
 use gateway_theory::served_laws::parts_law;
@@ -18,8 +15,7 @@ pub fn deliver<H: ReplyHook + Drop>(
     conn: ConnId,
     piece: &[u8],
 ) -> Result<(), StepFault>
-    ensures stands { (opened : List ℕ) (es : List Event) (taken : ℕ → List ReplyEntry) (handed : List JobValue)
-        → Served core.old opened es taken handed → Served core.new opened (Piece conn piece.now ∷ es) taken handed }
+    ensures stands { TakesEvent (Piece conn piece.now) core.old core.new }
     ensures tells { TellsStep conn core.old core.new result }
     ensures counts { CountsCalls core.old core.new }
     ensures keeps { Keeps (λ c. c == conn) core.old core.new }

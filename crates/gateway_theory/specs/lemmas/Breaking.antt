@@ -9,7 +9,7 @@ use Rattle.gateway_model.specs.declared.entry.ReplyEntry.{ReplyEntry}
 use Rattle.gateway_theory.specs.Breaking.{BrokeNow}
 use Rattle.gateway_model.specs.Known.{is_of}
 use Rattle.gateway_theory.specs.Conn.{ConnValue, state_of}
-use Rattle.gateway_model.specs.Events.{Before, Occurs, onto, stream}
+use Rattle.gateway_model.specs.Events.{Occurs, onto, stream}
 use Rattle.gateway_model.specs.declared.event.Event.{Event}
 use Rattle.gateway_theory.specs.Fate.{BrokenAt, Fate, HasFate, Unbroken, is_broken, lived}
 use Rattle.gateway_model.specs.Concerns.{breaks_at}
@@ -20,6 +20,7 @@ use Rattle.gateway_model.specs.Past.{mark_of, marked}
 use Rattle.gateway_model.specs.Queue.{IsPrefixOf, front, queued_entries}
 use Rattle.gateway_theory.specs.Served.{QueueIs, Served}
 use Rattle.gateway_model.specs.Starts.{Placed, jobs, jobs_by, occurrences, starts}
+use Rattle.gateway_model.specs.History.{History}
 use Rattle.gateway_theory.specs.Starting.{job_started, start}
 use Rattle.gateway_theory.specs.Store.{conn_of, machine}
 use Rattle.gateway_theory.specs.lemmas.Concerned.{open_unclosed}
@@ -111,14 +112,14 @@ size_of xs ys is = sym (size_same xs) ∙ ap (λ (l : List Occurrence). length l
 
 -- ---- the break
 
-module _ (c place : ℕ) (v w : GatewayValue) (opened later : List ℕ) (e : Event) (es : Before) (taken : ℕ → List ReplyEntry) (handed added : List JobValue)
-    (os : List Occurrence) (before after : List Placed) (hv : Served v opened es taken handed) (hw : Served w later (e ∷ es) taken handed)
-    (ov : Occurs v.plans opened es before) (ow : Occurs w.plans later (e ∷ es) after) (after_is : after ≡ onto place os before)
+module _ (c place : ℕ) (v w : GatewayValue) (later : List ℕ) (e : Event) (history : History) (added : List JobValue)
+    (os : List Occurrence) (before after : List Placed) (hv : Served v history) (hw : Served w (record history { opened = later; events = e ∷ history.events }))
+    (ov : Occurs v.plans history.opened history.events before) (ow : Occurs w.plans later (e ∷ history.events) after) (after_is : after ≡ onto place os before)
     (added_are : w.machine.jobs ≡ v.machine.jobs ++ added) (replies_stay : IsPrefixOf (untaken_of c v) (untaken_of c w)) where
-  now_stands : GatewayStands w (λ d. stream later d (e ∷ es)) taken handed (occurrences after)
+  now_stands : GatewayStands w (λ d. stream later d (e ∷ history.events)) history.taken history.handed (occurrences after)
   now_stands = hw.stands after ow
 
-  was_stands : GatewayStands v (λ d. stream opened d es) taken handed (occurrences before)
+  was_stands : GatewayStands v (λ d. stream history.opened d history.events) history.taken history.handed (occurrences before)
   was_stands = hv.stands before ov
 
   -- what came of the event
@@ -133,32 +134,32 @@ module _ (c place : ℕ) (v w : GatewayValue) (opened later : List ℕ) (e : Eve
     fate : HasFate c (BrokenAt since at older) (occurrences after)
     fate = subst (λ f. HasFate c f (occurrences after)) fate_is (now_stands.fated.fates_are c)
 
-    queue_now : taken c ++ untaken_of c w ≡ queued_entries c (marked older)
+    queue_now : history.taken c ++ untaken_of c w ≡ queued_entries c (marked older)
     queue_now =
-        ap (λ o. taken c ++ option_map_or (λ (x : ConnValue). front x.slots) o []) l_is
-        ∙ sym (ap (λ x. front (map Some (taken c) ++ (option_map_or state_of x (now_stands.closed c)).slots)) l_is ∙ front_behind (taken c) l.slots)
-        ∙ queued_is c (machine now_stands.closed w.machine) now_stands.fates taken handed (occurrences after) now_stands.fated
+        ap (λ o. history.taken c ++ option_map_or (λ (x : ConnValue). front x.slots) o []) l_is
+        ∙ sym (ap (λ x. front (map Some (history.taken c) ++ (option_map_or state_of x (now_stands.closed c)).slots)) l_is ∙ front_behind (history.taken c) l.slots)
+        ∙ queued_is c (machine now_stands.closed w.machine) now_stands.fates history.taken history.handed (occurrences after) now_stands.fated
         ∙ ap (λ f. queued_entries c (marked (lived f (occurrences after)))) fate_is
 
-    queue_was : taken c ++ untaken_of c v ≡ queued_entries c (marked (occurrences before))
-    queue_was = ap (λ o. taken c ++ option_map_or (λ (x : ConnValue). front x.slots) o []) k_is
-        ∙ subst (λ b. QueueOf b) on (queue_stands c k v opened es taken handed before hv ov k_is)
+    queue_was : history.taken c ++ untaken_of c v ≡ queued_entries c (marked (occurrences before))
+    queue_was = ap (λ o. history.taken c ++ option_map_or (λ (x : ConnValue). front x.slots) o []) k_is
+        ∙ subst (λ b. QueueOf b) on (queue_stands c k v history before hv ov k_is)
       where
         QueueOf : Bool → Type 0
-        QueueOf b = QueueIs c (taken c ++ front k.slots) b before
+        QueueOf b = QueueIs c (history.taken c ++ front k.slots) b before
 
-    jobs_was : filter (is_of c) (handed ++ v.machine.jobs) ≡ filter (is_of c) (jobs (marked (occurrences before)))
-    jobs_was = (jobs_stand v opened es taken handed before hv ov).unbroken c k k_is on
+    jobs_was : filter (is_of c) (history.handed ++ v.machine.jobs) ≡ filter (is_of c) (jobs (marked (occurrences before)))
+    jobs_was = (jobs_stand v history before hv ov).unbroken c k k_is on
 
-    jobs_now : filter (is_of c) (handed ++ v.machine.jobs) ++ filter (is_of c) added ≡ filter (is_of c) (jobs (marked older))
+    jobs_now : filter (is_of c) (history.handed ++ v.machine.jobs) ++ filter (is_of c) added ≡ filter (is_of c) (jobs (marked older))
     jobs_now =
-        sym (filter-append (is_of c) (handed ++ v.machine.jobs) added)
-        ∙ ap (filter (is_of c)) (append_assoc handed v.machine.jobs added ∙ ap (λ js. handed ++ js) (sym added_are))
-        ∙ jobs_of c (machine now_stands.closed w.machine) now_stands.fates taken handed (occurrences after) now_stands.fated
+        sym (filter-append (is_of c) (history.handed ++ v.machine.jobs) added)
+        ∙ ap (filter (is_of c)) (append_assoc history.handed v.machine.jobs added ∙ ap (λ js. history.handed ++ js) (sym added_are))
+        ∙ jobs_of c (machine now_stands.closed w.machine) now_stands.fates history.taken history.handed (occurrences after) now_stands.fated
         ∙ ap (λ f. filter (is_of c) (jobs (marked (lived f (occurrences after))))) fate_is
 
     -- it broke at an occurrence of the event, or behind all of the event before
-    broke_later : length (occurrences before) ≤ length older → BrokeNow c place (taken c ++ untaken_of c w) added before after
+    broke_later : length (occurrences before) ≤ length older → BrokeNow c place (history.taken c ++ untaken_of c w) added before after
     broke_later le =
         let r = split (since ++ option_to_list at) older after fate.0 in
         let u = split since (option_to_list at) r.0 r.3 in
@@ -181,13 +182,13 @@ module _ (c place : ℕ) (v w : GatewayValue) (opened later : List ℕ) (e : Eve
         }
 
     -- what it stands for is that of an earlier past, and the same
-    broke_before : length older < length (occurrences before) → BrokeNow c place (taken c ++ untaken_of c w) added before after
+    broke_before : length older < length (occurrences before) → BrokeNow c place (history.taken c ++ untaken_of c w) added before after
     broke_before lt = record {
       more = new;
       at = None;
       newer = [];
       after_is = both ∙ ap (λ l. l ++ before) (sym (append-nil (new ++ []) ∙ append-nil new));
-      breaks = ap (λ b. not b) (open_unclosed c k v.machine was_stands.closed was_stands.fates taken handed (occurrences before) k_is (sym (was_stands.fates_are c k k_is) ∙ on) was_stands.fated);
+      breaks = ap (λ b. not b) (open_unclosed c k v.machine was_stands.closed was_stands.fates history.taken history.handed (occurrences before) k_is (sym (was_stands.fates_are c k k_is) ∙ on) was_stands.fated);
       queue_is = same_queue;
       started = [];
       starts_are = sym (append-nil (starts before));
@@ -208,38 +209,38 @@ module _ (c place : ℕ) (v w : GatewayValue) (opened later : List ℕ) (e : Eve
         none_added : filter (is_of c) added ≡ []
         none_added =
             let a : length (filter (is_of c) (jobs (marked (occurrences before)))) ≡ length (filter (is_of c) (jobs (marked older)) ++ fewer.0) = ap (λ (l : List JobValue). length l) fewer.1 in
-            let b : length (filter (is_of c) (handed ++ v.machine.jobs) ++ filter (is_of c) added) ≡ length (filter (is_of c) (jobs (marked older))) = ap (λ (l : List JobValue). length l) jobs_now in
-            let d : length (filter (is_of c) (handed ++ v.machine.jobs)) ≡ length (filter (is_of c) (jobs (marked (occurrences before)))) = ap (λ (l : List JobValue). length l) jobs_was in
+            let b : length (filter (is_of c) (history.handed ++ v.machine.jobs) ++ filter (is_of c) added) ≡ length (filter (is_of c) (jobs (marked older))) = ap (λ (l : List JobValue). length l) jobs_now in
+            let d : length (filter (is_of c) (history.handed ++ v.machine.jobs)) ≡ length (filter (is_of c) (jobs (marked (occurrences before)))) = ap (λ (l : List JobValue). length l) jobs_was in
             nothing (filter (is_of c) added) (omega (
               arith,
               a,
               b,
               d,
               length-append (filter (is_of c) (jobs (marked older))) fewer.0,
-              length-append (filter (is_of c) (handed ++ v.machine.jobs)) (filter (is_of c) added),
+              length-append (filter (is_of c) (history.handed ++ v.machine.jobs)) (filter (is_of c) added),
             ))
           where
             nothing : (xs : List JobValue) → length xs ≤ 0 → xs ≡ []
             nothing [] le = refl
             nothing (x ∷ xs) le = absurd (omega (arith, le))
 
-        same_queue : taken c ++ untaken_of c w ≡ queued_entries c (marked (occurrences before))
+        same_queue : history.taken c ++ untaken_of c w ≡ queued_entries c (marked (occurrences before))
         same_queue =
-            let grown : taken c ++ untaken_of c w ≡ queued_entries c (marked (occurrences before)) ++ replies_stay.0 =
-            ap (λ l. taken c ++ l) replies_stay.1 ∙ sym (append_assoc (taken c) (untaken_of c v) replies_stay.0) ∙ ap (λ l. l ++ replies_stay.0) queue_was in
-            prefix_both (queued_entries c (marked (occurrences before))) (taken c ++ untaken_of c w) (replies_stay.0, grown)
-            (let a : length (taken c ++ untaken_of c w) ≡ length (queued_entries c (marked older)) = ap (λ (l : List ReplyEntry). length l) queue_now in
+            let grown : history.taken c ++ untaken_of c w ≡ queued_entries c (marked (occurrences before)) ++ replies_stay.0 =
+            ap (λ l. history.taken c ++ l) replies_stay.1 ∙ sym (append_assoc (history.taken c) (untaken_of c v) replies_stay.0) ∙ ap (λ l. l ++ replies_stay.0) queue_was in
+            prefix_both (queued_entries c (marked (occurrences before))) (history.taken c ++ untaken_of c w) (replies_stay.0, grown)
+            (let a : length (history.taken c ++ untaken_of c w) ≡ length (queued_entries c (marked older)) = ap (λ (l : List ReplyEntry). length l) queue_now in
             let b : length (queued_entries c (marked (occurrences before))) ≡ length (queued_entries c (marked older) ++ shorter.0) = ap (λ (l : List ReplyEntry). length l) shorter.1 in
             omega (arith, a, b, length-append (queued_entries c (marked older)) shorter.0))
 
-    broke_so : BrokeNow c place (taken c ++ untaken_of c w) added before after
+    broke_so : BrokeNow c place (history.taken c ++ untaken_of c w) added before after
     broke_so = ⊎_elim (λ (lt : length older < length (occurrences before)). broke_before lt) (λ (ge : length (occurrences before) ≤ length older). broke_later ge)
         (cases_lt (length older) (length (occurrences before)))
 
   pub broke_now : (k l : ConnValue) → conn_of c v.machine.conns ≡ Some k → k.broken ≡ false → conn_of c w.machine.conns ≡ Some l → l.broken ≡ true
-      → BrokeNow c place (taken c ++ untaken_of c w) added before after
+      → BrokeNow c place (history.taken c ++ untaken_of c w) added before after
   broke_now k l k_is on l_is off = by_fate (now_stands.fates c) refl (sym (now_stands.fates_are c l l_is) ∙ off)
     where
-      by_fate : (f : Fate) → now_stands.fates c ≡ f → is_broken f ≡ true → BrokeNow c place (taken c ++ untaken_of c w) added before after
+      by_fate : (f : Fate) → now_stands.fates c ≡ f → is_broken f ≡ true → BrokeNow c place (history.taken c ++ untaken_of c w) added before after
       by_fate Unbroken f_is broken = absurd (cc)
       by_fate (BrokenAt since at older) f_is broken = broke_so k l k_is on l_is off since at older f_is

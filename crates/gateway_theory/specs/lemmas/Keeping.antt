@@ -469,9 +469,9 @@ fate_before c fates v w are g now before = by_conn (conn_of c v.machine.conns) r
 
 -- a connection that breaks as calls end is one that this concerns
 pub ended_concerns : (o : Occurrence) (trigger : Trigger) (told : MachineValue) (v w : GatewayValue) → IsServing v → EndsBy o trigger v.machine told → Ends trigger told v w → BreaksBy o v w
-ended_concerns o trigger told v w serving by x = λ opened es taken handed occurred h occurs c now before.
-    let stands : GatewayStands v (λ d. stream opened d es) taken handed (occurrences occurred) = h.stands occurred occurs in
-    ends_concern o trigger v.machine told w.machine stands.closed stands.fates taken handed (occurrences occurred)
+ended_concerns o trigger told v w serving by x = λ history occurred h occurs c now before.
+    let stands : GatewayStands v (λ d. stream history.opened d history.events) history.taken history.handed (occurrences occurred) = h.stands occurred occurs in
+    ends_concern o trigger v.machine told w.machine stands.closed stands.fates history.taken history.handed (occurrences occurred)
     (ap (λ (m : MachineValue). m.conns) by.machine_is) (ap (λ (m : MachineValue). m.calls) by.machine_is) by.steps serving.orderly stands.fates_are stands.fated x.ends c
     (fate_before c stands.fates v w stands.fates_are
     (grew_ended trigger told v.machine w.machine (ap (λ (m : MachineValue). m.conns) by.machine_is) (ap (λ (m : MachineValue). m.jobs) by.machine_is) x.ends) now before) now
@@ -512,16 +512,16 @@ module _ (id : CallId) (branch : ℕ) (u : MachineValue) (took : Took) (v w : Ga
 -- and so is one that breaks by a result
 module _ (id : CallId) (branch : ℕ) (outcome : Outcome) (u : MachineValue) (took : Took) (v w : GatewayValue) (orderly : IsOrderly v.machine) (forgets : Forgets id u w.machine) where
   pub result_concerns : ResultTaken id branch outcome v.machine u took → BreaksBy (Result id branch outcome) v w
-  result_concerns r = λ opened es taken handed occurred h occurs c now before.
-      let stands : GatewayStands v (λ d. stream opened d es) taken handed (occurrences occurred) = h.stands occurred occurs in
-      result_concern id branch outcome v.machine u took stands.closed stands.fates taken handed (occurrences occurred) stands.fates_are stands.fated r c
+  result_concerns r = λ history occurred h occurs c now before.
+      let stands : GatewayStands v (λ d. stream history.opened d history.events) history.taken history.handed (occurrences occurred) = h.stands occurred occurs in
+      result_concern id branch outcome v.machine u took stands.closed stands.fates history.taken history.handed (occurrences occurred) stands.fates_are stands.fated r c
       (fate_before c stands.fates v w stands.fates_are (grew_then v.machine u w.machine (grew_result id branch outcome v.machine u took orderly r) (grew_forgotten id u w.machine forgets)) now before)
       (sym (ap (is_broken_in c) (forgotten_conns id u w.machine forgets)) ∙ now)
 
   pub starved_concerns : Starved id branch v.machine u took → BreaksBy (Result id branch outcome) v w
-  starved_concerns r = λ opened es taken handed occurred h occurs c now before.
-      let stands : GatewayStands v (λ d. stream opened d es) taken handed (occurrences occurred) = h.stands occurred occurs in
-      starved_concern id branch outcome v.machine u took stands.closed stands.fates taken handed (occurrences occurred) stands.fates_are stands.fated r c
+  starved_concerns r = λ history occurred h occurs c now before.
+      let stands : GatewayStands v (λ d. stream history.opened d history.events) history.taken history.handed (occurrences occurred) = h.stands occurred occurs in
+      starved_concern id branch outcome v.machine u took stands.closed stands.fates history.taken history.handed (occurrences occurred) stands.fates_are stands.fated r c
       (fate_before c stands.fates v w stands.fates_are (grew_then v.machine u w.machine (grew_starved id branch v.machine u took r) (grew_forgotten id u w.machine forgets)) now before)
       (sym (ap (is_broken_in c) (forgotten_conns id u w.machine forgets)) ∙ now)
 

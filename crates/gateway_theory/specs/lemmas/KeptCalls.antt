@@ -5,17 +5,15 @@ use Rattle.std.specs.List.{count_by}
 use Rattle.std.specs.Option.{option_map_or}
 use Rattle.std.proofs.lemmas.Bool.{cases_Bool, cases_eq, cond_both, and_parts}
 use Rattle.std.proofs.lemmas.List.{take_all}
-use Rattle.gateway_model.specs.declared.entry.ReplyEntry.{ReplyEntry}
 use Rattle.gateway_model.specs.declared.call_event.CallEvent.{CallEvent}
 use Rattle.gateway_model.specs.declared.call_event.CallEvent.TheVariants.{Answer as Answered, Failed, Expired, BranchExpired, HungUp, Drained}
 use Rattle.gateway_model.specs.declared.id.CallId.{CallId}
 use Rattle.gateway_model.specs.CallRecord.{CallRecord, last_event}
 use Rattle.gateway_theory.specs.Conn.{ConnValue}
-use Rattle.gateway_model.specs.Events.{Before, Occurs, stream}
+use Rattle.gateway_model.specs.Events.{Occurs, stream}
 use Rattle.gateway_theory.specs.Fate.{BrokenAt, Fate, HasFate, Unbroken, has_result, is_broken}
 use Rattle.gateway_theory.specs.Fated.{CallFated}
 use Rattle.gateway_theory.specs.Gateway.{GatewayStands, GatewayValue, is_broken_conn, kept_record, outs_of, shown}
-use Rattle.gateway_model.specs.Job.{JobValue}
 use Rattle.gateway_model.specs.Known.{is_whole}
 use Rattle.gateway_theory.specs.LiveStands.{LiveStands, MayLive}
 use Rattle.gateway_model.specs.Occurrence.{Occurrence}
@@ -24,6 +22,7 @@ use Rattle.gateway_model.specs.Queue.{own_events, record_deadlines, record_of}
 use Rattle.gateway_model.specs.Record.{answers_among, is_decided, is_ending, is_lawful}
 use Rattle.gateway_theory.specs.Served.{Served}
 use Rattle.gateway_model.specs.Starts.{Placed, occurrences}
+use Rattle.gateway_model.specs.History.{History}
 use Rattle.gateway_theory.specs.Step.{CallState, Live}
 use Rattle.gateway_theory.specs.Store.{call_at, conn_of}
 use Rattle.gateway_theory.specs.lemmas.LimitLemmas.{count_less, out_started, outs_limit}
@@ -100,9 +99,9 @@ still_called : (id : CallId) (a : ArrivedCall) (since older : List Occurrence) �
 still_called id a [] older is = is
 still_called id a (o ∷ since) older is = call_stays id (mark_of (marked (since ++ older)) o) (marked (since ++ older)) a (still_called id a since older is)
 
-pub outs_kept : (id : CallId) (a : ArrivedCall) (v : GatewayValue) (opened : List ℕ) (es : Before) (taken : ℕ → List ReplyEntry) (handed : List JobValue) (occurred : List Placed)
-    → Served v opened es taken handed → Occurs v.plans opened es occurred → call id (marked (occurrences occurred)) ≡ Some a → outs_of id v ≤ a.plan.limit
-outs_kept id a v opened es taken handed occurred h o a_is = by_fate (stands.fates id.conn) (stands.fated.fates_are id.conn) (stands.fated.calls_stand id)
+pub outs_kept : (id : CallId) (a : ArrivedCall) (v : GatewayValue) (history : History) (occurred : List Placed)
+    → Served v history → Occurs v.plans history.opened history.events occurred → call id (marked (occurrences occurred)) ≡ Some a → outs_of id v ≤ a.plan.limit
+outs_kept id a v history occurred h o a_is = by_fate (stands.fates id.conn) (stands.fated.fates_are id.conn) (stands.fated.calls_stand id)
   where
     os : List Occurrence
     os = occurrences occurred
@@ -110,7 +109,7 @@ outs_kept id a v opened es taken handed occurred h o a_is = by_fate (stands.fate
     c : CallState
     c = call_at id v.machine.calls
 
-    stands : GatewayStands v (λ d. stream opened d es) taken handed os
+    stands : GatewayStands v (λ d. stream history.opened d history.events) history.taken history.handed os
     stands = h.stands occurred o
 
     by_fate : (f : Fate) → HasFate id.conn f os → CallFated id c f os → count_by (λ b. b) c.out ≤ a.plan.limit
@@ -178,10 +177,10 @@ record_lawful id a os a_is on =
     unclosed false is = refl
     unclosed true is = absurd (cc)
 
-record_stands : (id : CallId) (k : ConnValue) (l : Live) (v : GatewayValue) (opened : List ℕ) (es : Before) (taken : ℕ → List ReplyEntry) (handed : List JobValue)
-    (occurred : List Placed) → Served v opened es taken handed → Occurs v.plans opened es occurred → conn_of id.conn v.machine.conns ≡ Some k → k.broken ≡ false
+record_stands : (id : CallId) (k : ConnValue) (l : Live) (v : GatewayValue) (history : History)
+    (occurred : List Placed) → Served v history → Occurs v.plans history.opened history.events occurred → conn_of id.conn v.machine.conns ≡ Some k → k.broken ≡ false
     → (call_at id v.machine.calls).live ≡ Some l → (is_lawful (record_of l.asked l.deadlines l.events) ≡ true) × (is_decided (record_of l.asked l.deadlines l.events) ≡ false)
-record_stands id k l v opened es taken handed occurred h o k_is on l_is = by_fate (stands.fates id.conn) (sym (stands.fates_are id.conn k k_is) ∙ on) (stands.fated.calls_stand id)
+record_stands id k l v history occurred h o k_is on l_is = by_fate (stands.fates id.conn) (sym (stands.fates_are id.conn k k_is) ∙ on) (stands.fated.calls_stand id)
   where
     os : List Occurrence
     os = occurrences occurred
@@ -189,7 +188,7 @@ record_stands id k l v opened es taken handed occurred h o k_is on l_is = by_fat
     c : CallState
     c = call_at id v.machine.calls
 
-    stands : GatewayStands v (λ d. stream opened d es) taken handed os
+    stands : GatewayStands v (λ d. stream history.opened d history.events) history.taken history.handed os
     stands = h.stands occurred o
 
     by_live : LiveStands id l c.out (marked os) → (is_lawful (record_of l.asked l.deadlines l.events) ≡ true) × (is_decided (record_of l.asked l.deadlines l.events) ≡ false)
@@ -205,10 +204,10 @@ record_stands id k l v opened es taken handed occurred h o k_is on l_is = by_fat
     by_fate (BrokenAt since at older) unbroken is = absurd (cc)
 
 -- the record that is kept of a call of a connection that goes on
-pub record_kept : (id : CallId) (kept : CallRecord) (v : GatewayValue) (opened : List ℕ) (es : Before) (taken : ℕ → List ReplyEntry) (handed : List JobValue)
-    (occurred : List Placed) → Served v opened es taken handed → Occurs v.plans opened es occurred → is_whole id.conn (shown v) ≡ true
+pub record_kept : (id : CallId) (kept : CallRecord) (v : GatewayValue) (history : History)
+    (occurred : List Placed) → Served v history → Occurs v.plans history.opened history.events occurred → is_whole id.conn (shown v) ≡ true
     → kept_record id v ≡ Some kept → (is_lawful kept ≡ true) × (is_decided kept ≡ false)
-record_kept id kept v opened es taken handed occurred h o whole kept_is = by_conn (conn_of id.conn v.machine.conns) refl
+record_kept id kept v history occurred h o whole kept_is = by_conn (conn_of id.conn v.machine.conns) refl
   where
     off : (b : Bool) → (true && not b) ≡ true → b ≡ false
     off false e = refl
@@ -227,4 +226,4 @@ record_kept id kept v opened es taken handed occurred h o whole kept_is = by_con
             let clash : None ≡ Some kept = sym (ap (λ x. option_map (λ (y : Live). record_of y.asked y.deadlines y.events) x) l_is) ∙ kept_is in cc)
         by_live (Some l) l_is = subst (λ (r : CallRecord). (is_lawful r ≡ true) × (is_decided r ≡ false))
             (some_same (sym (ap (λ x. option_map (λ (y : Live). record_of y.asked y.deadlines y.events) x) l_is) ∙ kept_is))
-            (record_stands id k l v opened es taken handed occurred h o k_is on l_is)
+            (record_stands id k l v history occurred h o k_is on l_is)

@@ -3,15 +3,14 @@ use Rattle.std.proofs.Common.{◌≡◌, ℕ, Bool, true, false, List, [], ◌++
 use Rattle.std.specs.Prelude.{filter, not, is_some}
 use Rattle.std.specs.Option.{option_map_or}
 use Rattle.std.proofs.lemmas.Bool.{and_parts}
-use Rattle.gateway_model.specs.declared.entry.ReplyEntry.{ReplyEntry}
 use Rattle.gateway_model.specs.declared.id.CallId.{CallId}
-use Rattle.gateway_model.specs.Events.{Before, Occurs, stream}
-use Rattle.gateway_model.specs.Job.{JobValue}
+use Rattle.gateway_model.specs.Events.{Occurs, stream}
 use Rattle.gateway_model.specs.Known.{BrokeBefore, IsKnown, is_of, is_whole}
 use Rattle.gateway_model.specs.Occurrence.{Occurrence}
 use Rattle.gateway_model.specs.Past.{marked, outs}
 use Rattle.gateway_model.specs.Queue.{front, queued_entries}
 use Rattle.gateway_model.specs.Starts.{Placed, jobs, occurrences}
+use Rattle.gateway_model.specs.History.{History}
 use Rattle.gateway_theory.specs.Conn.{ConnValue, state_of}
 use Rattle.gateway_theory.specs.Fate.{BrokenAt, Fate, HasFate, Unbroken, is_broken, lived}
 use Rattle.gateway_theory.specs.Fated.{CallFated}
@@ -22,16 +21,16 @@ use Rattle.gateway_theory.specs.lemmas.KeptCalls.{outs_kept, outs_same, record_l
 use Rattle.gateway_theory.specs.lemmas.Readings.{jobs_of, queued_is}
 use Rattle.gateway_theory.specs.lemmas.Standings.{front_behind, jobs_stand, queue_stands}
 
-module _ (v : GatewayValue) (opened : List ℕ) (es : Before) (taken : ℕ → List ReplyEntry) (handed : List JobValue) (occurred : List Placed)
-    (h : Served v opened es taken handed) (o : Occurs v.plans opened es occurred) where
+module _ (v : GatewayValue) (history : History) (occurred : List Placed)
+    (h : Served v history) (o : Occurs v.plans history.opened history.events occurred) where
   abbrev os : List Occurrence
   os = occurrences occurred
 
-  stands : GatewayStands v (λ d. stream opened d es) taken handed os
+  stands : GatewayStands v (λ d. stream history.opened d history.events) history.taken history.handed os
   stands = h.stands occurred o
 
-  jobs_known : JobsAre v (handed ++ v.machine.jobs) occurred
-  jobs_known = jobs_stand v opened es taken handed occurred h o
+  jobs_known : JobsAre v (history.handed ++ v.machine.jobs) occurred
+  jobs_known = jobs_stand v history occurred h o
 
   -- a connection that is whole
   record Whole (c : ℕ) : Type 0 where
@@ -54,23 +53,23 @@ module _ (v : GatewayValue) (opened : List ℕ) (es : Before) (taken : ℕ → L
         unbroken = sym (ap (λ x. option_map_or (λ (y : ConnValue). y.broken) x false) k_is) ∙ off (is_broken_conn c v) both.1;
       }
 
-  whole_queue : (c : ℕ) → is_whole c (shown v) ≡ true → taken c ++ untaken_of c v ≡ queued_entries c (marked os)
+  whole_queue : (c : ℕ) → is_whole c (shown v) ≡ true → history.taken c ++ untaken_of c v ≡ queued_entries c (marked os)
   whole_queue c is = let w = whole c is in
-      ap (λ x. taken c ++ option_map_or (λ (y : ConnValue). front y.slots) x []) w.conn_is
-      ∙ subst (λ b. QueueIs c (taken c ++ front w.conn.slots) b occurred) w.unbroken (queue_stands c w.conn v opened es taken handed occurred h o w.conn_is)
+      ap (λ x. history.taken c ++ option_map_or (λ (y : ConnValue). front y.slots) x []) w.conn_is
+      ∙ subst (λ b. QueueIs c (history.taken c ++ front w.conn.slots) b occurred) w.unbroken (queue_stands c w.conn v history occurred h o w.conn_is)
 
-  whole_jobs : (c : ℕ) → is_whole c (shown v) ≡ true → filter (is_of c) (handed ++ v.machine.jobs) ≡ filter (is_of c) (jobs (marked os))
+  whole_jobs : (c : ℕ) → is_whole c (shown v) ≡ true → filter (is_of c) (history.handed ++ v.machine.jobs) ≡ filter (is_of c) (jobs (marked os))
   whole_jobs c is = let w = whole c is in jobs_known.unbroken c w.conn w.conn_is w.unbroken
 
   -- one that broke
-  broke_before : (c : ℕ) → is_broken_conn c v ≡ true → BrokeBefore c (taken c ++ untaken_of c v) (filter (is_of c) (handed ++ v.machine.jobs)) os
+  broke_before : (c : ℕ) → is_broken_conn c v ≡ true → BrokeBefore c (history.taken c ++ untaken_of c v) (filter (is_of c) (history.handed ++ v.machine.jobs)) os
   broke_before c is = by_conn (conn_of c v.machine.conns) refl
     where
-      all : filter (is_of c) (handed ++ v.machine.jobs) ≡ filter (is_of c) (jobs (marked (lived (stands.fates c) os)))
-      all = jobs_of c (machine stands.closed v.machine) stands.fates taken handed os stands.fated
+      all : filter (is_of c) (history.handed ++ v.machine.jobs) ≡ filter (is_of c) (jobs (marked (lived (stands.fates c) os)))
+      all = jobs_of c (machine stands.closed v.machine) stands.fates history.taken history.handed os stands.fated
 
       by_fate : (k : ConnValue) → conn_of c v.machine.conns ≡ Some k → (f : Fate) → stands.fates c ≡ f → HasFate c f os → is_broken f ≡ true
-          → BrokeBefore c (taken c ++ untaken_of c v) (filter (is_of c) (handed ++ v.machine.jobs)) os
+          → BrokeBefore c (history.taken c ++ untaken_of c v) (filter (is_of c) (history.handed ++ v.machine.jobs)) os
       by_fate k k_is Unbroken f_is has on = absurd (cc)
       by_fate k k_is (BrokenAt since at older) f_is has on = record {
         since = since;
@@ -78,13 +77,13 @@ module _ (v : GatewayValue) (opened : List ℕ) (es : Before) (taken : ℕ → L
         older = older;
         occurred_is = has.0;
         breaks = has.1;
-        queue_is = ap (λ x. taken c ++ option_map_or (λ (y : ConnValue). front y.slots) x []) k_is ∙ sym (front_behind (taken c) k.slots)
-            ∙ sym (ap (λ x. front (map Some (taken c) ++ (option_map_or state_of x (stands.closed c)).slots)) k_is)
-            ∙ queued_is c (machine stands.closed v.machine) stands.fates taken handed os stands.fated ∙ ap (λ f. queued_entries c (marked (lived f os))) f_is;
+        queue_is = ap (λ x. history.taken c ++ option_map_or (λ (y : ConnValue). front y.slots) x []) k_is ∙ sym (front_behind (history.taken c) k.slots)
+            ∙ sym (ap (λ x. front (map Some (history.taken c) ++ (option_map_or state_of x (stands.closed c)).slots)) k_is)
+            ∙ queued_is c (machine stands.closed v.machine) stands.fates history.taken history.handed os stands.fated ∙ ap (λ f. queued_entries c (marked (lived f os))) f_is;
         started_are = all ∙ ap (λ f. filter (is_of c) (jobs (marked (lived f os)))) f_is;
       }
 
-      by_conn : (k : Option ConnValue) → conn_of c v.machine.conns ≡ k → BrokeBefore c (taken c ++ untaken_of c v) (filter (is_of c) (handed ++ v.machine.jobs)) os
+      by_conn : (k : Option ConnValue) → conn_of c v.machine.conns ≡ k → BrokeBefore c (history.taken c ++ untaken_of c v) (filter (is_of c) (history.handed ++ v.machine.jobs)) os
       by_conn None k_is = absurd (let clash : true ≡ false = sym is ∙ ap (λ x. option_map_or (λ (y : ConnValue). y.broken) x false) k_is in cc)
       by_conn (Some k) k_is = by_fate k k_is (stands.fates c) refl (stands.fated.fates_are c)
           (sym (stands.fates_are c k k_is) ∙ sym (ap (λ x. option_map_or (λ (y : ConnValue). y.broken) x false) k_is) ∙ is)
@@ -98,7 +97,7 @@ module _ (v : GatewayValue) (opened : List ℕ) (es : Before) (taken : ℕ → L
       by_fate (BrokenAt since at older) on is = absurd (cc)
 
   -- all of it
-  pub known : IsKnown (shown v) opened es os taken handed
+  pub known : IsKnown (shown v) history os
   known = record {
     open_are = λ c. sym (h.conns.open_are c);
     queue_is = whole_queue;
@@ -107,5 +106,5 @@ module _ (v : GatewayValue) (opened : List ℕ) (es : Before) (taken : ℕ → L
     no_more = jobs_known.others;
     outs_are = whole_outs;
     records = λ id a a_is on. record_lawful id a os a_is on;
-    limit = λ id a a_is. outs_kept id a v opened es taken handed occurred h o a_is;
+    limit = λ id a a_is. outs_kept id a v history occurred h o a_is;
   }

@@ -4,10 +4,9 @@ use Rattle.std.specs.Prelude.{if◌then◌else◌, ◌⊎◌, IfOk}
 use Rattle.http_pieces.specs.Reader.{HasRead, HasReadTo, Partial, is_over}
 use Rattle.http_pieces.specs.Request.{HttpRequest}
 use Rattle.http_pieces.specs.Requests.{Open, Requests, StreamEnd}
-use Rattle.gateway_model.specs.declared.entry.ReplyEntry.{ReplyEntry}
-use Rattle.gateway_model.specs.Events.{Before, Gains, stream}
-use Rattle.gateway_model.specs.Job.{JobValue}
+use Rattle.gateway_model.specs.Events.{Gains, stream}
 use Rattle.gateway_model.specs.Occurrence.{Coming}
+use Rattle.gateway_model.specs.History.{History}
 use Rattle.gateway_theory.specs.declared.fault.StepFault.{StepFault}
 use Rattle.gateway_theory.specs.Arrivals.{calls_in}
 use Rattle.gateway_theory.specs.Enters.{Enters}
@@ -22,15 +21,15 @@ use Rattle.gateway_theory.specs.lemmas.FeedLemmas.{midway}
 use Rattle.gateway_theory.specs.lemmas.FeedSteps.{Brought, brought}
 use Rattle.gateway_theory.specs.lemmas.ServedPieces.{over_gains, read_here}
 
-module _ (laws : RequestLaws) (n : ℕ) (bytes : List ℕ) (v w : GatewayValue) (opened : List ℕ) (es : Before) (taken : ℕ → List ReplyEntry) (handed : List JobValue)
-    (serving : IsServing v) (h : Served v opened es taken handed) where
+module _ (laws : RequestLaws) (n : ℕ) (bytes : List ℕ) (v w : GatewayValue) (history : History)
+    (serving : IsServing v) (h : Served v history) where
   abbrev text : List ℕ
-  text = stream opened n es
+  text = stream history.opened n history.events
 
   -- a stream that is over
   over_one : (i m : ℕ) (l : ListensAt n v i) → is_over (stream_at i v.streams).reader.reading ≡ true → m ≡ length bytes → TakesOne v.plans text bytes m
   over_one i m l over all =
-      let read = read_here n v v opened es taken handed serving h i l in
+      let read = read_here n v v history serving h i l in
       record {
         one = λ gained gains.
             let none : [] ≡ gained = gains_unique laws v.plans text (text ++ take m bytes) [] gained
@@ -44,7 +43,7 @@ module _ (laws : RequestLaws) (n : ℕ) (bytes : List ℕ) (v w : GatewayValue) 
   on_one i m l going f = record { one = one_gained; all = λ given ending its ended. absurd (ended left.0 (goes_on given ending its)) }
     where
       read : (given : List HttpRequest) × HasRead (stream_at i v.streams).reader text given
-      read = read_here n v v opened es taken handed serving h i l
+      read = read_here n v v history serving h i l
 
       left : (xs : List ℕ) × ((stream_at i v.streams).reader.reading ≡ Partial xs)
       left = midway (stream_at i v.streams).reader.reading going (serving.settled i no_stream l.stream_there)

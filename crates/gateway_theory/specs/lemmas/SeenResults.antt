@@ -14,15 +14,15 @@ use Rattle.gateway_theory.specs.Ends.{is_broken_in}
 use Rattle.gateway_theory.specs.Orderly.{IsOrderly}
 use Rattle.gateway_theory.specs.Replies.{reply_with}
 use Rattle.gateway_theory.specs.Serving.{Breaks}
-use Rattle.gateway_model.specs.Events.{Before, Occurs, stream}
+use Rattle.gateway_model.specs.Events.{Occurs, stream}
 use Rattle.gateway_theory.specs.Fate.{BrokenAt, Fate, Unbroken, is_broken}
 use Rattle.gateway_theory.specs.Fated.{CallFated}
 use Rattle.gateway_theory.specs.Gateway.{GatewayStands, GatewayValue}
-use Rattle.gateway_model.specs.Job.{JobValue}
 use Rattle.gateway_model.specs.Past.{how_seen, marked}
 use Rattle.gateway_theory.specs.Results.{Forgets, ResultTaken, Starved, StepsAt, result_at}
 use Rattle.gateway_theory.specs.Served.{Served}
 use Rattle.gateway_model.specs.Starts.{Placed, occurrences}
+use Rattle.gateway_model.specs.History.{History}
 use Rattle.gateway_theory.specs.Step.{CallState, Live, has_out, result_on}
 use Rattle.gateway_theory.specs.Store.{MachineValue, broken_at, broken_if, call_at, conn_of, filled_in, kept_at, no_call}
 use Rattle.gateway_theory.specs.lemmas.EndLemmas.{fills_in, just_broken}
@@ -30,12 +30,12 @@ use Rattle.gateway_theory.specs.lemmas.OrderSteps.{filled_back}
 use Rattle.gateway_theory.specs.lemmas.SeenLemmas.{seen_is}
 use Rattle.gateway_theory.specs.lemmas.StoreLemmas.{call_found}
 
-module _ (id : CallId) (branch : ℕ) (v : GatewayValue) (opened : List ℕ) (es : Before) (taken : ℕ → List ReplyEntry) (handed : List JobValue) (occurred : List Placed) where
-  pub seen_stands : Served v opened es taken handed → Occurs v.plans opened es occurred → (k : ConnValue) → conn_of id.conn v.machine.conns ≡ Some k → k.broken ≡ false
+module _ (id : CallId) (branch : ℕ) (v : GatewayValue) (history : History) (occurred : List Placed) where
+  pub seen_stands : Served v history → Occurs v.plans history.opened history.events occurred → (k : ConnValue) → conn_of id.conn v.machine.conns ≡ Some k → k.broken ≡ false
       → seen_by (call_at id v.machine.calls) branch ≡ how_seen id branch (marked (occurrences occurred))
   seen_stands h o k k_is on = by_fate (stands.fates id.conn) (sym (stands.fates_are id.conn k k_is) ∙ on) (stands.fated.calls_stand id)
     where
-      stands : GatewayStands v (λ d. stream opened d es) taken handed (occurrences occurred)
+      stands : GatewayStands v (λ d. stream history.opened d history.events) history.taken history.handed (occurrences occurred)
       stands = h.stands occurred o
 
       by_fate : (f : Fate) → is_broken f ≡ false → CallFated id (call_at id v.machine.calls) f (occurrences occurred) → seen_by (call_at id v.machine.calls) branch ≡ how_seen id branch (marked (occurrences occurred))

@@ -7,6 +7,7 @@ use Rattle.gateway_theory.specs.Machine.{new_conn}
 use Rattle.gateway_theory.specs.Served.{Served}
 use Rattle.gateway_theory.specs.Serving.{gateway_value}
 use Rattle.gateway_model.specs.Starts.{occurrences}
+use Rattle.gateway_model.specs.History.{no_history}
 use Rattle.gateway_theory.specs.Store.{machine_value}
 use Rattle.gateway_theory.specs.Tally.{tally_of}
 use Rattle.gateway_theory.specs.lemmas.Taking.{first_stands}
@@ -25,8 +26,8 @@ stands_first plans = record {
   begun_is = omega arith;
 }
 
-pub first_served : (plans : List PlanRecord) (v : GatewayValue) → v ≡ first plans → Served v [] [] (λ c. []) []
-first_served plans v v_is = subst (λ x. Served x [] [] (λ c. []) []) (sym v_is) (record {
+pub first_served : (plans : List PlanRecord) (v : GatewayValue) → v ≡ first plans → Served v no_history
+first_served plans v v_is = subst (λ x. Served x no_history) (sym v_is) (record {
   conns = record {
     below = λ place its. absurd (cc);
     count_is = refl;

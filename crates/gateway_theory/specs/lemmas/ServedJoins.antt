@@ -7,15 +7,14 @@ use Rattle.http_pieces.specs.Reader.{HasRead}
 use Rattle.http_pieces.specs.Request.{HttpRequest, closes}
 use Rattle.http_pieces.specs.Requests.{StreamEnd, Closed, EndsAt, Requests, unfinished, broken}
 use Rattle.http_pieces.specs.declared.refusal.Refusal.{Refusal}
-use Rattle.gateway_model.specs.declared.entry.ReplyEntry.{ReplyEntry}
-use Rattle.gateway_model.specs.Events.{Before, Gains, Occurs, OccursAt, IsShifted, listens, onto, refusal_gained, requests_gained, stream, succeeds}
+use Rattle.gateway_model.specs.Events.{Gains, Occurs, OccursAt, IsShifted, listens, onto, refusal_gained, requests_gained, stream, succeeds}
 use Rattle.gateway_model.specs.declared.event.Event.TheVariants.{Piece}
 use Rattle.gateway_theory.specs.Gateway.{GatewayStands, GatewayValue}
-use Rattle.gateway_model.specs.Job.{JobValue}
 use Rattle.gateway_model.specs.Occurrence.{Coming, Comes, Occurrence}
 use Rattle.gateway_theory.specs.RequestLaws.{RequestLaws}
 use Rattle.gateway_theory.specs.Served.{Served}
 use Rattle.gateway_model.specs.Starts.{Placed, occurrences}
+use Rattle.gateway_model.specs.History.{History, after_event}
 use Rattle.gateway_theory.specs.lemmas.CutLemmas.{IsSame, any_cut, listens_piece, same_piece, stream_piece}
 use Rattle.gateway_theory.specs.lemmas.ServedLemmas.{texts_same}
 
@@ -70,27 +69,27 @@ gains_parts laws plans s t given whole e f more t_is h g =
 
 -- ---- two pieces
 
-module _ (laws : RequestLaws) (n : ℕ) (p q : List ℕ) (w : GatewayValue) (opened : List ℕ) (es : Before) (taken : ℕ → List ReplyEntry) (handed : List JobValue)
-    (below : (place : ℕ) → succeeds opened place ≡ true → place < length es)
-    (middle : (gained : List Coming) → Gains w.plans (stream opened n es) (stream opened n es ++ (p ++ q)) gained → (given : List HttpRequest) × (ending : StreamEnd) × Requests 0 (stream opened n es ++ p) given ending)
-    (h : Served w opened (Piece n q ∷ Piece n p ∷ es) taken handed) where
-  same_itself : IsSame opened opened es es
+module _ (laws : RequestLaws) (n : ℕ) (p q : List ℕ) (w : GatewayValue) (history : History)
+    (below : (place : ℕ) → succeeds history.opened place ≡ true → place < length history.events)
+    (middle : (gained : List Coming) → Gains w.plans (stream history.opened n history.events) (stream history.opened n history.events ++ (p ++ q)) gained → (given : List HttpRequest) × (ending : StreamEnd) × Requests 0 (stream history.opened n history.events ++ p) given ending)
+    (h : Served w (after_event (Piece n q) (after_event (Piece n p) history))) where
+  same_itself : IsSame history.opened history.opened history.events history.events
   same_itself = record { connections_are = refl; open_is = λ c. refl; hung_is = λ c. refl; stream_is = λ c. refl }
 
-  joined : IsSame opened opened (Piece n (p ++ q) ∷ es) (Piece n q ∷ Piece n p ∷ es)
-  joined = same_piece opened opened n p q es same_itself
+  joined : IsSame history.opened history.opened (Piece n (p ++ q) ∷ history.events) (Piece n q ∷ Piece n p ∷ history.events)
+  joined = same_piece history.opened history.opened n p q history.events same_itself
 
-  off : (t : ℕ) → length es < t → succeeds opened t ≡ false
-  off t lt = by_it (succeeds opened t) refl
+  off : (t : ℕ) → length history.events < t → succeeds history.opened t ≡ false
+  off t lt = by_it (succeeds history.opened t) refl
     where
-      by_it : (b : Bool) → succeeds opened t ≡ b → succeeds opened t ≡ false
+      by_it : (b : Bool) → succeeds history.opened t ≡ b → succeeds history.opened t ≡ false
       by_it true e = absurd (let l = below t e in omega (arith, lt, l))
       by_it false e = e
 
-  shifted : IsShifted (length es) opened opened
+  shifted : IsShifted (length history.events) history.opened history.opened
   shifted = record { before = λ t lt. refl; after = λ t lt. off (suc t) (omega (arith, lt)) ∙ sym (off t lt) }
 
-  pub joined_served : Served w opened (Piece n (p ++ q) ∷ es) taken handed
+  pub joined_served : Served w (after_event (Piece n (p ++ q)) history)
   joined_served = record {
     conns = record {
       below = λ place its. let lt = below place its in omega (arith, lt);
@@ -102,49 +101,49 @@ module _ (laws : RequestLaws) (n : ℕ) (p q : List ℕ) (w : GatewayValue) (ope
     stands = λ occurred all. stands_by occurred all;
   }
     where
-      two : (past : List Placed) → Occurs w.plans opened es past → (xs ys : List Occurrence) → OccursAt w.plans opened (Piece n p) es xs → OccursAt w.plans opened (Piece n q) (Piece n p ∷ es) ys
-          → Occurs w.plans opened (Piece n q ∷ Piece n p ∷ es) (onto (suc (length es)) ys (onto (length es) xs past))
-      two past before xs ys first second = (onto (length es) xs past, (past, before, (xs, first, refl)), (ys, second, refl))
+      two : (past : List Placed) → Occurs w.plans history.opened history.events past → (xs ys : List Occurrence) → OccursAt w.plans history.opened (Piece n p) history.events xs → OccursAt w.plans history.opened (Piece n q) (Piece n p ∷ history.events) ys
+          → Occurs w.plans history.opened (Piece n q ∷ Piece n p ∷ history.events) (onto (suc (length history.events)) ys (onto (length history.events) xs past))
+      two past before xs ys first second = (onto (length history.events) xs past, (past, before, (xs, first, refl)), (ys, second, refl))
 
-      parts : (b : Bool) → listens opened n es ≡ b → (os : List Occurrence) → OccursAt w.plans opened (Piece n (p ++ q)) es os
-          → (xs : List Occurrence) × (ys : List Occurrence) × OccursAt w.plans opened (Piece n p) es xs × OccursAt w.plans opened (Piece n q) (Piece n p ∷ es) ys
+      parts : (b : Bool) → listens history.opened n history.events ≡ b → (os : List Occurrence) → OccursAt w.plans history.opened (Piece n (p ++ q)) history.events os
+          → (xs : List Occurrence) × (ys : List Occurrence) × OccursAt w.plans history.opened (Piece n p) history.events xs × OccursAt w.plans history.opened (Piece n q) (Piece n p ∷ history.events) ys
       parts false x os at = (
         [],
         [],
-        subst (λ b. Both b (stream opened n es) (stream opened n es ++ p) []) (sym x) refl,
-        subst (λ b. Both b (stream opened n (Piece n p ∷ es)) (stream opened n (Piece n p ∷ es) ++ q) []) (sym (listens_piece opened n n p es ∙ x)) refl,
+        subst (λ b. Both b (stream history.opened n history.events) (stream history.opened n history.events ++ p) []) (sym x) refl,
+        subst (λ b. Both b (stream history.opened n (Piece n p ∷ history.events)) (stream history.opened n (Piece n p ∷ history.events) ++ q) []) (sym (listens_piece history.opened n n p history.events ∙ x)) refl,
       )
         where
           Both : Bool → List ℕ → List ℕ → List Occurrence → Type 0
           Both b s t os = MatchBool b ((gained : List Coming) × Gains w.plans s t gained × (os ≡ map (Comes n) gained)) (os ≡ [])
-      parts true x os at = by_gains (subst (λ b. Both b (stream opened n es) (stream opened n es ++ (p ++ q)) os) x at)
+      parts true x os at = by_gains (subst (λ b. Both b (stream history.opened n history.events) (stream history.opened n history.events ++ (p ++ q)) os) x at)
         where
           Both : Bool → List ℕ → List ℕ → List Occurrence → Type 0
           Both b s t os = MatchBool b ((gained : List Coming) × Gains w.plans s t gained × (os ≡ map (Comes n) gained)) (os ≡ [])
 
-          text_is : stream opened n (Piece n p ∷ es) ≡ stream opened n es ++ p
-          text_is = stream_piece opened n p es ∙ ap (λ b. if b then stream opened n es ++ p else stream opened n es) x
+          text_is : stream history.opened n (Piece n p ∷ history.events) ≡ stream history.opened n history.events ++ p
+          text_is = stream_piece history.opened n p history.events ∙ ap (λ b. if b then stream history.opened n history.events ++ p else stream history.opened n history.events) x
 
-          by_gains : ((gained : List Coming) × Gains w.plans (stream opened n es) (stream opened n es ++ (p ++ q)) gained × (os ≡ map (Comes n) gained))
-              → (xs : List Occurrence) × (ys : List Occurrence) × OccursAt w.plans opened (Piece n p) es xs × OccursAt w.plans opened (Piece n q) (Piece n p ∷ es) ys
+          by_gains : ((gained : List Coming) × Gains w.plans (stream history.opened n history.events) (stream history.opened n history.events ++ (p ++ q)) gained × (os ≡ map (Comes n) gained))
+              → (xs : List Occurrence) × (ys : List Occurrence) × OccursAt w.plans history.opened (Piece n p) history.events xs × OccursAt w.plans history.opened (Piece n q) (Piece n p ∷ history.events) ys
           by_gains (gained, gains, os_are) =
               let m = middle gained gains in
-              let first = gains_parts laws w.plans (stream opened n es) (stream opened n es ++ p) gains.given m.0 gains.ending m.1 p refl gains.text_is m.2 in
-              let second = gains_parts laws w.plans (stream opened n es ++ p) ((stream opened n es ++ p) ++ q) m.0 (gains.given ++ gains.more) m.1 gains.later q refl m.2
-              (subst (λ t. Requests 0 t (gains.given ++ gains.more) gains.later) (sym (append_assoc (stream opened n es) p q)) gains.longer_is) in (
+              let first = gains_parts laws w.plans (stream history.opened n history.events) (stream history.opened n history.events ++ p) gains.given m.0 gains.ending m.1 p refl gains.text_is m.2 in
+              let second = gains_parts laws w.plans (stream history.opened n history.events ++ p) ((stream history.opened n history.events ++ p) ++ q) m.0 (gains.given ++ gains.more) m.1 gains.later q refl m.2
+              (subst (λ t. Requests 0 t (gains.given ++ gains.more) gains.later) (sym (append_assoc (stream history.opened n history.events) p q)) gains.longer_is) in (
                 map (Comes n) first.0,
                 map (Comes n) second.0,
-                subst (λ b. Both b (stream opened n es) (stream opened n es ++ p) (map (Comes n) first.0)) (sym x) (first.0, first.1, refl),
-                subst (λ b. Both b (stream opened n (Piece n p ∷ es)) (stream opened n (Piece n p ∷ es) ++ q) (map (Comes n) second.0)) (sym (listens_piece opened n n p es ∙ x))
+                subst (λ b. Both b (stream history.opened n history.events) (stream history.opened n history.events ++ p) (map (Comes n) first.0)) (sym x) (first.0, first.1, refl),
+                subst (λ b. Both b (stream history.opened n (Piece n p ∷ history.events)) (stream history.opened n (Piece n p ∷ history.events) ++ q) (map (Comes n) second.0)) (sym (listens_piece history.opened n n p history.events ∙ x))
                     (second.0, subst (λ t. Gains w.plans t (t ++ q) second.0) (sym text_is) second.1, refl),
               )
 
-      stands_by : (occurred : List Placed) → Occurs w.plans opened (Piece n (p ++ q) ∷ es) occurred → GatewayStands w (λ c. stream opened c (Piece n (p ++ q) ∷ es)) taken handed (occurrences occurred)
+      stands_by : (occurred : List Placed) → Occurs w.plans history.opened (Piece n (p ++ q) ∷ history.events) occurred → GatewayStands w (λ c. stream history.opened c (Piece n (p ++ q) ∷ history.events)) history.taken history.handed (occurrences occurred)
       stands_by occurred (past, before, (os, at, is)) =
-          let ps = parts (listens opened n es) refl os at in
+          let ps = parts (listens history.opened n history.events) refl os at in
           let other = two past before ps.0 ps.1 ps.2 ps.3 in
-          let same : occurrences occurred ≡ occurrences (onto (suc (length es)) ps.1 (onto (length es) ps.0 past)) =
-          any_cut laws w.plans opened opened [] es n p q occurred (onto (suc (length es)) ps.1 (onto (length es) ps.0 past)) shifted (past, before, (os, at, is)) other in
-          subst (λ us. GatewayStands w (λ c. stream opened c (Piece n (p ++ q) ∷ es)) taken handed us) (sym same)
-          (texts_same w taken handed (λ c. stream opened c (Piece n q ∷ Piece n p ∷ es)) (λ c. stream opened c (Piece n (p ++ q) ∷ es)) (occurrences (onto (suc (length es)) ps.1 (onto (length es) ps.0 past)))
-          (λ c. sym (joined.stream_is c)) (h.stands (onto (suc (length es)) ps.1 (onto (length es) ps.0 past)) other))
+          let same : occurrences occurred ≡ occurrences (onto (suc (length history.events)) ps.1 (onto (length history.events) ps.0 past)) =
+          any_cut laws w.plans history.opened history.opened [] history.events n p q occurred (onto (suc (length history.events)) ps.1 (onto (length history.events) ps.0 past)) shifted (past, before, (os, at, is)) other in
+          subst (λ us. GatewayStands w (λ c. stream history.opened c (Piece n (p ++ q) ∷ history.events)) history.taken history.handed us) (sym same)
+          (texts_same w history.taken history.handed (λ c. stream history.opened c (Piece n q ∷ Piece n p ∷ history.events)) (λ c. stream history.opened c (Piece n (p ++ q) ∷ history.events)) (occurrences (onto (suc (length history.events)) ps.1 (onto (length history.events) ps.0 past)))
+          (λ c. sym (joined.stream_is c)) (h.stands (onto (suc (length history.events)) ps.1 (onto (length history.events) ps.0 past)) other))

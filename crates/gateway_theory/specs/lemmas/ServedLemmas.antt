@@ -25,6 +25,7 @@ use Rattle.gateway_theory.specs.Results.{Forgets, ResultTaken, Starved}
 use Rattle.gateway_theory.specs.Served.{HasConns, Served, StandsBy}
 use Rattle.gateway_theory.specs.Serving.{Ends, IsServing, NoCallOf}
 use Rattle.gateway_model.specs.Starts.{occurrences}
+use Rattle.gateway_model.specs.History.{History, after_event}
 use Rattle.gateway_theory.specs.Step.{moment_after}
 use Rattle.gateway_theory.specs.Store.{MachineValue, conn_of, numbers}
 use Rattle.gateway_theory.specs.lemmas.Cases.{and_true, and_false, or_false}
@@ -120,28 +121,28 @@ module _ (v : GatewayValue) (taken : ℕ → List ReplyEntry) (handed : List Job
     begun_is = h.begun_is;
   }
 
-module _ (v w : GatewayValue) (opened : List ℕ) (e : Event) (es : Before) (taken : ℕ → List ReplyEntry) (handed : List JobValue) (plans_are : w.plans ≡ v.plans) where
+module _ (v w : GatewayValue) (e : Event) (history : History) (plans_are : w.plans ≡ v.plans) where
   -- one occurrence comes of the event
-  pub stands_one : (o : Occurrence) → ((os : List Occurrence) → OccursAt v.plans opened e es os → os ≡ o ∷ []) → ((c : ℕ) → stream opened c (e ∷ es) ≡ stream opened c es)
-      → ((os : List Occurrence) → GatewayStands v (λ c. stream opened c es) taken handed os → GatewayStands w (λ c. stream opened c es) taken handed (o ∷ os))
-      → StandsBy v opened es taken handed → StandsBy w opened (e ∷ es) taken handed
-  stands_one o one same step h occurred all = by_past (subst (λ plans. Occurs plans opened (e ∷ es) occurred) plans_are all)
+  pub stands_one : (o : Occurrence) → ((os : List Occurrence) → OccursAt v.plans history.opened e history.events os → os ≡ o ∷ []) → ((c : ℕ) → stream history.opened c (e ∷ history.events) ≡ stream history.opened c history.events)
+      → ((os : List Occurrence) → GatewayStands v (λ c. stream history.opened c history.events) history.taken history.handed os → GatewayStands w (λ c. stream history.opened c history.events) history.taken history.handed (o ∷ os))
+      → StandsBy v history → StandsBy w (after_event e history)
+  stands_one o one same step h occurred all = by_past (subst (λ plans. Occurs plans history.opened (e ∷ history.events) occurred) plans_are all)
     where
-      by_past : Occurs v.plans opened (e ∷ es) occurred → GatewayStands w (λ c. stream opened c (e ∷ es)) taken handed (occurrences occurred)
+      by_past : Occurs v.plans history.opened (e ∷ history.events) occurred → GatewayStands w (λ c. stream history.opened c (e ∷ history.events)) history.taken history.handed (occurrences occurred)
       by_past (past, before, (os, at, is)) =
-          subst (λ us. GatewayStands w (λ c. stream opened c (e ∷ es)) taken handed us) (sym (ap occurrences (is ∙ ap (λ us. onto (length es) us past) (one os at))))
-          (texts_same w taken handed (λ c. stream opened c es) (λ c. stream opened c (e ∷ es)) (o ∷ occurrences past) same (step (occurrences past) (h past before)))
+          subst (λ us. GatewayStands w (λ c. stream history.opened c (e ∷ history.events)) history.taken history.handed us) (sym (ap occurrences (is ∙ ap (λ us. onto (length history.events) us past) (one os at))))
+          (texts_same w history.taken history.handed (λ c. stream history.opened c history.events) (λ c. stream history.opened c (e ∷ history.events)) (o ∷ occurrences past) same (step (occurrences past) (h past before)))
 
   -- none does
-  pub stands_none : ((os : List Occurrence) → OccursAt v.plans opened e es os → os ≡ []) → ((c : ℕ) → stream opened c (e ∷ es) ≡ stream opened c es)
-      → ((os : List Occurrence) → GatewayStands v (λ c. stream opened c es) taken handed os → GatewayStands w (λ c. stream opened c es) taken handed os)
-      → StandsBy v opened es taken handed → StandsBy w opened (e ∷ es) taken handed
-  stands_none none same step h occurred all = by_past (subst (λ plans. Occurs plans opened (e ∷ es) occurred) plans_are all)
+  pub stands_none : ((os : List Occurrence) → OccursAt v.plans history.opened e history.events os → os ≡ []) → ((c : ℕ) → stream history.opened c (e ∷ history.events) ≡ stream history.opened c history.events)
+      → ((os : List Occurrence) → GatewayStands v (λ c. stream history.opened c history.events) history.taken history.handed os → GatewayStands w (λ c. stream history.opened c history.events) history.taken history.handed os)
+      → StandsBy v history → StandsBy w (after_event e history)
+  stands_none none same step h occurred all = by_past (subst (λ plans. Occurs plans history.opened (e ∷ history.events) occurred) plans_are all)
     where
-      by_past : Occurs v.plans opened (e ∷ es) occurred → GatewayStands w (λ c. stream opened c (e ∷ es)) taken handed (occurrences occurred)
+      by_past : Occurs v.plans history.opened (e ∷ history.events) occurred → GatewayStands w (λ c. stream history.opened c (e ∷ history.events)) history.taken history.handed (occurrences occurred)
       by_past (past, before, (os, at, is)) =
-          subst (λ us. GatewayStands w (λ c. stream opened c (e ∷ es)) taken handed us) (sym (ap occurrences (is ∙ ap (λ us. onto (length es) us past) (none os at))))
-          (texts_same w taken handed (λ c. stream opened c es) (λ c. stream opened c (e ∷ es)) (occurrences past) same (step (occurrences past) (h past before)))
+          subst (λ us. GatewayStands w (λ c. stream history.opened c (e ∷ history.events)) history.taken history.handed us) (sym (ap occurrences (is ∙ ap (λ us. onto (length history.events) us past) (none os at))))
+          (texts_same w history.taken history.handed (λ c. stream history.opened c history.events) (λ c. stream history.opened c (e ∷ history.events)) (occurrences past) same (step (occurrences past) (h past before)))
 
 -- ---- calls end
 
@@ -174,20 +175,20 @@ goes_ended trigger v w e = record {
         (All-map (λ (k : KeptValue). (k.id.conn == c) ≡ false) (λ k. without_reply (ended_below trigger (is_broken_in k.id.conn w.conns) true k)) v.calls
         (λ j d lt. ap (λ (x : CallId). x.conn == c) (id_below trigger (is_broken_in (slice_index_or v.calls j d).id.conn w.conns) true (slice_index_or v.calls j d)) ∙ all j d lt))
 
-module _ (v w : GatewayValue) (opened : List ℕ) (es : Before) (taken : ℕ → List ReplyEntry) (handed : List JobValue) (serving : IsServing v) (h : Served v opened es taken handed) where
+module _ (v w : GatewayValue) (history : History) (serving : IsServing v) (h : Served v history) where
   -- by a moment or by the drain
-  ended_by : (e : Event) (o : Occurrence) (trigger : Trigger) (told : MachineValue) → IsPlain opened e es → ((os : List Occurrence) → OccursAt v.plans opened e es os → os ≡ o ∷ [])
+  ended_by : (e : Event) (o : Occurrence) (trigger : Trigger) (told : MachineValue) → IsPlain history.opened e history.events → ((os : List Occurrence) → OccursAt v.plans history.opened e history.events os → os ≡ o ∷ [])
       → told.conns ≡ v.machine.conns → told.calls ≡ v.machine.calls
-      → EndsBy o trigger v.machine told → Ends trigger told v w → Served w opened (e ∷ es) taken handed
+      → EndsBy o trigger v.machine told → Ends trigger told v w → Served w (after_event e history)
   ended_by e o trigger told plain one conns_are calls_are by x = record {
-    conns = conns_plain w opened e es plain (conns_go v w opened es (record {
+    conns = conns_plain w history.opened e history.events plain (conns_go v w history.opened history.events (record {
       opened_is = ap (λ (y : GatewayValue). y.opened) x.rest;
       streams_are = ap (λ (y : GatewayValue). y.streams) x.rest;
       numbers_are = x.ends.numbers_are ∙ ap numbers conns_are;
       goes = from_told (goes_ended trigger told w.machine x.ends);
     }) h.conns);
-    stands = stands_one v w opened e es taken handed (ap (λ (y : GatewayValue). y.plans) x.rest) o one (λ c. text_still opened c e es (plain.brings_none c))
-        (λ os stands. ended_stands v w (λ c. stream opened c es) taken handed os (λ c t t_is. ap (λ (y : GatewayValue). stream_of c y.streams) (sym x.rest) ∙ t_is)
+    stands = stands_one v w e history (ap (λ (y : GatewayValue). y.plans) x.rest) o one (λ c. text_still history.opened c e history.events (plain.brings_none c))
+        (λ os stands. ended_stands v w (λ c. stream history.opened c history.events) history.taken history.handed os (λ c t t_is. ap (λ (y : GatewayValue). stream_of c y.streams) (sym x.rest) ∙ t_is)
         (λ c none. ap (λ (y : GatewayValue). stream_of c y.streams) x.rest ∙ none) (ap (λ (y : GatewayValue). y.opened) x.rest) (ap (λ (y : GatewayValue). y.begun) x.rest) serving.orderly stands o trigger told by x.ends) h.stands;
   }
     where
@@ -199,35 +200,35 @@ module _ (v w : GatewayValue) (opened : List ℕ) (es : Before) (taken : ℕ →
       }
 
   pub moment_served : (m : ℕ) → Ends (Reached (moment_after v.machine.moment m)) (record v.machine { moment = moment_after v.machine.moment m }) v w
-      → Served w opened (Moment m ∷ es) taken handed
+      → Served w (after_event (Moment m) history)
   moment_served m x = ended_by (Moment m) (occurs.Moment m) (Reached (moment_after v.machine.moment m)) (record v.machine { moment = moment_after v.machine.moment m })
       (record { opens_none = refl; closes_none = λ c. refl; hangs_none = λ c. refl; brings_none = λ c. refl }) (λ os at. at) refl refl (moment_ends m v.machine) x
 
-  pub drain_served : Ends Drained (record v.machine { drained = true }) v w → Served w opened (Drain ∷ es) taken handed
+  pub drain_served : Ends Drained (record v.machine { drained = true }) v w → Served w (after_event Drain history)
   drain_served x = ended_by Drain occurs.Drain Drained (record v.machine { drained = true })
       (record { opens_none = refl; closes_none = λ c. refl; hangs_none = λ c. refl; brings_none = λ c. refl }) (λ os at. at) refl refl (drain_ends v.machine) x
 
   -- a branch ends
   module _ (id : CallId) (branch : ℕ) (outcome : Outcome) (u : MachineValue) (took : Took) (rest : w ≡ record v { machine = w.machine; tally = w.tally }) (forgets : Forgets id u w.machine) where
     came_back : Goes v.machine w.machine → numbers w.machine.conns ≡ numbers v.machine.conns
-        → ((os : List Occurrence) → GatewayStands v (λ c. stream opened c es) taken handed os
-        → GatewayStands w (λ c. stream opened c es) taken handed (occurs.Result id branch outcome ∷ os))
-        → Served w opened (BranchResult id.conn id.request branch outcome ∷ es) taken handed
+        → ((os : List Occurrence) → GatewayStands v (λ c. stream history.opened c history.events) history.taken history.handed os
+        → GatewayStands w (λ c. stream history.opened c history.events) history.taken history.handed (occurs.Result id branch outcome ∷ os))
+        → Served w (after_event (BranchResult id.conn id.request branch outcome) history)
     came_back goes same step = record {
-      conns = conns_plain w opened (BranchResult id.conn id.request branch outcome) es (record { opens_none = refl; closes_none = λ c. refl; hangs_none = λ c. refl; brings_none = λ c. refl })
-          (conns_go v w opened es (record { opened_is = ap (λ (y : GatewayValue). y.opened) rest; streams_are = ap (λ (y : GatewayValue). y.streams) rest; numbers_are = same; goes = goes }) h.conns);
-      stands = stands_one v w opened (BranchResult id.conn id.request branch outcome) es taken handed (ap (λ (y : GatewayValue). y.plans) rest) (occurs.Result id branch outcome) (λ os at. at)
-          (λ c. text_still opened c (BranchResult id.conn id.request branch outcome) es refl) step h.stands;
+      conns = conns_plain w history.opened (BranchResult id.conn id.request branch outcome) history.events (record { opens_none = refl; closes_none = λ c. refl; hangs_none = λ c. refl; brings_none = λ c. refl })
+          (conns_go v w history.opened history.events (record { opened_is = ap (λ (y : GatewayValue). y.opened) rest; streams_are = ap (λ (y : GatewayValue). y.streams) rest; numbers_are = same; goes = goes }) h.conns);
+      stands = stands_one v w (BranchResult id.conn id.request branch outcome) history (ap (λ (y : GatewayValue). y.plans) rest) (occurs.Result id branch outcome) (λ os at. at)
+          (λ c. text_still history.opened c (BranchResult id.conn id.request branch outcome) history.events refl) step h.stands;
     }
 
-    pub result_served : ResultTaken id branch outcome v.machine u took → Served w opened (BranchResult id.conn id.request branch outcome ∷ es) taken handed
+    pub result_served : ResultTaken id branch outcome v.machine u took → Served w (after_event (BranchResult id.conn id.request branch outcome) history)
     result_served r = came_back (goes_then v.machine u w.machine (goes_result id branch outcome v.machine u took r) (goes_forgotten id u w.machine forgets))
         (keeps_result id branch outcome v.machine u w.machine took r forgets).numbers_are
-        (λ os stands. result_stands id branch outcome v w (λ c. stream opened c es) taken handed os (ap (λ (y : GatewayValue). y.streams) rest) (ap (λ (y : GatewayValue). y.opened) rest)
+        (λ os stands. result_stands id branch outcome v w (λ c. stream history.opened c history.events) history.taken history.handed os (ap (λ (y : GatewayValue). y.streams) rest) (ap (λ (y : GatewayValue). y.opened) rest)
         (ap (λ (y : GatewayValue). y.begun) rest) serving.orderly stands u took r forgets)
 
-    pub starved_served : Starved id branch v.machine u took → Served w opened (BranchResult id.conn id.request branch outcome ∷ es) taken handed
+    pub starved_served : Starved id branch v.machine u took → Served w (after_event (BranchResult id.conn id.request branch outcome) history)
     starved_served r = came_back (goes_then v.machine u w.machine (goes_starved id branch v.machine u took r) (goes_forgotten id u w.machine forgets))
         (keeps_starved id branch v.machine u w.machine took r forgets).numbers_are
-        (λ os stands. starved_stands id branch outcome v w (λ c. stream opened c es) taken handed os (ap (λ (y : GatewayValue). y.streams) rest) (ap (λ (y : GatewayValue). y.opened) rest)
+        (λ os stands. starved_stands id branch outcome v w (λ c. stream history.opened c history.events) history.taken history.handed os (ap (λ (y : GatewayValue). y.streams) rest) (ap (λ (y : GatewayValue). y.opened) rest)
         (ap (λ (y : GatewayValue). y.begun) rest) serving.orderly stands u took r forgets)

@@ -7,16 +7,15 @@ use Rattle.std.proofs.lemmas.Bool.{cases_Bool, eq-eqb, eqb-true, ltb-true, ltb-f
 use Rattle.call_plan.specs.Plan.{PlanRecord}
 use Rattle.http_pieces.specs.Reader.{HasRead, Partial, reader_value}
 use Rattle.http_pieces.specs.Request.{HttpRequest}
-use Rattle.gateway_model.specs.declared.entry.ReplyEntry.{ReplyEntry}
 use Rattle.gateway_theory.specs.Conn.{ConnValue, conn_value}
 use Rattle.gateway_model.specs.Events.{Before, Occurs, connections, hung_up, is_hang_up_of, is_open, onto, once, piece_of, stream, succeeds, IsShifted}
 use Rattle.gateway_model.specs.declared.event.Event.TheVariants.{Closing, Opening}
 use Rattle.gateway_theory.specs.Gateway.{GatewayStands, GatewayValue, StreamValue, is_listening, new_stream, stream_of}
-use Rattle.gateway_model.specs.Job.{JobValue}
 use Rattle.gateway_model.specs.Occurrence as occurs
 use Rattle.gateway_theory.specs.Served.{Served, StandsBy}
 use Rattle.gateway_theory.specs.Serving.{Closes, IsServing, Opens}
 use Rattle.gateway_model.specs.Starts.{Placed, occurrences}
+use Rattle.gateway_model.specs.History.{History, after_event, after_opening}
 use Rattle.gateway_theory.specs.Store.{MachineValue, conn_of}
 use Rattle.gateway_theory.specs.lemmas.Cases.{and_true, and_false, or_false, or_true}
 use Rattle.gateway_theory.specs.lemmas.CutLemmas.{IsSame, at_same, connections_grow, open_known, same_before}
@@ -81,57 +80,57 @@ occurs_before plans opened shifted n (e ∷ es) past le h (before, o, (os, at, i
   (os, at_same plans opened shifted e es es os (same_before opened shifted n es (omega (arith, le)) h) (h.before (length es) (omega (arith, le))) at, is),
 )
 
-module _ (v w : GatewayValue) (opened : List ℕ) (es : Before) (taken : ℕ → List ReplyEntry) (handed : List JobValue) (serving : IsServing v) (h : Served v opened es taken handed) where
+module _ (v w : GatewayValue) (history : History) (serving : IsServing v) (h : Served v history) where
   -- ---- an opening
 
   -- that does not succeed
-  pub unopened_served : Served v opened (Opening ∷ es) taken handed
+  pub unopened_served : Served v (after_event Opening history)
   unopened_served = record {
-    conns = conns_plain v opened Opening es (record { opens_none = same; closes_none = λ c. refl; hangs_none = λ c. refl; brings_none = λ c. refl }) h.conns;
-    stands = stands_none v v opened Opening es taken handed refl (λ os at. at ∙ ap (λ b. once b occurs.Opening) fails) (λ c. text_still opened c Opening es refl) (λ os stands. stands) h.stands;
+    conns = conns_plain v history.opened Opening history.events (record { opens_none = same; closes_none = λ c. refl; hangs_none = λ c. refl; brings_none = λ c. refl }) h.conns;
+    stands = stands_none v v Opening history refl (λ os at. at ∙ ap (λ b. once b occurs.Opening) fails) (λ c. text_still history.opened c Opening history.events refl) (λ os stands. stands) h.stands;
   }
     where
-      fails : succeeds opened (length es) ≡ false
-      fails = not_yet opened (length es) (length es) h.conns.below (omega arith)
+      fails : succeeds history.opened (length history.events) ≡ false
+      fails = not_yet history.opened (length history.events) (length history.events) h.conns.below (omega arith)
 
-      same : connections opened (Opening ∷ es) ≡ connections opened es
-      same = ap (λ b. if b then suc (connections opened es) else connections opened es) fails
+      same : connections history.opened (Opening ∷ history.events) ≡ connections history.opened history.events
+      same = ap (λ b. if b then suc (connections history.opened history.events) else connections history.opened history.events) fails
 
-  pub opened_served : (number : ℕ) → HasRead (reader_value 0 (Partial [])) [] [] → Opens v w number → Served w (opened ++ length es ∷ []) (Opening ∷ es) taken handed
+  pub opened_served : (number : ℕ) → HasRead (reader_value 0 (Partial [])) [] [] → Opens v w number → Served w (after_opening history)
   opened_served number fresh o = record {
     conns = record {
-      below = λ place its. places place (succeeds opened place) refl its;
+      below = λ place its. places place (succeeds history.opened place) refl its;
       count_is = count ∙ sym o.opened_is;
-      open_are = λ c. opens c (nat_lt c (connections more es)) refl;
+      open_are = λ c. opens c (nat_lt c (connections more history.events)) refl;
       hung_are = λ c k k_is on. hangs c k k_is on (n == c) refl;
       reads_are = λ c k s k_is s_is going. reads c k s k_is s_is going (n == c) refl;
     };
-    stands = λ occurred all. by_past occurred (subst (λ plans. Occurs plans more (Opening ∷ es) occurred) o.plans_are all);
+    stands = λ occurred all. by_past occurred (subst (λ plans. Occurs plans more (Opening ∷ history.events) occurred) o.plans_are all);
   }
     where
       more : List ℕ
-      more = opened ++ length es ∷ []
+      more = history.opened ++ length history.events ∷ []
 
       n : ℕ
       n = v.opened
 
-      same : IsSame opened more es es
-      same = same_before opened more (length es) es (omega arith) (grown opened (length es) h.conns.below)
+      same : IsSame history.opened more history.events history.events
+      same = same_before history.opened more (length history.events) history.events (omega arith) (grown history.opened (length history.events) h.conns.below)
 
-      succeeded : succeeds more (length es) ≡ true
-      succeeded = succeeds_more opened (length es) (length es) ∙ ap (λ b. succeeds opened (length es) || b) (eq-eqb (length es) (length es) refl) ∙ or_true (succeeds opened (length es))
+      succeeded : succeeds more (length history.events) ≡ true
+      succeeded = succeeds_more history.opened (length history.events) (length history.events) ∙ ap (λ b. succeeds history.opened (length history.events) || b) (eq-eqb (length history.events) (length history.events) refl) ∙ or_true (succeeds history.opened (length history.events))
 
-      was : connections more es ≡ n
+      was : connections more history.events ≡ n
       was = same.connections_are ∙ h.conns.count_is
 
-      count : connections more (Opening ∷ es) ≡ n + 1
-      count = ap (λ b. if b then suc (connections more es) else connections more es) succeeded ∙ (let e = was in omega (arith, e))
+      count : connections more (Opening ∷ history.events) ≡ n + 1
+      count = ap (λ b. if b then suc (connections more history.events) else connections more history.events) succeeded ∙ (let e = was in omega (arith, e))
 
-      places : (place : ℕ) (b : Bool) → succeeds opened place ≡ b → succeeds more place ≡ true → place < length (Opening ∷ es)
+      places : (place : ℕ) (b : Bool) → succeeds history.opened place ≡ b → succeeds more place ≡ true → place < length (Opening ∷ history.events)
       places place true x its = let lt = h.conns.below place x in omega (arith, lt)
       places place false x its =
-          let here : (length es == place) ≡ true = sym (succeeds_more opened (length es) place ∙ ap (λ b. b || (length es == place)) x) ∙ its in
-          let at : length es ≡ place = eqb-true (length es) place here in omega (arith, at)
+          let here : (length history.events == place) ≡ true = sym (succeeds_more history.opened (length history.events) place ∙ ap (λ b. b || (length history.events == place)) x) ∙ its in
+          let at : length history.events ≡ place = eqb-true (length history.events) place here in omega (arith, at)
 
       conn_is : (c : ℕ) → conn_of c w.machine.conns ≡ option_or (conn_of c v.machine.conns) (if n == c then Some (conn_value n 0 [] false false) else None)
       conn_is c = ap (λ (m : MachineValue). conn_of c m.conns) o.machine_is ∙ conn_added c (conn_value n 0 [] false false) v.machine.conns
@@ -153,14 +152,14 @@ module _ (v w : GatewayValue) (opened : List ℕ) (es : Before) (taken : ℕ →
       no_stream = none_if (stream_of n v.streams) (stream_by_number n v.streams ∙ ap (λ ns. list_any (λ m. m == n) ns) serving.numbers_are
           ∙ sym (conn_by_number n v.machine.conns) ∙ ap (λ x. is_some x) (serving.no_conn n (omega arith)))
 
-      opens : (c : ℕ) (b : Bool) → nat_lt c (connections more es) ≡ b → is_open more c (Opening ∷ es) ≡ is_some (conn_of c w.machine.conns)
+      opens : (c : ℕ) (b : Bool) → nat_lt c (connections more history.events) ≡ b → is_open more c (Opening ∷ history.events) ≡ is_some (conn_of c w.machine.conns)
       opens c true x =
-          let lt : c < n = subst (λ m. c < m) was (ltb-true c (connections more es) x) in
-          ap (λ b. if b then is_open more c es && true else nat_lt c (connections more (Opening ∷ es))) x ∙ and_true (is_open more c es) ∙ same.open_is c ∙ h.conns.open_are c
+          let lt : c < n = subst (λ m. c < m) was (ltb-true c (connections more history.events) x) in
+          ap (λ b. if b then is_open more c history.events && true else nat_lt c (connections more (Opening ∷ history.events))) x ∙ and_true (is_open more c history.events) ∙ same.open_is c ∙ h.conns.open_are c
           ∙ ap (λ k. is_some k) (sym (conn_other c (ne_eqb n c (λ e. absurd (omega (arith, lt, e))))))
       opens c false x =
-          let le : n ≤ c = subst (λ m. m ≤ c) was (ltb-false c (connections more es) x) in
-          ap (λ b. if b then is_open more c es && true else nat_lt c (connections more (Opening ∷ es))) x ∙ ap (nat_lt c) count ∙ by_number (n == c) refl le
+          let le : n ≤ c = subst (λ m. m ≤ c) was (ltb-false c (connections more history.events) x) in
+          ap (λ b. if b then is_open more c history.events && true else nat_lt c (connections more (Opening ∷ history.events))) x ∙ ap (nat_lt c) count ∙ by_number (n == c) refl le
         where
           by_number : (b : Bool) → (n == c) ≡ b → n ≤ c → nat_lt c (n + 1) ≡ is_some (conn_of c w.machine.conns)
           by_number true e le =
@@ -179,20 +178,20 @@ module _ (v w : GatewayValue) (opened : List ℕ) (es : Before) (taken : ℕ →
               above l ne = ⊎_elim (λ (lt : nat_lt n c ≡ true). let x = ltb-true n c lt in omega (arith, x))
                   (λ (ge : nat_lt n c ≡ false). absurd (ne (let x = ltb-false n c ge in omega (arith, x, l)))) (cases_Bool (nat_lt n c))
 
-      hangs : (c : ℕ) (k : ConnValue) → conn_of c w.machine.conns ≡ Some k → k.broken ≡ false → (b : Bool) → (n == c) ≡ b → k.hung_up ≡ hung_up more c (Opening ∷ es)
-      hangs c k k_is on false e = h.conns.hung_are c k (sym (conn_other c e) ∙ k_is) on ∙ sym (same.hung_is c) ∙ sym (hung_still more c Opening es refl)
+      hangs : (c : ℕ) (k : ConnValue) → conn_of c w.machine.conns ≡ Some k → k.broken ≡ false → (b : Bool) → (n == c) ≡ b → k.hung_up ≡ hung_up more c (Opening ∷ history.events)
+      hangs c k k_is on false e = h.conns.hung_are c k (sym (conn_other c e) ∙ k_is) on ∙ sym (same.hung_is c) ∙ sym (hung_still more c Opening history.events refl)
       hangs c k k_is on true e =
           let at : n ≡ c = eqb-true n c e in
           let new : conn_value n 0 [] false false ≡ k = some_same (sym (conn_is c ∙ ap (λ m. option_or (conn_of m v.machine.conns) (if n == c then Some (conn_value n 0 [] false false) else None)) (sym at)
           ∙ ap (λ a. option_or a (if n == c then Some (conn_value n 0 [] false false) else None)) (serving.no_conn n (omega arith)) ∙ ap (λ b. if b then Some (conn_value n 0 [] false false) else None) e) ∙ k_is) in
           ap (λ (x : ConnValue). x.hung_up) (sym new)
-          ∙ sym (hung_still more c Opening es refl ∙ same.hung_is c ∙ unopened_hung opened c es (let x = h.conns.count_is in omega (arith, at, x)))
+          ∙ sym (hung_still more c Opening history.events refl ∙ same.hung_is c ∙ unopened_hung history.opened c history.events (let x = h.conns.count_is in omega (arith, at, x)))
 
-      text_is : (c : ℕ) → stream more c (Opening ∷ es) ≡ stream opened c es
-      text_is c = text_still more c Opening es refl ∙ same.stream_is c
+      text_is : (c : ℕ) → stream more c (Opening ∷ history.events) ≡ stream history.opened c history.events
+      text_is c = text_still more c Opening history.events refl ∙ same.stream_is c
 
       reads : (c : ℕ) (k : ConnValue) (s : StreamValue) → conn_of c w.machine.conns ≡ Some k → stream_of c w.streams ≡ Some s → is_listening k ≡ true
-          → (b : Bool) → (n == c) ≡ b → (given : List HttpRequest) × HasRead s.reader (stream more c (Opening ∷ es)) given
+          → (b : Bool) → (n == c) ≡ b → (given : List HttpRequest) × HasRead s.reader (stream more c (Opening ∷ history.events)) given
       reads c k s k_is s_is going false e =
           let read = h.conns.reads_are c k s (sym (conn_other c e) ∙ k_is) (sym (stream_other c e) ∙ s_is) going in
           (read.0, subst (λ text. HasRead s.reader text read.0) (sym (text_is c)) read.1)
@@ -201,47 +200,47 @@ module _ (v w : GatewayValue) (opened : List ℕ) (es : Before) (taken : ℕ →
           let new : new_stream n ≡ s = some_same (sym (stream_is c ∙ ap (λ m. option_or (stream_of m v.streams) (if n == c then Some (new_stream n) else None)) (sym at)
           ∙ ap (λ a. option_or a (if n == c then Some (new_stream n) else None)) no_stream ∙ ap (λ b. if b then Some (new_stream n) else None) e) ∙ s_is) in (
             [],
-            subst (λ (x : StreamValue). HasRead x.reader (stream more c (Opening ∷ es)) []) new
-                (subst (λ text. HasRead (reader_value 0 (Partial [])) text []) (sym (text_is c ∙ unopened_text opened c es (let x = h.conns.count_is in omega (arith, at, x)))) fresh),
+            subst (λ (x : StreamValue). HasRead x.reader (stream more c (Opening ∷ history.events)) []) new
+                (subst (λ text. HasRead (reader_value 0 (Partial [])) text []) (sym (text_is c ∙ unopened_text history.opened c history.events (let x = h.conns.count_is in omega (arith, at, x)))) fresh),
           )
 
-      by_past : (occurred : List Placed) → Occurs v.plans more (Opening ∷ es) occurred → GatewayStands w (λ c. stream more c (Opening ∷ es)) taken handed (occurrences occurred)
+      by_past : (occurred : List Placed) → Occurs v.plans more (Opening ∷ history.events) occurred → GatewayStands w (λ c. stream more c (Opening ∷ history.events)) history.taken history.handed (occurrences occurred)
       by_past occurred (past, before, (os, at, is)) =
-          let now : occurrences occurred ≡ occurs.Opening ∷ occurrences past = ap occurrences (is ∙ ap (λ us. onto (length es) us past) (at ∙ ap (λ b. once b occurs.Opening) succeeded)) in
-          subst (λ us. GatewayStands w (λ c. stream more c (Opening ∷ es)) taken handed us) (sym now)
-          (texts_same w taken handed (λ c. stream opened c es) (λ c. stream more c (Opening ∷ es)) (occurs.Opening ∷ occurrences past) text_is
-          (opened_stands v w (λ c. stream opened c es) taken handed (occurrences past) serving.orderly
-          (h.stands past (occurs_before v.plans opened more (length es) es past (omega arith) (grown opened (length es) h.conns.below) before))
-          fresh (unopened_text opened n es (let x = h.conns.count_is in omega (arith, x))) o.machine_is o.streams_are o.opened_is o.begun_is))
+          let now : occurrences occurred ≡ occurs.Opening ∷ occurrences past = ap occurrences (is ∙ ap (λ us. onto (length history.events) us past) (at ∙ ap (λ b. once b occurs.Opening) succeeded)) in
+          subst (λ us. GatewayStands w (λ c. stream more c (Opening ∷ history.events)) history.taken history.handed us) (sym now)
+          (texts_same w history.taken history.handed (λ c. stream history.opened c history.events) (λ c. stream more c (Opening ∷ history.events)) (occurs.Opening ∷ occurrences past) text_is
+          (opened_stands v w (λ c. stream history.opened c history.events) history.taken history.handed (occurrences past) serving.orderly
+          (h.stands past (occurs_before v.plans history.opened more (length history.events) history.events past (omega arith) (grown history.opened (length history.events) h.conns.below) before))
+          fresh (unopened_text history.opened n history.events (let x = h.conns.count_is in omega (arith, x))) o.machine_is o.streams_are o.opened_is o.begun_is))
 
   -- ---- a closing
 
-  pub closed_served : (n : ℕ) (b : Bool) → Closes n v w b → Served w opened (Closing n ∷ es) taken handed
-  closed_served n false x = subst (λ y. Served y opened (Closing n ∷ es) taken handed) (sym x.1) (record {
+  pub closed_served : (n : ℕ) (b : Bool) → Closes n v w b → Served w (after_event (Closing n) history)
+  closed_served n false x = subst (λ y. Served y (after_event (Closing n) history)) (sym x.1) (record {
     conns = record {
       below = λ place its. let lt = h.conns.below place its in omega (arith, lt);
       count_is = h.conns.count_is;
-      open_are = λ c. open_after opened c (Closing n) es refl ∙ by_number c (n == c) refl ∙ h.conns.open_are c;
-      hung_are = λ c k k_is on. h.conns.hung_are c k k_is on ∙ sym (hung_still opened c (Closing n) es refl);
+      open_are = λ c. open_after history.opened c (Closing n) history.events refl ∙ by_number c (n == c) refl ∙ h.conns.open_are c;
+      hung_are = λ c k k_is on. h.conns.hung_are c k k_is on ∙ sym (hung_still history.opened c (Closing n) history.events refl);
       reads_are = λ c k s k_is s_is going.
-          let read = h.conns.reads_are c k s k_is s_is going in (read.0, subst (λ text. HasRead s.reader text read.0) (sym (text_still opened c (Closing n) es refl)) read.1);
+          let read = h.conns.reads_are c k s k_is s_is going in (read.0, subst (λ text. HasRead s.reader text read.0) (sym (text_still history.opened c (Closing n) history.events refl)) read.1);
     };
-    stands = stands_none v v opened (Closing n) es taken handed refl (λ os at. at ∙ ap (λ b. once b (occurs.Closing n)) shut) (λ c. text_still opened c (Closing n) es refl) (λ os stands. stands) h.stands;
+    stands = stands_none v v (Closing n) history refl (λ os at. at ∙ ap (λ b. once b (occurs.Closing n)) shut) (λ c. text_still history.opened c (Closing n) history.events refl) (λ os stands. stands) h.stands;
   })
     where
-      shut : is_open opened n es ≡ false
+      shut : is_open history.opened n history.events ≡ false
       shut = h.conns.open_are n ∙ ap (λ k. is_some k) x.0
 
-      by_number : (c : ℕ) (b : Bool) → (n == c) ≡ b → (is_open opened c es && not (n == c)) ≡ is_open opened c es
+      by_number : (c : ℕ) (b : Bool) → (n == c) ≡ b → (is_open history.opened c history.events && not (n == c)) ≡ is_open history.opened c history.events
       by_number c true e =
-          let off : is_open opened c es ≡ false = ap (λ m. is_open opened m es) (sym (eqb-true n c e)) ∙ shut in
+          let off : is_open history.opened c history.events ≡ false = ap (λ m. is_open history.opened m history.events) (sym (eqb-true n c e)) ∙ shut in
           ap (λ b. b && not (n == c)) off ∙ sym off
-      by_number c false e = ap (λ b. is_open opened c es && not b) e ∙ and_true (is_open opened c es)
+      by_number c false e = ap (λ b. is_open history.opened c history.events && not b) e ∙ and_true (is_open history.opened c history.events)
   closed_served n true x = record {
     conns = record {
       below = λ place its. let lt = h.conns.below place its in omega (arith, lt);
       count_is = h.conns.count_is ∙ sym (ap (λ (y : GatewayValue). y.opened) x.1);
-      open_are = λ c. open_after opened c (Closing n) es refl ∙ by_number c (c == n) refl;
+      open_are = λ c. open_after history.opened c (Closing n) history.events refl ∙ by_number c (c == n) refl;
       hung_are = λ c k k_is on. hangs c k k_is on (c == n) refl;
       reads_are = λ c k s k_is s_is going. reads c k s k_is s_is going (c == n) refl;
     };
@@ -260,30 +259,30 @@ module _ (v w : GatewayValue) (opened : List ℕ) (es : Before) (taken : ℕ →
           (λ (e : (c == n) ≡ false). ne_eqb n c (λ at. let clash : true ≡ false = sym (eq-eqb c n (sym at)) ∙ e in absurd (cc)) ∙ sym e)
           (cases_Bool (c == n))
 
-      by_number : (c : ℕ) (b : Bool) → (c == n) ≡ b → (is_open opened c es && not (n == c)) ≡ is_some (conn_of c w.machine.conns)
+      by_number : (c : ℕ) (b : Bool) → (c == n) ≡ b → (is_open history.opened c history.events && not (n == c)) ≡ is_some (conn_of c w.machine.conns)
       by_number c true e =
-          ap (λ b. is_open opened c es && not b) (turned c ∙ e) ∙ and_false (is_open opened c es) ∙ sym (ap (λ k. is_some k) (conn_is c ∙ ap (λ b. if b then None else conn_of c v.machine.conns) e))
+          ap (λ b. is_open history.opened c history.events && not b) (turned c ∙ e) ∙ and_false (is_open history.opened c history.events) ∙ sym (ap (λ k. is_some k) (conn_is c ∙ ap (λ b. if b then None else conn_of c v.machine.conns) e))
       by_number c false e =
-          ap (λ b. is_open opened c es && not b) (turned c ∙ e) ∙ and_true (is_open opened c es) ∙ h.conns.open_are c
+          ap (λ b. is_open history.opened c history.events && not b) (turned c ∙ e) ∙ and_true (is_open history.opened c history.events) ∙ h.conns.open_are c
           ∙ sym (ap (λ k. is_some k) (conn_is c ∙ ap (λ b. if b then None else conn_of c v.machine.conns) e))
 
-      hangs : (c : ℕ) (k : ConnValue) → conn_of c w.machine.conns ≡ Some k → k.broken ≡ false → (b : Bool) → (c == n) ≡ b → k.hung_up ≡ hung_up opened c (Closing n ∷ es)
+      hangs : (c : ℕ) (k : ConnValue) → conn_of c w.machine.conns ≡ Some k → k.broken ≡ false → (b : Bool) → (c == n) ≡ b → k.hung_up ≡ hung_up history.opened c (Closing n ∷ history.events)
       hangs c k k_is on true e = absurd (let clash : None ≡ Some k = sym (conn_is c ∙ ap (λ b. if b then None else conn_of c v.machine.conns) e) ∙ k_is in cc)
-      hangs c k k_is on false e = h.conns.hung_are c k (sym (conn_is c ∙ ap (λ b. if b then None else conn_of c v.machine.conns) e) ∙ k_is) on ∙ sym (hung_still opened c (Closing n) es refl)
+      hangs c k k_is on false e = h.conns.hung_are c k (sym (conn_is c ∙ ap (λ b. if b then None else conn_of c v.machine.conns) e) ∙ k_is) on ∙ sym (hung_still history.opened c (Closing n) history.events refl)
 
       reads : (c : ℕ) (k : ConnValue) (s : StreamValue) → conn_of c w.machine.conns ≡ Some k → stream_of c w.streams ≡ Some s → is_listening k ≡ true
-          → (b : Bool) → (c == n) ≡ b → (given : List HttpRequest) × HasRead s.reader (stream opened c (Closing n ∷ es)) given
+          → (b : Bool) → (c == n) ≡ b → (given : List HttpRequest) × HasRead s.reader (stream history.opened c (Closing n ∷ history.events)) given
       reads c k s k_is s_is going true e = absurd (let clash : None ≡ Some k = sym (conn_is c ∙ ap (λ b. if b then None else conn_of c v.machine.conns) e) ∙ k_is in cc)
       reads c k s k_is s_is going false e =
           let read = h.conns.reads_are c k s (sym (conn_is c ∙ ap (λ b. if b then None else conn_of c v.machine.conns) e) ∙ k_is)
           (sym (stream_is c ∙ ap (λ b. if b then None else stream_of c v.streams) e) ∙ s_is) going in
-          (read.0, subst (λ text. HasRead s.reader text read.0) (sym (text_still opened c (Closing n) es refl)) read.1)
+          (read.0, subst (λ text. HasRead s.reader text read.0) (sym (text_still history.opened c (Closing n) history.events refl)) read.1)
 
-      by_conn : (k : Option ConnValue) → conn_of n v.machine.conns ≡ k → StandsBy w opened (Closing n ∷ es) taken handed
+      by_conn : (k : Option ConnValue) → conn_of n v.machine.conns ≡ k → StandsBy w (after_event (Closing n) history)
       by_conn None k_is = absurd (let clash : false ≡ true = sym (ap (λ k. is_some k) k_is) ∙ x.0 in cc)
-      by_conn (Some k) k_is = stands_one v w opened (Closing n) es taken handed (ap (λ (y : GatewayValue). y.plans) x.1) (occurs.Closing n)
-          (λ os at. at ∙ ap (λ b. once b (occurs.Closing n)) (h.conns.open_are n ∙ x.0)) (λ c. text_still opened c (Closing n) es refl)
-          (λ os stands. closed_stands v w (λ c. stream opened c es) taken handed os
+      by_conn (Some k) k_is = stands_one v w (Closing n) history (ap (λ (y : GatewayValue). y.plans) x.1) (occurs.Closing n)
+          (λ os at. at ∙ ap (λ b. once b (occurs.Closing n)) (h.conns.open_are n ∙ x.0)) (λ c. text_still history.opened c (Closing n) history.events refl)
+          (λ os stands. closed_stands v w (λ c. stream history.opened c history.events) history.taken history.handed os
           (λ c t t_is. was c t (c == n) refl t_is) (λ c none. gone c (c == n) refl none) (ap (λ (y : GatewayValue). y.opened) x.1) (ap (λ (y : GatewayValue). y.begun) x.1) serving.orderly stands n k k_is
           (ap (λ (y : GatewayValue). y.machine) x.1)) h.stands
         where
@@ -296,10 +295,10 @@ module _ (v w : GatewayValue) (opened : List ℕ) (es : Before) (taken : ℕ →
           gone c false e none = stream_is c ∙ ap (λ b. if b then None else stream_of c v.streams) e ∙ none
 
 -- an opening, whether it succeeds or not
-pub opening_stands : {E : Type 0} → (v w : GatewayValue) (result : Result ℕ E) (opened : List ℕ) (es : Before) (taken : ℕ → List ReplyEntry) (handed : List JobValue) → Served v opened es taken handed
-    → ((number : ℕ) → Opens v w number → Served w (opened ++ length es ∷ []) (Opening ∷ es) taken handed)
+pub opening_stands : {E : Type 0} → (v w : GatewayValue) (result : Result ℕ E) (history : History) → Served v history
+    → ((number : ℕ) → Opens v w number → Served w (after_opening history))
     → IsServing v → IfOk result (Opens v w) → OnErr result (w ≡ v)
-    → MatchResult result (λ _. Served w (opened ++ length es ∷ []) (Opening ∷ es) taken handed) (λ _. Served w opened (Opening ∷ es) taken handed)
-opening_stands v w (Ok number) opened es taken handed h succeeds_so serving o err = succeeds_so number o
-opening_stands v w (Err refusal) opened es taken handed h succeeds_so serving o err =
-    subst (λ x. Served x opened (Opening ∷ es) taken handed) (sym err) (unopened_served v v opened es taken handed serving h)
+    → MatchResult result (λ _. Served w (after_opening history)) (λ _. Served w (after_event Opening history))
+opening_stands v w (Ok number) history h succeeds_so serving o err = succeeds_so number o
+opening_stands v w (Err refusal) history h succeeds_so serving o err =
+    subst (λ x. Served x (after_event Opening history)) (sym err) (unopened_served v v history serving h)

@@ -28,6 +28,7 @@ use Rattle.gateway_theory.specs.Served.{HasConns, Served, StandsBy}
 use Rattle.gateway_theory.specs.Orderly.{IsOrderly}
 use Rattle.gateway_theory.specs.Serving.{NotListening, IsServing, ListensAt}
 use Rattle.gateway_model.specs.Starts.{occurrences}
+use Rattle.gateway_model.specs.History.{History, after_event}
 use Rattle.gateway_theory.specs.Store.{MachineValue, broken_at, conn_at, conn_of, machine, numbers}
 use Rattle.gateway_theory.specs.lemmas.Cases.{and_true}
 use Rattle.gateway_theory.specs.lemmas.Concerned.{not_broken}
@@ -163,29 +164,29 @@ text_on opened c n bytes es on = by_number (n == c) refl
 
 -- ---- what the definitions bring, and the gateway has not taken
 
-module _ (n : ℕ) (bytes : List ℕ) (v w : GatewayValue) (opened : List ℕ) (es : Before) (taken : ℕ → List ReplyEntry) (handed : List JobValue) (plans_are : w.plans ≡ v.plans) where
+module _ (n : ℕ) (bytes : List ℕ) (v w : GatewayValue) (history : History) (plans_are : w.plans ≡ v.plans) where
   abbrev Piecewise : List Occurrence → Type 0
-  Piecewise os = MatchBool (listens opened n es)
-      ((gained : List Coming) × Gains v.plans (stream opened n es) (stream opened n es ++ bytes) gained × (os ≡ map (Comes n) gained)) (os ≡ [])
+  Piecewise os = MatchBool (listens history.opened n history.events)
+      ((gained : List Coming) × Gains v.plans (stream history.opened n history.events) (stream history.opened n history.events ++ bytes) gained × (os ≡ map (Comes n) gained)) (os ≡ [])
 
   -- by what the stream gains
-  stands_gained : listens opened n es ≡ true
-      → ((gained : List Coming) (os : List Occurrence) → Gains v.plans (stream opened n es) (stream opened n es ++ bytes) gained → GatewayStands v (λ c. stream opened c es) taken handed os
-      → GatewayStands w (with_bytes n bytes (λ d. stream opened d es)) taken handed (back (map (Comes n) gained) os))
-      → StandsBy v opened es taken handed → StandsBy w opened (Piece n bytes ∷ es) taken handed
-  stands_gained on step h occurred all = by_past (subst (λ plans. Occurs plans opened (Piece n bytes ∷ es) occurred) plans_are all)
+  stands_gained : listens history.opened n history.events ≡ true
+      → ((gained : List Coming) (os : List Occurrence) → Gains v.plans (stream history.opened n history.events) (stream history.opened n history.events ++ bytes) gained → GatewayStands v (λ c. stream history.opened c history.events) history.taken history.handed os
+      → GatewayStands w (with_bytes n bytes (λ d. stream history.opened d history.events)) history.taken history.handed (back (map (Comes n) gained) os))
+      → StandsBy v history → StandsBy w (after_event (Piece n bytes) history)
+  stands_gained on step h occurred all = by_past (subst (λ plans. Occurs plans history.opened (Piece n bytes ∷ history.events) occurred) plans_are all)
     where
-      by_past : Occurs v.plans opened (Piece n bytes ∷ es) occurred → GatewayStands w (λ c. stream opened c (Piece n bytes ∷ es)) taken handed (occurrences occurred)
+      by_past : Occurs v.plans history.opened (Piece n bytes ∷ history.events) occurred → GatewayStands w (λ c. stream history.opened c (Piece n bytes ∷ history.events)) history.taken history.handed (occurrences occurred)
       by_past (past, before, (os, at, is)) = by_gains (subst (λ b. MatchBool b
-          ((gained : List Coming) × Gains v.plans (stream opened n es) (stream opened n es ++ bytes) gained × (os ≡ map (Comes n) gained)) (os ≡ [])) on at)
+          ((gained : List Coming) × Gains v.plans (stream history.opened n history.events) (stream history.opened n history.events ++ bytes) gained × (os ≡ map (Comes n) gained)) (os ≡ [])) on at)
         where
-          by_gains : ((gained : List Coming) × Gains v.plans (stream opened n es) (stream opened n es ++ bytes) gained × (os ≡ map (Comes n) gained))
-              → GatewayStands w (λ c. stream opened c (Piece n bytes ∷ es)) taken handed (occurrences occurred)
+          by_gains : ((gained : List Coming) × Gains v.plans (stream history.opened n history.events) (stream history.opened n history.events ++ bytes) gained × (os ≡ map (Comes n) gained))
+              → GatewayStands w (λ c. stream history.opened c (Piece n bytes ∷ history.events)) history.taken history.handed (occurrences occurred)
           by_gains (gained, gains, os_are) =
-              subst (λ us. GatewayStands w (λ c. stream opened c (Piece n bytes ∷ es)) taken handed us)
-              (sym (ap occurrences is ∙ occurrences_onto (length es) os past ∙ ap (λ us. back us (occurrences past)) os_are))
-              (texts_else w (with_bytes n bytes (λ d. stream opened d es)) (λ c. stream opened c (Piece n bytes ∷ es)) taken handed (back (map (Comes n) gained) (occurrences past))
-              (λ c. inl (text_on opened c n bytes es on)) (step gained (occurrences past) gains (h past before)))
+              subst (λ us. GatewayStands w (λ c. stream history.opened c (Piece n bytes ∷ history.events)) history.taken history.handed us)
+              (sym (ap occurrences is ∙ occurrences_onto (length history.events) os past ∙ ap (λ us. back us (occurrences past)) os_are))
+              (texts_else w (with_bytes n bytes (λ d. stream history.opened d history.events)) (λ c. stream history.opened c (Piece n bytes ∷ history.events)) history.taken history.handed (back (map (Comes n) gained) (occurrences past))
+              (λ c. inl (text_on history.opened c n bytes history.events on)) (step gained (occurrences past) gains (h past before)))
 
 -- the connections after a piece
 conns_piece : (n : ℕ) (bytes : List ℕ) (v w : GatewayValue) (opened : List ℕ) (es : Before) → w.opened ≡ v.opened → numbers w.machine.conns ≡ numbers v.machine.conns
@@ -298,41 +299,41 @@ fed_back i n bytes v w lt orderly unbroken f c k k_is on = by_machine (feeds_mac
 
 -- ---- a piece
 
-module _ (n : ℕ) (v w : GatewayValue) (opened : List ℕ) (es : Before) (taken : ℕ → List ReplyEntry) (handed : List JobValue) (serving : IsServing v) (h : Served v opened es taken handed) where
+module _ (n : ℕ) (v w : GatewayValue) (history : History) (serving : IsServing v) (h : Served v history) where
   same_conns : (bytes : List ℕ) → ((c : ℕ) (k : ConnValue) (s : StreamValue) → conn_of c v.machine.conns ≡ Some k → stream_of c v.streams ≡ Some s → k.broken ≡ false
-      → (given : List HttpRequest) → HasRead s.reader (stream opened c es) given → (now : List HttpRequest) × HasRead s.reader (stream opened c (Piece n bytes ∷ es)) now)
-      → HasConns v opened (Piece n bytes ∷ es)
-  same_conns bytes read = conns_piece n bytes v v opened es refl refl (λ c k k_is on. (k, k_is, on, refl)) (λ c k s k_is on s_is. (s, s_is, read c k s k_is s_is on)) h.conns
+      → (given : List HttpRequest) → HasRead s.reader (stream history.opened c history.events) given → (now : List HttpRequest) × HasRead s.reader (stream history.opened c (Piece n bytes ∷ history.events)) now)
+      → HasConns v history.opened (Piece n bytes ∷ history.events)
+  same_conns bytes read = conns_piece n bytes v v history.opened history.events refl refl (λ c k k_is on. (k, k_is, on, refl)) (λ c k s k_is on s_is. (s, s_is, read c k s k_is s_is on)) h.conns
 
   -- none of it is taken
-  pub not_fed_served : (bytes : List ℕ) → NotListening n v → Served v opened (Piece n bytes ∷ es) taken handed
-  not_fed_served bytes not_listening = by_listens (listens opened n es) refl
+  pub not_fed_served : (bytes : List ℕ) → NotListening n v → Served v (after_event (Piece n bytes) history)
+  not_fed_served bytes not_listening = by_listens (listens history.opened n history.events) refl
     where
-      by_listens : (b : Bool) → listens opened n es ≡ b → Served v opened (Piece n bytes ∷ es) taken handed
+      by_listens : (b : Bool) → listens history.opened n history.events ≡ b → Served v (after_event (Piece n bytes) history)
       by_listens false off = record {
-        conns = same_conns bytes (λ c k s k_is s_is on given read. (given, subst (λ text. HasRead s.reader text given) (sym (text_off opened c n bytes es off)) read));
-        stands = stands_none v v opened (Piece n bytes) es taken handed refl
-            (λ os at. subst (λ b. MatchBool b ((gained : List Coming) × Gains v.plans (stream opened n es) (stream opened n es ++ bytes) gained × (os ≡ map (Comes n) gained)) (os ≡ [])) off at)
-            (λ c. text_off opened c n bytes es off) (λ os stands. stands) h.stands;
+        conns = same_conns bytes (λ c k s k_is s_is on given read. (given, subst (λ text. HasRead s.reader text given) (sym (text_off history.opened c n bytes history.events off)) read));
+        stands = stands_none v v (Piece n bytes) history refl
+            (λ os at. subst (λ b. MatchBool b ((gained : List Coming) × Gains v.plans (stream history.opened n history.events) (stream history.opened n history.events ++ bytes) gained × (os ≡ map (Comes n) gained)) (os ≡ [])) off at)
+            (λ c. text_off history.opened c n bytes history.events off) (λ os stands. stands) h.stands;
       }
       by_listens true on = record {
         conns = same_conns bytes (λ c k s k_is s_is unbroken given read.
-            (given, subst (λ text. HasRead s.reader text given) (sym (text_other opened c n bytes es (other c k k_is unbroken))) read));
-        stands = stands_gained n bytes v v opened es taken handed refl on (λ gained os gains stands.
-            comings_quiet n gained v (with_bytes n bytes (λ d. stream opened d es)) taken handed os broken
-            (texts_else v (λ c. stream opened c es) (with_bytes n bytes (λ d. stream opened d es)) taken handed os (λ c. broken_text c (c == n) refl) stands)) h.stands;
+            (given, subst (λ text. HasRead s.reader text given) (sym (text_other history.opened c n bytes history.events (other c k k_is unbroken))) read));
+        stands = stands_gained n bytes v v history refl on (λ gained os gains stands.
+            comings_quiet n gained v (with_bytes n bytes (λ d. stream history.opened d history.events)) history.taken history.handed os broken
+            (texts_else v (λ c. stream history.opened c history.events) (with_bytes n bytes (λ d. stream history.opened d history.events)) history.taken history.handed os (λ c. broken_text c (c == n) refl) stands)) h.stands;
       }
         where
           broken : is_broken_in n v.machine.conns ≡ true
-          broken = not_listening_broken n v opened es h.conns not_listening on
+          broken = not_listening_broken n v history.opened history.events h.conns not_listening on
 
           other : (c : ℕ) (k : ConnValue) → conn_of c v.machine.conns ≡ Some k → k.broken ≡ false → (n == c) ≡ false
           other c k k_is unbroken = ne_eqb n c (λ same. let clash : true ≡ false = sym broken ∙ ap (λ m. is_broken_in m v.machine.conns) same
               ∙ ap (λ o. option_map_or (λ (y : ConnValue). y.broken) o false) k_is ∙ unbroken in absurd (cc))
 
-          broken_text : (c : ℕ) (b : Bool) → (c == n) ≡ b → (with_bytes n bytes (λ d. stream opened d es) c ≡ stream opened c es) ⊎ (is_broken_in c v.machine.conns ≡ true)
+          broken_text : (c : ℕ) (b : Bool) → (c == n) ≡ b → (with_bytes n bytes (λ d. stream history.opened d history.events) c ≡ stream history.opened c history.events) ⊎ (is_broken_in c v.machine.conns ≡ true)
           broken_text c true e = inr (ap (λ m. is_broken_in m v.machine.conns) (eqb-true c n e) ∙ broken)
-          broken_text c false e = inl (ap (λ b. if b then stream opened c es ++ bytes else stream opened c es) e)
+          broken_text c false e = inl (ap (λ b. if b then stream history.opened c history.events ++ bytes else stream history.opened c history.events) e)
 
   module _ (i : ℕ) (l : ListensAt n v i) where
     pub here : conn_of n v.machine.conns ≡ Some (conn_at i v.machine.conns)
@@ -341,38 +342,38 @@ module _ (n : ℕ) (v w : GatewayValue) (opened : List ℕ) (es : Before) (taken
     stream_here : stream_of n v.streams ≡ Some (stream_at i v.streams)
     stream_here = ap (λ m. stream_of m v.streams) (sym l.stream_is) ∙ stream_found i v.streams l.stream_there (streams_apart v serving)
 
-    pub listening : listens opened n es ≡ true
+    pub listening : listens history.opened n history.events ≡ true
     listening = rw (h.conns.open_are n ∙ ap (λ o. is_some o) here, sym (h.conns.hung_are n (conn_at i v.machine.conns) here l.unbroken) ∙ l.on) refl
 
-    pub read_here : (given : List HttpRequest) × HasRead (stream_at i v.streams).reader (stream opened n es) given
+    pub read_here : (given : List HttpRequest) × HasRead (stream_at i v.streams).reader (stream history.opened n history.events) given
     read_here = h.conns.reads_are n (conn_at i v.machine.conns) (stream_at i v.streams) here stream_here (rw (l.unbroken, l.on) refl)
 
     -- the stream is over
-    pub dropped_served : RequestLaws → (bytes : List ℕ) → is_over (stream_at i v.streams).reader.reading ≡ true → Served v opened (Piece n bytes ∷ es) taken handed
+    pub dropped_served : RequestLaws → (bytes : List ℕ) → is_over (stream_at i v.streams).reader.reading ≡ true → Served v (after_event (Piece n bytes) history)
     dropped_served laws bytes over = record {
       conns = same_conns bytes (λ c k s k_is s_is on given read. by_number c s s_is given read (n == c) refl);
-      stands = stands_gained n bytes v v opened es taken handed refl listening (λ gained os gains stands.
-          subst (λ xs. GatewayStands v (with_bytes n bytes (λ d. stream opened d es)) taken handed (back (map (Comes n) xs) os))
-          (gains_unique laws v.plans (stream opened n es) (stream opened n es ++ bytes) [] gained (over_gains laws v.plans (stream_at i v.streams).reader (stream opened n es) bytes read_here.0 over read_here.1) gains)
+      stands = stands_gained n bytes v v history refl listening (λ gained os gains stands.
+          subst (λ xs. GatewayStands v (with_bytes n bytes (λ d. stream history.opened d history.events)) history.taken history.handed (back (map (Comes n) xs) os))
+          (gains_unique laws v.plans (stream history.opened n history.events) (stream history.opened n history.events ++ bytes) [] gained (over_gains laws v.plans (stream_at i v.streams).reader (stream history.opened n history.events) bytes read_here.0 over read_here.1) gains)
           (none_back os (texts_over os stands))) h.stands;
     }
       where
-        by_number : (c : ℕ) (s : StreamValue) → stream_of c v.streams ≡ Some s → (given : List HttpRequest) → HasRead s.reader (stream opened c es) given → (b : Bool) → (n == c) ≡ b
-            → (now : List HttpRequest) × HasRead s.reader (stream opened c (Piece n bytes ∷ es)) now
-        by_number c s s_is given read false e = (given, subst (λ text. HasRead s.reader text given) (sym (text_other opened c n bytes es e)) read)
+        by_number : (c : ℕ) (s : StreamValue) → stream_of c v.streams ≡ Some s → (given : List HttpRequest) → HasRead s.reader (stream history.opened c history.events) given → (b : Bool) → (n == c) ≡ b
+            → (now : List HttpRequest) × HasRead s.reader (stream history.opened c (Piece n bytes ∷ history.events)) now
+        by_number c s s_is given read false e = (given, subst (λ text. HasRead s.reader text given) (sym (text_other history.opened c n bytes history.events e)) read)
         by_number c s s_is given read true e =
             let at : n ≡ c = eqb-true n c e in
             let its : stream_at i v.streams ≡ s = some_same (sym stream_here ∙ ap (λ m. stream_of m v.streams) at ∙ s_is) in (
               given,
-              subst (λ text. HasRead s.reader text given) (sym (text_on opened c n bytes es listening ∙ ap (λ b. if b then stream opened c es ++ bytes else stream opened c es) (eq-eqb c n (sym at))))
-                  (over_more laws s.reader (stream opened c es) bytes given (ap (λ (x : StreamValue). is_over x.reader.reading) (sym its) ∙ over) read),
+              subst (λ text. HasRead s.reader text given) (sym (text_on history.opened c n bytes history.events listening ∙ ap (λ b. if b then stream history.opened c history.events ++ bytes else stream history.opened c history.events) (eq-eqb c n (sym at))))
+                  (over_more laws s.reader (stream history.opened c history.events) bytes given (ap (λ (x : StreamValue). is_over x.reader.reading) (sym its) ∙ over) read),
             )
 
-        none_back : (os : List Occurrence) → GatewayStands v (with_bytes n bytes (λ d. stream opened d es)) taken handed os
-            → GatewayStands v (with_bytes n bytes (λ d. stream opened d es)) taken handed (back (map (Comes n) []) os)
+        none_back : (os : List Occurrence) → GatewayStands v (with_bytes n bytes (λ d. stream history.opened d history.events)) history.taken history.handed os
+            → GatewayStands v (with_bytes n bytes (λ d. stream history.opened d history.events)) history.taken history.handed (back (map (Comes n) []) os)
         none_back os x = x
 
-        texts_over : (os : List Occurrence) → GatewayStands v (λ c. stream opened c es) taken handed os → GatewayStands v (with_bytes n bytes (λ d. stream opened d es)) taken handed os
+        texts_over : (os : List Occurrence) → GatewayStands v (λ c. stream history.opened c history.events) history.taken history.handed os → GatewayStands v (with_bytes n bytes (λ d. stream history.opened d history.events)) history.taken history.handed os
         texts_over os stands = record {
           closed = stands.closed;
           fates = stands.fates;
@@ -383,27 +384,27 @@ module _ (n : ℕ) (v w : GatewayValue) (opened : List ℕ) (es : Before) (taken
           begun_is = stands.begun_is;
         }
           where
-            by_text : (c : ℕ) (k : ConnValue) (s : StreamValue) → stream_of c v.streams ≡ Some s → HasCome k s.reader (stream opened c es) → (b : Bool) → (c == n) ≡ b
-                → HasCome k s.reader (if c == n then stream opened c es ++ bytes else stream opened c es)
-            by_text c k s s_is come false e = subst (λ text. HasCome k s.reader text) (sym (ap (λ b. if b then stream opened c es ++ bytes else stream opened c es) e)) come
+            by_text : (c : ℕ) (k : ConnValue) (s : StreamValue) → stream_of c v.streams ≡ Some s → HasCome k s.reader (stream history.opened c history.events) → (b : Bool) → (c == n) ≡ b
+                → HasCome k s.reader (if c == n then stream history.opened c history.events ++ bytes else stream history.opened c history.events)
+            by_text c k s s_is come false e = subst (λ text. HasCome k s.reader text) (sym (ap (λ b. if b then stream history.opened c history.events ++ bytes else stream history.opened c history.events) e)) come
             by_text c k s s_is come true e =
                 let its : stream_at i v.streams ≡ s = some_same (sym stream_here ∙ ap (λ m. stream_of m v.streams) (sym (eqb-true c n e)) ∙ s_is) in
-                subst (λ text. HasCome k s.reader text) (sym (ap (λ b. if b then stream opened c es ++ bytes else stream opened c es) e)) (record {
+                subst (λ text. HasCome k s.reader text) (sym (ap (λ b. if b then stream history.opened c history.events ++ bytes else stream history.opened c history.events) e)) (record {
                   given = come.given;
-                  reads = over_more laws s.reader (stream opened c es) bytes come.given (ap (λ (x : StreamValue). is_over x.reader.reading) (sym its) ∙ over) come.reads;
+                  reads = over_more laws s.reader (stream history.opened c history.events) bytes come.given (ap (λ (x : StreamValue). is_over x.reader.reading) (sym its) ∙ over) come.reads;
                   settled = come.settled;
                   came = come.came;
                 })
 
     -- the reader found no memory
-    pub unread_served : (bytes : List ℕ) → w ≡ record v { machine = broken_at n v.machine } → Served w opened (Piece n bytes ∷ es) taken handed
-    unread_served bytes w_is = subst (λ x. Served x opened (Piece n bytes ∷ es) taken handed) (sym w_is) (record {
-      conns = conns_piece n bytes v u opened es refl (numbers_broken n v.machine.conns) (λ c k k_is on. let was = (goes_broken n v.machine).back c k k_is on in (was.0, was.1, was.2, was.4))
-          (λ c k s k_is on s_is. (s, s_is, λ given read. (given, subst (λ text. HasRead s.reader text given) (sym (text_other opened c n bytes es (other c k k_is on))) read))) h.conns;
-      stands = stands_gained n bytes v u opened es taken handed refl listening (λ gained os gains stands.
-          comings_quiet n gained u (with_bytes n bytes (λ d. stream opened d es)) taken handed os broken
-          (texts_else u (λ c. stream opened c es) (with_bytes n bytes (λ d. stream opened d es)) taken handed os (λ c. broken_text c (c == n) refl)
-          (refused_stands v u (λ c. stream opened c es) taken handed os serving.orderly stands n (conn_at i v.machine.conns) here l.unbroken refl refl refl refl))) h.stands;
+    pub unread_served : (bytes : List ℕ) → w ≡ record v { machine = broken_at n v.machine } → Served w (after_event (Piece n bytes) history)
+    unread_served bytes w_is = subst (λ x. Served x (after_event (Piece n bytes) history)) (sym w_is) (record {
+      conns = conns_piece n bytes v u history.opened history.events refl (numbers_broken n v.machine.conns) (λ c k k_is on. let was = (goes_broken n v.machine).back c k k_is on in (was.0, was.1, was.2, was.4))
+          (λ c k s k_is on s_is. (s, s_is, λ given read. (given, subst (λ text. HasRead s.reader text given) (sym (text_other history.opened c n bytes history.events (other c k k_is on))) read))) h.conns;
+      stands = stands_gained n bytes v u history refl listening (λ gained os gains stands.
+          comings_quiet n gained u (with_bytes n bytes (λ d. stream history.opened d history.events)) history.taken history.handed os broken
+          (texts_else u (λ c. stream history.opened c history.events) (with_bytes n bytes (λ d. stream history.opened d history.events)) history.taken history.handed os (λ c. broken_text c (c == n) refl)
+          (refused_stands v u (λ c. stream history.opened c history.events) history.taken history.handed os serving.orderly stands n (conn_at i v.machine.conns) here l.unbroken refl refl refl refl))) h.stands;
     })
       where
         u : GatewayValue
@@ -416,16 +417,16 @@ module _ (n : ℕ) (v w : GatewayValue) (opened : List ℕ) (es : Before) (taken
         other c k k_is unbroken = ne_eqb n c (λ same. let clash : true ≡ false = sym broken ∙ ap (λ m. is_broken_in m u.machine.conns) same
             ∙ ap (λ o. option_map_or (λ (y : ConnValue). y.broken) o false) k_is ∙ unbroken in absurd (cc))
 
-        broken_text : (c : ℕ) (b : Bool) → (c == n) ≡ b → (with_bytes n bytes (λ d. stream opened d es) c ≡ stream opened c es) ⊎ (is_broken_in c u.machine.conns ≡ true)
+        broken_text : (c : ℕ) (b : Bool) → (c == n) ≡ b → (with_bytes n bytes (λ d. stream history.opened d history.events) c ≡ stream history.opened c history.events) ⊎ (is_broken_in c u.machine.conns ≡ true)
         broken_text c true e = inr (ap (λ m. is_broken_in m u.machine.conns) (eqb-true c n e) ∙ broken)
-        broken_text c false e = inl (ap (λ b. if b then stream opened c es ++ bytes else stream opened c es) e)
+        broken_text c false e = inl (ap (λ b. if b then stream history.opened c history.events ++ bytes else stream history.opened c history.events) e)
 
     -- so many bytes were read, and what they brought came
-    pub came_served : RequestLaws → (m : ℕ) (bytes : List ℕ) → is_over (stream_at i v.streams).reader.reading ≡ false → Feeds i m bytes v w → Served w opened (Piece n (take m bytes) ∷ es) taken handed
+    pub came_served : RequestLaws → (m : ℕ) (bytes : List ℕ) → is_over (stream_at i v.streams).reader.reading ≡ false → Feeds i m bytes v w → Served w (after_event (Piece n (take m bytes)) history)
     came_served laws m bytes going f = record {
-      conns = conns_piece n (take m bytes) v w opened es f.opened_is same_numbers (fed_back i m bytes v w l.conn_there serving.orderly l.unbroken f) (λ c k s k_is on s_is. by_number c s s_is (n == c) refl) h.conns;
-      stands = stands_gained n (take m bytes) v w opened es taken handed f.plans_are listening (λ gained os gains stands. by_gain gained os gains
-          (fed_stands i m bytes v w (λ c. stream opened c es) taken handed os l.conn_there l.stream_there serving.orderly (streams_apart v serving) (l.stream_is ∙ sym l.conn_is) l.unbroken l.on going f stands)) h.stands;
+      conns = conns_piece n (take m bytes) v w history.opened history.events f.opened_is same_numbers (fed_back i m bytes v w l.conn_there serving.orderly l.unbroken f) (λ c k s k_is on s_is. by_number c s s_is (n == c) refl) h.conns;
+      stands = stands_gained n (take m bytes) v w history f.plans_are listening (λ gained os gains stands. by_gain gained os gains
+          (fed_stands i m bytes v w (λ c. stream history.opened c history.events) history.taken history.handed os l.conn_there l.stream_there serving.orderly (streams_apart v serving) (l.stream_is ∙ sym l.conn_is) l.unbroken l.on going f stands)) h.stands;
     }
       where
         more : List ℕ
@@ -445,13 +446,13 @@ module _ (n : ℕ) (v w : GatewayValue) (opened : List ℕ) (es : Before) (taken
         stream_is c = ap (stream_of c) f.streams_are ∙ stream_set c i new v.streams l.stream_there (streams_apart v serving) refl
 
         by_number : (c : ℕ) (s : StreamValue) → stream_of c w.streams ≡ Some s → (b : Bool) → (n == c) ≡ b → (y : StreamValue) × (stream_of c v.streams ≡ Some y)
-            × ((given : List HttpRequest) → HasRead y.reader (stream opened c es) given → (now : List HttpRequest) × HasRead s.reader (stream opened c (Piece n more ∷ es)) now)
+            × ((given : List HttpRequest) → HasRead y.reader (stream history.opened c history.events) given → (now : List HttpRequest) × HasRead s.reader (stream history.opened c (Piece n more ∷ history.events)) now)
         by_number c s s_is false e =
             let ne : (c == (stream_at i v.streams).number) ≡ false = ne_eqb c (stream_at i v.streams).number
             (λ same. let clash : true ≡ false = sym (eq-eqb n c (sym (same ∙ l.stream_is))) ∙ e in absurd (cc)) in (
               s,
               sym (stream_is c ∙ ap (λ b. if b then Some new else stream_of c v.streams) ne) ∙ s_is,
-              λ given read. (given, subst (λ text. HasRead s.reader text given) (sym (text_other opened c n more es e)) read),
+              λ given read. (given, subst (λ text. HasRead s.reader text given) (sym (text_other history.opened c n more history.events e)) read),
             )
         by_number c s s_is true e =
             let at : n ≡ c = eqb-true n c e in
@@ -460,27 +461,27 @@ module _ (n : ℕ) (v w : GatewayValue) (opened : List ℕ) (es : Before) (taken
               stream_at i v.streams,
               ap (λ m. stream_of m v.streams) (sym at) ∙ stream_here,
               λ given read.
-                  let now = feeds_read i m bytes v w (stream opened c es) given f read in (
+                  let now = feeds_read i m bytes v w (stream history.opened c history.events) given f read in (
                     now.0,
-                    subst (λ text. HasRead s.reader text now.0) (sym (text_on opened c n more es listening ∙ ap (λ b. if b then stream opened c es ++ more else stream opened c es) (eq-eqb c n (sym at))))
-                        (subst (λ (y : StreamValue). HasRead y.reader (stream opened c es ++ more) now.0) same now.1),
+                    subst (λ text. HasRead s.reader text now.0) (sym (text_on history.opened c n more history.events listening ∙ ap (λ b. if b then stream history.opened c history.events ++ more else stream history.opened c history.events) (eq-eqb c n (sym at))))
+                        (subst (λ (y : StreamValue). HasRead y.reader (stream history.opened c history.events ++ more) now.0) same now.1),
                   ),
             )
 
         Fed : List Occurrence → Type 0
-        Fed os = (gained : List Coming) × Gains v.plans (stream opened (conn_at i v.machine.conns).number es) (stream opened (conn_at i v.machine.conns).number es ++ more) gained
-            × (((gained ≡ []) × GatewayStands w (with_bytes (conn_at i v.machine.conns).number more (λ c. stream opened c es)) taken handed os)
-            ⊎ ((x : Coming) × (gained ≡ x ∷ []) × GatewayStands w (with_bytes (conn_at i v.machine.conns).number more (λ c. stream opened c es)) taken handed (Comes (conn_at i v.machine.conns).number x ∷ os)))
+        Fed os = (gained : List Coming) × Gains v.plans (stream history.opened (conn_at i v.machine.conns).number history.events) (stream history.opened (conn_at i v.machine.conns).number history.events ++ more) gained
+            × (((gained ≡ []) × GatewayStands w (with_bytes (conn_at i v.machine.conns).number more (λ c. stream history.opened c history.events)) history.taken history.handed os)
+            ⊎ ((x : Coming) × (gained ≡ x ∷ []) × GatewayStands w (with_bytes (conn_at i v.machine.conns).number more (λ c. stream history.opened c history.events)) history.taken history.handed (Comes (conn_at i v.machine.conns).number x ∷ os)))
 
-        by_gain : (gained : List Coming) (os : List Occurrence) → Gains v.plans (stream opened n es) (stream opened n es ++ more) gained
-            → Fed os → GatewayStands w (with_bytes n more (λ d. stream opened d es)) taken handed (back (map (Comes n) gained) os)
+        by_gain : (gained : List Coming) (os : List Occurrence) → Gains v.plans (stream history.opened n history.events) (stream history.opened n history.events ++ more) gained
+            → Fed os → GatewayStands w (with_bytes n more (λ d. stream history.opened d history.events)) history.taken history.handed (back (map (Comes n) gained) os)
         by_gain gained os gains (real, also, inl (none, stands)) =
-            let same : gained ≡ real = gains_unique laws v.plans (stream opened n es) (stream opened n es ++ more) gained real gains
-            (subst (λ m. Gains v.plans (stream opened m es) (stream opened m es ++ more) real) l.conn_is also) in
-            subst (λ xs. GatewayStands w (with_bytes n more (λ d. stream opened d es)) taken handed (back (map (Comes n) xs) os)) (sym (same ∙ none))
-            (subst (λ m. GatewayStands w (with_bytes m more (λ d. stream opened d es)) taken handed os) l.conn_is stands)
+            let same : gained ≡ real = gains_unique laws v.plans (stream history.opened n history.events) (stream history.opened n history.events ++ more) gained real gains
+            (subst (λ m. Gains v.plans (stream history.opened m history.events) (stream history.opened m history.events ++ more) real) l.conn_is also) in
+            subst (λ xs. GatewayStands w (with_bytes n more (λ d. stream history.opened d history.events)) history.taken history.handed (back (map (Comes n) xs) os)) (sym (same ∙ none))
+            (subst (λ m. GatewayStands w (with_bytes m more (λ d. stream history.opened d history.events)) history.taken history.handed os) l.conn_is stands)
         by_gain gained os gains (real, also, inr (x, one, stands)) =
-            let same : gained ≡ real = gains_unique laws v.plans (stream opened n es) (stream opened n es ++ more) gained real gains
-            (subst (λ m. Gains v.plans (stream opened m es) (stream opened m es ++ more) real) l.conn_is also) in
-            subst (λ xs. GatewayStands w (with_bytes n more (λ d. stream opened d es)) taken handed (back (map (Comes n) xs) os)) (sym (same ∙ one))
-            (subst (λ m. GatewayStands w (with_bytes m more (λ d. stream opened d es)) taken handed (Comes m x ∷ os)) l.conn_is stands)
+            let same : gained ≡ real = gains_unique laws v.plans (stream history.opened n history.events) (stream history.opened n history.events ++ more) gained real gains
+            (subst (λ m. Gains v.plans (stream history.opened m history.events) (stream history.opened m history.events ++ more) real) l.conn_is also) in
+            subst (λ xs. GatewayStands w (with_bytes n more (λ d. stream history.opened d history.events)) history.taken history.handed (back (map (Comes n) xs) os)) (sym (same ∙ one))
+            (subst (λ m. GatewayStands w (with_bytes m more (λ d. stream history.opened d history.events)) history.taken history.handed (Comes m x ∷ os)) l.conn_is stands)

@@ -2,15 +2,14 @@
 use Rattle.std.proofs.Common.{◌≡◌, ℕ, Bool, true, false, List, [], Option, None, Some, refl, sym, ap, ◌∙◌}
 use Rattle.std.specs.Prelude.{if◌then◌else◌, ◌&&◌, not, is_some}
 use Rattle.std.specs.Option.{option_map_or}
-use Rattle.gateway_model.specs.declared.entry.ReplyEntry.{ReplyEntry}
 use Rattle.gateway_model.specs.declared.id.CallId.{CallId}
 use Rattle.gateway_model.specs.declared.seen.Seen.{Seen}
-use Rattle.gateway_model.specs.Events.{Before, Occurs, stream}
-use Rattle.gateway_model.specs.Job.{JobValue}
+use Rattle.gateway_model.specs.Events.{Occurs, stream}
 use Rattle.gateway_model.specs.Known.{is_whole}
 use Rattle.gateway_model.specs.Occurrence.{Occurrence}
 use Rattle.gateway_model.specs.Past.{marked}
 use Rattle.gateway_model.specs.Starts.{Placed, occurrences}
+use Rattle.gateway_model.specs.History.{History}
 use Rattle.gateway_theory.specs.Breaks.{seen_by}
 use Rattle.gateway_theory.specs.Conn.{ConnValue}
 use Rattle.gateway_theory.specs.Ends.{is_broken_in}
@@ -32,9 +31,9 @@ module _ (id : CallId) (v : GatewayValue) (orderly : IsOrderly v.machine) where
   abbrev c : CallState
   c = call_at id v.machine.calls
 
-  module _ (branch : ℕ) (seen : Seen) (kept : seen ≡ seen_by c branch) (opened : List ℕ) (es : Before) (taken : ℕ → List ReplyEntry) (handed : List JobValue) (occurred : List Placed)
-      (h : Served v opened es taken handed) (o : Occurs v.plans opened es occurred) where
-    stands : GatewayStands v (λ d. stream opened d es) taken handed (occurrences occurred)
+  module _ (branch : ℕ) (seen : Seen) (kept : seen ≡ seen_by c branch) (history : History) (occurred : List Placed)
+      (h : Served v history) (o : Occurs v.plans history.opened history.events occurred) where
+    stands : GatewayStands v (λ d. stream history.opened d history.events) history.taken history.handed (occurrences occurred)
     stands = h.stands occurred o
 
     fates : HasFates stands.fates v.machine
@@ -47,11 +46,11 @@ module _ (id : CallId) (v : GatewayValue) (orderly : IsOrderly v.machine) where
       open_one = λ k k_is. stands.fates_are id.conn k k_is;
       unopened = λ le. (stands.unopened id.conn le).unbroken;
       seen_is = kept ∙ seen_is id branch c.out c.live (stands.fates id.conn) (occurrences occurred) (stands.fated.calls_stand id) (λ broken. fates.broken_none id broken);
-      whole = λ k k_is on. kept ∙ seen_stands id branch v opened es taken handed occurred h o k k_is on;
+      whole = λ k k_is on. kept ∙ seen_stands id branch v history occurred h o k k_is on;
     }
 
   pub seen_told : (branch : ℕ) (seen : Seen) → seen ≡ seen_by c branch → IsSeen id branch v seen
-  seen_told branch seen kept = record { kept = kept; by_events = λ opened es taken handed occurred h o. seen_so branch seen kept opened es taken handed occurred h o }
+  seen_told branch seen kept = record { kept = kept; by_events = λ history occurred h o. seen_so branch seen kept history occurred h o }
 
   -- ---- jobs
 
@@ -83,12 +82,12 @@ module _ (id : CallId) (v : GatewayValue) (orderly : IsOrderly v.machine) where
   live_stands os None out h = sym h
   live_stands os (Some l) out h = rw (h.call_is, h.undecided, h.unclosed) refl
 
-  module _ (opened : List ℕ) (es : Before) (taken : ℕ → List ReplyEntry) (handed : List JobValue) (occurred : List Placed)
-      (h : Served v opened es taken handed) (o : Occurs v.plans opened es occurred) where
+  module _ (history : History) (occurred : List Placed)
+      (h : Served v history) (o : Occurs v.plans history.opened history.events occurred) where
     wanted_so : is_whole id.conn (shown v) ≡ true → is_some c.live ≡ is_live id (marked (occurrences occurred))
     wanted_so whole = by_conn (conn_of id.conn v.machine.conns) refl
       where
-        stood : GatewayStands v (λ d. stream opened d es) taken handed (occurrences occurred)
+        stood : GatewayStands v (λ d. stream history.opened d history.events) history.taken history.handed (occurrences occurred)
         stood = h.stands occurred o
 
         off : (b : Bool) → (true && not b) ≡ true → b ≡ false
@@ -110,5 +109,5 @@ module _ (id : CallId) (v : GatewayValue) (orderly : IsOrderly v.machine) where
   wanted_told wanted kept = record {
     kept = kept;
     broken = λ off. kept ∙ ap (λ (l : Option Live). is_some l) (not_whole_not_live off);
-    by_events = λ opened es taken handed occurred h o whole. kept ∙ wanted_so opened es taken handed occurred h o whole;
+    by_events = λ history occurred h o whole. kept ∙ wanted_so history occurred h o whole;
   }

@@ -7,16 +7,17 @@ use Rattle.gateway_theory.specs.Told.{TellsTook}
 use Rattle.gateway_theory.specs.Serving.{BreaksBy, KeepsBut, TellsStep}
 use Rattle.gateway_model.specs.Occurrence as occurs
 use Rattle.gateway_model.specs.Past.{call_id}
-use Rattle.gateway_run.specs.Stepping.{BreaksAt, Tells, TellsBreaks, TellsConn, TellsOpening, opened_by, seen_in}
+use Rattle.gateway_model.specs.History.{after_event}
+use Rattle.gateway_run.specs.Stepping.{BreaksAt, Tells, TellsBreaks, TellsConn, TellsOpening, after_step, seen_in}
 use Rattle.gateway_run.specs.declared.stepping.Stepped.TheVariants.{Done, Saw}
 use Rattle.gateway_run.proofs.Listening.{has_effect}
 use Rattle.gateway_run.proofs.Starting.{breaks_told, by_done, by_opening, by_taken, conn_told, few_told, keeps_closing, keeps_for, none_begins, none_done, none_opening, none_taken, opening_told}
 use Rattle.gateway_run.proofs.stepping.step.Goals as goal
 
 pub returns-in-Some-clause-stands : goal.returns-in-Some-clause-stands
-returns-in-Some-clause-stands g c = λ opened es taken handed h.
-    subst (λ e. Served c.open_conn.new.self (opened_by c.opened.result (length es) opened) (e ∷ es) taken handed) (sym c.in-Opening.is)
-    (by_opening (λ o. Served c.open_conn.new.self o (Opening ∷ es) taken handed) c.open_conn.result c.opened.result (length es) opened c.opened.ensures (c.open_conn.ensures.stands opened es taken handed h))
+returns-in-Some-clause-stands g c = λ history h.
+    subst (λ e. Served c.open_conn.new.self (after_step c.opened.result e history)) (sym c.in-Opening.is)
+    (by_opening (λ o. Served c.open_conn.new.self (record history { opened = o; events = Opening ∷ history.events })) c.open_conn.result c.opened.result (length history.events) history.opened c.opened.ensures (c.open_conn.ensures.stands history h))
 
 pub returns-in-Some-clause-tells : goal.returns-in-Some-clause-tells
 returns-in-Some-clause-tells g c = subst (λ e. Tells e c.opened.result c.args.core.now c.open_conn.new.self) (sym c.in-Opening.is)
@@ -24,42 +25,42 @@ returns-in-Some-clause-tells g c = subst (λ e. Tells e c.opened.result c.args.c
     (opening_told _ c.open_conn.result c.args.core.now c.open_conn.new.self c.open_conn.ensures.number c.open_conn.ensures.refused c.open_conn.ensures.unchanged))
 
 pub returns-in-Some-clause-few : goal.returns-in-Some-clause-few
-returns-in-Some-clause-few g c = λ conn opened es taken handed told h.
-    few_told (open_connections opened es < most_open) c.open_conn.result c.opened.result conn c.opened.ensures told (c.open_conn.ensures.few opened es taken handed h)
+returns-in-Some-clause-few g c = λ conn history told h.
+    few_told (open_connections history.opened history.events < most_open) c.open_conn.result c.opened.result conn c.opened.ensures told (c.open_conn.ensures.few history h)
 
 pub returns-in-Piece-clause-stands : goal.returns-in-Piece-clause-stands
-returns-in-Piece-clause-stands g c = λ opened es taken handed h.
-    subst (λ e. Served c.deliver.new.core (opened_by c.done.result (length es) opened) (e ∷ es) taken handed) (sym c.in-Piece.is)
-    (subst (λ o. Served c.deliver.new.core o (Piece c.in-Piece.conn c.in-Piece.bytes ∷ es) taken handed) (sym (by_done c.deliver.result c.done.result (length es) opened c.done.ensures))
-    (subst (λ n. Served c.deliver.new.core opened (Piece n c.in-Piece.bytes ∷ es) taken handed) c.of.ensures
-    (subst (λ bytes. Served c.deliver.new.core opened (Piece c.of.result bytes ∷ es) taken handed) c.as_slice.ensures (c.deliver.ensures.stands opened es taken handed h))))
+returns-in-Piece-clause-stands g c = λ history h.
+    subst (λ e. Served c.deliver.new.core (after_step c.done.result e history)) (sym c.in-Piece.is)
+    (subst (λ o. Served c.deliver.new.core (record history { opened = o; events = Piece c.in-Piece.conn c.in-Piece.bytes ∷ history.events })) (sym (by_done c.deliver.result c.done.result (length history.events) history.opened c.done.ensures))
+    (subst (λ n. Served c.deliver.new.core (after_event (Piece n c.in-Piece.bytes) history)) c.of.ensures
+    (subst (λ bytes. Served c.deliver.new.core (after_event (Piece c.of.result bytes) history)) c.as_slice.ensures (c.deliver.ensures.stands history h))))
 
 pub returns-in-HangUp-clause-stands : goal.returns-in-HangUp-clause-stands
-returns-in-HangUp-clause-stands g c = λ opened es taken handed h.
-    subst (λ e. Served c.hang_up.new.self (opened_by c.done-in-HangUp.result (length es) opened) (e ∷ es) taken handed) (sym c.in-HangUp.is)
-    (subst (λ o. Served c.hang_up.new.self o (HangUp c.in-HangUp.conn ∷ es) taken handed) (sym (by_done c.hang_up.result c.done-in-HangUp.result (length es) opened c.done-in-HangUp.ensures))
-    (subst (λ n. Served c.hang_up.new.self opened (HangUp n ∷ es) taken handed) c.of-in-HangUp.ensures (c.hang_up.ensures.stands opened es taken handed h)))
+returns-in-HangUp-clause-stands g c = λ history h.
+    subst (λ e. Served c.hang_up.new.self (after_step c.done-in-HangUp.result e history)) (sym c.in-HangUp.is)
+    (subst (λ o. Served c.hang_up.new.self (record history { opened = o; events = HangUp c.in-HangUp.conn ∷ history.events })) (sym (by_done c.hang_up.result c.done-in-HangUp.result (length history.events) history.opened c.done-in-HangUp.ensures))
+    (subst (λ n. Served c.hang_up.new.self (after_event (HangUp n) history)) c.of-in-HangUp.ensures (c.hang_up.ensures.stands history h)))
 
 pub returns-in-Moment-clause-stands : goal.returns-in-Moment-clause-stands
-returns-in-Moment-clause-stands g c = λ opened es taken handed h.
-    subst (λ e. Served c.moment.new.self (opened_by c.taken.result (length es) opened) (e ∷ es) taken handed) (sym c.in-Moment.is)
-    (subst (λ o. Served c.moment.new.self o (Moment c.in-Moment.moment ∷ es) taken handed) (sym (by_taken c.moment.result c.taken.result (length es) opened c.taken.ensures)) (c.moment.ensures.stands opened es taken handed h))
+returns-in-Moment-clause-stands g c = λ history h.
+    subst (λ e. Served c.moment.new.self (after_step c.taken.result e history)) (sym c.in-Moment.is)
+    (subst (λ o. Served c.moment.new.self (record history { opened = o; events = Moment c.in-Moment.moment ∷ history.events })) (sym (by_taken c.moment.result c.taken.result (length history.events) history.opened c.taken.ensures)) (c.moment.ensures.stands history h))
 
 pub returns-in-BranchResult-clause-stands : goal.returns-in-BranchResult-clause-stands
-returns-in-BranchResult-clause-stands g c = λ opened es taken handed h.
-    subst (λ e. Served c.result.new.self opened (e ∷ es) taken handed) (sym c.in-BranchResult.is)
-    (subst (λ n. Served c.result.new.self opened (BranchResult n c.in-BranchResult.request c.in-BranchResult.branch c.in-BranchResult.outcome ∷ es) taken handed) c.of-in-BranchResult.ensures
-    (c.result.ensures.stands opened es taken handed h))
+returns-in-BranchResult-clause-stands g c = λ history h.
+    subst (λ e. Served c.result.new.self (after_event e history)) (sym c.in-BranchResult.is)
+    (subst (λ n. Served c.result.new.self (after_event (BranchResult n c.in-BranchResult.request c.in-BranchResult.branch c.in-BranchResult.outcome) history)) c.of-in-BranchResult.ensures
+    (c.result.ensures.stands history h))
 
 pub returns-in-Drain-clause-stands : goal.returns-in-Drain-clause-stands
-returns-in-Drain-clause-stands g c = λ opened es taken handed h.
-    subst (λ e. Served c.drain.new.self (opened_by c.taken-in-Drain.result (length es) opened) (e ∷ es) taken handed) (sym c.in-Drain.is)
-    (subst (λ o. Served c.drain.new.self o (Drain ∷ es) taken handed) (sym (by_taken c.drain.result c.taken-in-Drain.result (length es) opened c.taken-in-Drain.ensures)) (c.drain.ensures.stands opened es taken handed h))
+returns-in-Drain-clause-stands g c = λ history h.
+    subst (λ e. Served c.drain.new.self (after_step c.taken-in-Drain.result e history)) (sym c.in-Drain.is)
+    (subst (λ o. Served c.drain.new.self (record history { opened = o; events = Drain ∷ history.events })) (sym (by_taken c.drain.result c.taken-in-Drain.result (length history.events) history.opened c.taken-in-Drain.ensures)) (c.drain.ensures.stands history h))
 
 pub returns-in-Closing-clause-stands : goal.returns-in-Closing-clause-stands
-returns-in-Closing-clause-stands g c = λ opened es taken handed h.
-    subst (λ e. Served c.close.new.self opened (e ∷ es) taken handed) (sym c.in-Closing.is)
-    (subst (λ n. Served c.close.new.self opened (Closing n ∷ es) taken handed) c.of-in-Closing.ensures (c.close.ensures.stands opened es taken handed h))
+returns-in-Closing-clause-stands g c = λ history h.
+    subst (λ e. Served c.close.new.self (after_event e history)) (sym c.in-Closing.is)
+    (subst (λ n. Served c.close.new.self (after_event (Closing n) history)) c.of-in-Closing.ensures (c.close.ensures.stands history h))
 
 pub returns-in-Piece-clause-tells : goal.returns-in-Piece-clause-tells
 returns-in-Piece-clause-tells g c = subst (λ e. Tells e c.done.result c.args.core.now c.deliver.new.core) (sym c.in-Piece.is)
@@ -89,7 +90,7 @@ returns-in-Closing-clause-tells g c = subst (λ e. Tells e Done c.args.core.now 
 
 pub returns-in-Some-clause-concerned : goal.returns-in-Some-clause-concerned
 returns-in-Some-clause-concerned g c = subst (λ e. BreaksAt e c.args.core.now c.open_conn.new.self) (sym c.in-Opening.is)
-    (λ opened es taken handed occurred h o n now before. c.open_conn.ensures.keeps.broken_are n now before)
+    (λ history occurred h o n now before. c.open_conn.ensures.keeps.broken_are n now before)
 
 pub returns-in-Some-clause-keeps : goal.returns-in-Some-clause-keeps
 returns-in-Some-clause-keeps g c = subst (λ e. KeepsBut (λ n. is_closing_of n e) (λ n. true) (seen_in c.opened.result) c.args.core.now c.open_conn.new.self) (sym c.in-Opening.is)
@@ -98,8 +99,8 @@ returns-in-Some-clause-keeps g c = subst (λ e. KeepsBut (λ n. is_closing_of n 
 
 pub returns-in-Piece-clause-concerned : goal.returns-in-Piece-clause-concerned
 returns-in-Piece-clause-concerned g c = subst (λ e. BreaksAt e c.args.core.now c.deliver.new.core) (sym c.in-Piece.is)
-    (λ opened es taken handed occurred h o n now before. subst (λ m. ((n == m) && listens opened m es) ≡ true) c.of.ensures
-    (has_effect c.of.result n c.args.core.now c.deliver.new.core c.deliver.result opened es h.conns c.deliver.ensures.tells (c.deliver.ensures.keeps.broken_are n now before) now before))
+    (λ history occurred h o n now before. subst (λ m. ((n == m) && listens history.opened m history.events) ≡ true) c.of.ensures
+    (has_effect c.of.result n c.args.core.now c.deliver.new.core c.deliver.result history.opened history.events h.conns c.deliver.ensures.tells (c.deliver.ensures.keeps.broken_are n now before) now before))
 
 pub returns-in-Piece-clause-keeps : goal.returns-in-Piece-clause-keeps
 returns-in-Piece-clause-keeps g c = subst (λ e. KeepsBut (λ n. is_closing_of n e) (λ n. true) (seen_in c.done.result) c.args.core.now c.deliver.new.core) (sym c.in-Piece.is)
@@ -108,8 +109,8 @@ returns-in-Piece-clause-keeps g c = subst (λ e. KeepsBut (λ n. is_closing_of n
 
 pub returns-in-HangUp-clause-concerned : goal.returns-in-HangUp-clause-concerned
 returns-in-HangUp-clause-concerned g c = subst (λ e. BreaksAt e c.args.core.now c.hang_up.new.self) (sym c.in-HangUp.is)
-    (λ opened es taken handed occurred h o n now before. subst (λ m. ((n == m) && listens opened m es) ≡ true) c.of-in-HangUp.ensures
-    (has_effect c.of-in-HangUp.result n c.args.core.now c.hang_up.new.self c.hang_up.result opened es h.conns c.hang_up.ensures.tells (c.hang_up.ensures.keeps.broken_are n now before) now before))
+    (λ history occurred h o n now before. subst (λ m. ((n == m) && listens history.opened m history.events) ≡ true) c.of-in-HangUp.ensures
+    (has_effect c.of-in-HangUp.result n c.args.core.now c.hang_up.new.self c.hang_up.result history.opened history.events h.conns c.hang_up.ensures.tells (c.hang_up.ensures.keeps.broken_are n now before) now before))
 
 pub returns-in-HangUp-clause-keeps : goal.returns-in-HangUp-clause-keeps
 returns-in-HangUp-clause-keeps g c = subst (λ e. KeepsBut (λ n. is_closing_of n e) (λ n. true) (seen_in c.done-in-HangUp.result) c.args.core.now c.hang_up.new.self) (sym c.in-HangUp.is)
@@ -144,7 +145,7 @@ returns-in-Drain-clause-keeps g c = subst (λ e. KeepsBut (λ n. is_closing_of n
 
 pub returns-in-Closing-clause-concerned : goal.returns-in-Closing-clause-concerned
 returns-in-Closing-clause-concerned g c = subst (λ e. BreaksAt e c.args.core.now c.close.new.self) (sym c.in-Closing.is)
-    (λ opened es taken handed occurred h o n now before. c.close.ensures.keeps.broken_are n now before)
+    (λ history occurred h o n now before. c.close.ensures.keeps.broken_are n now before)
 
 pub returns-in-Closing-clause-keeps : goal.returns-in-Closing-clause-keeps
 returns-in-Closing-clause-keeps g c = subst (λ e. KeepsBut (λ n. is_closing_of n e) (λ n. true) [] c.args.core.now c.close.new.self) (sym c.in-Closing.is)

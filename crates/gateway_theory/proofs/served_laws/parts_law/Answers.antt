@@ -4,6 +4,6 @@ use Rattle.gateway_theory.proofs.served_laws.parts_law.Goals as goal
 pub returns : goal.returns
 returns c = record {
   begins = begun_served c.request_laws.ensures;
-  goes_on = λ n m p q v w opened es taken handed serving h f. fed_more c.request_laws.ensures n p q v w opened es taken handed serving h m f;
-  ends = λ n fault p q v w opened es taken handed serving then_serving h f. fed_fault c.request_laws.ensures n p q v w opened es taken handed serving h fault then_serving f;
+  goes_on = λ n m p q v w history serving h f. fed_more c.request_laws.ensures n p q v w history serving h m f;
+  ends = λ n fault p q v w history serving then_serving h f. fed_fault c.request_laws.ensures n p q v w history serving h fault then_serving f;
 }

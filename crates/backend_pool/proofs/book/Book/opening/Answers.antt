@@ -13,9 +13,9 @@ returns-clause-stands g c =
     book_opens c.open_conn.result c.args.self.now book.core c.open_conn.new.self book.bytes book.jobs book.results c.self.view_is c.open_conn.ensures.stands ([], refl, c.open_conn.ensures.keeps.tally_is)
 
 pub returns-clause-few : goal.returns-clause-few
-returns-clause-few g c = λ opened es taken handed h.
+returns-clause-few g c = λ history h.
     let book = c.self.inside in
-    c.open_conn.ensures.few opened es taken handed (served_in c.args.self.now book.core book.bytes book.jobs book.results opened es taken handed c.self.view_is h)
+    c.open_conn.ensures.few history (served_in c.args.self.now book.core book.bytes book.jobs book.results history c.self.view_is h)
 
 pub returns-clause-keeps : goal.returns-clause-keeps
 returns-clause-keeps g c =

@@ -11,7 +11,7 @@ use Rattle.gateway_core.proofs.gateway.Core.drain.Goals as goal
 
 pub returns : goal.returns
 returns g c = record {
-  stands = λ opened es taken handed h. drain_served c.self.inside.streams c.drain.new.self opened es taken handed c.serving_law.ensures (subst (λ (x : GatewayValue). Served x opened es taken handed) (sym c.self.view_is) h) c.drain.ensures.ends;
+  stands = λ history h. drain_served c.self.inside.streams c.drain.new.self history c.serving_law.ensures (subst (λ (x : GatewayValue). Served x history) (sym c.self.view_is) h) c.drain.ensures.ends;
   concerned = subst (λ (x : GatewayValue). BreaksBy Drain x c.drain.new.self) c.self.view_is (ended_concerns Drain Drained (record c.self.inside.streams.machine { drained = true })
       c.self.inside.streams c.drain.new.self c.serving_law.ensures (drain_ends c.self.inside.streams.machine) c.drain.ensures.ends);
   broke = subst (λ (x : GatewayValue). Breaks x c.drain.new.self c.drain.result) c.self.view_is c.drain.ensures.broke;

@@ -9,7 +9,7 @@ use Rattle.gateway_core.proofs.gateway.Core.hang_up.Goals as goal
 
 pub returns : goal.returns
 returns g c = record {
-  stands = λ opened es taken handed h. hang_up_served c.args.conn c.self.inside.streams c.hang_up.new.self c.hang_up.result opened es taken handed c.serving_law.ensures (subst (λ (x : GatewayValue). Served x opened es taken handed) (sym c.self.view_is) h)
+  stands = λ history h. hang_up_served c.args.conn c.self.inside.streams c.hang_up.new.self c.hang_up.result history c.serving_law.ensures (subst (λ (x : GatewayValue). Served x history) (sym c.self.view_is) h)
       (subst (λ n. HangsUp n c.self.inside.streams c.hang_up.new.self c.hang_up.result) c.number.ensures c.hang_up.ensures);
   tells = subst (λ (x : GatewayValue). TellsStep c.args.conn x c.hang_up.new.self c.hang_up.result) c.self.view_is (hung_tells c.args.conn c.self.inside.streams c.hang_up.new.self c.serving_law.ensures c.hang_up.result (subst (λ n. HangsUp n c.self.inside.streams c.hang_up.new.self c.hang_up.result) c.number.ensures c.hang_up.ensures));
   begins = hung_exhausted c.args.conn [] c.self.inside.streams c.hang_up.new.self c.serving_law.ensures c.hang_up.result (subst (λ n. HangsUp n c.self.inside.streams c.hang_up.new.self c.hang_up.result) c.number.ensures c.hang_up.ensures);

@@ -12,7 +12,7 @@ use Rattle.gateway_core.proofs.gateway.Core.moment.Goals as goal
 
 pub returns : goal.returns
 returns g c = record {
-  stands = λ opened es taken handed h. moment_served c.self.inside.streams c.moment.new.self opened es taken handed c.serving_law.ensures (subst (λ (x : GatewayValue). Served x opened es taken handed) (sym c.self.view_is) h) c.args.moment c.moment.ensures.ends;
+  stands = λ history h. moment_served c.self.inside.streams c.moment.new.self history c.serving_law.ensures (subst (λ (x : GatewayValue). Served x history) (sym c.self.view_is) h) c.args.moment c.moment.ensures.ends;
   concerned = subst (λ (x : GatewayValue). BreaksBy (Moment c.args.moment) x c.moment.new.self) c.self.view_is (ended_concerns (Moment c.args.moment) (Reached (moment_after c.self.inside.streams.machine.moment c.args.moment)) (record c.self.inside.streams.machine { moment = moment_after c.self.inside.streams.machine.moment c.args.moment })
       c.self.inside.streams c.moment.new.self c.serving_law.ensures (moment_ends c.args.moment c.self.inside.streams.machine) c.moment.ensures.ends);
   broke = subst (λ (x : GatewayValue). Breaks x c.moment.new.self c.moment.result) c.self.view_is c.moment.ensures.broke;

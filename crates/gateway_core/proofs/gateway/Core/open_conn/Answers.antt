@@ -11,10 +11,10 @@ use Rattle.gateway_core.proofs.gateway.Core.open_conn.Goals as goal
 
 pub returns : goal.returns
 returns g c = record {
-  stands = λ opened es taken handed h.
-      opening_stands c.self.inside.streams c.open_conn.new.self c.open_conn.result opened es taken handed (subst (λ (x : GatewayValue). Served x opened es taken handed) (sym c.self.view_is) h) (λ number o. c.opening_law.ensures.opened number c.self.inside.streams c.open_conn.new.self opened es taken handed c.serving_law.ensures (subst (λ (x : GatewayValue). Served x opened es taken handed) (sym c.self.view_is) h) o)
+  stands = λ history h.
+      opening_stands c.self.inside.streams c.open_conn.new.self c.open_conn.result history (subst (λ (x : GatewayValue). Served x history) (sym c.self.view_is) h) (λ number o. c.opening_law.ensures.opened number c.self.inside.streams c.open_conn.new.self history c.serving_law.ensures (subst (λ (x : GatewayValue). Served x history) (sym c.self.view_is) h) o)
       c.serving_law.ensures c.open_conn.ensures.opens c.open_conn.ensures.err;
-  few = λ opened es taken handed h. few_open c.self.inside.streams c.open_conn.new.self c.open_conn.result opened es c.serving_law.ensures c.open_conn.ensures.opens (subst (λ (x : GatewayValue). HasConns x opened es) (sym c.self.view_is) h.conns);
+  few = λ history h. few_open c.self.inside.streams c.open_conn.new.self c.open_conn.result history.opened history.events c.serving_law.ensures c.open_conn.ensures.opens (subst (λ (x : GatewayValue). HasConns x history.opened history.events) (sym c.self.view_is) h.conns);
   refused = subst (λ (x : GatewayValue). IfErr c.open_conn.result (λ e. RefusesOpening e.1 x)) c.self.view_is c.open_conn.ensures.refused;
   back = c.open_conn.ensures.back;
   number = subst (λ (x : GatewayValue). IfOk c.open_conn.result (λ conn. conn ≡ x.opened)) c.self.view_is (opened_number c.self.inside.streams c.open_conn.new.self c.open_conn.result c.open_conn.ensures.opens);

@@ -14,12 +14,12 @@ use Rattle.gateway_core.proofs.gateway.Core.result.Goals as goal
 -- its result is taken, or it comes back with nothing: what stands is the same
 pub returns : goal.returns
 returns g c = record {
-  stands = λ opened es taken handed h.
+  stands = λ history h.
       let e = c.result.ensures.taken in
-      let served = subst (λ (x : GatewayValue). Served x opened es taken handed) (sym c.self.view_is) h in
+      let served = subst (λ (x : GatewayValue). Served x history) (sym c.self.view_is) h in
       ⊎_elim
-      (λ took. result_served c.self.inside.streams c.result.new.self opened es taken handed c.serving_law.ensures served c.args.call.now c.args.branch c.args.outcome e.0 c.result.result c.result.ensures.rest e.2 took)
-      (λ starved. starved_served c.self.inside.streams c.result.new.self opened es taken handed c.serving_law.ensures served c.args.call.now c.args.branch c.args.outcome e.0 c.result.result c.result.ensures.rest e.2 starved.1)
+      (λ took. result_served c.self.inside.streams c.result.new.self history c.serving_law.ensures served c.args.call.now c.args.branch c.args.outcome e.0 c.result.result c.result.ensures.rest e.2 took)
+      (λ starved. starved_served c.self.inside.streams c.result.new.self history c.serving_law.ensures served c.args.call.now c.args.branch c.args.outcome e.0 c.result.result c.result.ensures.rest e.2 starved.1)
       e.1;
   tells = record {
     seen = subst (λ (x : GatewayValue). IsSeen c.args.call.now c.args.branch x c.result.result.seen) c.self.view_is

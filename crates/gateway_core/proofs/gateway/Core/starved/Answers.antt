@@ -13,9 +13,9 @@ use Rattle.gateway_core.proofs.gateway.Core.starved.Goals as goal
 
 pub returns : goal.returns
 returns g c = record {
-  stands = λ outcome opened es taken handed h.
+  stands = λ outcome history h.
       let e = c.starved.ensures.starved in
-      starved_served c.self.inside.streams c.starved.new.self opened es taken handed c.serving_law.ensures (subst (λ (x : GatewayValue). Served x opened es taken handed) (sym c.self.view_is) h) c.args.call.now c.args.branch outcome e.0 c.starved.result c.starved.ensures.rest e.2 e.1;
+      starved_served c.self.inside.streams c.starved.new.self history c.serving_law.ensures (subst (λ (x : GatewayValue). Served x history) (sym c.self.view_is) h) c.args.call.now c.args.branch outcome e.0 c.starved.result c.starved.ensures.rest e.2 e.1;
   tells = λ outcome. record {
     seen = subst (λ (x : GatewayValue). IsSeen c.args.call.now c.args.branch x c.starved.result.seen) c.self.view_is
         (seen_told c.args.call.now c.self.inside.streams c.serving_law.ensures.orderly c.args.branch c.starved.result.seen

@@ -9,7 +9,7 @@ use Rattle.gateway_core.proofs.gateway.Core.take_job.Goals as goal
 
 pub returns : goal.returns
 returns g c = record {
-  stands = λ opened es taken handed h. job_served c.self.inside.streams c.take_job.new.self opened es taken handed c.serving_law.ensures (subst (λ (x : GatewayValue). Served x opened es taken handed) (sym c.self.view_is) h) c.take_job.result c.take_job.ensures.taken c.take_job.ensures.rest;
+  stands = λ history h. job_served c.self.inside.streams c.take_job.new.self history c.serving_law.ensures (subst (λ (x : GatewayValue). Served x history) (sym c.self.view_is) h) c.take_job.result c.take_job.ensures.taken c.take_job.ensures.rest;
   first = ap (λ (x : GatewayValue). x.machine.jobs) (sym c.self.view_is) ∙ c.take_job.ensures.taken.first;
   wanted = λ j e. subst (λ (x : GatewayValue). IsWanted j.job.call x j.wanted) c.self.view_is
       (wanted_told j.job.call c.self.inside.streams c.serving_law.ensures.orderly j.wanted (c.take_job.ensures.taken.wanted j e));

@@ -10,7 +10,7 @@ use Rattle.gateway_core.proofs.gateway.Core.take_reply.Goals as goal
 
 pub returns : goal.returns
 returns g c = record {
-  stands = λ opened es taken handed h. reply_served c.self.inside.streams c.take_reply.new.self opened es taken handed c.serving_law.ensures (subst (λ (x : GatewayValue). Served x opened es taken handed) (sym c.self.view_is) h) c.args.conn c.take_reply.result
+  stands = λ history h. reply_served c.self.inside.streams c.take_reply.new.self history c.serving_law.ensures (subst (λ (x : GatewayValue). Served x history) (sym c.self.view_is) h) c.args.conn c.take_reply.result
       (subst (λ n. TakesReply n c.self.inside.streams c.take_reply.new.self c.take_reply.result) c.number.ensures c.take_reply.ensures);
   first = ap (λ (x : GatewayValue). untaken_of c.args.conn x) (sym c.self.view_is) ∙ reply_first c.args.conn c.self.inside.streams c.take_reply.new.self c.serving_law.ensures c.take_reply.result (subst (λ n. TakesReply n c.self.inside.streams c.take_reply.new.self c.take_reply.result) c.number.ensures c.take_reply.ensures);
   its = subst (λ (x : GatewayValue). IfSome c.take_reply.result (λ r. r.id ≡ next_reply c.args.conn x)) c.self.view_is (reply_its c.args.conn c.self.inside.streams c.take_reply.new.self c.serving_law.ensures c.take_reply.result (subst (λ n. TakesReply n c.self.inside.streams c.take_reply.new.self c.take_reply.result) c.number.ensures c.take_reply.ensures));
