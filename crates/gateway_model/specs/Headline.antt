@@ -14,7 +14,7 @@ use Rattle.gateway_model.specs.Errors.{error_of}
 use Rattle.gateway_model.specs.Events.{refusal_gained, requests_gained}
 use Rattle.gateway_model.specs.Decided.{IsDecidedAt}
 use Rattle.gateway_model.specs.Occurrence.{Coming, Occurrence, Result}
-use Rattle.gateway_model.specs.Past.{ArrivedCall, Past, call, counts, coming_on, marked}
+use Rattle.gateway_model.specs.Past.{ArrivedCall, Past, call, counts, coming_on, is_broken, marked}
 use Rattle.gateway_model.specs.Queue.{answer_of, own_events, record_deadlines, record_of}
 use Rattle.gateway_model.specs.Starts.{Placed, occurrences}
 
@@ -27,7 +27,7 @@ past_by placed = marked (occurrences placed)
 -- what came on the connection's stream, in order
 abbrev pub came_on : ℕ → List Occurrence → List Coming
 came_on conn [] = []
-came_on conn (o ∷ os) = came_on conn os ++ option_to_list (coming_on conn o)
+came_on conn (o ∷ os) = came_on conn os ++ option_to_list (coming_on conn o (is_broken conn (marked os)))
 
 -- the requests of a stream with what each comes to, and its refusal, if it ends with one
 abbrev pub brought_by : List PlanRecord → List HttpRequest → StreamEnd → List Coming

@@ -1,4 +1,4 @@
--- What occurs to a gateway, where the bytes of its connections are already cut into requests.
+-- What occurs to a gateway, where the bytes of its connections are already cut into requests. By events alone no connection breaks.
 use Rattle.std.specs.Prelude.{ℕ}
 use Rattle.http_pieces.specs.declared.refusal.Refusal.{Refusal}
 use Rattle.http_pieces.specs.Request.{HttpRequest}
@@ -28,3 +28,5 @@ pub data Occurrence : Type 0 where
   Drain : Occurrence
   -- a connection is closed
   Closing : ℕ → Occurrence
+  -- want of memory breaks a connection
+  Break : ℕ → Occurrence

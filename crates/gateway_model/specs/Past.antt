@@ -13,7 +13,7 @@ use Rattle.gateway_model.specs.declared.id.CallId.{CallId}
 use Rattle.gateway_model.specs.declared.seen.Seen.{Seen}
 use Rattle.gateway_model.specs.declared.seen.Seen.TheVariants.{Counted, Late, Unknown}
 use Rattle.gateway_model.specs.Arrival.{Asks}
-use Rattle.gateway_model.specs.Occurrence.{Occurrence, Comes, HangUp, Moment, Result, Drain, Closing, Coming, Request}
+use Rattle.gateway_model.specs.Occurrence.{Occurrence, Comes, HangUp, Moment, Result, Drain, Closing, Break, Coming, Request}
 
 -- one occurrence, whether it is a result that counted, and whether it is a request that asked for one call too many
 pub record Mark : Type 0 where
@@ -25,7 +25,7 @@ pub record Mark : Type 0 where
 abbrev pub Past : Type 0
 Past = List Mark
 
--- ---- moments, drain, closings
+-- ---- moments, drain, closings, breaks
 
 -- the moment that is handed in, cut at 2^62
 abbrev pub moment_of : Occurrence → ℕ
@@ -46,30 +46,42 @@ abbrev pub is_drained : Past → Bool
 is_drained [] = false
 is_drained (m ∷ past) = is_drain m.what || is_drained past
 
-abbrev pub closing_occurs : ℕ → Occurrence → Bool
-closing_occurs conn (Closing c) = c == conn
-closing_occurs conn _ = false
+-- want of memory breaks the connection
+abbrev pub breaks : ℕ → Occurrence → Bool
+breaks conn (Break c) = c == conn
+breaks conn _ = false
 
--- the connection was closed
-abbrev pub is_closed : ℕ → Past → Bool
-is_closed conn [] = false
-is_closed conn (m ∷ past) = closing_occurs conn m.what || is_closed conn past
+-- it broke
+abbrev pub is_broken : ℕ → Past → Bool
+is_broken conn [] = false
+is_broken conn (m ∷ past) = breaks conn m.what || is_broken conn past
+
+-- the connection is closed, or breaks: its calls can't be decided any more
+abbrev pub shuts : ℕ → Occurrence → Bool
+shuts conn (Closing c) = c == conn
+shuts conn (Break c) = c == conn
+shuts conn _ = false
+
+-- it was closed, or broke
+abbrev pub is_shut : ℕ → Past → Bool
+is_shut conn [] = false
+is_shut conn (m ∷ past) = shuts conn m.what || is_shut conn past
 
 -- ---- requests, and the calls that they ask for
 
--- what comes on the connection's stream at this occurrence
-abbrev pub coming_on : ℕ → Occurrence → Option Coming
-coming_on conn (Comes c e) = if c == conn then Some e else None
-coming_on conn _ = None
+-- what comes on the connection's stream at this occurrence: if it is broken, nothing
+abbrev pub coming_on : ℕ → Occurrence → Bool → Option Coming
+coming_on conn (Comes c e) broken = if (c == conn) && not broken then Some e else None
+coming_on conn _ broken = None
 
 -- how many requests came on the connection's stream; a refusal counts as one
 abbrev pub arrivals : ℕ → Past → ℕ
 arrivals conn [] = 0
-arrivals conn (m ∷ past) = if is_some (coming_on conn m.what) then suc (arrivals conn past) else arrivals conn past
+arrivals conn (m ∷ past) = if is_some (coming_on conn m.what (is_broken conn past)) then suc (arrivals conn past) else arrivals conn past
 
 -- what comes as request number `id.request` of its connection, if it comes now
 abbrev pub coming_now : CallId → Mark → Past → Option Coming
-coming_now id m past = if arrivals id.conn past == id.request then coming_on id.conn m.what else None
+coming_now id m past = if arrivals id.conn past == id.request then coming_on id.conn m.what (is_broken id.conn past) else None
 
 -- a call: a request for a plan, which was not crowded out
 pub record ArrivedCall : Type 0 where
@@ -218,10 +230,10 @@ event_by id c Drain counted past = Some Drained
 event_by id c _ counted past = None
 
 -- the call's own event at this occurrence: it may arrive ended, and else events come after its arrival; none comes once its
--- connection is closed
+-- connection is closed or broken
 abbrev pub own_event : CallId → Mark → Past → Option CallEvent
 own_event id m past =
-    if is_closed id.conn past then None
+    if is_shut id.conn past then None
     else option_map_or (λ c. event_by id c m.what m.counted past) (call id past) (option_and_then (ends_at_arrival past) (asked_now id m past))
 
 -- how many branches the call has
@@ -253,7 +265,7 @@ outs id past = count_below (branches id past) (λ i. is_out id i past)
 
 -- the call can still be decided
 abbrev pub can_be_decided : CallId → Past → Bool
-can_be_decided id past = is_none (decided id past) && not (is_closed id.conn past)
+can_be_decided id past = is_none (decided id past) && not (is_shut id.conn past)
 
 -- how a result of that branch is seen
 abbrev pub how_seen : CallId → ℕ → Past → Seen

@@ -15,8 +15,8 @@ use Rattle.gateway_model.specs.Branch.{branch_at}
 use Rattle.gateway_model.specs.CallRecord.{CallRecord, answer_in, answer_of_branch, last_event}
 use Rattle.gateway_model.specs.Errors.{branch_error, error_of}
 use Rattle.gateway_model.specs.Decided.{IsDecidedAt}
-use Rattle.gateway_model.specs.Occurrence.{Occurrence, Opening, Comes, HangUp, Moment, Result, Drain, Closing, Coming, Request, Refused}
-use Rattle.gateway_model.specs.Past.{ArrivedCall, Mark, Past, answers, asked_now, branches, call, count_below, counts, deadlines_out, decided, decides, due_by, ends_at_arrival, event_by, is_call, is_closed, is_drained, is_due, mark_of, marked, now, own_event, past_of}
+use Rattle.gateway_model.specs.Occurrence.{Occurrence, Opening, Comes, HangUp, Moment, Result, Drain, Closing, Coming, Request, Refused, Break}
+use Rattle.gateway_model.specs.Past.{ArrivedCall, Mark, Past, answers, asked_now, branches, call, count_below, counts, deadlines_out, decided, decides, due_by, ends_at_arrival, event_by, is_call, is_shut, is_drained, is_due, mark_of, marked, now, own_event, past_of}
 use Rattle.gateway_model.specs.Queue.{answer_of, call_entry, came, entry, entry_by, own_events, record_deadlines, record_of}
 use Rattle.gateway_theory.specs.Replies.{joined_reply}
 use Rattle.gateway_model.specs.Record.{answers_among, is_decided, is_ending, is_lawful, may_come, may_follow}
@@ -285,10 +285,11 @@ answer_by id c Drain counted past i body e = absurd (cc)
 answer_by id c Opening counted past i body e = absurd (cc)
 answer_by id c (Comes conn x) counted past i body e = absurd (cc)
 answer_by id c (Closing conn) counted past i body e = absurd (cc)
+answer_by id c (Break conn) counted past i body e = absurd (cc)
 
 own_answer : (id : CallId) (m : Mark) (past : Past) (i : ℕ) (body : List ℕ) → own_event id m past ≡ Some (Answered i body)
     → (m.what ≡ Result id i (Answer body)) × (m.counted ≡ true)
-own_answer id m past i body e = by_closed (is_closed id.conn past) (call id past) e
+own_answer id m past i body e = by_closed (is_shut id.conn past) (call id past) e
   where
     by_closed : (b : Bool) (o : Option ArrivedCall)
         → (if b then None else option_map_or (λ c. event_by id c m.what m.counted past) o (option_and_then (ends_at_arrival past) (asked_now id m past))) ≡ Some (Answered i body)

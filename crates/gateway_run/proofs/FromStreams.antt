@@ -1,6 +1,6 @@
 -- What comes on a connection is what the whole of its stream is cut into.
 use Rattle.std.proofs.Common.{◌≡◌, ℕ, zero, suc, Bool, true, false, List, [], ◌∷◌, ◌++◌, length, map, Option, None, Some, refl, sym, ap, ◌∙◌, subst, arith, append_assoc, append-nil, ⊎_elim}
-use Rattle.std.specs.Prelude.{◌==◌, if◌then◌else◌, flat_map, is_some, option_map, option_to_list, slice_get, MatchBool}
+use Rattle.std.specs.Prelude.{◌==◌, ◌&&◌, ◌||◌, if◌then◌else◌, flat_map, is_some, option_map, option_to_list, slice_get, MatchBool}
 use Rattle.std.specs.Option.{option_or}
 use Rattle.std.proofs.lemmas.Bool.{cases_Bool, eq-eqb, eqb-true, ne_eqb}
 use Rattle.std.proofs.lemmas.List.{append_cancel_left, map-append}
@@ -14,7 +14,8 @@ use Rattle.gateway_model.specs.declared.event.Event.{Event}
 use Rattle.gateway_model.specs.declared.event.Event.TheVariants.{Opening, Piece, HangUp, Moment, BranchResult, Drain, Closing}
 use Rattle.gateway_model.specs.Occurrence.{Coming, Comes, Occurrence, Request}
 use Rattle.gateway_model.specs.Occurrence as occurs
-use Rattle.gateway_model.specs.Past.{call_id, crowds, coming_now, coming_on, arrivals, mark_of, marked}
+use Rattle.gateway_theory.specs.lemmas.Whole.{none_breaks}
+use Rattle.gateway_model.specs.Past.{call_id, crowds, coming_now, coming_on, arrivals, mark_of, marked, is_broken, breaks}
 use Rattle.gateway_model.specs.Queue.{came}
 use Rattle.gateway_model.specs.Starts.{Placed, occurrences}
 use Rattle.gateway_model.specs.Headline.{brought_by, came_on}
@@ -31,13 +32,29 @@ pub record StreamLaws : Type 0 where
 
 -- ---- what comes by some occurrences
 
-abbrev gained_on : ℕ → List Occurrence → List Coming
-gained_on conn os = flat_map (λ o. option_to_list (coming_on conn o)) os
+-- what comes where no connection breaks
+abbrev came_whole : ℕ → List Occurrence → List Coming
+came_whole conn [] = []
+came_whole conn (o ∷ os) = came_whole conn os ++ option_to_list (coming_on conn o false)
 
-came_onto : (conn place : ℕ) (os : List Occurrence) (past : List Placed) → came_on conn (occurrences (onto place os past)) ≡ came_on conn (occurrences past) ++ gained_on conn os
-came_onto conn place [] past = sym (append-nil (came_on conn (occurrences past)))
+came_unbroken : (conn : ℕ) (os : List Occurrence) → is_broken conn (marked os) ≡ false → came_on conn os ≡ came_whole conn os
+came_unbroken conn [] e = refl
+came_unbroken conn (o ∷ os) e =
+    let before : is_broken conn (marked os) ≡ false = not_before (breaks conn o) (is_broken conn (marked os)) e in
+    ap (λ xs. xs ++ option_to_list (coming_on conn o (is_broken conn (marked os)))) (came_unbroken conn os before)
+    ∙ ap (λ b. came_whole conn os ++ option_to_list (coming_on conn o b)) before
+  where
+    not_before : (a b : Bool) → (a || b) ≡ false → b ≡ false
+    not_before false b e = e
+    not_before true b e = absurd (cc)
+
+abbrev gained_on : ℕ → List Occurrence → List Coming
+gained_on conn os = flat_map (λ o. option_to_list (coming_on conn o false)) os
+
+came_onto : (conn place : ℕ) (os : List Occurrence) (past : List Placed) → came_whole conn (occurrences (onto place os past)) ≡ came_whole conn (occurrences past) ++ gained_on conn os
+came_onto conn place [] past = sym (append-nil (came_whole conn (occurrences past)))
 came_onto conn place (o ∷ os) past =
-    came_onto conn place os ((place, o) ∷ past) ∙ append_assoc (came_on conn (occurrences past)) (option_to_list (coming_on conn o)) (gained_on conn os)
+    came_onto conn place os ((place, o) ∷ past) ∙ append_assoc (came_whole conn (occurrences past)) (option_to_list (coming_on conn o false)) (gained_on conn os)
 
 comings_gained : (c conn : ℕ) (xs : List Coming) → gained_on conn (map (Comes c) xs) ≡ (if c == conn then xs else [])
 comings_gained c conn [] = by_test (c == conn)
@@ -51,11 +68,11 @@ comings_gained c conn [] = by_test (c == conn)
 comings_gained c conn (x ∷ xs) = by_test (c == conn) (comings_gained c conn xs)
   where
     by_test : (b : Bool) → gained_on conn (map (Comes c) xs) ≡ (if b then xs else [])
-        → option_to_list (if b then Some x else None) ++ gained_on conn (map (Comes c) xs) ≡ (if b then x ∷ xs else [])
+        → option_to_list (if b && true then Some x else None) ++ gained_on conn (map (Comes c) xs) ≡ (if b then x ∷ xs else [])
     by_test true e = ap (λ ys. x ∷ ys) e
     by_test false e = e
 
-once_gained : (conn : ℕ) (b : Bool) (o : Occurrence) → coming_on conn o ≡ None → gained_on conn (once b o) ≡ []
+once_gained : (conn : ℕ) (b : Bool) (o : Occurrence) → coming_on conn o false ≡ None → gained_on conn (once b o) ≡ []
 once_gained conn true o e = ap (λ x. option_to_list x ++ []) e
 once_gained conn false o e = refl
 
@@ -94,18 +111,18 @@ brought_more plans Closed later given more refused closed =
     ∙ ap (λ e. brought_by plans given e) (sym h.1) ∙ ap (λ xs. brought_by plans xs later) (sym (append-nil given) ∙ ap (λ xs. given ++ xs) (sym h.0))
 
 module _ (laws : StreamLaws) (plans : List PlanRecord) (opened : List ℕ) (conn : ℕ) (before : Before) (past : List Placed)
-    (was : (given : List HttpRequest) (ending : StreamEnd) → Requests 0 (stream opened conn before) given ending → came_on conn (occurrences past) ≡ brought_by plans given ending) where
+    (was : (given : List HttpRequest) (ending : StreamEnd) → Requests 0 (stream opened conn before) given ending → came_whole conn (occurrences past) ≡ brought_by plans given ending) where
   -- where nothing comes
   quiet : (e : Event) (os : List Occurrence) (given : List HttpRequest) (ending : StreamEnd) → piece_of conn e ≡ [] → gained_on conn os ≡ []
-      → Requests 0 (stream opened conn (e ∷ before)) given ending → came_on conn (occurrences past) ++ gained_on conn os ≡ brought_by plans given ending
+      → Requests 0 (stream opened conn (e ∷ before)) given ending → came_whole conn (occurrences past) ++ gained_on conn os ≡ brought_by plans given ending
   quiet e os given ending none nothing r =
-      ap (λ xs. came_on conn (occurrences past) ++ xs) nothing ∙ append-nil (came_on conn (occurrences past))
+      ap (λ xs. came_whole conn (occurrences past) ++ xs) nothing ∙ append-nil (came_whole conn (occurrences past))
       ∙ was given ending (subst (λ t. Requests 0 t given ending) (stream_same opened conn e before none) r)
 
   -- a piece of the stream
   gains : (bytes : List ℕ) (gained : List Coming) (given : List HttpRequest) (ending : StreamEnd)
       → Gains plans (stream opened conn before) (stream opened conn before ++ bytes) gained → Requests 0 (stream opened conn before ++ bytes) given ending
-      → came_on conn (occurrences past) ++ gained ≡ brought_by plans given ending
+      → came_whole conn (occurrences past) ++ gained ≡ brought_by plans given ending
   gains bytes gained given ending g r =
       let text : List ℕ = stream opened conn before in
       let whole = laws.unique 0 (text ++ bytes) given (g.given ++ g.more) ending g.later r g.longer_is in
@@ -127,16 +144,16 @@ module _ (laws : StreamLaws) (plans : List PlanRecord) (opened : List ℕ) (conn
 
   own_piece : (b : Bool) (bytes : List ℕ) (os : List Occurrence) (given : List HttpRequest) (ending : StreamEnd) → MatchBool b (Brings bytes os) (os ≡ [])
       → Requests 0 (if b then stream opened conn before ++ piece_of conn (Piece conn bytes) else stream opened conn before) given ending
-      → came_on conn (occurrences past) ++ gained_on conn os ≡ brought_by plans given ending
+      → came_whole conn (occurrences past) ++ gained_on conn os ≡ brought_by plans given ending
   own_piece true bytes os given ending (gained, g, os_is) r =
       let here : (conn == conn) ≡ true = eq-eqb conn conn refl in
       let read : Requests 0 (stream opened conn before ++ bytes) given ending =
       subst (λ b. Requests 0 (stream opened conn before ++ (if b then bytes else [])) given ending) here r in
-      ap (λ xs. came_on conn (occurrences past) ++ gained_on conn xs) os_is
-      ∙ ap (λ xs. came_on conn (occurrences past) ++ xs) (comings_gained conn conn gained ∙ ap (λ b. if b then gained else []) here)
+      ap (λ xs. came_whole conn (occurrences past) ++ gained_on conn xs) os_is
+      ∙ ap (λ xs. came_whole conn (occurrences past) ++ xs) (comings_gained conn conn gained ∙ ap (λ b. if b then gained else []) here)
       ∙ gains bytes gained given ending g read
   own_piece false bytes os given ending none r =
-      ap (λ xs. came_on conn (occurrences past) ++ gained_on conn xs) none ∙ append-nil (came_on conn (occurrences past)) ∙ was given ending r
+      ap (λ xs. came_whole conn (occurrences past) ++ gained_on conn xs) none ∙ append-nil (came_whole conn (occurrences past)) ∙ was given ending r
 
   -- what another stream brings
   other_piece : (c : ℕ) (bytes : List ℕ) (os : List Occurrence) → (c == conn) ≡ false → OccursAt plans opened (Piece c bytes) before os → gained_on conn os ≡ []
@@ -149,7 +166,7 @@ module _ (laws : StreamLaws) (plans : List PlanRecord) (opened : List ℕ) (conn
       by_listening false none = ap (gained_on conn) none
 
   at_event : (e : Event) (os : List Occurrence) (given : List HttpRequest) (ending : StreamEnd) → OccursAt plans opened e before os
-      → Requests 0 (stream opened conn (e ∷ before)) given ending → came_on conn (occurrences past) ++ gained_on conn os ≡ brought_by plans given ending
+      → Requests 0 (stream opened conn (e ∷ before)) given ending → came_whole conn (occurrences past) ++ gained_on conn os ≡ brought_by plans given ending
   at_event Opening os given ending at r =
       quiet Opening os given ending refl (ap (gained_on conn) at ∙ once_gained conn (succeeds opened (length before)) occurs.Opening refl) r
   at_event (HangUp c) os given ending at r = quiet (HangUp c) os given ending refl (ap (gained_on conn) at ∙ once_gained conn (listens opened c before) (occurs.HangUp c) refl) r
@@ -166,14 +183,19 @@ module _ (laws : StreamLaws) (plans : List PlanRecord) (opened : List ℕ) (conn
       quiet (Piece c bytes) os given ending (ap (λ b. if b then bytes else []) other) (other_piece c bytes os other at) r)
       (cases_Bool (c == conn))
 
+whole_are : (laws : StreamLaws) (plans : List PlanRecord) (opened : List ℕ) (conn : ℕ) (es : Before) (occurred : List Placed) (given : List HttpRequest) (ending : StreamEnd)
+    → Occurs plans opened es occurred → Requests 0 (stream opened conn es) given ending → came_whole conn (occurrences occurred) ≡ brought_by plans given ending
+whole_are laws plans opened conn [] occurred given ending o r =
+    let none = laws.unique 0 [] given [] ending (Open []) r laws.first in
+    ap (λ xs. came_whole conn (occurrences xs)) o ∙ ap (λ xs. brought_by plans xs (Open [])) (sym none.0) ∙ ap (λ e. brought_by plans given e) (sym none.1)
+whole_are laws plans opened conn (e ∷ before) occurred given ending (past, o, (os, at, occurred_is)) r =
+    ap (λ xs. came_whole conn (occurrences xs)) occurred_is ∙ came_onto conn (length before) os past
+    ∙ at_event laws plans opened conn before past (λ g x q. whole_are laws plans opened conn before past g x o q) e os given ending at r
+
 pub came_are : (laws : StreamLaws) (plans : List PlanRecord) (opened : List ℕ) (conn : ℕ) (es : Before) (occurred : List Placed) (given : List HttpRequest) (ending : StreamEnd)
     → Occurs plans opened es occurred → Requests 0 (stream opened conn es) given ending → came_on conn (occurrences occurred) ≡ brought_by plans given ending
-came_are laws plans opened conn [] occurred given ending o r =
-    let none = laws.unique 0 [] given [] ending (Open []) r laws.first in
-    ap (λ xs. came_on conn (occurrences xs)) o ∙ ap (λ xs. brought_by plans xs (Open [])) (sym none.0) ∙ ap (λ e. brought_by plans given e) (sym none.1)
-came_are laws plans opened conn (e ∷ before) occurred given ending (past, o, (os, at, occurred_is)) r =
-    ap (λ xs. came_on conn (occurrences xs)) occurred_is ∙ came_onto conn (length before) os past
-    ∙ at_event laws plans opened conn before past (λ g x q. came_are laws plans opened conn before past g x o q) e os given ending at r
+came_are laws plans opened conn es occurred given ending o r =
+    came_unbroken conn (occurrences occurred) (none_breaks plans opened es occurred o conn) ∙ whole_are laws plans opened conn es occurred given ending o r
 
 -- ---- and by numbers
 
@@ -192,7 +214,7 @@ at_end (y ∷ xs) x (suc k) = at_end xs x k ∙ ap (λ b. option_or (slice_get x
 
 came_count : (conn : ℕ) (os : List Occurrence) → arrivals conn (marked os) ≡ length (came_on conn os)
 came_count conn [] = refl
-came_count conn (o ∷ os) = by_what (coming_on conn o) (came_count conn os)
+came_count conn (o ∷ os) = by_what (coming_on conn o (is_broken conn (marked os))) (came_count conn os)
   where
     pushed : (xs : List Coming) (x : Coming) → length (xs ++ x ∷ []) ≡ suc (length xs)
     pushed [] x = refl
@@ -216,7 +238,7 @@ pub came_at : (conn k : ℕ) (os : List Occurrence) → option_map {U = Coming} 
 came_at conn k [] = refl
 came_at conn k (o ∷ os) =
     both_of (came (call_id conn k) (marked os)) (option_map {U = Coming × Bool} (λ (e : Coming). (e, crowds o (marked os))) (coming_now (call_id conn k) (mark_of (marked os) o) (marked os)))
-    ∙ by_what (coming_on conn o) (came_at conn k os)
+    ∙ by_what (coming_on conn o (is_broken conn (marked os))) (came_at conn k os)
   where
     at_none : (b c : Bool) → entering_of (option_map {U = Coming × Bool} (λ (e : Coming). (e, c)) (if b then None else None)) ≡ None
     at_none true c = refl

@@ -10,7 +10,7 @@ use Rattle.gateway_model.specs.declared.entry.ReplyEntry.TheVariants.{Call as Ca
 use Rattle.gateway_model.specs.declared.call_event.CallEvent.{CallEvent}
 use Rattle.gateway_model.specs.Arrival.{Asks, Judged}
 use Rattle.gateway_model.specs.Occurrence.{Coming, Refused, Request}
-use Rattle.gateway_model.specs.Past.{ArrivedCall, Mark, Past, asked_by, call, call_id, decided, coming_now, coming_on, arrivals, is_undecided, now}
+use Rattle.gateway_model.specs.Past.{ArrivedCall, Mark, Past, asked_by, call, call_id, decided, coming_now, coming_on, arrivals, is_undecided, now, is_broken}
 use Rattle.gateway_model.specs.Queue.{came, entry, entry_by, front, own_events, queued_entries, record_deadlines, record_of}
 use Rattle.gateway_theory.specs.lemmas.Cases.{or_none}
 
@@ -39,7 +39,7 @@ front_ends f a (suc n) e = let next : a + 1 + n ≡ a + suc n = omega arith in b
 -- a request that has not come
 came_not : (id : CallId) (past : Past) → arrivals id.conn past ≤ id.request → came id past ≡ None
 came_not id [] le = refl
-came_not id (m ∷ past) le = by_what (coming_on id.conn m.what) le (λ l. came_not id past l)
+came_not id (m ∷ past) le = by_what (coming_on id.conn m.what (is_broken id.conn past)) le (λ l. came_not id past l)
   where
     by_test : (b : Bool) → option_map {U = Coming × Bool} (λ (e : Coming). (e, m.crowded)) (if b then None else None) ≡ None
     by_test true = refl
@@ -84,7 +84,7 @@ came_known id past x e = ⊎_elim (λ (lt : id.request < arrivals id.conn past).
 entering_none : (id : CallId) (m : Mark) (past : Past) (x : Coming × Bool) → came id past ≡ Some x → coming_now id m past ≡ None
 entering_none id m past x e =
     let lt : id.request < arrivals id.conn past = came_known id past x e in
-    ap (λ b. if b then coming_on id.conn m.what else None) (ne_eqb (arrivals id.conn past) id.request (λ same. omega (arith, lt, same)))
+    ap (λ b. if b then coming_on id.conn m.what (is_broken id.conn past) else None) (ne_eqb (arrivals id.conn past) id.request (λ same. omega (arith, lt, same)))
 
 -- what came asks for a call, and is not one too many
 abbrev asks : Option (Coming × Bool) → Bool

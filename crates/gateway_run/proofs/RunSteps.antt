@@ -375,9 +375,9 @@ module _ (event : EventLaws) (standing : StandingLaws) (breaking : BreakingLaw) 
             let there = (was_open c log.opened (marked (occurrences (past occurred o))) concerned (ap (λ x. is_some x) l_is)).0 in
             let clash : true ≡ false = sym there ∙ ap (λ x. is_some x) k_is in cc)
         by_conns (Some k) k_is (Some l) l_is =
-            let unclosed : is_closing_of c e ≡ false = (was_open c log.opened (marked (occurrences (past occurred o))) concerned (ap (λ x. is_some x) l_is)).1 in
+            let unshut : is_closing_of c e ≡ false = (was_open c log.opened (marked (occurrences (past occurred o))) concerned (ap (λ x. is_some x) l_is)).1 in
             breaking c (length es) v w next.opened e (history_of log.opened es h.taken (map job_started h.started)) s.keeps.jobs (now occurred o).2.0 (past occurred o) occurred h.served served (was occurred o) o
-            (now occurred o).2.2 s.keeps.jobs_are (s.keeps.replies_stay c unclosed) k l k_is (sym (ap (λ x. option_map_or (λ (y : ConnValue). y.broken) x false) k_is) ∙ whole) l_is
+            (now occurred o).2.2 s.keeps.jobs_are (s.keeps.replies_stay c unshut) k l k_is (sym (ap (λ x. option_map_or (λ (y : ConnValue). y.broken) x false) k_is) ∙ whole) l_is
             (sym (ap (λ x. option_map_or (λ (y : ConnValue). y.broken) x false) l_is) ∙ on)
 
     new_broke : BrokeSo c v.plans next.opened (h.taken c ++ untaken_of c w) (h.started ++ map (start (length es)) new) (e ∷ es) occurred

@@ -8,7 +8,7 @@ use Rattle.connect_codec.specs.Reply.{bare_reply}
 use Rattle.connect_codec.specs.declared.verdict.Verdict.TheVariants.{Bare}
 use Rattle.gateway_model.specs.declared.reply_bytes.ReplyBytes.{ReplyBytes}
 use Rattle.gateway_model.specs.Reply.{reply_of}
-use Rattle.gateway_model.specs.Past.{Mark, Past, call_id, arrivals, mark_of, marked}
+use Rattle.gateway_model.specs.Past.{Mark, Past, call_id, arrivals, is_broken, mark_of, marked}
 use Rattle.gateway_model.specs.declared.entry.ReplyEntry.{ReplyEntry}
 use Rattle.gateway_model.specs.declared.id.CallId.{CallId}
 use Rattle.gateway_model.specs.declared.entry.ReplyEntry.TheVariants.{Judged as Judging}
@@ -38,10 +38,15 @@ front_more f g stays k (suc n) a all here =
 abbrev get_reply : ℕ → ReplyBytes
 get_reply k = reply_of (bare_reply 405 (closes (get_request k))) (closes (get_request k))
 
+gets_whole : (n : ℕ) → is_broken 0 (marked (after_gets n)) ≡ false
+unfolding after_gets
+gets_whole zero = refl
+gets_whole (suc n) = gets_whole n
+
 gets_arrivals : (n : ℕ) → arrivals 0 (marked (after_gets n)) ≡ n
 unfolding after_gets
 gets_arrivals zero = refl
-gets_arrivals (suc n) = ap suc (gets_arrivals n)
+gets_arrivals (suc n) = rw (gets_whole n) (ap suc (gets_arrivals n))
 
 -- the next one has not come
 not_come : (n k : ℕ) → n ≤ k → came (call_id 0 k) (marked (after_gets n)) ≡ None
@@ -64,12 +69,12 @@ gets_queued stays (suc n) =
     let g : ℕ → Option ReplyEntry = λ k. entry (call_id 0 k) (m ∷ past) in
     let count : arrivals 0 past ≡ n = gets_arrivals n in
     let none : came (call_id 0 n) past ≡ None = not_come n n (omega arith) in
-    let here : g n ≡ Some e = rw (none, eq-eqb (arrivals 0 past) n count) refl in
+    let here : g n ≡ Some e = rw (none, eq-eqb (arrivals 0 past) n count, gets_whole n) refl in
     let before : front (map f (range_with_len 0 n)) ≡ map (λ k. Judging (Bare 405) (closes (get_request k))) (range_with_len 0 n) =
     ap (λ c. front (map f (range_with_len 0 c))) (sym count) ∙ gets_queued stays n in
     let full : length (front (map f (range_with_len 0 n))) ≡ n = ap length before ∙ length-map-range_with_len (λ k. Judging (Bare 405) (closes (get_request k))) 0 n in
     let at : 0 + n ≡ n = omega arith in
-    ap (λ c. front (map g (range_with_len 0 (suc c)))) count
+    ap (λ c. front (map g (range_with_len 0 c))) (gets_arrivals (suc n))
     ∙ front_more f g (λ k x. stays (call_id 0 k) m past x) 0 n e full (ap g at ∙ here)
     ∙ ap (λ es. es ++ e ∷ []) before ∙ sym (more n)
   where

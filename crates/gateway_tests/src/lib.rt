@@ -5,6 +5,7 @@
 mod hook_of_a_box;
 mod rows;
 mod rows_branches;
+mod rows_breaks;
 mod rows_connections;
 mod rows_corners;
 mod rows_replies;

@@ -8,7 +8,7 @@ use Rattle.gateway_model.specs.declared.call_event.CallEvent.TheVariants.{HungUp
 use Rattle.gateway_theory.specs.declared.trigger.Trigger.{Trigger}
 use Rattle.gateway_theory.specs.declared.trigger.Trigger.TheVariants.{Reached, HungUp, Drained}
 use Rattle.gateway_model.specs.Occurrence.{Occurrence}
-use Rattle.gateway_model.specs.Past.{ArrivedCall, due_by, is_call, call_id, closing_occurs, is_drain, is_result_of, moment_of}
+use Rattle.gateway_model.specs.Past.{ArrivedCall, due_by, is_call, call_id, shuts, is_drain, is_result_of, moment_of}
 use Rattle.gateway_theory.specs.Step.{CallState, Live, Step, call_state, deadlines_in, kept, ended_by, step}
 use Rattle.gateway_theory.specs.Kept.{KeptValue}
 use Rattle.gateway_theory.specs.Conn.{ConnValue}
@@ -170,7 +170,7 @@ noted Drained v = record v { drained = true }
 -- the calls end by the trigger as they do at the occurrence
 pub record EndsBy (o : Occurrence) (trigger : Trigger) (s v : MachineValue) : Type 0 where
   pub plain : is_coming o ≡ false
-  pub no_closing : (d : ℕ) → closing_occurs d o ≡ false
+  pub no_closing : (d : ℕ) → shuts d o ≡ false
   pub no_result : (id : CallId) (i : ℕ) → is_result_of id i o ≡ false
   pub no_start : (closed : ℕ → ConnState) → starting o (machine closed s) ≡ []
   pub steps : (id : CallId) (c : CallState) → step s.moment id o c ≡ ended_call trigger id c

@@ -4,7 +4,7 @@ use Rattle.std.specs.List.{range_with_len}
 use Rattle.std.specs.Option.{option_or}
 use Rattle.gateway_model.specs.declared.id.CallId.{CallId}
 use Rattle.gateway_theory.specs.Task.{TaskValue, task_of}
-use Rattle.gateway_model.specs.Past.{Mark, Past, ArrivedCall, call, answers, began, started, is_out, can_be_decided, is_closed, decided, branch_deadlines}
+use Rattle.gateway_model.specs.Past.{Mark, Past, ArrivedCall, call, answers, began, started, is_out, can_be_decided, is_shut, decided, branch_deadlines}
 use Rattle.gateway_model.specs.Queue.{own_events, entry}
 use Rattle.gateway_model.specs.Starts.{jobs_started}
 use Rattle.gateway_theory.specs.Step.{Live, CallState, Step, has_out}
@@ -21,7 +21,7 @@ pub record LiveStands (id : CallId) (l : Live) (out : List Bool) (past : Past) :
   pub call_is : call id past ≡ Some l.asked
   pub began_is : began id past ≡ true
   pub undecided : decided id past ≡ None
-  pub unclosed : is_closed id.conn past ≡ false
+  pub unshut : is_shut id.conn past ≡ false
   pub size_is : length out ≡ length l.asked.plan.branches
   pub events_are : l.events ≡ own_events id past
   pub answers_are : length l.events ≡ answers id past

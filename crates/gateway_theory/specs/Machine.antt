@@ -5,7 +5,7 @@ use Rattle.std.specs.Option.{option_or}
 use Rattle.gateway_model.specs.declared.id.CallId.{CallId}
 use Rattle.gateway_model.specs.Job.{JobValue}
 use Rattle.gateway_model.specs.Occurrence.{Occurrence, Comes, Result, Coming}
-use Rattle.gateway_model.specs.Past.{call_id, moment_of, is_drain, closing_occurs, most_calls}
+use Rattle.gateway_model.specs.Past.{call_id, moment_of, is_drain, shuts, most_calls}
 use Rattle.gateway_model.specs.declared.entry.ReplyEntry.{ReplyEntry}
 use Rattle.gateway_theory.specs.Step.{CallState, Step, step}
 use Rattle.gateway_theory.specs.Begins.{arrive}
@@ -47,7 +47,7 @@ starting o s = []
 -- the connection after an occurrence at which nothing comes on its stream
 pub record ConnAfter (o : Occurrence) (s : MachineState) (c : ℕ) (old new : ConnState) : Type 0 where
   pub taken_is : new.taken ≡ old.taken
-  pub closed_is : new.closed ≡ (closing_occurs c o || old.closed)
+  pub closed_is : new.closed ≡ (shuts c o || old.closed)
   pub size_is : length new.slots ≡ length old.slots
   pub each : (j : ℕ) → j < length old.slots → slot_at j new.slots ≡ option_or (slot_at j old.slots) (step_of (call_id c (old.taken + j)) o s).reply
 

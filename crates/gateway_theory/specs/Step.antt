@@ -5,7 +5,7 @@ use Rattle.connect_codec.specs.declared.answer.Outcome.TheVariants.{Answer, Fail
 use Rattle.gateway_model.specs.declared.id.CallId.{CallId}
 use Rattle.gateway_model.specs.Job.{JobValue}
 use Rattle.gateway_theory.specs.Task.{TaskValue, job_at}
-use Rattle.gateway_model.specs.Occurrence.{Occurrence, HangUp, Moment, Result, Drain, Closing}
+use Rattle.gateway_model.specs.Occurrence.{Occurrence, HangUp, Moment, Result, Drain, Closing, Break}
 use Rattle.gateway_model.specs.declared.call_event.CallEvent.{CallEvent}
 use Rattle.gateway_model.specs.declared.call_event.CallEvent.TheVariants.{Answer as Answered, Failed, HungUp, Drained}
 use Rattle.gateway_model.specs.Past.{ArrivedCall, deadline_from, due_by, is_call}
@@ -131,4 +131,5 @@ ended_live moment id o out (Some l) = ended_by (ending moment id o l.asked (dead
 abbrev pub step : ℕ → CallId → Occurrence → CallState → Step
 step moment id (Result of i outcome) c = if is_call of id && has_out c i then result_on moment i outcome (slice_set c.out i false) c.live else kept c
 step moment id (Closing conn) c = if conn == id.conn then kept (call_state c.out None) else kept c
+step moment id (Break conn) c = if conn == id.conn then kept (call_state c.out None) else kept c
 step moment id o c = ended_live moment id o c.out c.live

@@ -51,6 +51,7 @@ pub mod BringLemmas
 pub mod BroughtLemmas
 pub mod BreakLemmas
 pub mod EventLemmas
+pub mod Whole
 pub mod CutLemmas
 pub mod ServedLemmas
 pub mod ServedMore

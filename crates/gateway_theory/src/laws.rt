@@ -1,9 +1,9 @@
 //! What the definitions come to, as facts on everything that may occur. The functions do nothing.
-ghost use Rattle.std.specs.Prelude.{◌≡◌, ◌⊎◌, slice_get, ℕ, true, ◌<◌, ◌≤◌, ◌++◌, ◌∷◌, Some, None, Option, option_map, option_to_list, replicate, [], List, length, map};
+ghost use Rattle.std.specs.Prelude.{◌≡◌, ◌⊎◌, slice_get, ℕ, true, false, ◌<◌, ◌≤◌, ◌++◌, ◌∷◌, Some, None, Option, option_map, option_to_list, replicate, [], List, length, map};
 ghost use Rattle.gateway_model.specs.declared.id.CallId.{CallId};
 ghost use Rattle.gateway_model.specs.Occurrence.{Occurrence, Opening, Result};
 ghost use Rattle.gateway_model.specs.declared.call_event.CallEvent.{CallEvent};
-ghost use Rattle.gateway_model.specs.Past.{Mark, Past, ArrivedCall, call, decided, arrivals, is_out, how_seen, outs, mark_of, marked, moment_of, now, past_of};
+ghost use Rattle.gateway_model.specs.Past.{Mark, Past, ArrivedCall, call, decided, arrivals, is_broken, is_out, how_seen, outs, mark_of, marked, moment_of, now, past_of};
 ghost use Rattle.gateway_model.specs.Decided.{IsDecidedAt};
 ghost use Rattle.gateway_theory.specs.Finished.{IsOutSince, StartsAt, jobs_below};
 ghost use Rattle.connect_codec.specs.declared.answer.Outcome.{Outcome};
@@ -110,3 +110,9 @@ pub fn event_law()
 {
     request_laws();
 }
+
+/// By events alone no connection breaks.
+pub fn whole_law()
+    ensures { (plans : List PlanRecord) (opened : List ℕ) (events : List Event) (occurred : List Placed)
+        → Occurs plans opened events occurred → (conn : ℕ) → is_broken conn (marked (occurrences occurred)) ≡ false }
+{}

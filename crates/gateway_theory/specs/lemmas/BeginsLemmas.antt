@@ -14,13 +14,14 @@ use Rattle.gateway_model.specs.Job.{job_of}
 use Rattle.gateway_model.specs.Occurrence.{Occurrence, Comes, Coming, Request, Refused}
 use Rattle.gateway_model.specs.declared.call_event.CallEvent.{CallEvent}
 use Rattle.gateway_model.specs.declared.call_event.CallEvent.TheVariants.{Answer as Answered, Failed, Expired, BranchExpired, HungUp, Drained}
-use Rattle.gateway_model.specs.Past.{Mark, Past, ArrivedCall, call, arrivals, coming_now, asked_now, asked_by, began, answers, started, is_out, is_closed, is_drained, own_event, ends_at_arrival, decides, decided, branch_deadlines, is_due, now, crowds, mark_of, marked, branches}
+use Rattle.gateway_model.specs.Past.{Mark, Past, ArrivedCall, call, arrivals, coming_now, asked_now, asked_by, began, answers, started, is_out, is_shut, is_drained, own_event, ends_at_arrival, decides, decided, branch_deadlines, is_due, now, crowds, mark_of, marked, branches}
 use Rattle.gateway_theory.specs.lemmas.Deadlines.{branch_deadline}
 use Rattle.gateway_model.specs.declared.entry.ReplyEntry.{ReplyEntry}
 use Rattle.gateway_model.specs.declared.entry.ReplyEntry.TheVariants.{Refused as Refusing, Judged as Judging, Crowded as Crowding}
 use Rattle.gateway_model.specs.Queue.{came, own_events, entry_by, entry, call_entry}
 use Rattle.gateway_model.specs.Starts.{jobs_started, branches_started}
 use Rattle.gateway_theory.specs.lemmas.LimitLemmas.{out_started, unanswered, unbegun}
+use Rattle.gateway_theory.specs.lemmas.Frame.{unbroken}
 use Rattle.gateway_theory.specs.lemmas.Unborn.{Unborn, unborn}
 use Rattle.gateway_theory.specs.Step.{call_state, gone, step_to, ended, entry_with}
 use Rattle.gateway_theory.specs.LiveStands.{is_live, tasks_from, Stepped}
@@ -34,13 +35,13 @@ comes id x past = mark_of past (Comes id.conn x)
 -- it is the next request of its connection, which is not closed
 pub record IsNext (id : CallId) (os : List Occurrence) : Type 0 where
   pub next : arrivals id.conn (marked os) ≡ id.request
-  pub unclosed : is_closed id.conn (marked os) ≡ false
+  pub unshut : is_shut id.conn (marked os) ≡ false
 
 nothing : (id : CallId) (os : List Occurrence) → IsNext id os → Unborn id (marked os)
 nothing id os n = unborn id (marked os) (omega (arith, n.next))
 
 entering_is : (id : CallId) (x : Coming) (os : List Occurrence) → IsNext id os → coming_now id (comes id x (marked os)) (marked os) ≡ Some x
-entering_is id x os n = rw (eq-eqb (arrivals id.conn (marked os)) id.request n.next, eq-eqb id.conn id.conn refl) refl
+entering_is id x os n = rw (eq-eqb (arrivals id.conn (marked os)) id.request n.next, eq-eqb id.conn id.conn refl, unbroken id.conn (marked os) n.unshut) refl
 
 came_then : (id : CallId) (x : Coming) (os : List Occurrence) → IsNext id os
     → came id (comes id x (marked os) ∷ marked os) ≡ Some (x, crowds (Comes id.conn x) (marked os))
@@ -63,7 +64,7 @@ began_then id x os o n a = rw ((nothing id os n).not_begun, a.asked) refl
 
 own_then : (id : CallId) (x : Coming) (os : List Occurrence) (o : Option ArrivedCall) → IsNext id os → Asks_now id x (marked os) o
     → own_event id (comes id x (marked os)) (marked os) ≡ option_and_then (ends_at_arrival (marked os)) o
-own_then id x os o n a = rw (n.unclosed, (nothing id os n).no_call, a.asked) refl
+own_then id x os o n a = rw (n.unshut, (nothing id os n).no_call, a.asked) refl
 
 not_started_yet : (id : CallId) (os : List Occurrence) → IsNext id os → started id (marked os) ≡ 0
 not_started_yet id os n = rw ((nothing id os n).not_begun) refl
@@ -166,7 +167,7 @@ begun id x os a n asks goes by_call =
           call_is = call_is;
           began_is = began_is;
           undecided = undec;
-          unclosed = n.unclosed;
+          unshut = n.unshut;
           size_is = length-map-range_with_len (λ i. nat_lt i (first_ones a)) 0 (length a.plan.branches);
           events_are = sym events;
           answers_are = sym (no_answers id x os n);

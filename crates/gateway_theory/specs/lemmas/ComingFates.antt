@@ -7,7 +7,7 @@ use Rattle.std.proofs.lemmas.List.{length-append, length-map}
 use Rattle.gateway_model.specs.declared.id.CallId.{CallId}
 use Rattle.gateway_model.specs.Job.{JobValue}
 use Rattle.gateway_model.specs.Occurrence.{Occurrence, Comes, Coming}
-use Rattle.gateway_model.specs.Past.{Mark, Past, call_id, is_call, arrivals, coming_now, now, is_drained, is_closed, crowds, mark_of, marked, most_calls, undecided_calls}
+use Rattle.gateway_model.specs.Past.{Mark, Past, call_id, is_call, arrivals, coming_now, now, is_drained, is_shut, crowds, mark_of, marked, most_calls, undecided_calls}
 use Rattle.gateway_model.specs.declared.entry.ReplyEntry.{ReplyEntry}
 use Rattle.gateway_model.specs.Queue.{entry}
 use Rattle.gateway_model.specs.Starts.{jobs_by, jobs_started}
@@ -20,6 +20,7 @@ use Rattle.gateway_theory.specs.Machine.{ConnState, MachineState, is_full, next_
 use Rattle.gateway_theory.specs.Standing.{SlotsStand, ConnStands}
 use Rattle.gateway_theory.specs.lemmas.BeginsLemmas.{arrives}
 use Rattle.gateway_theory.specs.lemmas.SlotLemmas.{undecided_count}
+use Rattle.gateway_theory.specs.lemmas.Frame.{unbroken}
 use Rattle.gateway_theory.specs.lemmas.MachineLemmas.{no_entry_yet, crowd_is, other_call, kept_by_entry, more_slots}
 use Rattle.gateway_theory.specs.Fate.{Fate, Unbroken, BrokenAt, is_broken, fate_after, fates_after, jobs_fated}
 use Rattle.gateway_theory.specs.Fated.{CallFated, ConnFated, FatedStands}
@@ -38,9 +39,9 @@ next_of c k taken past h =
 
 -- what comes on a connection that goes on
 comes_on : (c : ℕ) (x : Coming) (s : MachineState) (taken : List ReplyEntry) (os : List Occurrence) → s.moment ≡ now (marked os) → s.drained ≡ is_drained (marked os)
-    → ConnStands c (s.conns c) taken (marked os) → is_closed c (marked os) ≡ false
+    → ConnStands c (s.conns c) taken (marked os) → is_shut c (marked os) ≡ false
     → Stepped (next_id c s) (arriving c x s) (mark_of (marked os) (Comes c x)) (marked os)
-comes_on c x s taken os m_is d_is k unclosed =
+comes_on c x s taken os m_is d_is k unshut =
     let full : is_full (s.conns c).slots ≡ nat_le most_calls (undecided_calls c (marked os)) =
     ap (λ n. nat_le most_calls n) (undecided_count c taken (s.conns c).slots (marked os) k.slots_stand) in
     let right : arriving c x s ≡ arrive (now (marked os)) (is_drained (marked os)) (crowds (Comes c x) (marked os)) (next_id c s) x =
@@ -48,7 +49,7 @@ comes_on c x s taken os m_is d_is k unclosed =
     ∙ ap (λ n. arrive n s.drained (crowds (Comes c x) (marked os)) (next_id c s) x) m_is
     ∙ ap (λ b. arrive (now (marked os)) b (crowds (Comes c x) (marked os)) (next_id c s) x) d_is in
     subst (λ r. Stepped (next_id c s) r (mark_of (marked os) (Comes c x)) (marked os)) (sym right)
-    (arrives (next_id c s) x os (record { next = next_of c (s.conns c) taken (marked os) k; unclosed = unclosed }))
+    (arrives (next_id c s) x os (record { next = next_of c (s.conns c) taken (marked os) k; unshut = unshut }))
 
 -- any other call
 other_goes : (c : ℕ) (x : Coming) (id : CallId) (old : CallState) (moment : ℕ) (os : List Occurrence) → coming_now id (mark_of (marked os) (Comes c x)) (marked os) ≡ None
@@ -77,10 +78,10 @@ conn_by d breaks comes reply o old new taken os (BrokenAt since at older) h goes
 -- ---- the machine
 
 pub fated_coming : (c : ℕ) (x : Coming) (breaks : ℕ → Bool) (s t : MachineState) (fates : ℕ → Fate) (taken : ℕ → List ReplyEntry) (handed : List JobValue) (os : List Occurrence)
-    → (is_broken_after breaks fates c ≡ false → is_closed c (marked os) ≡ false)
+    → (is_broken_after breaks fates c ≡ false → is_shut c (marked os) ≡ false)
     → FatedStands s fates taken handed os → AreConcerned breaks fates (Comes c x) os → ComingBreaks breaks fates c x s t
     → FatedStands t (fates_after breaks (Comes c x) os fates) taken handed (Comes c x ∷ os)
-fated_coming c x breaks s t fates taken handed os unclosed h concerned a = record {
+fated_coming c x breaks s t fates taken handed os unshut h concerned a = record {
   fates_are = λ d. fate_then d (breaks d) (Comes c x) os (fates d) (h.fates_are d) (concerned d);
   moment_is = a.moment_is ∙ h.moment_is ∙ omega arith;
   drained_is = a.drained_is ∙ h.drained_is;
@@ -111,7 +112,7 @@ fated_coming c x breaks s t fates taken handed os unclosed h concerned a = recor
     call_goes_on id e = subst (λ f. CallFated id (s.calls id) f os) (going (fates id.conn) (breaks id.conn) e) (h.calls_stand id)
 
     comes : is_broken_after breaks fates c ≡ false → Stepped (next_id c s) (arriving c x s) m past
-    comes e = comes_on c x s (taken c) os h.moment_is h.drained_is (conn_goes_on c e) (unclosed e)
+    comes e = comes_on c x s (taken c) os h.moment_is h.drained_is (conn_goes_on c e) (unshut e)
 
     -- another call than the one that comes
     other : (id : CallId) → is_broken_after breaks fates id.conn ≡ false → is_call (next_id c s) id ≡ false → Stepped id (kept (s.calls id)) m past
@@ -145,7 +146,7 @@ fated_coming c x breaks s t fates taken handed os unclosed h concerned a = recor
           taken_is = kc.taken_is;
           closed_is = kc.closed_is;
           slots_stand = subst (λ xs. SlotsStand c xs (m ∷ past)) (append_assoc (map Some (taken c)) (s.conns c).slots ((arriving c x s).reply ∷ []))
-              (more_slots c x (map Some (taken c) ++ (s.conns c).slots) (arriving c x s).reply past kc.slots_stand others here);
+              (more_slots c x (map Some (taken c) ++ (s.conns c).slots) (arriving c x s).reply past kc.slots_stand (unbroken c past (unshut on)) others here);
         }
           where
             kc : ConnStands c (s.conns c) (taken c) (marked os)

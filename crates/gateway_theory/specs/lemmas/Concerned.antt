@@ -23,7 +23,7 @@ use Rattle.gateway_theory.specs.LiveStands.{CallStands}
 use Rattle.gateway_theory.specs.Machine.{ConnState}
 use Rattle.gateway_model.specs.Occurrence.{Occurrence, Coming, Comes, Result}
 use Rattle.gateway_theory.specs.Orderly.{FatesAre, IsOrderly}
-use Rattle.gateway_model.specs.Past.{Past, is_closed, marked, now}
+use Rattle.gateway_model.specs.Past.{Past, is_shut, marked, now}
 use Rattle.gateway_model.specs.declared.entry.ReplyEntry.{ReplyEntry}
 use Rattle.gateway_theory.specs.Results.{back_at, result_at, ResultTaken, Starved}
 use Rattle.gateway_theory.specs.Step.{CallState, Live, Step, has_out, result_on, step}
@@ -146,10 +146,10 @@ starved_concern id branch outcome v w took closed fates taken handed os are h (i
 
 -- an open connection that is not broken was not closed
 pub open_unclosed : (n : ℕ) (k : ConnValue) (v : MachineValue) (closed : ℕ → ConnState) (fates : ℕ → Fate) (taken : ℕ → List ReplyEntry) (handed : List JobValue) (os : List Occurrence)
-    → conn_of n v.conns ≡ Some k → is_broken (fates n) ≡ false → FatedStands (machine closed v) fates taken handed os → is_closed n (marked os) ≡ false
+    → conn_of n v.conns ≡ Some k → is_broken (fates n) ≡ false → FatedStands (machine closed v) fates taken handed os → is_shut n (marked os) ≡ false
 open_unclosed n k v closed fates taken handed os opened_is on h = by_fate (fates n) on (h.conns_stand n)
   where
-    by_fate : (f : Fate) → is_broken f ≡ false → ConnFated n (conn_state closed v.conns n) (taken n) f os → is_closed n (marked os) ≡ false
+    by_fate : (f : Fate) → is_broken f ≡ false → ConnFated n (conn_state closed v.conns n) (taken n) f os → is_shut n (marked os) ≡ false
     by_fate Unbroken e s = sym s.closed_is ∙ ap (λ o. (option_map_or state_of o (closed n)).closed) opened_is
     by_fate (BrokenAt since at older) e s = absurd (cc)
 
@@ -177,5 +177,5 @@ enter_concern i x v w closed fates taken handed os lt orderly are h enters = λ 
     by_way c on breaks (inr e) =
         let conns_are : w.conns ≡ map (broken_if n) v.conns = ap (λ (m : MachineValue). m.conns) e in
         let same : c ≡ n = which_broke n c v.conns w.conns breaks (not_broken c v.conns fates are on) (λ ne. ap (λ ks. is_broken_in c ks) conns_are ∙ broken_then c n v.conns ne) in
-        let opened_is : is_closed n (marked os) ≡ false = open_unclosed n (conn_at i v.conns) v closed fates taken handed os found (ap (λ m. is_broken (fates m)) (sym same) ∙ on) h in
+        let opened_is : is_shut n (marked os) ≡ false = open_unclosed n (conn_at i v.conns) v closed fates taken handed os found (ap (λ m. is_broken (fates m)) (sym same) ∙ on) h in
         ap (λ m. concerns m (Comes n x) (marked os)) same ∙ rw (eq-eqb n n refl, opened_is) refl

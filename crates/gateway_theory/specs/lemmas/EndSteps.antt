@@ -13,7 +13,7 @@ use Rattle.gateway_theory.specs.Fate.{Fate, is_broken, starting_conn}
 use Rattle.gateway_theory.specs.Kept.{KeptValue}
 use Rattle.gateway_theory.specs.Machine.{ConnState, MachineState, ConnAfter, slot_at, step_of, starting}
 use Rattle.gateway_model.specs.Occurrence.{Occurrence}
-use Rattle.gateway_model.specs.Past.{call_id, is_call, closing_occurs, is_drain, is_result_of, moment_of}
+use Rattle.gateway_model.specs.Past.{call_id, is_call, shuts, is_drain, is_result_of, moment_of}
 use Rattle.gateway_theory.specs.Step.{CallState, Step, call_state, gone, has_out, step}
 use Rattle.gateway_theory.specs.Store.{MachineValue, machine_value, machine, call_at, conn_of, HasFates}
 use Rattle.gateway_theory.specs.lemmas.Cases.{and_true, or_none}
@@ -65,7 +65,7 @@ stays trigger calls k l e broke = record {
 
 -- a connection that did not break has the replies of its calls
 has_replies : (o : Occurrence) (trigger : Trigger) (s : MachineState) (calls : List KeptValue) (c : ℕ) (k l : ConnValue) → ConnEnds trigger calls k l → k.number ≡ c → l.broken ≡ false
-    → ((d : ℕ) → closing_occurs d o ≡ false) → ((id : CallId) → (step_of id o s).reply ≡ (ended_call trigger id (call_at id calls)).reply)
+    → ((d : ℕ) → shuts d o ≡ false) → ((id : CallId) → (step_of id o s).reply ≡ (ended_call trigger id (call_at id calls)).reply)
     → ConnAfter o s c (state_of k) (state_of l)
 has_replies o trigger s calls c k l e number on no_closing steps = record {
   taken_is = e.taken_is;
@@ -78,7 +78,7 @@ has_replies o trigger s calls c k l e number on no_closing steps = record {
 }
 
 -- of one that is not open nothing follows
-still : (o : Occurrence) (s : MachineState) (c : ℕ) (k : ConnState) → ((d : ℕ) → closing_occurs d o ≡ false) → ((j : ℕ) → (step_of (call_id c j) o s).reply ≡ None) → ConnAfter o s c k k
+still : (o : Occurrence) (s : MachineState) (c : ℕ) (k : ConnState) → ((d : ℕ) → shuts d o ≡ false) → ((j : ℕ) → (step_of (call_id c j) o s).reply ≡ None) → ConnAfter o s c k k
 still o s c k no_closing none = record {
   taken_is = refl;
   closed_is = ap (λ b. b || k.closed) (sym (no_closing c));
@@ -88,7 +88,7 @@ still o s c k no_closing none = record {
 
 conn_after : (o : Occurrence) (trigger : Trigger) (s : MachineState) (calls : List KeptValue) (c : ℕ) (closed : ConnState) (a b : Option ConnValue) (broken breaks : Bool)
     → MayEnd trigger calls a b → ((k : ConnValue) → a ≡ Some k → (k.number ≡ c) × (k.broken ≡ broken)) → breaks ≡ option_map_or (λ (l : ConnValue). l.broken) b false
-    → ((d : ℕ) → closing_occurs d o ≡ false) → ((id : CallId) → (step_of id o s).reply ≡ (ended_call trigger id (call_at id calls)).reply)
+    → ((d : ℕ) → shuts d o ≡ false) → ((id : CallId) → (step_of id o s).reply ≡ (ended_call trigger id (call_at id calls)).reply)
     → (a ≡ None → (j : ℕ) → (step_of (call_id c j) o s).reply ≡ None)
     → ConnOn (broken || breaks) o s c (option_map_or state_of a closed) (option_map_or state_of b closed)
 conn_after o trigger s calls c closed None None true breaks m its breaks_is no_closing steps none = record { taken_is = refl; slots_are = refl }
@@ -115,7 +115,7 @@ call_after o trigger false false id old new stepped no_result new_is same = new_
 
 -- what an occurrence makes of the machine that ends calls by this trigger, where v is the machine with the moment and the drain told
 pub ends_breaks : (o : Occurrence) (trigger : Trigger) (s v w : MachineValue) (closed : ℕ → ConnState) (fates : ℕ → Fate)
-    → ((d : ℕ) → closing_occurs d o ≡ false) → ((id : CallId) (i : ℕ) → is_result_of id i o ≡ false) → starting o (machine closed s) ≡ []
+    → ((d : ℕ) → shuts d o ≡ false) → ((id : CallId) (i : ℕ) → is_result_of id i o ≡ false) → starting o (machine closed s) ≡ []
     → ((id : CallId) (c : CallState) → step s.moment id o c ≡ ended_call trigger id c)
     → v ≡ machine_value (max s.moment (moment_of o)) (is_drain o || s.drained) s.conns s.calls s.jobs
     → HasFates fates s → CallsEnd trigger v w

@@ -18,7 +18,7 @@ use Rattle.gateway_theory.specs.Fate.{starting_conn}
 use Rattle.gateway_model.specs.Job.{JobValue, job_of}
 use Rattle.gateway_model.specs.Occurrence.{Coming, Occurrence}
 use Rattle.gateway_model.specs.Occurrence as occurs
-use Rattle.gateway_model.specs.Past.{ArrivedCall, Mark, Past, asked_now, call, call_id, counts, ends_at_arrival, coming_on, arrivals, event_by, is_answer_to, is_call, is_closed, is_out, mark_of, marked, now}
+use Rattle.gateway_model.specs.Past.{ArrivedCall, Mark, Past, asked_now, call, call_id, counts, ends_at_arrival, coming_on, arrivals, event_by, is_answer_to, is_call, is_shut, is_out, mark_of, marked, now, is_broken}
 use Rattle.gateway_model.specs.Past as past
 use Rattle.gateway_model.specs.Queue.{entry, front, queued_entries}
 use Rattle.gateway_theory.specs.RequestLaws.{RequestLaws}
@@ -28,9 +28,10 @@ use Rattle.gateway_theory.specs.EventAdds.{EventAdds, IsShut}
 use Rattle.gateway_theory.specs.lemmas.Cases.{and_false, or_true}
 use Rattle.gateway_theory.specs.lemmas.CutLemmas.{back, occurrences_onto}
 use Rattle.gateway_theory.specs.lemmas.EventLemmas.{occurs_unique, onto_front}
+use Rattle.gateway_theory.specs.lemmas.Frame.{none_start}
 use Rattle.gateway_theory.specs.lemmas.JobLemmas.{uncounted_jobs}
 use Rattle.gateway_theory.specs.lemmas.Readings.{none_by}
-use Rattle.gateway_theory.specs.lemmas.StandsLemmas.{Quiet, entry_same, no_asked, no_event_of, result_quiet}
+use Rattle.gateway_theory.specs.lemmas.StandsLemmas.{Quiet, entry_same, no_asked, no_event_of, result_quiet, started_same}
 
 -- ---- the starts of one event
 
@@ -115,13 +116,13 @@ at_on plans opened (Closing conn) es os at = subst (AllOn 0) (sym at) (once_on (
 -- ---- a connection that is shut
 
 -- nothing comes of the occurrence for a connection that is closed, or closes by it
-abbrev IsShutTo : ℕ → Occurrence → List Occurrence → Type 0
-IsShutTo c o os = (coming_on c o ≡ None) × ((is_closed c (marked os) ≡ true) ⊎ ((d : ℕ) × (o ≡ occurs.Closing d)))
+abbrev pub IsShutTo : ℕ → Occurrence → List Occurrence → Type 0
+IsShutTo c o os = (coming_on c o (is_broken c (marked os)) ≡ None) × ((is_shut c (marked os) ≡ true) ⊎ ((d : ℕ) × (o ≡ occurs.Closing d)))
 
-uncounted : (id of : CallId) (i : ℕ) (r : Outcome) (p : Past) → is_closed id.conn p ≡ true → (counts (occurs.Result of i r) p && is_call of id) ≡ false
+uncounted : (id of : CallId) (i : ℕ) (r : Outcome) (p : Past) → is_shut id.conn p ≡ true → (counts (occurs.Result of i r) p && is_call of id) ≡ false
 uncounted id of i r p closed = ⊎_elim
     (λ (its : (of.conn == id.conn) ≡ true).
-    let shut : is_closed of.conn p ≡ true = ap (λ n. is_closed n p) (eqb-true of.conn id.conn its) ∙ closed in
+    let shut : is_shut of.conn p ≡ true = ap (λ n. is_shut n p) (eqb-true of.conn id.conn its) ∙ closed in
     rw shut (none (is_out of i p) (is_some (past.decided of p)) (is_call of id)))
     (λ (other : (of.conn == id.conn) ≡ false). rw other (and_false (counts (occurs.Result of i r) p))) (cases_Bool (of.conn == id.conn))
   where
@@ -149,11 +150,12 @@ quiet_shut c k o os (no_coming, inl closed) = by_what o refl
     by_what (occurs.Moment m) e = plain (λ q. ap (is_answer_to q) e)
     by_what occurs.Drain e = plain (λ q. ap (is_answer_to q) e)
     by_what (occurs.Closing d) e = plain (λ q. ap (is_answer_to q) e)
+    by_what (occurs.Break d) e = plain (λ q. ap (is_answer_to q) e)
 quiet_shut c k o os (no_coming, inr (d, is)) = subst (λ x. Quiet (call_id c k) (mark_of (marked os) x) (marked os)) (sym is) (record {
   no_coming = refl;
   no_answer = refl;
   no_event =
-      cond_both (is_closed c (marked os)) None
+      cond_both (is_shut c (marked os)) None
       (option_map_or (λ a. event_by (call_id c k) a (occurs.Closing d) false (marked os)) (call (call_id c k) (marked os)) (option_and_then (ends_at_arrival (marked os)) (asked_now (call_id c k) (mark_of (marked os) (occurs.Closing d)) (marked os))))
       (λ x. x ≡ None) (λ _. refl)
       (λ _. no_event_of (λ a. event_by (call_id c k) a (occurs.Closing d) false (marked os)) (λ a. refl) (call (call_id c k) (marked os)) _
@@ -162,7 +164,7 @@ quiet_shut c k o os (no_coming, inr (d, is)) = subst (λ x. Quiet (call_id c k) 
 
 shut_queue : (c : ℕ) (o : Occurrence) (os : List Occurrence) → IsShutTo c o os → queued_entries c (marked (o ∷ os)) ≡ queued_entries c (marked os)
 shut_queue c o os h =
-    ap (λ n. front (map (λ k. entry (call_id c k) (marked (o ∷ os))) (range_with_len 0 n))) (no_more (coming_on c o) h.0)
+    ap (λ n. front (map (λ k. entry (call_id c k) (marked (o ∷ os))) (range_with_len 0 n))) (no_more (coming_on c o (is_broken c (marked os))) h.0)
     ∙ ap front (same_entries (λ k. entry (call_id c k) (marked (o ∷ os))) (λ k. entry (call_id c k) (marked os))
     (λ k. entry_same (call_id c k) (mark_of (marked os) o) (marked os) (quiet_shut c k o os h)) (range_with_len 0 (arrivals c (marked os))))
   where
@@ -174,7 +176,7 @@ shut_queue c o os h =
     same_entries f g same [] = refl
     same_entries f g same (k ∷ ks) = rw (same k, same_entries f g same ks) refl
 
-shut_jobs : (c : ℕ) (o : Occurrence) (os : List Occurrence) → IsShutTo c o os → filter (is_of c) (jobs_by o (mark_of (marked os) o) (marked os)) ≡ []
+pub shut_jobs : (c : ℕ) (o : Occurrence) (os : List Occurrence) → IsShutTo c o os → filter (is_of c) (jobs_by o (mark_of (marked os) o) (marked os)) ≡ []
 shut_jobs c o os (no_coming, inr (d, is)) = ap (λ x. filter (is_of c) (jobs_by x (mark_of (marked os) x) (marked os))) is
 shut_jobs c o os (no_coming, inl closed) = by_what o refl
   where
@@ -184,7 +186,7 @@ shut_jobs c o os (no_coming, inl closed) = by_what o refl
     by_what : (x : Occurrence) → o ≡ x → filter (is_of c) (jobs_by o (mark_of (marked os) o) (marked os)) ≡ []
     by_what (occurs.Result of i r) e = ⊎_elim
         (λ (its : (of.conn == c) ≡ true).
-        let shut : is_closed of.conn (marked os) ≡ true = ap (λ n. is_closed n (marked os)) (eqb-true of.conn c its) ∙ closed in
+        let shut : is_shut of.conn (marked os) ≡ true = ap (λ n. is_shut n (marked os)) (eqb-true of.conn c its) ∙ closed in
         ap (λ y. filter (is_of c) (jobs_by y (mark_of (marked os) y) (marked os))) e
         ∙ ap (filter (is_of c)) (uncounted_jobs of i r (marked os) (rw shut (none (is_out of i (marked os)) (is_some (past.decided of (marked os)))))))
         (λ (ne : (of.conn == c) ≡ false). other (ap (λ y. starting_conn y == c) e ∙ ne)) (cases_Bool (of.conn == c))
@@ -193,13 +195,20 @@ shut_jobs c o os (no_coming, inl closed) = by_what o refl
         none true true = refl
         none true false = refl
         none false b = refl
-    by_what (occurs.Comes d x) e = other (ap (λ y. starting_conn y == c) e ∙ ne_eqb d c (λ same.
-        let clash : None ≡ Some x = sym (sym (ap (coming_on c) e) ∙ no_coming) ∙ ap (λ b. if b then Some x else None) (eq-eqb d c same) in absurd (cc)))
+    by_what (occurs.Comes d x) e = ⊎_elim
+        (λ (its : (d == c) ≡ true).
+        let id : CallId = call_id c (arrivals c (marked os)) in
+        let nothing : jobs_by o (mark_of (marked os) o) (marked os) ≡ [] =
+        ap (λ y. jobs_by y (mark_of (marked os) o) (marked os)) e ∙ ap (λ n. jobs_started (call_id n (arrivals n (marked os))) (mark_of (marked os) o) (marked os)) (eqb-true d c its)
+        ∙ none_start id (mark_of (marked os) o) (marked os) (started_same id (mark_of (marked os) o) (marked os) (quiet_shut c (arrivals c (marked os)) o os (no_coming, inl closed))) in
+        ap (filter (is_of c)) nothing)
+        (λ (ne : (d == c) ≡ false). other (ap (λ y. starting_conn y == c) e ∙ ne)) (cases_Bool (d == c))
     by_what occurs.Opening e = ap (λ y. filter (is_of c) (jobs_by y (mark_of (marked os) y) (marked os))) e
     by_what (occurs.HangUp d) e = ap (λ y. filter (is_of c) (jobs_by y (mark_of (marked os) y) (marked os))) e
     by_what (occurs.Moment m) e = ap (λ y. filter (is_of c) (jobs_by y (mark_of (marked os) y) (marked os))) e
     by_what occurs.Drain e = ap (λ y. filter (is_of c) (jobs_by y (mark_of (marked os) y) (marked os))) e
     by_what (occurs.Closing d) e = ap (λ y. filter (is_of c) (jobs_by y (mark_of (marked os) y) (marked os))) e
+    by_what (occurs.Break d) e = ap (λ y. filter (is_of c) (jobs_by y (mark_of (marked os) y) (marked os))) e
 
 -- ---- over all that comes of an event
 
@@ -217,22 +226,22 @@ none_behind c (o ∷ new) os h =
     filter-append (is_of c) (jobs_by o (mark_of (marked os) o) (marked os)) (jobs_behind new (o ∷ os))
     ∙ ap (λ js. js ++ filter (is_of c) (jobs_behind new (o ∷ os))) (shut_jobs c o os h.0) ∙ none_behind c new (o ∷ os) h.1
 
-still_closed : (c : ℕ) (new os : List Occurrence) → is_closed c (marked os) ≡ true → is_closed c (marked (back new os)) ≡ true
+still_closed : (c : ℕ) (new os : List Occurrence) → is_shut c (marked os) ≡ true → is_shut c (marked (back new os)) ≡ true
 still_closed c [] os e = e
-still_closed c (o ∷ new) os e = still_closed c new (o ∷ os) (ap (λ b. past.closing_occurs c o || b) e ∙ or_true (past.closing_occurs c o))
+still_closed c (o ∷ new) os e = still_closed c new (o ∷ os) (ap (λ b. past.shuts c o || b) e ∙ or_true (past.shuts c o))
 
 -- a connection that was opened and is not open has closed
 closed_by : (plans : List PlanRecord) (opened : List ℕ) (c : ℕ) (es : Before) (occurred : List Placed) → Occurs plans opened es occurred → c < connections opened es
-    → is_open opened c es ≡ false → is_closed c (marked (occurrences occurred)) ≡ true
+    → is_open opened c es ≡ false → is_shut c (marked (occurrences occurred)) ≡ true
 closed_by plans opened c [] occurred o lt shut = absurd (omega (arith, lt))
 closed_by plans opened c (e ∷ es) occurred (before, was, (os, at, is)) lt shut =
     by_known (nat_lt c (connections opened es)) refl (λ known gone. closed_by plans opened c es before was known gone)
   where
-    after : is_closed c (marked (back os (occurrences before))) ≡ true → is_closed c (marked (occurrences occurred)) ≡ true
-    after x = ap (λ us. is_closed c (marked (occurrences us))) is ∙ ap (λ us. is_closed c (marked us)) (occurrences_onto (length es) os before) ∙ x
+    after : is_shut c (marked (back os (occurrences before))) ≡ true → is_shut c (marked (occurrences occurred)) ≡ true
+    after x = ap (λ us. is_shut c (marked (occurrences us))) is ∙ ap (λ us. is_shut c (marked us)) (occurrences_onto (length es) os before) ∙ x
 
-    by_known : (b : Bool) → nat_lt c (connections opened es) ≡ b → (c < connections opened es → is_open opened c es ≡ false → is_closed c (marked (occurrences before)) ≡ true)
-        → is_closed c (marked (occurrences occurred)) ≡ true
+    by_known : (b : Bool) → nat_lt c (connections opened es) ≡ b → (c < connections opened es → is_open opened c es ≡ false → is_shut c (marked (occurrences before)) ≡ true)
+        → is_shut c (marked (occurrences occurred)) ≡ true
     by_known false x earlier = absurd (
         let open_now : is_open opened c (e ∷ es) ≡ true =
         ap (λ b. if b then is_open opened c es && not (is_closing_of c e) else nat_lt c (connections opened (e ∷ es))) x ∙ lt-ltb c (connections opened (e ∷ es)) lt in
@@ -242,7 +251,7 @@ closed_by plans opened c (e ∷ es) occurred (before, was, (os, at, is)) lt shut
         parts : (is_open opened c es && not (is_closing_of c e)) ≡ false
         parts = sym (ap (λ b. if b then is_open opened c es && not (is_closing_of c e) else nat_lt c (connections opened (e ∷ es))) x) ∙ shut
 
-        by_open : (b : Bool) → is_open opened c es ≡ b → is_closed c (marked (occurrences occurred)) ≡ true
+        by_open : (b : Bool) → is_open opened c es ≡ b → is_shut c (marked (occurrences occurred)) ≡ true
         by_open false y = after (still_closed c os (occurrences before) (earlier (ltb-true c (connections opened es) x) y))
         by_open true y = by_event e refl (closing (is_closing_of c e) (ap (λ b. b && not (is_closing_of c e)) (sym y) ∙ parts))
           where
@@ -250,12 +259,12 @@ closed_by plans opened c (e ∷ es) occurred (before, was, (os, at, is)) lt shut
             closing true z = refl
             closing false z = absurd (cc)
 
-            by_event : (f : Event) → e ≡ f → is_closing_of c e ≡ true → is_closed c (marked (occurrences occurred)) ≡ true
+            by_event : (f : Event) → e ≡ f → is_closing_of c e ≡ true → is_shut c (marked (occurrences occurred)) ≡ true
             by_event (Closing d) f_is closes =
                 let same : (d == c) ≡ true = ap (is_closing_of c) (sym f_is) ∙ closes in
                 let opens : is_open opened d es ≡ true = ap (λ n. is_open opened n es) (eqb-true d c same) ∙ y in
                 let os_is : os ≡ occurs.Closing d ∷ [] = subst (λ g. OccursAt plans opened g es os) f_is at ∙ ap (λ b. once b (occurs.Closing d)) opens in
-                after (ap (λ us. is_closed c (marked (back us (occurrences before)))) os_is ∙ ap (λ b. b || is_closed c (marked (occurrences before))) same)
+                after (ap (λ us. is_shut c (marked (back us (occurrences before)))) os_is ∙ ap (λ b. b || is_shut c (marked (occurrences before))) same)
             by_event Opening f_is closes = absurd (let clash : false ≡ true = ap (is_closing_of c) (sym f_is) ∙ closes in cc)
             by_event (Piece d bytes) f_is closes = absurd (let clash : false ≡ true = ap (is_closing_of c) (sym f_is) ∙ closes in cc)
             by_event (HangUp d) f_is closes = absurd (let clash : false ≡ true = ap (is_closing_of c) (sym f_is) ∙ closes in cc)
@@ -269,12 +278,12 @@ module _ (plans : List PlanRecord) (opened : List ℕ) (c : ℕ) (es : Before) (
   one_shut true o h = (h, tt)
   one_shut false o h = tt
 
-  comings_shut : (d : ℕ) (xs : List Coming) (us : List Occurrence) → (d == c) ≡ false → is_closed c (marked us) ≡ true → AllShut c (map (occurs.Comes d) xs) us
+  comings_shut : (d : ℕ) (xs : List Coming) (us : List Occurrence) → (d == c) ≡ false → is_shut c (marked us) ≡ true → AllShut c (map (occurs.Comes d) xs) us
   comings_shut d [] us ne closed = tt
-  comings_shut d (x ∷ xs) us ne closed = ((ap (λ b. if b then Some x else None) ne, inl closed), comings_shut d xs (occurs.Comes d x ∷ us) ne closed)
+  comings_shut d (x ∷ xs) us ne closed = ((ap (λ b. if b && not (is_broken c (marked us)) then Some x else None) ne, inl closed), comings_shut d xs (occurs.Comes d x ∷ us) ne closed)
 
   shut_at : (e : Event) (new : List Occurrence) → OccursAt plans opened e es new → (is_open opened c es ≡ true → is_closing_of c e ≡ true)
-      → (is_open opened c es ≡ false → is_closed c (marked os) ≡ true) → AllShut c new os
+      → (is_open opened c es ≡ false → is_shut c (marked os) ≡ true) → AllShut c new os
   shut_at e new at closes closed = by_open (is_open opened c es) refl
     where
       by_open : (b : Bool) → is_open opened c es ≡ b → AllShut c new os
@@ -290,7 +299,7 @@ module _ (plans : List PlanRecord) (opened : List ℕ) (c : ℕ) (es : Before) (
           closing Drain f_is at z = absurd (let clash : false ≡ true = ap (is_closing_of c) (sym f_is) ∙ z in cc)
       by_open false y = gone e at
         where
-          was : is_closed c (marked os) ≡ true
+          was : is_shut c (marked os) ≡ true
           was = closed y
 
           gone : (f : Event) → OccursAt plans opened f es new → AllShut c new os

@@ -6,8 +6,8 @@ use Rattle.std.proofs.lemmas.Bool.{le-leb, lt-leb}
 use Rattle.std.proofs.lemmas.List.{length-append}
 use Rattle.gateway_model.specs.declared.id.CallId.{CallId}
 use Rattle.gateway_model.specs.Job.{JobValue}
-use Rattle.gateway_model.specs.Occurrence.{Occurrence, Opening, Comes, HangUp, Moment, Result, Drain, Closing}
-use Rattle.gateway_model.specs.Past.{call_id, is_out, is_result_of, coming_now, now, is_drain, closing_occurs, moment_of, mark_of, marked}
+use Rattle.gateway_model.specs.Occurrence.{Occurrence, Opening, Comes, HangUp, Moment, Result, Drain, Closing, Break}
+use Rattle.gateway_model.specs.Past.{call_id, is_out, is_result_of, coming_now, now, is_drain, shuts, moment_of, mark_of, marked}
 use Rattle.gateway_model.specs.declared.entry.ReplyEntry.{ReplyEntry}
 use Rattle.gateway_model.specs.Starts.{jobs_by}
 use Rattle.gateway_theory.specs.lemmas.Cases.{or_false}
@@ -94,7 +94,7 @@ conn_goes c o s old new taken os plain m_is calls h a =
     let r : ℕ → Option ReplyEntry = λ j. (step_of (call_id c j) o s).reply in
     record {
       taken_is = a.taken_is ∙ h.taken_is;
-      closed_is = a.closed_is ∙ ap (λ b. closing_occurs c o || b) h.closed_is;
+      closed_is = a.closed_is ∙ ap (λ b. shuts c o || b) h.closed_is;
       slots_stand =
           slots_after c (map Some taken ++ old.slots) (map Some taken ++ new.slots) (mark_of (marked os) o) (marked os) r h.slots_stand
           (arrivals_same c o (marked os) plain)
@@ -167,6 +167,7 @@ jobs_now o false Unbroken s os plain m_is calls = by_each o plain calls
     by_each (Moment t) e calls = refl
     by_each Drain e calls = refl
     by_each (Closing d) e calls = refl
+    by_each (Break d) e calls = refl
 
 -- ---- the machine
 

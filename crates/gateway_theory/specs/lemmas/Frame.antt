@@ -8,9 +8,9 @@ use Rattle.std.proofs.lemmas.List.{append-nil}
 use Rattle.gateway_model.specs.declared.id.CallId.{CallId}
 use Rattle.gateway_model.specs.Arrival.{Judged, Asks}
 use Rattle.gateway_model.specs.Job.{job_of}
-use Rattle.gateway_model.specs.Occurrence.{Coming, Request, Refused}
+use Rattle.gateway_model.specs.Occurrence.{Coming, Request, Refused, Occurrence, Opening, Comes, HangUp, Moment, Result, Drain, Closing, Break}
 use Rattle.gateway_model.specs.declared.call_event.CallEvent.{CallEvent}
-use Rattle.gateway_model.specs.Past.{Mark, Past, ArrivedCall, call, coming_now, asked_now, asked_by, began, answers, started, is_out, is_result_of, is_answer_to, is_closed, event_by, own_event, ends_at_arrival, decided, now}
+use Rattle.gateway_model.specs.Past.{Mark, Past, ArrivedCall, call, coming_now, asked_now, asked_by, began, answers, started, is_out, is_result_of, is_answer_to, is_broken, is_shut, breaks, shuts, event_by, own_event, ends_at_arrival, decided, now}
 use Rattle.gateway_model.specs.Queue.{came, own_events, entry_by, entry, call_entry}
 use Rattle.gateway_model.specs.Starts.{jobs_started, branches_started}
 use Rattle.gateway_theory.specs.lemmas.LimitLemmas.{out_started}
@@ -52,26 +52,26 @@ own_same id m past none =
     (λ _. refl) (λ _. rw none (append-nil (own_events id past)))
 
 -- the own event of a call that came before
-pub own_before : (id : CallId) (m : Mark) (past : Past) → Past_it id m past → is_closed id.conn past ≡ false
+pub own_before : (id : CallId) (m : Mark) (past : Past) → Past_it id m past → is_shut id.conn past ≡ false
     → own_event id m past ≡ option_map_or (λ c. event_by id c m.what m.counted past) (call id past) None
 own_before id m past none unshut = rw (unshut, unasked id m past none) refl
 
-own_closed : (id : CallId) (m : Mark) (past : Past) → is_closed id.conn past ≡ true → own_event id m past ≡ None
+own_closed : (id : CallId) (m : Mark) (past : Past) → is_shut id.conn past ≡ true → own_event id m past ≡ None
 own_closed id m past closed = rw closed refl
 
 -- no event comes of a call that has not come
 own_uncalled : (id : CallId) (m : Mark) (past : Past) → Past_it id m past → call id past ≡ None → own_event id m past ≡ None
 own_uncalled id m past none uncalled =
-    cond_both (is_closed id.conn past) None
+    cond_both (is_shut id.conn past) None
     (option_map_or (λ c. event_by id c m.what m.counted past) (call id past) (option_and_then (ends_at_arrival past) (asked_now id m past))) (λ o. o ≡ None)
     (λ _. refl) (λ _. rw (uncalled, unasked id m past none) refl)
 
 -- ---- a call that can't be decided any more
 
 pub shut_decided : (id : CallId) (m : Mark) (past : Past) → Past_it id m past → is_live id past ≡ false → decided id (m ∷ past) ≡ decided id past
-shut_decided id m past none shut = by_each (decided id past) (call id past) (is_closed id.conn past) refl refl refl
+shut_decided id m past none shut = by_each (decided id past) (call id past) (is_shut id.conn past) refl refl refl
   where
-    by_each : (d : Option CallEvent) (c : Option ArrivedCall) (b : Bool) → decided id past ≡ d → call id past ≡ c → is_closed id.conn past ≡ b
+    by_each : (d : Option CallEvent) (c : Option ArrivedCall) (b : Bool) → decided id past ≡ d → call id past ≡ c → is_shut id.conn past ≡ b
         → decided id (m ∷ past) ≡ decided id past
     by_each (Some e) c b d_is c_is b_is = rw d_is refl
     by_each None None b d_is c_is b_is = decided_same id m past (own_uncalled id m past none c_is)
@@ -81,7 +81,7 @@ shut_decided id m past none shut = by_each (decided id past) (call id past) (is_
 pub shut_stays : (id : CallId) (m : Mark) (past : Past) → Past_it id m past → is_live id past ≡ false → is_live id (m ∷ past) ≡ false
 shut_stays id m past none shut =
     rw (call_same id m past none, shut_decided id m past none shut)
-    (closed_more (is_some (call id past)) (is_none (decided id past)) _ (is_closed id.conn past) shut)
+    (closed_more (is_some (call id past)) (is_none (decided id past)) _ (is_shut id.conn past) shut)
   where
     closed_more : (a b new old : Bool) → (a && (b && not old)) ≡ false → (a && (b && not (new || old))) ≡ false
     closed_more true true new true e = closed_or new
@@ -147,3 +147,24 @@ entry_same id m past none same =
     by_entering (Request r (Judged v), crowded) = refl
     by_entering (Request r (Asks plan timeout rid), true) = refl
     by_entering (Request r (Asks plan timeout rid), false) = call_entry_same id m past none same
+
+-- ---- breaks
+
+-- what is not shut is not broken
+pub unbroken : (conn : ℕ) (past : Past) → is_shut conn past ≡ false → is_broken conn past ≡ false
+unbroken conn [] e = refl
+unbroken conn (m ∷ past) e = let parts = neither (shuts conn m.what) (is_shut conn past) e in rw (not_now m.what parts.0, unbroken conn past parts.1) refl
+  where
+    neither : (a b : Bool) → (a || b) ≡ false → (a ≡ false) × (b ≡ false)
+    neither false b e = (refl, e)
+    neither true b e = absurd (cc)
+
+    not_now : (o : Occurrence) → shuts conn o ≡ false → breaks conn o ≡ false
+    not_now Opening e = refl
+    not_now (Comes c x) e = refl
+    not_now (HangUp c) e = refl
+    not_now (Moment t) e = refl
+    not_now (Result of i r) e = refl
+    not_now Drain e = refl
+    not_now (Closing c) e = refl
+    not_now (Break c) e = e

@@ -5,7 +5,7 @@ use Rattle.std.specs.Option.{option_or}
 use Rattle.std.proofs.lemmas.Bool.{cond_both}
 use Rattle.std.proofs.lemmas.List.{ext_get_or}
 use Rattle.gateway_model.specs.declared.id.CallId.{CallId}
-use Rattle.gateway_model.specs.Occurrence.{Occurrence, Opening, Comes, HangUp, Moment, Result, Drain, Closing}
+use Rattle.gateway_model.specs.Occurrence.{Occurrence, Opening, Comes, HangUp, Moment, Result, Drain, Closing, Break}
 use Rattle.gateway_model.specs.Past.{call_id, is_result_of, moment_of, is_drain}
 use Rattle.gateway_theory.specs.Step.{CallState, Step, call_state, has_out, step}
 use Rattle.gateway_theory.specs.Machine.{ConnState, MachineState, ConnAfter, After, slot_at, step_of, starting, is_coming}
@@ -30,6 +30,7 @@ none_starts (HangUp d) u e none = refl
 none_starts (Moment t) u e none = refl
 none_starts Drain u e none = refl
 none_starts (Closing d) u e none = refl
+none_starts (Break d) u e none = refl
 
 same_starts : (o : Occurrence) (s u : MachineState) → ((id : CallId) → id.conn ≡ starting_conn o → step_of id o u ≡ step_of id o s) → starting o u ≡ starting o s
 same_starts (Comes c x) s u same = refl
@@ -39,6 +40,7 @@ same_starts (HangUp d) s u same = refl
 same_starts (Moment t) s u same = refl
 same_starts Drain s u same = refl
 same_starts (Closing d) s u same = refl
+same_starts (Break d) s u same = refl
 
 -- a connection of whose calls no reply comes keeps its slots
 slots_stay : (o : Occurrence) (u : MachineState) (c : ℕ) (old new : ConnState) → ConnAfter o u c old new

@@ -17,7 +17,7 @@ use Rattle.gateway_theory.specs.Gateway.{GatewayStands, GatewayValue, is_broken_
 use Rattle.gateway_model.specs.Known.{is_whole}
 use Rattle.gateway_theory.specs.LiveStands.{LiveStands, MayLive}
 use Rattle.gateway_model.specs.Occurrence.{Occurrence}
-use Rattle.gateway_model.specs.Past.{ArrivedCall, Past, began, branches, call, can_be_decided, count_below, decided, decides, is_closed, is_out, mark_of, marked, outs, started}
+use Rattle.gateway_model.specs.Past.{ArrivedCall, Past, began, branches, call, can_be_decided, count_below, decided, decides, is_shut, is_out, mark_of, marked, outs, started}
 use Rattle.gateway_model.specs.Queue.{own_events, record_deadlines, record_of}
 use Rattle.gateway_model.specs.Record.{answers_among, is_decided, is_ending, is_lawful}
 use Rattle.gateway_theory.specs.Served.{Served}
@@ -163,8 +163,8 @@ pub record_lawful : (id : CallId) (a : ArrivedCall) (os : List Occurrence) → c
     → (is_lawful (record_of a (record_deadlines id (marked os)) (own_events id (marked os))) ≡ true)
     × (is_decided (record_of a (record_deadlines id (marked os)) (own_events id (marked os))) ≡ false)
 record_lawful id a os a_is on =
-    let parts = and_parts (is_none (decided id (marked os))) (not (is_closed id.conn (marked os))) on in
-    let going : Going id a (marked os) = (lawful id os a a_is).going (undecided (decided id (marked os)) parts.0) (unclosed (is_closed id.conn (marked os)) parts.1) in (
+    let parts = and_parts (is_none (decided id (marked os))) (not (is_shut id.conn (marked os))) on in
+    let going : Going id a (marked os) = (lawful id os a a_is).going (undecided (decided id (marked os)) parts.0) (unshut (is_shut id.conn (marked os)) parts.1) in (
       rw (same_follow a (record_deadlines id (marked os)) (own_events id (marked os)) [] (own_events id (marked os)) ∙ going.follow (record_deadlines id (marked os)), going.early) refl,
       ends_never (record_of a [] []) [] (own_events id (marked os)) (going.on []) refl,
     )
@@ -173,9 +173,9 @@ record_lawful id a os a_is on =
     undecided None is = refl
     undecided (Some e) is = absurd (cc)
 
-    unclosed : (b : Bool) → not b ≡ true → b ≡ false
-    unclosed false is = refl
-    unclosed true is = absurd (cc)
+    unshut : (b : Bool) → not b ≡ true → b ≡ false
+    unshut false is = refl
+    unshut true is = absurd (cc)
 
 record_stands : (id : CallId) (k : ConnValue) (l : Live) (v : GatewayValue) (history : History)
     (occurred : List Placed) → Served v history → Occurs v.plans history.opened history.events occurred → conn_of id.conn v.machine.conns ≡ Some k → k.broken ≡ false
@@ -193,7 +193,7 @@ record_stands id k l v history occurred h o k_is on l_is = by_fate (stands.fates
 
     by_live : LiveStands id l c.out (marked os) → (is_lawful (record_of l.asked l.deadlines l.events) ≡ true) × (is_decided (record_of l.asked l.deadlines l.events) ≡ false)
     by_live s =
-        let going : Going id l.asked (marked os) = (lawful id os l.asked s.call_is).going s.undecided s.unclosed in
+        let going : Going id l.asked (marked os) = (lawful id os l.asked s.call_is).going s.undecided s.unshut in
         rw s.events_are (
           rw (same_follow l.asked l.deadlines (own_events id (marked os)) [] (own_events id (marked os)) ∙ going.follow l.deadlines, going.early) refl,
           ends_never (record_of l.asked [] []) [] (own_events id (marked os)) (going.on []) refl,

@@ -5,7 +5,7 @@ use Rattle.std.specs.Option.{option_or, option_map_or}
 use Rattle.std.proofs.lemmas.Bool.{cond_both, cases_Bool, cases_eq, cases_lt, ltb-true, ltb-false, lt-ltb, le-ltb, eqb-true, eq-eqb, ne_eqb, and_parts}
 use Rattle.gateway_model.specs.declared.id.CallId.{CallId}
 use Rattle.connect_codec.specs.declared.answer.Outcome.TheVariants.{Answer, Fail}
-use Rattle.gateway_model.specs.Occurrence.{Occurrence, Opening, Comes, HangUp, Moment, Result, Drain, Closing}
+use Rattle.gateway_model.specs.Occurrence.{Occurrence, Opening, Comes, HangUp, Moment, Result, Drain, Closing, Break}
 use Rattle.gateway_model.specs.Past.{Mark, Past, ArrivedCall, call, answers, branches, began, started, is_out, is_result_of, is_answer_to, is_call, count_below, outs, counts, can_be_decided, mark_of, marked, asked_now, ends_at_arrival}
 use Rattle.gateway_theory.specs.lemmas.PastLemmas.{call_stays}
 
@@ -162,6 +162,7 @@ answer_out id past (HangUp c) e = absurd (cc)
 answer_out id past (Moment t) e = absurd (cc)
 answer_out id past Drain e = absurd (cc)
 answer_out id past (Closing c) e = absurd (cc)
+answer_out id past (Break c) e = absurd (cc)
 
 -- before a call begins no answer of it counts
 pub unanswered_next : (id : CallId) (past : Past) (o : Occurrence) → began id past ≡ false → answers id past ≡ 0

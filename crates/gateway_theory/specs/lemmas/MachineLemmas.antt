@@ -8,8 +8,8 @@ use Rattle.std.proofs.Math.Seq.{get_or-append_seam}
 use Rattle.std.proofs.Math.ListN.{get_or-eq_default}
 use Rattle.gateway_model.specs.declared.id.CallId.{CallId}
 use Rattle.gateway_model.specs.Arrival.{Judged, Asks}
-use Rattle.gateway_model.specs.Occurrence.{Occurrence, Opening, Comes, HangUp, Moment, Result, Drain, Closing, Coming, Request, Refused}
-use Rattle.gateway_model.specs.Past.{Mark, Past, call_id, is_call, arrivals, coming_on, coming_now, crowds, mark_of, most_calls, undecided_calls}
+use Rattle.gateway_model.specs.Occurrence.{Occurrence, Opening, Comes, HangUp, Moment, Result, Drain, Closing, Coming, Request, Refused, Break}
+use Rattle.gateway_model.specs.Past.{Mark, Past, call_id, is_call, arrivals, coming_on, coming_now, crowds, mark_of, most_calls, undecided_calls, is_broken}
 use Rattle.gateway_model.specs.declared.entry.ReplyEntry.{ReplyEntry}
 use Rattle.gateway_model.specs.Queue.{entry}
 use Rattle.gateway_theory.specs.lemmas.Unborn.{unborn}
@@ -22,9 +22,9 @@ use Rattle.gateway_theory.specs.Standing.{SlotsStand}
 
 pub no_entering : (id : CallId) (o : Occurrence) (past : Past) → is_coming o ≡ false → coming_now id (mark_of past o) past ≡ None
 no_entering id o past e =
-    cond_both (arrivals id.conn past == id.request) (coming_on id.conn o) None (λ x. x ≡ None) (λ _. by_each o e) (λ _. refl)
+    cond_both (arrivals id.conn past == id.request) (coming_on id.conn o (is_broken id.conn past)) None (λ x. x ≡ None) (λ _. by_each o e) (λ _. refl)
   where
-    by_each : (o : Occurrence) → is_coming o ≡ false → coming_on id.conn o ≡ None
+    by_each : (o : Occurrence) → is_coming o ≡ false → coming_on id.conn o (is_broken id.conn past) ≡ None
     by_each (Comes c x) e = absurd (cc)
     by_each Opening e = refl
     by_each (HangUp c) e = refl
@@ -32,6 +32,7 @@ no_entering id o past e =
     by_each (Result of i r) e = refl
     by_each Drain e = refl
     by_each (Closing c) e = refl
+    by_each (Break c) e = refl
 
 pub arrivals_same : (c : ℕ) (o : Occurrence) (past : Past) → is_coming o ≡ false → arrivals c (mark_of past o ∷ past) ≡ arrivals c past
 arrivals_same c (Comes d x) past e = absurd (cc)
@@ -41,6 +42,7 @@ arrivals_same c (Moment t) past e = refl
 arrivals_same c (Result of i r) past e = refl
 arrivals_same c Drain past e = refl
 arrivals_same c (Closing d) past e = refl
+arrivals_same c (Break d) past e = refl
 
 -- what is behind the requests that came has no entry
 pub no_entry_yet : (c k : ℕ) (past : Past) → arrivals c past ≤ k → entry (call_id c k) past ≡ None
@@ -94,12 +96,12 @@ pub kept_by_entry : (moment : ℕ) (id : CallId) (c : ℕ) (x : Coming) (out : L
 kept_by_entry moment id c x out None = refl
 kept_by_entry moment id c x out (Some l) = refl
 
-pub more_slots : (c : ℕ) (x : Coming) (old : List (Option ReplyEntry)) (reply : Option ReplyEntry) (past : Past) → SlotsStand c old past
+pub more_slots : (c : ℕ) (x : Coming) (old : List (Option ReplyEntry)) (reply : Option ReplyEntry) (past : Past) → SlotsStand c old past → is_broken c past ≡ false
     → ((k : ℕ) → (k ≡ length old → ⊥) → entry (call_id c k) past ≡ entry (call_id c k) (mark_of past (Comes c x) ∷ past))
     → reply ≡ entry (call_id c (length old)) (mark_of past (Comes c x) ∷ past)
     → SlotsStand c (old ++ reply ∷ []) (mark_of past (Comes c x) ∷ past)
-more_slots c x old reply past h others here = record {
-  size_is = length-append old (reply ∷ []) ∙ rw (eq-eqb c c refl) (omega (arith, h.size_is));
+more_slots c x old reply past h on others here = record {
+  size_is = length-append old (reply ∷ []) ∙ rw (eq-eqb c c refl, on) (omega (arith, h.size_is));
   each = λ k.
       ⊎_elim (λ (lt : k < length old). get_or_append_left old (reply ∷ []) None k lt ∙ h.each k ∙ others k (λ e. omega (arith, e, lt)))
       (λ (ge : length old ≤ k).

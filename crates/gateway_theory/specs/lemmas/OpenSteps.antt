@@ -15,7 +15,7 @@ use Rattle.gateway_theory.specs.Machine.{ConnState, MachineState, ConnAfter, Aft
 use Rattle.gateway_model.specs.Occurrence.{Occurrence, Opening, Closing}
 use Rattle.gateway_theory.specs.Opens.{closed_at, closed_from, closed_with, opened_as, ReplyTaken}
 use Rattle.gateway_theory.specs.Orderly.{ConnsApart}
-use Rattle.gateway_model.specs.Past.{call_id, closing_occurs}
+use Rattle.gateway_model.specs.Past.{call_id, shuts}
 use Rattle.gateway_theory.specs.Replies.{ReplyValue}
 use Rattle.gateway_theory.specs.Step.{CallState, Live, Step, call_state, ended_live, has_out, kept, step}
 use Rattle.gateway_theory.specs.Store.{MachineValue, machine, call_at, conn_at, conn_of, conn_state, broken_at, broken_conn, HasFates}
@@ -50,7 +50,7 @@ closing_call moment id number c = by_it (number == id.conn) refl
     by_it true e = rw e refl
     by_it false e = rw e refl
 
-same_slots : (o : Occurrence) (u : MachineState) (c : ℕ) (old new : ConnState) → new.taken ≡ old.taken → new.slots ≡ old.slots → new.closed ≡ (closing_occurs c o || old.closed)
+same_slots : (o : Occurrence) (u : MachineState) (c : ℕ) (old new : ConnState) → new.taken ≡ old.taken → new.slots ≡ old.slots → new.closed ≡ (shuts c o || old.closed)
     → ((j : ℕ) → (step_of (call_id c j) o u).reply ≡ None) → ConnAfter o u c old new
 same_slots o u c old new taken_is slots_are closed_is none = record {
   taken_is = taken_is;

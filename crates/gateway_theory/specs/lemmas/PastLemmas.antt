@@ -11,7 +11,7 @@ use Rattle.gateway_model.specs.declared.id.CallId.{CallId}
 use Rattle.gateway_model.specs.Arrival.{Judged, Asks}
 use Rattle.gateway_model.specs.Occurrence.{Coming, Request, Refused}
 use Rattle.gateway_model.specs.declared.call_event.CallEvent.{CallEvent}
-use Rattle.gateway_model.specs.Past.{Mark, Past, ArrivedCall, call, call_id, decided, arrivals, coming_on}
+use Rattle.gateway_model.specs.Past.{Mark, Past, ArrivedCall, call, call_id, decided, arrivals, coming_on, is_broken}
 use Rattle.gateway_model.specs.declared.entry.ReplyEntry.{ReplyEntry}
 use Rattle.gateway_model.specs.declared.entry.ReplyEntry.TheVariants.{Call as Calling}
 use Rattle.gateway_model.specs.Queue.{came, own_events, record_deadlines, record_of, call_entry, entry_by, entry, front, queued_entries, queued, answer_of, IsPrefixOf}
@@ -75,7 +75,7 @@ front_grows f g stays k (suc n) (suc m) le =
 
 arrivals_grow : (conn : ℕ) (m : Mark) (past : Past) → arrivals conn past ≤ arrivals conn (m ∷ past)
 arrivals_grow conn m past =
-    cond_both (is_some (coming_on conn m.what)) (suc (arrivals conn past)) (arrivals conn past) (λ n. arrivals conn past ≤ n)
+    cond_both (is_some (coming_on conn m.what (is_broken conn past))) (suc (arrivals conn past)) (arrivals conn past) (λ n. arrivals conn past ≤ n)
     (λ _. omega arith) (λ _. omega arith)
 
 -- one more occurrence only adds to the arrivals that are queued

@@ -8,8 +8,8 @@ use Rattle.connect_codec.specs.declared.answer.Outcome.{Outcome}
 use Rattle.connect_codec.specs.declared.answer.Outcome.TheVariants.{Answer, Fail}
 use Rattle.gateway_model.specs.declared.id.CallId.{CallId}
 use Rattle.gateway_model.specs.Job.{job_of}
-use Rattle.gateway_model.specs.Occurrence.{Occurrence, Opening, Comes, HangUp, Moment, Result, Drain, Closing}
-use Rattle.gateway_model.specs.Past.{Mark, Past, ArrivedCall, call, call_id, counts, coming_on, arrivals, is_answer_to, is_call, mark_of, moment_of, now, past_of, started}
+use Rattle.gateway_model.specs.Occurrence.{Occurrence, Opening, Comes, HangUp, Moment, Result, Drain, Closing, Break}
+use Rattle.gateway_model.specs.Past.{Mark, Past, ArrivedCall, call, call_id, counts, coming_on, arrivals, is_answer_to, is_call, mark_of, moment_of, now, past_of, started, is_broken}
 use Rattle.gateway_model.specs.Starts.{branches_started, jobs, jobs_started, jobs_by}
 use Rattle.gateway_model.specs.Decided.{before}
 use Rattle.gateway_theory.specs.Finished.{IsStartedAt, StartsAt, jobs_at, jobs_below}
@@ -103,8 +103,8 @@ unanswered : (of id : CallId) (i : ℕ) (outcome : Outcome) (counted : Bool) →
 unanswered of id i (Answer body) counted other = rw other (and_false counted)
 unanswered of id i (Fail error) counted other = and_false counted
 
-not_coming : (id : CallId) (o : Occurrence) (past : Past) → coming_on id.conn o ≡ None → Past_it id (mark_of past o) past
-not_coming id o past e = cond_both (arrivals id.conn past == id.request) (coming_on id.conn o) None (λ x. x ≡ None) (λ _. e) (λ _. refl)
+not_coming : (id : CallId) (o : Occurrence) (past : Past) → coming_on id.conn o (is_broken id.conn past) ≡ None → Past_it id (mark_of past o) past
+not_coming id o past e = cond_both (arrivals id.conn past == id.request) (coming_on id.conn o (is_broken id.conn past)) None (λ x. x ≡ None) (λ _. e) (λ _. refl)
 
 -- no branch of another call starts
 others_stay : (id : CallId) (o : Occurrence) (past : Past) → is_call (starter o past) id ≡ false → started id (mark_of past o ∷ past) ≡ started id past
@@ -118,6 +118,7 @@ others_stay id (HangUp conn) past other = started_same id (mark_of past (HangUp 
 others_stay id (Moment t) past other = started_same id (mark_of past (Moment t)) past (not_coming id (Moment t) past refl) refl
 others_stay id Drain past other = started_same id (mark_of past Drain) past (not_coming id Drain past refl) refl
 others_stay id (Closing conn) past other = started_same id (mark_of past (Closing conn)) past (not_coming id (Closing conn) past refl) refl
+others_stay id (Break conn) past other = started_same id (mark_of past (Break conn)) past (not_coming id (Break conn) past refl) refl
 
 -- an occurrence at which no branch of any call can start
 nothing_starts : (os : List Occurrence) (s : ℕ) (o : Occurrence) → slice_get os s ≡ Some o → ((id : CallId) → started id (mark_of (before os s) o ∷ before os s) ≡ started id (before os s))
@@ -179,6 +180,8 @@ starts_at os s (Moment t) is =
 starts_at os s Drain is = nothing_starts os s Drain is (λ id. started_same id (mark_of (before os s) Drain) (before os s) (not_coming id Drain (before os s) refl) refl) refl
 starts_at os s (Closing conn) is =
     nothing_starts os s (Closing conn) is (λ id. started_same id (mark_of (before os s) (Closing conn)) (before os s) (not_coming id (Closing conn) (before os s) refl) refl) refl
+starts_at os s (Break conn) is =
+    nothing_starts os s (Break conn) is (λ id. started_same id (mark_of (before os s) (Break conn)) (before os s) (not_coming id (Break conn) (before os s) refl) refl) refl
 
 -- ---- all starts, in their order
 

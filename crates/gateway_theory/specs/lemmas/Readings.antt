@@ -10,7 +10,7 @@ use Rattle.std.specs.Option.{option_map_or}
 use Rattle.connect_codec.specs.declared.answer.Outcome.{Outcome}
 use Rattle.gateway_model.specs.declared.id.CallId.{CallId}
 use Rattle.gateway_model.specs.Job.{JobValue, job_of}
-use Rattle.gateway_model.specs.Occurrence.{Occurrence, Opening, Comes, HangUp, Moment, Result, Drain, Closing}
+use Rattle.gateway_model.specs.Occurrence.{Occurrence, Opening, Comes, HangUp, Moment, Result, Drain, Closing, Break}
 use Rattle.gateway_model.specs.Past.{Mark, Past, ArrivedCall, call, call_id, is_call, is_result_of, arrivals, mark_of, marked, now}
 use Rattle.gateway_model.specs.declared.entry.ReplyEntry.{ReplyEntry}
 use Rattle.gateway_model.specs.Queue.{entry, front, queued_entries}
@@ -81,6 +81,9 @@ quiet_at moment id (Result of i r) out = quiet_result id of i r out (is_call of 
 quiet_at moment id (Closing d) out =
     cond_both (d == id.conn) (kept (call_state out None)) (kept (call_state out None)) (λ s. Quiet id (Closing d) (call_state out None) s)
     (λ _. kept_quiet id (Closing d) (call_state out None) (λ k. refl)) (λ _. kept_quiet id (Closing d) (call_state out None) (λ k. refl))
+quiet_at moment id (Break d) out =
+    cond_both (d == id.conn) (kept (call_state out None)) (kept (call_state out None)) (λ s. Quiet id (Break d) (call_state out None) s)
+    (λ _. kept_quiet id (Break d) (call_state out None) (λ k. refl)) (λ _. kept_quiet id (Break d) (call_state out None) (λ k. refl))
 quiet_at moment id Opening out = kept_quiet id Opening (call_state out None) (λ k. refl)
 quiet_at moment id (Comes d x) out = kept_quiet id (Comes d x) (call_state out None) (λ k. refl)
 quiet_at moment id (HangUp d) out = kept_quiet id (HangUp d) (call_state out None) (λ k. refl)
@@ -119,6 +122,7 @@ none_by c (HangUp d) m past e = refl
 none_by c (Moment t) m past e = refl
 none_by c Drain m past e = refl
 none_by c (Closing d) m past e = refl
+none_by c (Break d) m past e = refl
 
 one_more : (c : ℕ) (fates : ℕ → Fate) (o : Occurrence) (os : List Occurrence) (b : Bool) → is_broken_by (length os) (fates c) ≡ b
     → filter (is_of c) (if is_broken_by (length os) (fates (starting_conn o)) then [] else jobs_by o (mark_of (marked os) o) (marked os))

@@ -11,8 +11,8 @@ use Rattle.gateway_model.specs.declared.call_event.CallEvent.TheVariants.{Answer
 use Rattle.gateway_model.specs.declared.id.CallId.{CallId}
 use Rattle.gateway_model.specs.Arrival.{Judged, Asks}
 use Rattle.gateway_model.specs.CallRecord.{CallRecord, answer_in, answer_of_branch}
-use Rattle.gateway_model.specs.Occurrence.{Occurrence, Opening, Comes, HangUp, Moment, Result, Drain, Closing, Coming, Request, Refused}
-use Rattle.gateway_model.specs.Past.{Mark, Past, ArrivedCall, call, answers, asked_by, asked_now, began, branches, counts, decided, decides, ends_at_arrival, coming_now, event_by, is_answer_to, is_call, is_closed, is_due, is_drained, branch_deadlines, can_be_decided, deadlines_out, is_out, is_result_of, mark_of, marked, now, own_event, started}
+use Rattle.gateway_model.specs.Occurrence.{Occurrence, Opening, Comes, HangUp, Moment, Result, Drain, Closing, Coming, Request, Refused, Break}
+use Rattle.gateway_model.specs.Past.{Mark, Past, ArrivedCall, call, answers, asked_by, asked_now, began, branches, counts, decided, decides, ends_at_arrival, coming_now, event_by, is_answer_to, is_call, is_shut, is_due, is_drained, branch_deadlines, can_be_decided, deadlines_out, is_out, is_result_of, mark_of, marked, now, own_event, started}
 use Rattle.gateway_model.specs.Queue.{came, call_entry, entry, entry_by, own_events, record_deadlines, record_of}
 use Rattle.gateway_model.specs.Record.{answers_among, is_out_after, may_come, may_follow, ends_at_start, is_lawful, is_ending, is_decided}
 use Rattle.gateway_theory.specs.lemmas.LimitLemmas.{out_started, same_call, started_grows, unanswered, unanswered_next}
@@ -126,18 +126,18 @@ pub record Done (id : CallId) (a : ArrivedCall) (past : Past) : Type 0 where
   pub ending : is_decided (record_of a (record_deadlines id past) (own_events id past)) ≡ true
 
 pub record Lawful (id : CallId) (a : ArrivedCall) (past : Past) : Type 0 where
-  pub going : decided id past ≡ None → is_closed id.conn past ≡ false → Going id a past
+  pub going : decided id past ≡ None → is_shut id.conn past ≡ false → Going id a past
   pub done : (e : CallEvent) → decided id past ≡ Some e → Done id a past
 
 -- what is known of a call that goes on, at one occurrence more
 record Undecided (id : CallId) (a : ArrivedCall) (m : Mark) (past : Past) : Type 0 where
   call_is : call id past ≡ Some a
   undecided : decided id past ≡ None
-  unclosed : is_closed id.conn past ≡ false
+  unshut : is_shut id.conn past ≡ false
   going : Going id a past
 
 own_is : (id : CallId) (a : ArrivedCall) (m : Mark) (past : Past) → Undecided id a m past → own_event id m past ≡ event_by id a m.what m.counted past
-own_is id a m past h = rw (h.unclosed, h.call_is) refl
+own_is id a m past h = rw (h.unshut, h.call_is) refl
 
 events_then : (id : CallId) (a : ArrivedCall) (m : Mark) (past : Past) (e : CallEvent) → Undecided id a m past → own_event id m past ≡ Some e
     → own_events id (m ∷ past) ≡ own_events id past ++ e ∷ []
@@ -337,6 +337,7 @@ opened_on id a (Moment t) past h = moved id a t past h
 opened_on id a (Result of i outcome) past h = resulted id of a i outcome past h
 opened_on id a Drain past h = goes_ends id a (mark_of past Drain) past Drained h (own_is id a (mark_of past Drain) past h) refl refl refl
 opened_on id a (Closing c) past h = goes_quiet id a (mark_of past (Closing c)) past h (own_is id a (mark_of past (Closing c)) past h) refl
+opened_on id a (Break c) past h = goes_quiet id a (mark_of past (Break c)) past h (own_is id a (mark_of past (Break c)) past h) refl
 
 -- ---- a call that arrives
 
@@ -357,18 +358,18 @@ pub record Arriving (id : CallId) (a : ArrivedCall) (os : List Occurrence) (m : 
   pub nothing : Unborn id (marked os)
   pub asked : asked_now id m (marked os) ≡ Some a
 
-arrives_closed : (id : CallId) (a : ArrivedCall) (os : List Occurrence) (m : Mark) → Arriving id a os m → is_closed id.conn (marked os) ≡ true → Lawful id a (m ∷ marked os)
+arrives_closed : (id : CallId) (a : ArrivedCall) (os : List Occurrence) (m : Mark) → Arriving id a os m → is_shut id.conn (marked os) ≡ true → Lawful id a (m ∷ marked os)
 arrives_closed id a os m h shut = record {
-  going = λ _ open_still. absurd (let bad : true ≡ false = sym (or_true_of _ (is_closed id.conn (marked os)) shut) ∙ open_still in cc);
+  going = λ _ open_still. absurd (let bad : true ≡ false = sym (or_true_of _ (is_shut id.conn (marked os)) shut) ∙ open_still in cc);
   done = λ e dec. absurd (let none : decided id (m ∷ marked os) ≡ None = rw (h.nothing.undecided, shut) refl in let bad : Some e ≡ None = sym dec ∙ none in cc);
 }
   where
     or_true_of : (a b : Bool) → b ≡ true → (a || b) ≡ true
     or_true_of a b e = rw e (or_true a)
 
-arrives_open : (id : CallId) (a : ArrivedCall) (os : List Occurrence) (o : Occurrence) → Arriving id a os (mark_of (marked os) o) → is_closed id.conn (marked os) ≡ false
+arrives_open : (id : CallId) (a : ArrivedCall) (os : List Occurrence) (o : Occurrence) → Arriving id a os (mark_of (marked os) o) → is_shut id.conn (marked os) ≡ false
     → answers id (mark_of (marked os) o ∷ marked os) ≡ 0 → Lawful id a (mark_of (marked os) o ∷ marked os)
-arrives_open id a os o h unclosed none = by_end (is_drained (marked os)) (is_due (now (marked os)) a.deadline) refl refl
+arrives_open id a os o h unshut none = by_end (is_drained (marked os)) (is_due (now (marked os)) a.deadline) refl refl
   where
     past : Past
     past = marked os
@@ -377,7 +378,7 @@ arrives_open id a os o h unclosed none = by_end (is_drained (marked os)) (is_due
     m = mark_of past o
 
     own : own_event id m past ≡ ends_at_arrival past a
-    own = rw (unclosed, h.nothing.no_call, h.asked) refl
+    own = rw (unshut, h.nothing.no_call, h.asked) refl
 
     ended : (e : CallEvent) → ends_at_arrival past a ≡ Some e → decides (answers id past) (branches id past) e ≡ true → may_come (blank a (record_deadlines id (m ∷ past))) [] e ≡ true
         → is_ending (answers_among (e ∷ [])) (length a.plan.branches) e ≡ true → ends_at_start (e ∷ []) ≡ true → Lawful id a (m ∷ past)
@@ -443,24 +444,24 @@ lawful_next id os o a before call_is = by_call (call id (marked os)) refl
           done = λ _ _. record { follow = rw (events, deadlines) d.follow; start = rw events d.start; ending = rw (events, deadlines) d.ending };
         })
 
-    shut_before : (b : ArrivedCall) → b ≡ a → call id past ≡ Some b → decided id past ≡ None → is_closed id.conn past ≡ true → Lawful id a (m ∷ past)
+    shut_before : (b : ArrivedCall) → b ≡ a → call id past ≡ Some b → decided id past ≡ None → is_shut id.conn past ≡ true → Lawful id a (m ∷ past)
     shut_before b same b_is none shut = record {
       going = λ _ open_still. absurd (let bad : true ≡ false = sym (or_shut shut) ∙ open_still in cc);
       done = λ e dec. absurd (let none_yet : decided id (m ∷ past) ≡ None = rw (none, shut) refl in let bad : Some e ≡ None = sym dec ∙ none_yet in cc);
     }
       where
-        or_shut : is_closed id.conn past ≡ true → is_closed id.conn (m ∷ past) ≡ true
+        or_shut : is_shut id.conn past ≡ true → is_shut id.conn (m ∷ past) ≡ true
         or_shut e = rw e (or_true _)
 
     called_before : (b : ArrivedCall) → call id past ≡ Some b → b ≡ a → Lawful id a (m ∷ past)
-    called_before b b_is same = by_each (decided id past) (is_closed id.conn past) refl refl
+    called_before b b_is same = by_each (decided id past) (is_shut id.conn past) refl refl
       where
-        by_each : (d : Option CallEvent) (shut : Bool) → decided id past ≡ d → is_closed id.conn past ≡ shut → Lawful id a (m ∷ past)
+        by_each : (d : Option CallEvent) (shut : Bool) → decided id past ≡ d → is_shut id.conn past ≡ shut → Lawful id a (m ∷ past)
         by_each (Some e) shut d_is s_is = decided_before b same b_is e d_is (before b b_is)
         by_each None true d_is s_is = shut_before b same b_is d_is s_is
         by_each None false d_is s_is =
             subst (λ x. Lawful id x (m ∷ past)) same
-            (opened_on id b o past (record { call_is = b_is; undecided = d_is; unclosed = s_is; going = (before b b_is).going d_is s_is }))
+            (opened_on id b o past (record { call_is = b_is; undecided = d_is; unshut = s_is; going = (before b b_is).going d_is s_is }))
 
     by_call : (c : Option ArrivedCall) → call id past ≡ c → Lawful id a (m ∷ past)
     by_call (Some b) c_is =
@@ -468,9 +469,9 @@ lawful_next id os o a before call_is = by_call (call id (marked os)) refl
     by_call None c_is =
         let asked : asked_now id m past ≡ Some a = rw c_is at call_is in
         let h : Arriving id a os m = record { nothing = nothing_before id os o a asked; asked = asked } in
-        ⊎_elim (λ (shut : is_closed id.conn past ≡ true). arrives_closed id a os m h shut)
-        (λ (unclosed : is_closed id.conn past ≡ false). arrives_open id a os o h unclosed (none_answered id os o h.nothing))
-        (cases_Bool (is_closed id.conn past))
+        ⊎_elim (λ (shut : is_shut id.conn past ≡ true). arrives_closed id a os m h shut)
+        (λ (unshut : is_shut id.conn past ≡ false). arrives_open id a os o h unshut (none_answered id os o h.nothing))
+        (cases_Bool (is_shut id.conn past))
 
 pub lawful : (id : CallId) (os : List Occurrence) → LawfulIf id os
 lawful id [] a e = absurd (cc)

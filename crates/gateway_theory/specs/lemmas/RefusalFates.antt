@@ -5,7 +5,7 @@ use Rattle.std.proofs.lemmas.Bool.{lt-leb, eqb-true}
 use Rattle.gateway_model.specs.declared.id.CallId.{CallId}
 use Rattle.gateway_model.specs.Job.{JobValue}
 use Rattle.gateway_model.specs.Occurrence.{Occurrence}
-use Rattle.gateway_model.specs.Past.{is_out, is_closed, marked}
+use Rattle.gateway_model.specs.Past.{is_out, is_shut, marked}
 use Rattle.gateway_model.specs.declared.entry.ReplyEntry.{ReplyEntry}
 use Rattle.gateway_theory.specs.lemmas.Cases.{and_true}
 use Rattle.gateway_theory.specs.Step.{CallState, has_out}
@@ -30,9 +30,9 @@ broken_before n true os f lt un = lt-leb (length os) n lt ∙ ap (λ g. is_broke
 broken_before n false os f lt un = refl
 
 pub refused : (c : ℕ) (s t : MachineState) (fates : ℕ → Fate) (taken : ℕ → List ReplyEntry) (handed : List JobValue) (os : List Occurrence)
-    → is_broken (fates c) ≡ false → is_closed c (marked os) ≡ false
+    → is_broken (fates c) ≡ false → is_shut c (marked os) ≡ false
     → FatedStands s fates taken handed os → AfterRefusal c s t → FatedStands t (fates_refused c os fates) taken handed os
-refused c s t fates taken handed os unbroken unclosed h a = record {
+refused c s t fates taken handed os unbroken unshut h a = record {
   fates_are = λ d. by_fate d (d == c) refl;
   moment_is = a.moment_is ∙ h.moment_is;
   drained_is = a.drained_is ∙ h.drained_is;
@@ -47,7 +47,7 @@ refused c s t fates taken handed os unbroken unclosed h a = record {
     was = unbroken_is (fates c) unbroken
 
     by_fate : (d : ℕ) (b : Bool) → (d == c) ≡ b → HasFate d (if d == c then BrokenAt [] None os else fates d) os
-    by_fate d true b_is = rw b_is (refl, ap (λ e. not (is_closed e (marked os))) (eqb-true d c b_is) ∙ ap not unclosed)
+    by_fate d true b_is = rw b_is (refl, ap (λ e. not (is_shut e (marked os))) (eqb-true d c b_is) ∙ ap not unshut)
     by_fate d false b_is = rw b_is (h.fates_are d)
 
     by_call : (id : CallId) (b : Bool) → (id.conn == c) ≡ b → CallFated id (t.calls id) (if id.conn == c then BrokenAt [] None os else fates id.conn) os

@@ -13,7 +13,7 @@ use Rattle.gateway_theory.specs.Fated.{CallFated}
 use Rattle.gateway_theory.specs.Breaks.{how_seen_fated, seen_by}
 
 open_is : (id : CallId) (l : Live) (out : List Bool) (past : Past) → LiveStands id l out past → can_be_decided id past ≡ true
-open_is id l out past h = rw (h.undecided, h.unclosed) refl
+open_is id l out past h = rw (h.undecided, h.unshut) refl
 
 unbroken_seen : (id : CallId) (i : ℕ) (out : List Bool) (live : Option Live) (past : Past) → CallStands id (call_state out live) past
     → (b : Bool) → slice_index_or out i false ≡ b → seen_by (call_state out live) i ≡ how_seen id i past

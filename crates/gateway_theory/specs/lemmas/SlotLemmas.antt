@@ -12,7 +12,7 @@ use Rattle.gateway_model.specs.declared.id.CallId.{CallId}
 use Rattle.gateway_model.specs.Arrival.{Judged, Asks}
 use Rattle.gateway_model.specs.Occurrence.{Coming, Request, Refused}
 use Rattle.gateway_model.specs.declared.call_event.CallEvent.{CallEvent}
-use Rattle.gateway_model.specs.Past.{Mark, Past, ArrivedCall, call, call_id, arrivals, coming_on, coming_now, asked_now, decided, is_undecided, undecided_calls, count_below}
+use Rattle.gateway_model.specs.Past.{Mark, Past, ArrivedCall, call, call_id, arrivals, coming_on, coming_now, asked_now, decided, is_undecided, undecided_calls, count_below, is_broken}
 use Rattle.gateway_model.specs.declared.entry.ReplyEntry.{ReplyEntry}
 use Rattle.gateway_theory.specs.Conn.{entry_in}
 use Rattle.gateway_theory.specs.Gateway.{are_all_there}
@@ -76,13 +76,13 @@ HasCome id past = is_some (came id past) ≡ true
 
 has_come : (id : CallId) (past : Past) → id.request < arrivals id.conn past → HasCome id past
 has_come id [] lt = absurd (omega arith)
-has_come id (m ∷ past) lt = by_entering (coming_on id.conn m.what) refl (has_come id past) lt
+has_come id (m ∷ past) lt = by_entering (coming_on id.conn m.what (is_broken id.conn past)) refl (has_come id past) lt
   where
     or_some : (x y : Option (Coming × Bool)) → is_some x ≡ true → is_some (option_or x y) ≡ true
     or_some (Some a) y h = refl
     or_some None y h = absurd (cc)
 
-    by_entering : (o : Option Coming) → coming_on id.conn m.what ≡ o → (id.request < arrivals id.conn past → HasCome id past)
+    by_entering : (o : Option Coming) → coming_on id.conn m.what (is_broken id.conn past) ≡ o → (id.request < arrivals id.conn past → HasCome id past)
         → id.request < (if is_some o then suc (arrivals id.conn past) else arrivals id.conn past) → HasCome id (m ∷ past)
     by_entering None o_is before lt = or_some (came id past) _ (before lt)
     by_entering (Some x) o_is before lt =

@@ -9,7 +9,7 @@ use Rattle.gateway_model.specs.declared.id.CallId.{CallId}
 use Rattle.gateway_model.specs.Arrival.{Judged, Asks}
 use Rattle.gateway_model.specs.Occurrence.{Result, Coming, Request, Refused}
 use Rattle.gateway_model.specs.declared.call_event.CallEvent.{CallEvent}
-use Rattle.gateway_model.specs.Past.{Mark, Past, ArrivedCall, call, arrivals, coming_on, coming_now, asked_now, asked_by, began, answers, started, is_answer_to, is_call, is_closed, event_by, own_event, ends_at_arrival, decided, now}
+use Rattle.gateway_model.specs.Past.{Mark, Past, ArrivedCall, call, arrivals, coming_on, coming_now, asked_now, asked_by, began, answers, started, is_answer_to, is_call, is_shut, event_by, own_event, ends_at_arrival, decided, now, is_broken}
 use Rattle.gateway_model.specs.CallRecord.{answer_in, answer_of_branch, last_event}
 use Rattle.gateway_model.specs.Queue.{call_entry, came, entry_by, entry}
 use Rattle.gateway_theory.specs.lemmas.Cases.{or_false, and_false, or_none}
@@ -17,14 +17,14 @@ use Rattle.gateway_theory.specs.lemmas.Cases.{or_false, and_false, or_none}
 -- ---- an occurrence that does not concern a call
 
 pub record Quiet (id : CallId) (m : Mark) (past : Past) : Type 0 where
-  pub no_coming : coming_on id.conn m.what ≡ None
+  pub no_coming : coming_on id.conn m.what (is_broken id.conn past) ≡ None
   pub no_answer : (m.counted && is_answer_to id m.what) ≡ false
   pub no_event : own_event id m past ≡ None
 
-pub no_entering : (id : CallId) (m : Mark) (past : Past) → coming_on id.conn m.what ≡ None → coming_now id m past ≡ None
-no_entering id m past e = cond_both (arrivals id.conn past == id.request) (coming_on id.conn m.what) None (λ o. o ≡ None) (λ _. e) (λ _. refl)
+pub no_entering : (id : CallId) (m : Mark) (past : Past) → coming_on id.conn m.what (is_broken id.conn past) ≡ None → coming_now id m past ≡ None
+no_entering id m past e = cond_both (arrivals id.conn past == id.request) (coming_on id.conn m.what (is_broken id.conn past)) None (λ o. o ≡ None) (λ _. e) (λ _. refl)
 
-pub no_asked : (id : CallId) (m : Mark) (past : Past) → coming_on id.conn m.what ≡ None → asked_now id m past ≡ None
+pub no_asked : (id : CallId) (m : Mark) (past : Past) → coming_on id.conn m.what (is_broken id.conn past) ≡ None → asked_now id m past ≡ None
 no_asked id m past e =
     cond_both m.crowded None (option_and_then (asked_by (now past)) (coming_now id m past)) (λ o. o ≡ None)
     (λ _. refl) (λ _. rw (no_entering id m past e) refl)
@@ -84,7 +84,7 @@ result_quiet id of i outcome m past what uncounted = record {
   no_coming = rw what refl;
   no_answer = rw what (uncounted_answer m.counted outcome uncounted);
   no_event =
-      cond_both (is_closed id.conn past) None
+      cond_both (is_shut id.conn past) None
       (option_map_or (λ c. event_by id c m.what m.counted past) (call id past) (option_and_then (ends_at_arrival past) (asked_now id m past))) (λ o. o ≡ None)
       (λ _. refl)
       (λ _. no_event_of (λ c. event_by id c m.what m.counted past) (λ c. rw (what, uncounted) refl) (call id past) _

@@ -13,10 +13,10 @@ use Rattle.gateway_model.specs.declared.id.CallId.{CallId}
 use Rattle.gateway_model.specs.Arrival.{Judged, Asks}
 use Rattle.gateway_model.specs.Job.{job_of}
 use Rattle.gateway_theory.specs.Task.{task_of}
-use Rattle.gateway_model.specs.Occurrence.{Occurrence, Opening, Comes, HangUp, Moment, Result, Drain, Closing, Coming, Request, Refused}
+use Rattle.gateway_model.specs.Occurrence.{Occurrence, Opening, Comes, HangUp, Moment, Result, Drain, Closing, Coming, Request, Refused, Break}
 use Rattle.gateway_model.specs.declared.call_event.CallEvent.{CallEvent}
 use Rattle.gateway_model.specs.declared.call_event.CallEvent.TheVariants.{Answer as Answered, Failed, Expired, BranchExpired, HungUp, Drained}
-use Rattle.gateway_model.specs.Past.{Mark, Past, ArrivedCall, call, arrivals, coming_now, asked_now, asked_by, began, answers, started, is_out, is_result_of, is_answer_to, is_call, is_closed, closing_occurs, event_by, own_event, ends_at_arrival, decides, decided, can_be_decided, branch_deadlines, deadline_from, due_by, now, counts, mark_of, of_branch}
+use Rattle.gateway_model.specs.Past.{Mark, Past, ArrivedCall, call, arrivals, coming_now, asked_now, asked_by, began, answers, started, is_out, is_result_of, is_answer_to, is_call, is_shut, shuts, event_by, own_event, ends_at_arrival, decides, decided, can_be_decided, branch_deadlines, deadline_from, due_by, now, counts, mark_of, of_branch}
 use Rattle.gateway_model.specs.declared.entry.ReplyEntry.TheVariants.{Call as Calling}
 use Rattle.gateway_model.specs.Queue.{came, own_events, record_deadlines, record_of, entry_by, entry, call_entry}
 use Rattle.gateway_model.specs.Starts.{jobs_started, branches_started}
@@ -136,13 +136,13 @@ shut_stepped id out m past shut none no_answer outs = record {
 }
 
 live_kept : (id : CallId) (l : Live) (out after : List Bool) (m : Mark) (past : Past) → LiveStands id l out past → Past_it id m past
-    → (m.counted && is_answer_to id m.what) ≡ false → own_event id m past ≡ None → is_closed id.conn (m ∷ past) ≡ false → length after ≡ length out
+    → (m.counted && is_answer_to id m.what) ≡ false → own_event id m past ≡ None → is_shut id.conn (m ∷ past) ≡ false → length after ≡ length out
     → LiveStands id l after (m ∷ past)
 live_kept id l out after m past h none no_answer own unshut size = record {
   call_is = call_same id m past none ∙ h.call_is;
   began_is = began_same id m past none ∙ h.began_is;
   undecided = decided_same id m past own ∙ h.undecided;
-  unclosed = unshut;
+  unshut = unshut;
   size_is = size ∙ h.size_is;
   events_are = h.events_are ∙ sym (own_same id m past own);
   answers_are = h.answers_are ∙ sym (answers_same id m past no_answer);
@@ -151,7 +151,7 @@ live_kept id l out after m past h none no_answer own unshut size = record {
 }
 
 live_stepped : (id : CallId) (l : Live) (out : List Bool) (m : Mark) (past : Past) → LiveStands id l out past → Past_it id m past
-    → (m.counted && is_answer_to id m.what) ≡ false → own_event id m past ≡ None → is_closed id.conn (m ∷ past) ≡ false
+    → (m.counted && is_answer_to id m.what) ≡ false → own_event id m past ≡ None → is_shut id.conn (m ∷ past) ≡ false
     → ((i : ℕ) → slice_index_or out i false ≡ is_out id i (m ∷ past))
     → Stepped id (kept (call_state out (Some l))) m past
 live_stepped id l out m past h none no_answer own unshut outs = record {
@@ -164,7 +164,7 @@ live_stepped id l out m past h none no_answer own unshut outs = record {
 
 -- a moment, a hang-up, the drain, an opening, or what comes on a stream
 unresulted : (id : CallId) (o : Occurrence) (out : List Bool) (live : Option Live) (past : Past) → ((i : ℕ) → is_result_of id i o ≡ false)
-    → (counts o past && is_answer_to id o) ≡ false → closing_occurs id.conn o ≡ false
+    → (counts o past && is_answer_to id o) ≡ false → shuts id.conn o ≡ false
     → ((l : Live) → LiveStands id l out past → event_by id l.asked o (counts o past) past ≡ ending (now past) id o l.asked (deadlines_in out l.deadlines))
     → ((l : Live) (e : CallEvent) → ending (now past) id o l.asked (deadlines_in out l.deadlines) ≡ Some e → decides (answers id past) (length l.asked.plan.branches) e ≡ true)
     → Past_it id (mark_of past o) past → CallStands id (call_state out live) past
@@ -180,46 +180,50 @@ unresulted id o out (Some l) past no_result no_answer no_closing events ends non
         let m : Mark = mark_of past o in
         let s : LiveStands id l out past = h.live_is in
         live_stepped id l out m past s none no_answer
-        (own_before id m past none s.unclosed ∙ rw s.call_is (events l s ∙ x_is))
-        (rw (no_closing, s.unclosed) refl)
+        (own_before id m past none s.unshut ∙ rw s.call_is (events l s ∙ x_is))
+        (rw (no_closing, s.unshut) refl)
         (λ i. h.out_is i ∙ sym (out_same id i m past (started_same id m past none no_answer) (no_result i)))
     by_ending (Some e) x_is =
         let m : Mark = mark_of past o in
         let s : LiveStands id l out past = h.live_is in
         let same = started_same id m past none no_answer in
         ended_stepped id l out out m past e s none
-        (own_before id m past none s.unclosed ∙ rw s.call_is (events l s ∙ x_is))
+        (own_before id m past none s.unshut ∙ rw s.call_is (events l s ∙ x_is))
         (ends l e x_is) same
         (λ i. h.out_is i ∙ sym (out_same id i m past same (no_result i)))
 
--- a connection is closed
-closing : (id : CallId) (conn : ℕ) (out : List Bool) (live : Option Live) (past : Past) → Past_it id (mark_of past (Closing conn)) past
-    → CallStands id (call_state out live) past
-    → Stepped id (step (now past) id (Closing conn) (call_state out live)) (mark_of past (Closing conn)) past
-closing id conn out live past none h = by_own (conn == id.conn) refl live h.live_is
+-- a connection is closed, or breaks
+shutting : (id : CallId) (o : Occurrence) (conn : ℕ) (out : List Bool) (live : Option Live) (past : Past)
+    → shuts id.conn o ≡ (conn == id.conn) → counts o past ≡ false → ((i : ℕ) → is_result_of id i o ≡ false) → ((c : ArrivedCall) → event_by id c o false past ≡ None)
+    → Past_it id (mark_of past o) past → CallStands id (call_state out live) past
+    → Stepped id (if conn == id.conn then kept (call_state out None) else kept (call_state out live)) (mark_of past o) past
+shutting id o conn out live past shuts_is uncounted no_result no_event_at none h = by_own (conn == id.conn) refl live h.live_is
   where
     m : Mark
-    m = mark_of past (Closing conn)
+    m = mark_of past o
+
+    no_answer : (counts o past && is_answer_to id o) ≡ false
+    no_answer = ap (λ b. b && is_answer_to id o) uncounted
 
     same : started id (m ∷ past) ≡ started id past
-    same = started_same id m past none refl
+    same = started_same id m past none no_answer
 
     outs : (i : ℕ) → slice_index_or out i false ≡ is_out id i (m ∷ past)
-    outs i = h.out_is i ∙ sym (out_same id i m past same refl)
+    outs i = h.out_is i ∙ sym (out_same id i m past same (no_result i))
 
     no_event : own_event id m past ≡ None
-    no_event = cond_both (is_closed id.conn past) None
+    no_event = cond_both (is_shut id.conn past) None
         (option_map_or (λ c. event_by id c m.what m.counted past) (call id past) (option_and_then (ends_at_arrival past) (asked_now id m past))) (λ o. o ≡ None)
         (λ _. refl) (λ _. rw (unasked id m past none) (no_event_by (call id past)))
       where
-        no_event_by : (o : Option ArrivedCall) → option_map_or (λ c. event_by id c (Closing conn) false past) o None ≡ None
+        no_event_by : (a : Option ArrivedCall) → option_map_or (λ c. event_by id c o (counts o past) past) a None ≡ None
         no_event_by None = refl
-        no_event_by (Some c) = refl
+        no_event_by (Some c) = ap (λ b. event_by id c o b past) uncounted ∙ no_event_at c
 
     by_own : (b : Bool) → (conn == id.conn) ≡ b → (live : Option Live) → MayLive id live out past
         → Stepped id (if b then kept (call_state out None) else kept (call_state out live)) m past
     by_own true b_is live l = record {
-      stands = record { out_is = outs; live_is = rw b_is (closed_shut (is_some (call id (m ∷ past))) (is_none (decided id (m ∷ past)))) };
+      stands = record { out_is = outs; live_is = rw (shuts_is, b_is) (closed_shut (is_some (call id (m ∷ past))) (is_none (decided id (m ∷ past)))) };
       replies = same_replies id m past none (decided_same id m past no_event);
       starts = sym (none_start id m past same);
     }
@@ -228,8 +232,8 @@ closing id conn out live past none h = by_own (conn == id.conn) refl live h.live
         closed_shut true true = refl
         closed_shut true false = refl
         closed_shut false b = refl
-    by_own false b_is None l = shut_stepped id out m past l none refl outs
-    by_own false b_is (Some s) l = live_stepped id s out m past l none refl no_event (rw (b_is, l.unclosed) refl) outs
+    by_own false b_is None l = shut_stepped id out m past l none no_answer outs
+    by_own false b_is (Some s) l = live_stepped id s out m past l none no_answer no_event (rw (shuts_is, b_is, l.unshut) refl) outs
 
 -- ---- results
 
@@ -287,7 +291,7 @@ late id i outcome out past shut none out_is out_i =
 
 counts_yes : (id : CallId) (i : ℕ) (outcome : Outcome) (l : Live) (out : List Bool) (past : Past) → LiveStands id l out past → is_out id i past ≡ true
     → counts (Result id i outcome) past ≡ true
-counts_yes id i outcome l out past h out_i = rw (out_i, h.undecided, h.unclosed) refl
+counts_yes id i outcome l out past h out_i = rw (out_i, h.undecided, h.unshut) refl
 
 event_by_it : (id : CallId) (i : ℕ) (outcome : Outcome) (a : ArrivedCall) (past : Past) (counted : Bool) → counted ≡ true
     → event_by id a (Result id i outcome) counted past ≡ Some (of_branch i outcome)
@@ -297,7 +301,7 @@ event_is : (id : CallId) (i : ℕ) (outcome : Outcome) (l : Live) (out : List Bo
     → Past_it id (comes_back id i outcome past) past → own_event id (comes_back id i outcome past) past ≡ Some (of_branch i outcome)
 event_is id i outcome l out past h out_i none =
     let m : Mark = comes_back id i outcome past in
-    own_before id m past none h.unclosed ∙ ap (λ o. option_map_or (λ c. event_by id c m.what m.counted past) o None) h.call_is
+    own_before id m past none h.unshut ∙ ap (λ o. option_map_or (λ c. event_by id c m.what m.counted past) o None) h.call_is
     ∙ event_by_it id i outcome l.asked past m.counted (counts_yes id i outcome l out past h out_i)
 
 -- a failure that counts
@@ -336,7 +340,7 @@ tasks_next k id a lt =
 answer_counts : (id : CallId) (i : ℕ) (body : List ℕ) (l : Live) (out : List Bool) (past : Past) → LiveStands id l out past → is_out id i past ≡ true
     → answers id (comes_back id i (Answer body) past ∷ past) ≡ suc (answers id past)
 answer_counts id i body l out past h out_i =
-    rw (out_i, h.undecided, h.unclosed, eq-eqb id.conn id.conn refl, eq-eqb id.request id.request refl) refl
+    rw (out_i, h.undecided, h.unshut, eq-eqb id.conn id.conn refl, eq-eqb id.request id.request refl) refl
 
 pub started_live : (id : CallId) (a : ArrivedCall) (past : Past) → call id past ≡ Some a → began id past ≡ true → started id past ≡ min (length a.plan.branches) (a.plan.limit + answers id past)
 started_live id a past call_is began_is = rw (began_is, call_is) refl
@@ -458,7 +462,7 @@ answered id i body l out past h none out_is out_i = by_last (is_last_answer l) r
               call_is = call_same id m past none ∙ h.call_is;
               began_is = began_same id m past none ∙ h.began_is;
               undecided = undec;
-              unclosed = h.unclosed;
+              unshut = h.unshut;
               size_is = g.size ∙ h.size_is;
               events_are = sym (own_then id l out m past (Answered i body) h own);
               answers_are = length-append l.events (Answered i body ∷ []) ∙ omega (arith, h.answers_are) ∙ sym (answer_counts id i body l out past h out_i);
@@ -524,8 +528,8 @@ result_apart id of i outcome out live past none h apart = by_live live h.live_is
     by_live None l = shut_stepped id out m past l none no_answer outs
     by_live (Some s) l =
         live_stepped id s out m past l none no_answer
-        (own_before id m past none l.unclosed ∙ rw (l.call_is, uncounted) refl)
-        (rw l.unclosed refl) outs
+        (own_before id m past none l.unshut ∙ rw (l.call_is, uncounted) refl)
+        (rw l.unshut refl) outs
 
 resulted : (id of : CallId) (i : ℕ) (outcome : Outcome) (out : List Bool) (live : Option Live) (past : Past) → Past_it id (comes_back of i outcome past) past
     → CallStands id (call_state out live) past
@@ -576,4 +580,5 @@ stepped id (Moment t) out live past none h =
     (λ l e x. moment_ends (moment_after (now past) t) l.asked.deadline (deadlines_in out l.deadlines) e _ _ x) none h
 stepped id (Result of i outcome) out live past none h = resulted id of i outcome out live past none h
 stepped id Drain out live past none h = unresulted id Drain out live past (λ i. refl) refl refl (λ l s. refl) (λ l e x. drain_ends e _ _ x) none h
-stepped id (Closing conn) out live past none h = closing id conn out live past none h
+stepped id (Closing conn) out live past none h = shutting id (Closing conn) conn out live past refl refl (λ i. refl) (λ c. refl) none h
+stepped id (Break conn) out live past none h = shutting id (Break conn) conn out live past refl refl (λ i. refl) (λ c. refl) none h

@@ -80,7 +80,7 @@ module _ (id : CallId) (v : GatewayValue) (orderly : IsOrderly v.machine) where
 
   live_stands : (os : List Occurrence) (l : Option Live) (out : List Bool) → MayLive id l out (marked os) → is_some l ≡ is_live id (marked os)
   live_stands os None out h = sym h
-  live_stands os (Some l) out h = rw (h.call_is, h.undecided, h.unclosed) refl
+  live_stands os (Some l) out h = rw (h.call_is, h.undecided, h.unshut) refl
 
   module _ (history : History) (occurred : List Placed)
       (h : Served v history) (o : Occurs v.plans history.opened history.events occurred) where

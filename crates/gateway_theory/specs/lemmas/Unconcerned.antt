@@ -5,10 +5,10 @@ use Rattle.std.specs.Option.{option_map_or}
 use Rattle.std.proofs.lemmas.Bool.{cond_both, cases_Bool, cases_lt, ltb-false, eq-eqb, eqb-true}
 use Rattle.connect_codec.specs.declared.answer.Outcome.{Outcome}
 use Rattle.gateway_model.specs.declared.id.CallId.{CallId}
-use Rattle.gateway_model.specs.Occurrence.{Occurrence, Opening, Comes, HangUp, Moment, Result, Drain, Closing}
+use Rattle.gateway_model.specs.Occurrence.{Occurrence, Opening, Comes, HangUp, Moment, Result, Drain, Closing, Break}
 use Rattle.gateway_model.specs.declared.call_event.CallEvent.{CallEvent}
 use Rattle.gateway_model.specs.declared.call_event.CallEvent.TheVariants.{Drained}
-use Rattle.gateway_model.specs.Past.{Past, ArrivedCall, call, call_id, is_call, is_out, is_result_of, is_closed, answers, branches, decides, deadlines_out, due_by, event_by, is_undecided, arrivals, now, own_event, deciding, count_below, mark_of}
+use Rattle.gateway_model.specs.Past.{Past, ArrivedCall, call, call_id, is_call, is_out, is_result_of, is_shut, answers, branches, decides, deadlines_out, due_by, event_by, is_undecided, arrivals, now, own_event, deciding, count_below, mark_of}
 use Rattle.gateway_theory.specs.lemmas.LimitLemmas.{same_call}
 use Rattle.gateway_theory.specs.lemmas.Unborn.{unborn}
 use Rattle.gateway_theory.specs.lemmas.Cases.{and_true}
@@ -36,6 +36,8 @@ pub still_none : (moment : ℕ) (id : CallId) (o : Occurrence) (out : List Bool)
 still_none moment id (Result of i r) out =
     cond_both (is_call of id && slice_index_or out i false) (kept (call_state (slice_set out i false) None)) (kept (call_state out None)) (λ s. s.call.live ≡ None) (λ _. refl) (λ _. refl)
 still_none moment id (Closing d) out =
+    cond_both (d == id.conn) (kept (call_state out None)) (kept (call_state out None)) (λ s. s.call.live ≡ None) (λ _. refl) (λ _. refl)
+still_none moment id (Break d) out =
     cond_both (d == id.conn) (kept (call_state out None)) (kept (call_state out None)) (λ s. s.call.live ≡ None) (λ _. refl) (λ _. refl)
 still_none moment id Opening out = refl
 still_none moment id (Comes d x) out = refl
@@ -66,13 +68,13 @@ arrived c k a past h =
     (λ (ge : arrivals c past ≤ k). absurd (let none : call (call_id c k) past ≡ None = (unborn (call_id c k) past ge).no_call in let bad = sym h ∙ none in cc))
     (cases_lt k (arrivals c past))
 
-own_unshut : (d c : ℕ) (past : Past) → is_closed c past ≡ false → ((d == c) && not (is_closed c past)) ≡ false → (d == c) ≡ false
-own_unshut d c past unclosed e = sym (and_true (d == c)) ∙ (rw unclosed at e)
+own_unshut : (d c : ℕ) (past : Past) → is_shut c past ≡ false → ((d == c) && not (is_shut c past)) ≡ false → (d == c) ≡ false
+own_unshut d c past unshut e = sym (and_true (d == c)) ∙ (rw unshut at e)
 
-deciding_drain : (id : CallId) (a : ArrivedCall) (past : Past) → call id past ≡ Some a → is_closed id.conn past ≡ false → is_some (deciding id (mark_of past Drain) past) ≡ true
-deciding_drain id a past call_is unclosed =
+deciding_drain : (id : CallId) (a : ArrivedCall) (past : Past) → call id past ≡ Some a → is_shut id.conn past ≡ false → is_some (deciding id (mark_of past Drain) past) ≡ true
+deciding_drain id a past call_is unshut =
     let own : own_event id (mark_of past Drain) past ≡ Some Drained =
-    own_before id (mark_of past Drain) past (no_entering id Drain past refl) unclosed ∙ ap (λ o. option_map_or (λ c. event_by id c Drain false past) o None) call_is in
+    own_before id (mark_of past Drain) past (no_entering id Drain past refl) unshut ∙ ap (λ o. option_map_or (λ c. event_by id c Drain false past) o None) call_is in
     ap (λ o. is_some (option_and_then (λ x. if decides (answers id past) (branches id past) x then Some x else None) o)) own
 
 deciding_moment : (id : CallId) (t : ℕ) (l : Live) (out : List Bool) (past : Past) (e : CallEvent) → LiveStands id l out past → ((i : ℕ) → slice_index_or out i false ≡ is_out id i past)
@@ -82,7 +84,7 @@ deciding_moment id t l out past e h out_is due =
     outs_are id l.asked out past h.call_is h.size_is out_is ∙ ap (deadlines_in out) (sym h.deadlines_are) in
     let event : due_by (moment_after (now past) t) l.asked.deadline (deadlines_out id l.asked.plan past) ≡ Some e = ap (due_by (moment_after (now past) t) l.asked.deadline) same ∙ due in
     let own : own_event id (mark_of past (Moment t)) past ≡ Some e =
-    own_before id (mark_of past (Moment t)) past (no_entering id (Moment t) past refl) h.unclosed
+    own_before id (mark_of past (Moment t)) past (no_entering id (Moment t) past refl) h.unshut
     ∙ ap (λ o. option_map_or (λ c. event_by id c (Moment t) false past) o None) h.call_is ∙ event in
     let ends : decides (answers id past) (branches id past) e ≡ true =
     moment_ends (moment_after (now past) t) l.asked.deadline (deadlines_in out l.deadlines) e (answers id past) (branches id past) due in
@@ -92,7 +94,7 @@ nothing_result : (c k : ℕ) (of : CallId) (i : ℕ) (r : Outcome) (l : Live) (o
     → concerns c (Result of i r) past ≡ false → is_call of (call_id c k) ≡ true → is_out (call_id c k) i past ≡ true → ⊥
 nothing_result c k of i r l out past h not_so it is_out_i =
     let same : of ≡ call_id c k = same_call of (call_id c k) it in
-    let counted : concerns c (Result (call_id c k) i r) past ≡ true = rw (eq-eqb c c refl, is_out_i, h.undecided, h.unclosed) refl in
+    let counted : concerns c (Result (call_id c k) i r) past ≡ true = rw (eq-eqb c c refl, is_out_i, h.undecided, h.unshut) refl in
     let bad : false ≡ true = sym not_so ∙ ap (λ x. concerns c (Result x i r) past) same ∙ counted in
     cc
 
@@ -111,10 +113,13 @@ live_nothing c k Opening out l past not_so h = kept_nothing (call_id c k) Openin
 live_nothing c k (Comes d x) out l past not_so h = kept_nothing (call_id c k) (Comes d x) (call_state out (Some l)) (λ j. refl)
 live_nothing c k (HangUp d) out l past not_so h =
     let s : LiveStands (call_id c k) l out past = h.live_is in
-    rw (own_unshut d c past s.unclosed not_so) (kept_nothing (call_id c k) (HangUp d) (call_state out (Some l)) (λ j. refl))
+    rw (own_unshut d c past s.unshut not_so) (kept_nothing (call_id c k) (HangUp d) (call_state out (Some l)) (λ j. refl))
 live_nothing c k (Closing d) out l past not_so h =
     let s : LiveStands (call_id c k) l out past = h.live_is in
-    rw (own_unshut d c past s.unclosed not_so) (kept_nothing (call_id c k) (Closing d) (call_state out (Some l)) (λ j. refl))
+    rw (own_unshut d c past s.unshut not_so) (kept_nothing (call_id c k) (Closing d) (call_state out (Some l)) (λ j. refl))
+live_nothing c k (Break d) out l past not_so h =
+    let s : LiveStands (call_id c k) l out past = h.live_is in
+    rw (own_unshut d c past s.unshut not_so) (kept_nothing (call_id c k) (Break d) (call_state out (Some l)) (λ j. refl))
 live_nothing c k (Moment t) out l past not_so h = by_event (due_by (moment_after (now past) t) l.asked.deadline (deadlines_in out l.deadlines)) refl
   where
     by_event : (x : Option CallEvent) → due_by (moment_after (now past) t) l.asked.deadline (deadlines_in out l.deadlines) ≡ x
@@ -132,7 +137,7 @@ live_nothing c k Drain out l past not_so h = absurd (
     let none : (is_undecided (call_id c k) past && is_some (deciding (call_id c k) (mark_of past Drain) past)) ≡ false =
     below_none (arrivals c past) (λ j. is_undecided (call_id c j) past && is_some (deciding (call_id c j) (mark_of past Drain) past)) k not_so (arrived c k l.asked past s.call_is) in
     let some : (is_undecided (call_id c k) past && is_some (deciding (call_id c k) (mark_of past Drain) past)) ≡ true =
-    rw (deciding_drain (call_id c k) l.asked past s.call_is s.unclosed, s.call_is, s.undecided) refl in
+    rw (deciding_drain (call_id c k) l.asked past s.call_is s.unshut, s.call_is, s.undecided) refl in
     let bad : true ≡ false = sym some ∙ none in cc)
 live_nothing c k (Result of i r) out l past not_so h = by_it (is_call of (call_id c k)) (slice_index_or out i false) refl refl
   where

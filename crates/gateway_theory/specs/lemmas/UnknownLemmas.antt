@@ -6,7 +6,7 @@ use Rattle.connect_codec.specs.declared.answer.Outcome.{Outcome}
 use Rattle.gateway_model.specs.declared.seen.Seen.TheVariants.{Unknown}
 use Rattle.gateway_model.specs.declared.id.CallId.{CallId}
 use Rattle.gateway_model.specs.Occurrence.{Occurrence, Result}
-use Rattle.gateway_model.specs.Past.{Mark, Past, is_call, is_closed, can_be_decided, is_out, how_seen, started, mark_of, marked}
+use Rattle.gateway_model.specs.Past.{Mark, Past, is_call, is_shut, can_be_decided, is_out, how_seen, started, mark_of, marked}
 use Rattle.gateway_theory.specs.Replies.{replies}
 use Rattle.gateway_theory.specs.lemmas.Cases.{and_true}
 use Rattle.gateway_theory.specs.lemmas.JobLemmas.{uncounted_replies}
@@ -51,7 +51,7 @@ same_open : (id : CallId) (i : ℕ) (outcome : Outcome) (past : Past) → is_out
 same_open id i outcome past back other =
     let m : Mark = mark_of past (Result id i outcome) in
     let quiet : Quiet other m past = result_quiet other id i outcome m past refl (rw back refl) in
-    ap (λ d. is_none d && not (is_closed other.conn past)) (decided_same other m past quiet)
+    ap (λ d. is_none d && not (is_shut other.conn past)) (decided_same other m past quiet)
 
 -- how a result is how_seen stays
 pub unknown_judged : (id : CallId) (i : ℕ) (outcome : Outcome) (past : Past) → how_seen id i past ≡ Unknown → (other : CallId) (j : ℕ)

@@ -1,0 +1,53 @@
+-- By events alone no connection breaks.
+use Rattle.std.proofs.Common.{◌≡◌, ℕ, Bool, true, false, List, [], ◌∷◌, ◌++◌, length, map, refl, ap, ◌∙◌}
+use Rattle.std.specs.Prelude.{◌||◌, MatchBool}
+use Rattle.std.specs.List.{list_any}
+use Rattle.call_plan.specs.Plan.{PlanRecord}
+use Rattle.gateway_model.specs.Occurrence.{Occurrence, Coming, Comes}
+use Rattle.gateway_model.specs.Occurrence as occurs
+use Rattle.gateway_model.specs.Past.{breaks, is_broken, marked}
+use Rattle.gateway_model.specs.Starts.{Placed, occurrences}
+use Rattle.gateway_model.specs.declared.event.Event.{Event}
+use Rattle.gateway_model.specs.declared.event.Event.TheVariants.{Opening, Piece, HangUp, Moment, BranchResult, Drain, Closing}
+use Rattle.gateway_model.specs.Events.{Before, Gains, OccursAt, Occurs, is_open, listens, once, onto, stream, succeeds}
+
+neither : (a b : Bool) → (a || b) ≡ false → (a ≡ false) × (b ≡ false)
+neither false b e = (refl, e)
+neither true b e = absurd (cc)
+
+once_whole : (c : ℕ) (b : Bool) (o : Occurrence) → breaks c o ≡ false → list_any (breaks c) (once b o) ≡ false
+once_whole c true o e = ap (λ x. x || false) e
+once_whole c false o e = refl
+
+comings_whole : (c d : ℕ) (xs : List Coming) → list_any (breaks c) (map (Comes d) xs) ≡ false
+comings_whole c d [] = refl
+comings_whole c d (x ∷ xs) = comings_whole c d xs
+
+at_whole : (c : ℕ) (plans : List PlanRecord) (opened : List ℕ) (e : Event) (before : Before) (os : List Occurrence) → OccursAt plans opened e before os
+    → list_any (breaks c) os ≡ false
+at_whole c plans opened Opening before os at = ap (list_any (breaks c)) at ∙ once_whole c (succeeds opened (length before)) occurs.Opening refl
+at_whole c plans opened (Piece d bytes) before os at = by_listens (listens opened d before) at
+  where
+    by_listens : (b : Bool) → MatchBool b ((gained : List Coming) × Gains plans (stream opened d before) (stream opened d before ++ bytes) gained × (os ≡ map (Comes d) gained)) (os ≡ [])
+        → list_any (breaks c) os ≡ false
+    by_listens true (gained, gains, is) = ap (list_any (breaks c)) is ∙ comings_whole c d gained
+    by_listens false is = ap (list_any (breaks c)) is
+at_whole c plans opened (HangUp d) before os at = ap (list_any (breaks c)) at ∙ once_whole c (listens opened d before) (occurs.HangUp d) refl
+at_whole c plans opened (Moment m) before os at = ap (list_any (breaks c)) at
+at_whole c plans opened (BranchResult d k i r) before os at = ap (list_any (breaks c)) at
+at_whole c plans opened Drain before os at = ap (list_any (breaks c)) at
+at_whole c plans opened (Closing d) before os at = ap (list_any (breaks c)) at ∙ once_whole c (is_open opened d before) (occurs.Closing d) refl
+
+broken_onto : (c place : ℕ) (os : List Occurrence) (past : List Placed) → list_any (breaks c) os ≡ false → is_broken c (marked (occurrences past)) ≡ false
+    → is_broken c (marked (occurrences (onto place os past))) ≡ false
+broken_onto c place [] past none before = before
+broken_onto c place (o ∷ os) past none before =
+    let parts = neither (breaks c o) (list_any (breaks c) os) none in
+    broken_onto c place os ((place, o) ∷ past) parts.1 (ap (λ b. b || is_broken c (marked (occurrences past))) parts.0 ∙ before)
+
+pub none_breaks : (plans : List PlanRecord) (opened : List ℕ) (es : Before) (occurred : List Placed) → Occurs plans opened es occurred
+    → (c : ℕ) → is_broken c (marked (occurrences occurred)) ≡ false
+none_breaks plans opened [] occurred none c = ap (λ placed. is_broken c (marked (occurrences placed))) none
+none_breaks plans opened (e ∷ es) occurred (past, before, (os, at, is)) c =
+    ap (λ placed. is_broken c (marked (occurrences placed))) is
+    ∙ broken_onto c (length es) os past (at_whole c plans opened e es os at) (none_breaks plans opened es past before c)
