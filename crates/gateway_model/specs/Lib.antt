@@ -5,6 +5,7 @@ pub mod Duty
 pub mod Reply
 pub mod Arrival
 pub mod Occurrence
+pub mod Own
 pub mod Past
 pub mod Queue
 pub mod Job

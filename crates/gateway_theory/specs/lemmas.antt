@@ -52,6 +52,8 @@ pub mod BroughtLemmas
 pub mod BreakLemmas
 pub mod EventLemmas
 pub mod Whole
+pub mod OwnLemmas
+pub mod PrefixLemmas
 pub mod CutLemmas
 pub mod ServedLemmas
 pub mod ServedMore

@@ -1,16 +1,18 @@
 //! What the definitions come to, as facts on everything that may occur. The functions do nothing.
-ghost use Rattle.std.specs.Prelude.{◌≡◌, ◌⊎◌, slice_get, ℕ, true, false, ◌<◌, ◌≤◌, ◌++◌, ◌∷◌, Some, None, Option, option_map, option_to_list, replicate, [], List, length, map};
+ghost use Rattle.std.specs.Prelude.{◌≡◌, ◌⊎◌, slice_get, ℕ, filter, true, false, ◌<◌, ◌≤◌, ◌++◌, ◌∷◌, Some, None, Option, option_map, option_to_list, replicate, [], List, length, map};
 ghost use Rattle.gateway_model.specs.declared.id.CallId.{CallId};
 ghost use Rattle.gateway_model.specs.Occurrence.{Occurrence, Opening, Result};
 ghost use Rattle.gateway_model.specs.declared.call_event.CallEvent.{CallEvent};
-ghost use Rattle.gateway_model.specs.Past.{Mark, Past, ArrivedCall, call, decided, arrivals, is_broken, is_out, how_seen, outs, mark_of, marked, moment_of, now, past_of};
+ghost use Rattle.gateway_model.specs.Past.{Mark, Past, ArrivedCall, call, decided, arrivals, is_broken, is_out, how_seen, outs, call_id, mark_of, marked, moment_of, now, past_of};
+ghost use Rattle.gateway_model.specs.Known.{is_of};
+ghost use Rattle.gateway_model.specs.Own.{is_visible, own, without_breaks};
 ghost use Rattle.gateway_model.specs.Decided.{IsDecidedAt};
 ghost use Rattle.gateway_theory.specs.Finished.{IsOutSince, StartsAt, jobs_below};
 ghost use Rattle.connect_codec.specs.declared.answer.Outcome.{Outcome};
 ghost use Rattle.gateway_theory.specs.EventAdds.{EventAdds};
 ghost use Rattle.gateway_model.specs.declared.event.Event.{Event};
 ghost use Rattle.gateway_model.specs.Events.{Occurs};
-ghost use Rattle.gateway_model.specs.Starts.{Placed, jobs, occurrences, starts};
+ghost use Rattle.gateway_model.specs.Starts.{Placed, jobs, jobs_by, occurrences, starts};
 ghost use Rattle.gateway_theory.specs.Starting.{job_started};
 ghost use Rattle.call_plan.specs.Plan.{PlanRecord};
 ghost use Rattle.gateway_model.specs.declared.seen.Seen.{Seen};
@@ -21,7 +23,7 @@ ghost use Rattle.gateway_model.specs.declared.ending.EndCause.{EndCause};
 ghost use Rattle.connect_codec.specs.Reply.{error_reply};
 ghost use Rattle.gateway_model.specs.Errors.{cause_of, ending_error};
 ghost use Rattle.gateway_theory.specs.Endings.{ending_with};
-ghost use Rattle.gateway_model.specs.Queue.{call_reply, entry, queued, IsPrefixOf};
+ghost use Rattle.gateway_model.specs.Queue.{call_reply, entry, queued, queued_entries, IsPrefixOf};
 ghost use Rattle.gateway_theory.specs.Replies.{joined_reply, replies};
 
 use crate::request_laws::request_laws;
@@ -115,4 +117,34 @@ pub fn event_law()
 pub fn whole_law()
     ensures { (plans : List PlanRecord) (opened : List ℕ) (events : List Event) (occurred : List Placed)
         → Occurs plans opened events occurred → (conn : ℕ) → is_broken conn (marked (occurrences occurred)) ≡ false }
+{}
+
+/// What is queued for a connection, which of its branches are out, how its results are seen and what starts for it are by what is
+/// visible to it: moments, the drain, and what names it.
+pub fn own_law()
+    ensures queue { (conn : ℕ) (occurred : List Occurrence)
+        → queued_entries conn (marked occurred) ≡ queued_entries conn (marked (own conn occurred)) }
+    ensures entries { (conn k : ℕ) (occurred : List Occurrence)
+        → entry (call_id conn k) (marked occurred) ≡ entry (call_id conn k) (marked (own conn occurred)) }
+    ensures outs { (conn k i : ℕ) (occurred : List Occurrence)
+        → is_out (call_id conn k) i (marked occurred) ≡ is_out (call_id conn k) i (marked (own conn occurred)) }
+    ensures seen { (conn k i : ℕ) (occurred : List Occurrence)
+        → how_seen (call_id conn k) i (marked occurred) ≡ how_seen (call_id conn k) i (marked (own conn occurred)) }
+    ensures starts { (conn : ℕ) (occurred : List Occurrence)
+        → filter (is_of conn) (jobs (marked occurred)) ≡ filter (is_of conn) (jobs (marked (own conn occurred))) }
+    ensures starting { (conn : ℕ) (o : Occurrence) (before : List Occurrence) → is_visible conn o ≡ true
+        → jobs_by o (mark_of (marked before) o) (marked before) ≡ jobs_by o (mark_of (marked (own conn before)) o) (marked (own conn before)) }
+{}
+
+/// For a connection that did not break it is as if none had. Of one that broke, what is queued and
+/// what starts begin what were queued and would start if none had.
+pub fn breaks_law()
+    ensures unbroken { (conn : ℕ) (occurred : List Occurrence) → is_broken conn (marked occurred) ≡ false
+        → queued_entries conn (marked occurred) ≡ queued_entries conn (marked (without_breaks occurred)) }
+    ensures starts { (conn : ℕ) (occurred : List Occurrence) → is_broken conn (marked occurred) ≡ false
+        → filter (is_of conn) (jobs (marked occurred)) ≡ filter (is_of conn) (jobs (marked (without_breaks occurred))) }
+    ensures prefix { (conn : ℕ) (occurred : List Occurrence)
+        → IsPrefixOf (queued_entries conn (marked occurred)) (queued_entries conn (marked (without_breaks occurred))) }
+    ensures first_starts { (conn : ℕ) (occurred : List Occurrence)
+        → IsPrefixOf (filter (is_of conn) (jobs (marked occurred))) (filter (is_of conn) (jobs (marked (without_breaks occurred)))) }
 {}
