@@ -75,5 +75,6 @@ pub mod OpenCount
 pub mod LaterOpenings
 pub mod NotedLemmas
 pub mod Knowing
+pub mod Beginning
 pub mod Telling
 pub mod OneAtATime

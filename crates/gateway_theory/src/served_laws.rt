@@ -8,11 +8,12 @@ ghost use Rattle.gateway_model.specs.Events.{Occurs, onto};
 ghost use Rattle.gateway_model.specs.declared.event.Event.{Event};
 ghost use Rattle.gateway_theory.specs.Gateway.{GatewayValue, kept_record, outs_of, shown, untaken_of};
 ghost use Rattle.gateway_model.specs.Job.{JobValue};
-ghost use Rattle.gateway_model.specs.Known.{IsKnown, is_whole};
+ghost use Rattle.gateway_model.specs.Known.{IsKnown, Shown, is_whole};
 ghost use Rattle.gateway_theory.specs.Conn.{ConnValue};
 ghost use Rattle.gateway_theory.specs.Breaking.{BrokeNow};
 ghost use Rattle.gateway_model.specs.Past.{ArrivedCall, call, marked};
-ghost use Rattle.gateway_model.specs.Queue.{IsPrefixOf, front};
+ghost use Rattle.gateway_model.specs.Queue.{IsPrefixOf, front, queued, queued_entries};
+ghost use Rattle.gateway_model.specs.Run.{bytes_of};
 ghost use Rattle.gateway_model.specs.CallRecord.{CallRecord};
 ghost use Rattle.gateway_model.specs.Record.{is_decided, is_lawful};
 ghost use Rattle.gateway_theory.specs.Served.{JobsAre, QueueIs, Served, ServedUpTo};
@@ -70,6 +71,14 @@ pub fn calls_law()
 pub fn known_law()
     ensures { (v : GatewayValue) (h : History) (occurred : List Placed) → Served v h → Occurs v.plans h.opened h.events occurred
         → IsKnown (shown v) h (occurrences occurred) }
+{}
+
+/// What was taken of an open connection begins what is queued for it by all that occurred, also if it broke.
+pub fn begins_law()
+    ensures taken { (s : Shown) (h : History) (os : List Occurrence) → IsKnown s h os → (c : ℕ) → s.is_open c ≡ true
+        → IsPrefixOf (h.taken c) (queued_entries c (marked os)) }
+    ensures bytes { (s : Shown) (h : History) (os : List Occurrence) → IsKnown s h os → (c : ℕ) → s.is_open c ≡ true
+        → IsPrefixOf (bytes_of (h.taken c)) (queued c (marked os)) }
 {}
 
 /// A connection that breaks at an event, whose jobs that started at it are these: what is queued for it, and what has started, is by

@@ -97,7 +97,7 @@ jobs_newer place newer before js e =
     again [] = refl
     again (x ∷ xs) = ap (λ ys. x ∷ ys) (again xs)
 
-entries_later : (c : ℕ) (since older : List Occurrence) → IsPrefixOf (queued_entries c (marked older)) (queued_entries c (marked (since ++ older)))
+pub entries_later : (c : ℕ) (since older : List Occurrence) → IsPrefixOf (queued_entries c (marked older)) (queued_entries c (marked (since ++ older)))
 entries_later c [] older = prefix-refl (queued_entries c (marked older))
 entries_later c (o ∷ since) older =
     prefix-trans (queued_entries c (marked older)) (queued_entries c (marked (since ++ older))) (queued_entries c (marked (o ∷ (since ++ older)))) (entries_later c since older)

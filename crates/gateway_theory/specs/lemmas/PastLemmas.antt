@@ -53,10 +53,10 @@ prefix-trans xs ys zs p q = (p.0 ++ q.0, rw (q.1, p.1) (append_assoc xs p.0 q.0)
 pub prefix-refl : {A : Type 0} (xs : List A) → IsPrefixOf xs xs
 prefix-refl xs = ([], sym (append-nil xs))
 
-prefix-map : {A B : Type 0} (f : A → B) (xs ys : List A) → IsPrefixOf xs ys → IsPrefixOf (map f xs) (map f ys)
+pub prefix-map : {A B : Type 0} (f : A → B) (xs ys : List A) → IsPrefixOf xs ys → IsPrefixOf (map f xs) (map f ys)
 prefix-map f xs ys p = (map f p.0, rw p.1 (map-append f xs p.0))
 
-prefix-flat_map : {A B : Type 0} (f : A → List B) (xs ys : List A) → IsPrefixOf xs ys → IsPrefixOf (flat_map f xs) (flat_map f ys)
+pub prefix-flat_map : {A B : Type 0} (f : A → List B) (xs ys : List A) → IsPrefixOf xs ys → IsPrefixOf (flat_map f xs) (flat_map f ys)
 prefix-flat_map f xs ys p = (flat_map f p.0, rw p.1 (flat_map-append f xs p.0))
 
 front_cons : {A : Type 0} (g : ℕ → Option A) (k : ℕ) (o : Option A) (xs ys : List (Option A))
