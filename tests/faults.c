@@ -1,14 +1,16 @@
 /* Lets one call of a program fail. It is preloaded (LD_PRELOAD), and reads the variable FAULT: "CALL N HOW".
  *
- * CALL is `allocate` (malloc and realloc), `read` or `write`, of a file, `receive` or `send`, of a stream, `accept`, `connect`
- * or `wait` (poll). The Nth such call that the program itself makes fails so:
+ * CALL is `allocate` (malloc and realloc), `read` or `write`, of a file, `receive` or `send`, of a stream, `accept`, `connect`,
+ * `wait` (epoll_wait), `watch` (epoll_ctl), `waker` (epoll_create1 and eventfd), `option` (setsockopt), `end` (shutdown) or
+ * `look-up` (getaddrinfo). The Nth such call that the program itself makes fails so:
  *
  *   refused      there is no memory (of `allocate`)
  *   failed       an input or output fault
  *   reset        the peer has reset the stream
- *   short        one byte is moved, where more was asked for
+ *   short        one byte is moved, where more was asked for; that more can be received is told anew
  *   interrupted  a signal came before anything was moved
- *   hasty        it waits for nothing, where it would wait for a limited time (each such `receive` or `wait`, whatever N)
+ *   lasting      an input or output fault, and so does each such call of the same thread from then on
+ *   hasty        it does not wait, and tells of nothing (each other `wait`, whatever N)
  *
  * As it fails, a byte is written to the descriptor that the variable FAULT_TOLD names, if it is set. Calls that libraries
  * make are left alone, so that N does not depend on them. It is for glibc alone. */
@@ -16,13 +18,14 @@
 #include <dlfcn.h>
 #include <errno.h>
 #include <link.h>
-#include <poll.h>
+#include <netdb.h>
 #include <stdio.h>
 #include <stdlib.h>
 #include <string.h>
+#include <sys/epoll.h>
+#include <sys/eventfd.h>
 #include <sys/socket.h>
 #include <sys/syscall.h>
-#include <sys/time.h>
 #include <unistd.h>
 
 extern void *__libc_malloc(size_t size);
@@ -32,6 +35,9 @@ static char call[16], how[16];
 static long countdown = -1;
 static int told = -1;
 static char *code_start, *code_end;
+
+/* Whether the calls of this thread fail from now on. */
+static __thread int lasts;
 
 /* The program itself is the first that is listed. */
 static int note_program(struct dl_phdr_info *info, size_t size, void *data) {
@@ -58,9 +64,13 @@ static int fails(const char *name, void *caller) {
     if (countdown < 0 || (char *)caller < code_start || code_end <= (char *)caller || strcmp(name, call) != 0) {
         return 0;
     }
+    if (lasts) {
+        return 1;
+    }
     if (__atomic_sub_fetch(&countdown, 1, __ATOMIC_SEQ_CST) != 0) {
         return 0;
     }
+    lasts = strcmp(how, "lasting") == 0;
     if (told >= 0) {
         syscall(SYS_write, told, "!", 1);
     }
@@ -70,8 +80,6 @@ static int fails(const char *name, void *caller) {
 #define FAILS(name) fails(name, __builtin_return_address(0))
 
 static int is(const char *word) { return strcmp(how, word) == 0; }
-
-static int is_hasty(const char *name) { return is("hasty") && strcmp(name, call) == 0; }
 
 /* Sets the fault of a call that moves nothing. */
 static int faulty(void) {
@@ -112,18 +120,24 @@ ssize_t read(int file, void *to, size_t most) {
     MOVE("read", most, NEXT(ssize_t, "read", int, void *, size_t)(file, to, most));
 }
 
-/* Whether a stream's reads wait for a limited time. */
-static int is_timed(int file) {
-    struct timeval time = {0};
-    socklen_t length = sizeof time;
-    return getsockopt(file, SOL_SOCKET, SO_RCVTIMEO, &time, &length) == 0 && (time.tv_sec || time.tv_usec);
+/* By its descriptor, how a socket is watched. */
+static struct { int poll; struct epoll_event event; } watched[65536];
+
+static int control(int poll, int how, int file, struct epoll_event *event) {
+    return NEXT(int, "epoll_ctl", int, int, int, struct epoll_event *)(poll, how, file, event);
+}
+
+/* To who reads less than there is, the rest must look as if it came later. */
+static ssize_t told_anew(int file, int is_short, ssize_t count) {
+    if (is_short && 0 <= file && file < 65536 && watched[file].poll) {
+        control(watched[file].poll, EPOLL_CTL_MOD, file, &watched[file].event);
+    }
+    return count;
 }
 
 ssize_t recv(int file, void *to, size_t most, int flags) {
-    if (is_hasty("receive") && is_timed(file)) {
-        flags |= MSG_DONTWAIT;
-    }
-    MOVE("receive", most, NEXT(ssize_t, "recv", int, void *, size_t, int)(file, to, most, flags));
+    size_t all = most;
+    MOVE("receive", most, told_anew(file, most < all, NEXT(ssize_t, "recv", int, void *, size_t, int)(file, to, most, flags)));
 }
 
 ssize_t write(int file, const void *from, size_t most) {
@@ -142,12 +156,43 @@ int connect(int file, const struct sockaddr *to, socklen_t length) {
     return FAILS("connect") ? faulty() : NEXT(int, "connect", int, const struct sockaddr *, socklen_t)(file, to, length);
 }
 
-int poll(struct pollfd *files, nfds_t count, int most) {
-    int hasty = is_hasty("wait") && most > 0;
-    int ready = FAILS("wait") ? faulty() : NEXT(int, "poll", struct pollfd *, nfds_t, int)(files, count, hasty ? 0 : most);
-    if (hasty && ready == 0) {
-        errno = ETIMEDOUT;
-        return -1;
+int setsockopt(int file, int level, int name, const void *value, socklen_t length) {
+    return FAILS("option") ? faulty() : NEXT(int, "setsockopt", int, int, int, const void *, socklen_t)(file, level, name, value, length);
+}
+
+int shutdown(int file, int side) {
+    return FAILS("end") ? faulty() : NEXT(int, "shutdown", int, int)(file, side);
+}
+
+int epoll_create1(int flags) {
+    return FAILS("waker") ? faulty() : NEXT(int, "epoll_create1", int)(flags);
+}
+
+int eventfd(unsigned int count, int flags) {
+    return FAILS("waker") ? faulty() : NEXT(int, "eventfd", unsigned int, int)(count, flags);
+}
+
+int epoll_ctl(int poll, int how, int file, struct epoll_event *event) {
+    if (FAILS("watch")) {
+        return faulty();
     }
-    return ready;
+    if (event && 0 <= file && file < 65536) {
+        watched[file].poll = poll;
+        watched[file].event = *event;
+    }
+    return control(poll, how, file, event);
+}
+
+int epoll_wait(int poll, struct epoll_event *events, int most, int time) {
+    static __thread unsigned count;
+    if (is("hasty") && strcmp("wait", call) == 0 && ++count % 2 == 0) {
+        return 0;
+    }
+    return FAILS("wait") ? faulty() : NEXT(int, "epoll_wait", int, struct epoll_event *, int, int)(poll, events, most, time);
+}
+
+int getaddrinfo(const char *host, const char *service, const struct addrinfo *wanted, struct addrinfo **found) {
+    return FAILS("look-up") ? EAI_AGAIN
+                            : NEXT(int, "getaddrinfo", const char *, const char *, const struct addrinfo *, struct addrinfo **)(
+                                  host, service, wanted, found);
 }

@@ -6,13 +6,17 @@ import contextlib
 import json
 import os
 import signal
+import socket
 import subprocess
 import sys
 import tempfile
 import time
 
 import program
-from program_room import DONE, IO, Wrong, call, client, end_of, expect, full_listener, listener, plan, read_to, reply
+from program_room import (
+    DONE, IO, MEMORY, WAIT, Wrong, at_once, call, client, end_of, expect, free_ports, listener, plan, read_to, reply,
+    serve_words,
+)
 
 HERE = os.path.dirname(os.path.abspath(__file__))
 
@@ -37,19 +41,23 @@ def variables(what, number, how, told):
 LIBRARY = []
 
 
-def each(what, how, run, judge):
-    """Lets the first such call fail, the second and so on, until none did. RUN makes a run, and JUDGE looks at what came
-    of it, and whether a call did fail."""
-    for number in range(1, 100):
-        with tempfile.TemporaryFile() as told:
-            os.set_inheritable(told.fileno(), True)
-            found = run(variables(what, number, how, told.fileno()), [told.fileno()])
-            told.seek(0)
-            met = told.read() != b""
-            judge(f"{what} {number} {how}", met, *found)
-            if not met:
-                expect(f"whether there is a {what}", number > 1, True)
-                return
+def try_one(what, number, how, run, judge):
+    """Lets this call fail. RUN makes a run, and JUDGE looks at what came of it, and whether the call did fail. Returns that."""
+    with tempfile.TemporaryFile() as told:
+        os.set_inheritable(told.fileno(), True)
+        found = run(variables(what, number, how, told.fileno()), [told.fileno()])
+        told.seek(0)
+        met = told.read() != b""
+    judge(f"{what} {number} {how}", met, *found)
+    return met
+
+
+def each(what, how, run, judge, first=1):
+    """Lets the first such call fail, the second and so on, until none did."""
+    for number in range(first, 100):
+        if not try_one(what, number, how, run, judge):
+            expect(f"whether there is a {what}", number > first, True)
+            return
     raise Wrong(f"more than 99 {what}s")
 
 
@@ -154,21 +162,26 @@ class Backend:
         os.waitpid(self.pid, 0)
 
 
-def serve_each(room, what, how, judge):
+def ask_three(port):
+    """Makes a call on each of three streams, one after another, and returns what came back for them."""
+    found = []
+    for _stream in range(3):
+        with contextlib.suppress(ConnectionError), client(port) as stream:
+            found.append(ask(stream))
+    return found
+
+
+def serve_each(room, what, how, judge, first=1, name=b"127.0.0.1"):
     """Serves three streams, one after another, with each such call failing. JUDGE looks at what came back for their
     calls. The gateway then ends by itself."""
     with Backend() as backend:
-        plans = plan([backend.port], 1, timeout=5000)
+        plans = plan([backend.port], 1, timeout=5000).replace(b"127.0.0.1", name)
 
         def run(env, files):
             started, port = room.serve(plans, streams=3, variables=env, pass_fds=files)
-            found = []
-            for _stream in range(3):
-                with contextlib.suppress(ConnectionError), client(port) as stream:
-                    found.append(ask(stream))
-            return found, end_of(started)[0]
+            return ask_three(port), end_of(started)[0]
 
-        each(what, how, run, judge)
+        each(what, how, run, judge, first)
 
 
 def all_answered(name, _met, found, end):
@@ -182,28 +195,20 @@ def case_serve_short(room):
         serve_each(room, what, "short", all_answered)
 
 
-def case_serve_looks_often(room):
-    """serve: a call without a deadline waits for a silent backend, however often its thread looks for the reply"""
-    with listener() as backend:
-        plans = plan([backend.getsockname()[1]], 1)
-        _run, port = room.serve(plans, variables={"LD_PRELOAD": LIBRARY[0], "FAULT": "receive 0 hasty"})
+def case_serve_hasty(room):
+    """serve: waits that tell of nothing change nothing"""
+    with Backend() as backend, listener() as silent:
+        other = json.loads(plan([silent.getsockname()[1]], 1))[0]
+        plans = [*json.loads(plan([backend.port], 1)), {**other, "path": "/silent"}]
+        env = {"LD_PRELOAD": LIBRARY[0], "FAULT": "wait 0 hasty"}
+        run, port = room.serve(json.dumps(plans).encode(), streams=4, variables=env)
         with client(port) as stream:
-            call(stream)
-            with backend.accept()[0] as asked:
-                # it looks a hundred thousand times a second
-                time.sleep(10)
+            call(stream, path="/silent")
+            with silent.accept()[0] as asked:
+                expect("what others get meanwhile", ask_three(port), [ANSWER] * 3)
                 asked.sendall(reply("1"))
                 expect("the reply", read_to(stream, len(ANSWER)), ANSWER)
-
-
-def case_serve_tries_often(room):
-    """serve: a call without a deadline ends where its backend takes no connection, however often that is tried"""
-    with full_listener() as full:
-        plans = plan([full.getsockname()[1]], 1)
-        _run, port = room.serve(plans, variables={"LD_PRELOAD": LIBRARY[0], "FAULT": "wait 0 hasty"})
-        with client(port) as stream:
-            call(stream)
-            expect("the status", read_to(stream, 12), b"HTTP/1.1 503")
+    room.ends("the gateway", run, DONE)
 
 
 def is_apart(found):
@@ -214,16 +219,143 @@ def is_apart(found):
     return len(found) == 3 and len(others) <= 1 and lost
 
 
+def judge_apart(name, met, found, end):
+    expect(f"{name}: {found}", is_apart(found) if met else found == [ANSWER] * 3, True)
+    expect(f"{name}: the gateway's end", end, DONE)
+
+
 def case_serve_fails(room):
     """serve: each read, write and connect failing concerns one stream, and the others are served"""
-
-    def judge(name, met, found, end):
-        expect(f"{name}: {found}", is_apart(found) if met else found == [ANSWER] * 3, True)
-        expect(f"{name}: the gateway's end", end, DONE)
-
     for how in ("failed", "reset"):
         for what in ("receive", "send", "connect"):
-            serve_each(room, what, how, judge)
+            serve_each(room, what, how, judge_apart)
+
+
+def judge_cut(name, met, found, end):
+    """The same where a stream may be cut before its request is read."""
+    judge_apart(name, met, [one.removesuffix(b" (reset)") for one in found], end)
+
+
+def case_serve_option_fails(room):
+    """serve: each socket whose option can't be set, or whose sending side can't be ended, concerns one stream"""
+    for what in ("option", "end"):
+        serve_each(room, what, "failed", judge_cut, starts_with(room, what))
+
+
+def case_serve_look_up_fails(room):
+    """serve: each look-up that fails concerns one stream, and the others are served"""
+    serve_each(room, "look-up", "failed", judge_apart, name=b"localhost")
+
+
+def case_serve_wait_fails(room):
+    """serve: a wait or an accept that fails is made again"""
+    for what in ("wait", "accept"):
+        serve_each(room, what, "failed", all_answered)
+
+
+def starts_with(room, what):
+    """The number of the first such call that the gateway does not make before it listens."""
+    for number in range(1, 100):
+        with tempfile.TemporaryFile() as told:
+            os.set_inheritable(told.fileno(), True)
+            env = variables(what, number, "failed", told.fileno())
+            run, port = room.serve(b"[]", streams=3, variables=env, pass_fds=[told.fileno()])
+            listens_or_ends(run, port)
+            time.sleep(0.1)
+            told.seek(0)
+            if not told.read():
+                run.kill()
+                return number
+            end = end_of(run)[0]
+            expect(f"{what} {number} failed: the gateway's end", end, IO)
+    raise Wrong(f"more than 99 {what}s")
+
+
+def listens(port):
+    """Whether somebody listens at the port, who does not notice that this looks for it."""
+    with open("/proc/net/tcp", encoding="ascii") as file:
+        fields = [line.split() for line in file]
+    return any(found[1].endswith(f":{port:04X}") and found[3] == "0A" for found in fields)
+
+
+def listens_or_ends(run, port):
+    """Waits until the gateway listens, or has ended."""
+    end = time.monotonic() + WAIT
+    while run.poll() is None and not listens(port):
+        expect("whether it does either", time.monotonic() < end, True)
+        time.sleep(0.01)
+
+
+def ask_while_it_serves(run, port):
+    """The same as `ask_three` of a gateway that may end by itself, also before it listens."""
+    listens_or_ends(run, port)
+    found = []
+    while len(found) < 3 and run.poll() is None:
+        with contextlib.suppress(ConnectionError), socket.create_connection(("127.0.0.1", port), WAIT) as stream:
+            found.append(ask(stream))
+    return found
+
+
+def case_serve_memory(room):
+    """serve: memory that is refused at the start ends the program, and later concerns one stream"""
+    with Backend() as backend:
+        file = room.file("plans", plan([backend.port], 1, timeout=5000))
+        ends, ports = [], free_ports(4)
+
+        def run(port, env, files):
+            started = room.start(serve_words(port, file, streams=3), variables=env, pass_fds=files)
+            return ask_while_it_serves(started, port), end_of(started)[0]
+
+        def judge(name, met, found, end):
+            ends.append(end)
+            if end == MEMORY:
+                expect(f"{name}: {found}", (met, found), (True, []))
+            else:
+                judge_cut(name, met, found, end)
+
+        def try_some(first):
+            for number in range(first + 1, 2_000, 4):
+                if not try_one("allocate", number, "refused", lambda *how: run(ports[first], *how), judge):
+                    return
+            raise Wrong("more than 2,000 allocations")
+
+        at_once(4, try_some)
+        expect("how it ended", set(ends), {MEMORY, DONE})
+
+
+def case_serve_no_sockets_to_wait_for(room):
+    """serve: at the start each refused means to wait ends the program, and each refused watch too; later one concerns one stream"""
+    starts_with(room, "waker")
+    serve_each(room, "watch", "failed", judge_cut, starts_with(room, "watch"))
+
+
+def case_serve_loop_ends(room):
+    """serve: a loop that can't wait any more closes its streams, and others serve on; where none is left the program ends"""
+    with Backend() as backend:
+        plans = plan([backend.port], 1, timeout=5000)
+        ended = set()
+
+        def run(env, files, workers):
+            started, port = room.serve(plans, workers, variables=env, pass_fds=files, streams=3)
+            return ask_while_it_serves(started, port), end_of(started)[0]
+
+        def judge_one(name, met, found, end):
+            """If main's own wait fails, it accepts all the same; else no loop is left."""
+            ended.add(end[0])
+            if end == IO:
+                cut = [one.removesuffix(b" (reset)") for one in found]
+                expect(f"{name}: {found}", all(ANSWER.startswith(one) for one in cut), True)
+            else:
+                all_answered(name, met, found, end)
+
+        for number in (1, 2, 3, 4):
+            try_one("wait", number, "lasting", lambda env, files: run(env, files, 2), judge_cut)
+        # whose wait it is, is chance
+        for number in range(1, 12):
+            try_one("wait", number, "lasting", lambda env, files: run(env, files, 1), judge_one)
+            if ended == {DONE[0], IO[0]}:
+                return
+        raise Wrong(f"with one loop it always ended by {ended}")
 
 
 # ---- signals

@@ -11,11 +11,12 @@ import tempfile
 
 import program_ends
 import program_log
+import program_loops
 import program_serve
 import program_waits
 from program_room import CASE_TIME, Room, Untried, Wrong
 
-MODULES = [program_ends, program_serve, program_waits, program_log]
+MODULES = [program_ends, program_serve, program_loops, program_waits, program_log]
 
 
 def late(_signal, _frame):

@@ -11,7 +11,7 @@ import time
 
 from program_room import (
     DONE, EMPTY_SCRIPT, HERE, IO, LONGEST, MEMORY, PLANS, SCRIPT, WAIT, WORDS, Wrong, answers, be_nobody, client,
-    end_of, expect, free_port, is_refused, limit_now, limit_threads_now, listener, plan, sees_end, serve_words, size_of,
+    end_of, expect, free_port, is_refused, limit_now, listener, plan, sees_end, serve_words, size_of,
 )
 
 # ---- the words
@@ -164,19 +164,13 @@ def case_no_crew(room):
     room.ends("the program", run, MEMORY)
 
 
-def case_no_thread(room):
-    """streams for which no thread can be started are closed, and count for nothing afterwards"""
-    run, port = room.serve(b"[]", streams=66, limit=be_nobody)
-    with client(port) as stream:
-        answers("before", stream)
-    limit_threads_now(run, 0)
-    for _ in range(64):
-        with client(port) as stream:
-            sees_end("a stream without a thread", stream)
-    limit_threads_now(run, resource.getrlimit(resource.RLIMIT_NPROC)[0])
-    with client(port) as stream:
-        answers("afterwards", stream)
-    room.ends("the program", run, DONE)
+def case_no_sockets_to_wait_for(room):
+    """descriptors that don't suffice for the loops at the beginning"""
+    for descriptors in range(8, 20):
+        most = (descriptors, descriptors)
+        run, port = room.serve(b"[]", workers=8, limit=lambda: resource.setrlimit(resource.RLIMIT_NOFILE, most))
+        room.ends(f"with {descriptors} descriptors", run, IO)
+        expect("whether nobody listens", is_refused(port), True)
 
 
 # ---- want of memory

@@ -5,7 +5,7 @@ import threading
 import time
 
 from program_room import (
-    Backend, LONG_BODY, STRAY, WAIT, answers, call, client, expect, listener, plan, read_reply, reply, request,
+    Backend, NOT_FOUND, STRAY, WAIT, answers, call, client, expect, listener, plan, read_reply, read_to, reply,
 )
 
 
@@ -17,7 +17,7 @@ def told(lines):
 
 def brief(line):
     """What a line tells, without the times."""
-    return tuple(line[key] for key in ("connection", "request", "path", "status", "code", "ended", "branch"))
+    return tuple(line[key] for key in ("worker", "connection", "request", "path", "status", "code", "ended", "branch"))
 
 
 def case_log_of_each_end(room):
@@ -49,15 +49,16 @@ def case_log_of_each_end(room):
         said += run.communicate(timeout=WAIT)[1]
     replies, _ = told(said)
     expect("the lines", [brief(line) for line in replies], [
-        (0, 0, "/call", 200, None, "answers", None),
-        (0, 1, "/call", 503, "unavailable", "branch", "b0"),
-        (0, 2, "/call", 504, "deadline_exceeded", "deadline", None),
-        (0, 3, None, 404, None, "no call", None),
-        (0, 4, None, 411, None, "refusal", None),
-        (1, 0, "/call", 499, "canceled", "hang-up", None),
+        (0, 0, 0, "/call", 200, None, "answers", None),
+        (0, 0, 1, "/call", 503, "unavailable", "branch", "b0"),
+        (0, 0, 2, "/call", 504, "deadline_exceeded", "deadline", None),
+        (0, 0, 3, None, 404, None, "no call", None),
+        (0, 0, 4, None, 411, None, "refusal", None),
+        (0, 1, 0, "/call", 499, "canceled", "hang-up", None),
     ])
     took = [line["ms"] for line in replies]
-    expect(f"the milliseconds {took}", (took[0] >= 300, took[2] >= 100, took[3:5]), (True, True, [None, None]))
+    bounds = 299 <= took[0] < 1000 * WAIT, 99 <= took[2] < 1000 * WAIT, took[3:5]
+    expect(f"the milliseconds {took}", bounds, (True, True, [None, None]))
     expect("the times", all(began - 1 < line["time"] / 1000 < time.time() + 1 for line in replies), True)
     expect("the status", run.returncode, 0)
 
@@ -89,8 +90,11 @@ def case_log_adds_up(room):
         found[line["status"]] = found.get(line["status"], 0) + 1
     expect("how many of each status", found, counted)
     expect("how many", sum(found.values()), 2000)
-    expect("who was answered", {(line["connection"], line["request"]) for line in replies},
-           {(conn, request) for conn in range(40) for request in range(50)})
+    # each worker counts its connections by itself
+    who = {(line["worker"], line["connection"]) for line in replies}
+    expect("how many connections", len(who), 40)
+    expect("who was answered", {(line["worker"], line["connection"], line["request"]) for line in replies},
+           {(*one, request) for one in who for request in range(50)})
 
 
 def case_log_that_fails(room):
@@ -115,19 +119,61 @@ def case_log_that_fails(room):
 
 
 def case_log_of_standing(room):
-    """each ten seconds a line tells how the gateway stands"""
+    """each ten seconds a line tells how the gateway stands, all of its loops"""
     with listener() as backend:
-        run, port = room.serve(plan([backend.getsockname()[1]] * 2, 2), streams=2, log=True)
-        with client(port) as stream, client(port):
+        run, port = room.serve(plan([backend.getsockname()[1]] * 3, 2), workers=2, streams=3, log=True)
+        with client(port) as stream, client(port), client(port) as third:
             answers("a request that is no call", stream)
-            call(stream, body=LONG_BODY)
-            asked = backend.accept()[0]
+            call(stream)
+            call(third)
+            asked = [backend.accept()[0] for _ in range(4)]
             with open(run.stderr.fileno(), "rb", closefd=False) as lines:
                 lines.readline()
                 standing = json.loads(lines.readline())
-            asked.close()
-            expect("the reply", read_reply(stream)[0], "503")
+            for one in asked:
+                one.close()
+            for each in (stream, third):
+                expect("the reply", read_reply(each)[0], "503")
     standing.pop("time")
     expect("how it stands", standing, {
-        "asking": 1, "connections": 2, "counted": 0, "late": 0, "lingering": 0, "unknown": 0, "waiting": 1})
+        "asking": 4, "connections": 3, "counted": 0, "dropped": 0, "late": 0, "lingering": 0, "unknown": 0, "waiting": 0})
     expect("the status", (run.communicate(timeout=WAIT), run.returncode)[1], 0)
+
+
+def ask_all(port, streams):
+    """Makes a hundred requests on each of so many streams, and sees their replies."""
+    for _ in range(streams):
+        with client(port) as stream:
+            stream.sendall(STRAY * 100)
+            wanted = NOT_FOUND * 99 + NOT_FOUND.replace(b"\r\n\r\n", b"\r\nConnection: close\r\n\r\n")
+            expect("their replies", read_to(stream, len(wanted)), wanted)
+
+
+def case_log_that_stalls(room):
+    """a log that nobody reads keeps nobody from his replies; what is left out of it is counted"""
+    run, port = room.serve(b"[]", workers=2, log=True)
+    # more than the system takes, and the gateway keeps
+    ask_all(port, 150)
+    count = 0
+    with open(run.stderr.fileno(), "rb", closefd=False) as lines:
+        while True:
+            line = json.loads(lines.readline())
+            if "asking" in line:
+                break
+            count += 1
+    expect(f"whether some were left out, of which {line['dropped']} are told", 0 < line["dropped"] < 15_000, True)
+    expect("how many there are with those that were left out", count + line["dropped"], 15_000)
+
+
+def case_log_of_the_end(room):
+    """the program's end waits for the lines that are left, but not for ever for a reader"""
+    run, port = room.serve(b"[]", streams=30, log=True)
+    ask_all(port, 29)
+    client(port).close()
+    expect("the status where nobody reads", run.wait(timeout=WAIT), 0)
+    run, port = room.serve(b"[]", streams=30, log=True)
+    ask_all(port, 29)
+    client(port).close()
+    replies, _ = told(run.communicate(timeout=WAIT)[1])
+    expect("how many lines there are", len(replies), 2_900)
+    expect("the status", run.returncode, 0)

@@ -1,6 +1,7 @@
 """What the cases of tests/program.py share: the room that a case has, and what it does to a program, a client and a backend."""
 import concurrent.futures
 import contextlib
+import ctypes
 import json
 import os
 import resource
@@ -113,13 +114,20 @@ def serve_words(port, plans, workers=1, streams=None):
     return words + (["--connections", str(streams)] if streams else [])
 
 
+def free_ports(count):
+    """So many ports at which nobody listens."""
+    with contextlib.ExitStack() as opened:
+        taken = [opened.enter_context(socket.socket()) for _ in range(count)]
+        for one in taken:
+            one.bind(("127.0.0.1", 0))
+        return [one.getsockname()[1] for one in taken]
+
+
 def free_port():
-    with socket.socket() as taken:
-        taken.bind(("127.0.0.1", 0))
-        return taken.getsockname()[1]
+    return free_ports(1)[0]
 
 
-# a body that the thread of a connection leaves to a worker
+# a body that takes more than one read
 LONG_BODY = json.dumps("x" * 5_000)
 
 
@@ -279,24 +287,15 @@ class Backend:
 
 
 class Echo(Backend):
-    """A backend that answers each request by its body, after a while, and counts how many it is asked at once."""
+    """A backend that answers each request by its body, after a while."""
 
-    def __init__(self, pause):
-        self.counting, self.asked, self.most = threading.Lock(), 0, 0
+    def __init__(self, pause=0.0):
         super().__init__("", pause)
-
-    def count(self, change):
-        with self.counting:
-            self.asked += change
-            self.most = max(self.most, self.asked)
 
     def answer_on(self, stream):
         with contextlib.suppress(OSError), stream:
-            self.count(1)
             body = read_message(stream)[1]
             time.sleep(self.pause)
-            # who reads the answer may ask anew at once
-            self.count(-1)
             stream.sendall(reply(body.decode()))
 
 
@@ -319,6 +318,17 @@ def stop_now(run):
     """Stops a program, and waits until all its threads stand: one that is not yet told could still read."""
     run.send_signal(signal.SIGSTOP)
     os.waitid(os.P_PID, run.pid, os.WSTOPPED)
+
+
+def mount(files):
+    """Has this process see other files at such paths, in a mount namespace of its own."""
+    libc = ctypes.CDLL(None)
+    new_mounts, recursive, private, bind = 0x20000, 0x4000, 0x40000, 0x1000
+    if libc.unshare(new_mounts) or libc.mount(b"none", b"/", None, recursive | private, None):
+        raise OSError("no namespace")
+    for seen, path in files:
+        if libc.mount(seen.encode(), path.encode(), None, bind, None):
+            raise OSError(f"no {path}")
 
 
 def be_nobody():
@@ -345,16 +355,6 @@ def limit_threads_now(run, most):
         os._exit(1)
     if os.waitpid(child, 0)[1]:
         raise Untried("the limit of threads can't be set")
-
-
-def threads_of_nobody():
-    """How many threads run as nobody."""
-    count = 0
-    for process in os.listdir("/proc"):
-        with contextlib.suppress(OSError):
-            if process.isdigit() and os.stat(f"/proc/{process}").st_uid == NOBODY:
-                count += len(os.listdir(f"/proc/{process}/task"))
-    return count
 
 
 def waits_of(run):

@@ -1,5 +1,6 @@
 """Cases of tests/program.py: clients, backends and those who ask them."""
 import contextlib
+import itertools
 import json
 import select
 import socket
@@ -7,17 +8,17 @@ import struct
 import time
 
 from program_room import (
-    Backend, DONE, Echo, LONG_BODY, NOT_FOUND, STRAY, Trickle, answers, at_once, call, client, expect, is_quiet,
-    is_refused, listener, plan, read_message, read_reply, read_to, reply, request, sees_end, size_of,
+    Backend, DONE, Echo, LONG_BODY, NOT_FOUND, STRAY, Trickle, WAIT, answers, at_once, call, client, expect, is_quiet,
+    is_refused, listener, plan, read_message, read_reply, read_to, reply, sees_end, size_of,
 )
 
 
-def case_workers(room):
-    """workers ask as many backends at the same time as there are workers"""
+def case_branches_at_once(room):
+    """a call's branches are asked at the same time, up to its plan's limit, by one worker"""
     with listener() as backend:
-        run, port = room.serve(plan([backend.getsockname()[1]] * 4, 4), workers=3, streams=1)
+        run, port = room.serve(plan([backend.getsockname()[1]] * 4, 3), streams=1)
         with client(port) as stream:
-            call(stream, body=LONG_BODY)
+            call(stream)
             asked = [backend.accept()[0] for _ in range(3)]
             expect("whether a fourth is asked", comes_to(backend), False)
             for at in range(4):
@@ -35,25 +36,21 @@ def comes_to(backend):
     return bool(select.select([backend], [], [], 0.3)[0])
 
 
-def case_places(room):
-    """connections' own threads ask for as many calls at the same time as there are workers, each call's branches at once"""
-    with listener() as backend, contextlib.ExitStack() as ends:
-        run, port = room.serve(plan([backend.getsockname()[1]] * 3, 3), workers=2, streams=3)
-        streams = [ends.enter_context(client(port)) for _ in range(3)]
-        for stream in streams:
+def case_four_answers(room):
+    """four backends with four answers: each stands in its place, in whatever order they come"""
+    with contextlib.ExitStack() as opened:
+        backends = [opened.enter_context(listener()) for _ in range(4)]
+        run, port = room.serve(plan([one.getsockname()[1] for one in backends], 4), streams=1)
+        stream = opened.enter_context(client(port))
+        for number, order in enumerate(itertools.permutations(range(4))):
             call(stream)
-            time.sleep(0.05)
-        asked = [backend.accept()[0] for _ in range(6)]
-        expect("whether a third call's backends are asked", comes_to(backend), False)
-        for at in range(9):
-            with asked[at] as one:
-                one.sendall(reply("1"))
-            # a place that is free is a worker's, since jobs wait
-            if at in (2, 5, 6):
-                asked.append(backend.accept()[0])
-        wanted = reply('{"b0":1,"b1":1,"b2":1}')
-        for stream in streams:
-            expect("the answer", read_to(stream, len(wanted)), wanted)
+            asked = [opened.enter_context(backend.accept()[0]) for backend in backends]
+            for at in order:
+                read_message(asked[at])
+                asked[at].sendall(reply(json.dumps([number, at])))
+            wanted = ",".join(f'"b{at}":[{number}, {at}]' for at in range(4))
+            expect(f"the answer by the order {order}", read_reply(stream), ("200", b"{%s}" % wanted.encode()))
+        stream.close()
     room.ends("the program", run, DONE)
 
 
@@ -103,25 +100,24 @@ def case_rude_clients(room):
     room.ends("the program", run, DONE)
 
 
-def case_spent_threads(room):
-    """the memory of threads comes back while others are served"""
-    # or each thread would be given much that it does not use
-    run, port = room.serve(b"[]", streams=61, variables={"GLIBC_TUNABLES": "glibc.malloc.arena_max=1"})
+def case_spent_connections(room):
+    """the memory of connections comes back while others are served"""
+    run, port = room.serve(b"[]", streams=1_001)
     with client(port) as stays:
         answers("who stays", stays)
         before = size_of(run)
-        for _ in range(60):
+        for _ in range(1_000):
             with client(port) as stream:
                 answers("one of many", stream)
                 stream.shutdown(socket.SHUT_WR)
                 sees_end("one of many", stream)
         grown = size_of(run) - before
-        expect(f"whether it has kept little of 60 threads, {grown} bytes", grown < 200_000_000, True)
+        expect(f"whether it has kept little of a thousand, {grown} bytes", grown < 4_000_000, True)
     room.ends("the program", run, DONE)
 
 
 def case_deadline(room):
-    """a call that waits for a worker ends at its deadline"""
+    """a call ends at its deadline beside one that goes on waiting for the same backend"""
     with listener() as backend:
         run, port = room.serve(plan([backend.getsockname()[1]], 1), streams=2)
         with client(port) as busy, client(port) as stream:
@@ -133,7 +129,7 @@ def case_deadline(room):
 
 
 def case_branch_deadline(room):
-    """a silent backend ends its call by the time of its branch, and its worker asks the next one"""
+    """a silent backend ends its call by the time of its branch, and the next call is answered"""
     with listener() as silent, Backend("1") as backend:
         branches = [("first", backend.port, {}), ("hotel", silent.getsockname()[1], {"timeout_ms": 50})]
         made = [{"name": name, "address": f"127.0.0.1:{port}", "path": "/ask", **time} for name, port, time in branches]
@@ -151,58 +147,48 @@ def case_branch_deadline(room):
                     line = b"POST /ask HTTP/1.1\r\n"
                     expect("what the silent one was asked", read_to(asked, len(line)), line)
                     call(stream)
-                    expect("what its worker asked next", read_reply(stream), ("200", b'{"b0":1}'))
+                    expect("the next call", read_reply(stream), ("200", b'{"b0":1}'))
         expect(f"whether none came early, {min(took):.4f} seconds", min(took) > 0.048, True)
         expect(f"whether one came within a second, {min(took):.4f} seconds", min(took) < 1, True)
     room.ends("the program", run, DONE)
 
 
-def hangs_up_among_64(room, port, backend, body):
-    """Lets one of 64 streams hang up while its call waits: a 65th is served. Returns the backend's stream."""
+def hangs_up_among_64(room, plans, backend, body):
+    """Lets one of 64 streams hang up while its call waits: a 65th is served, and the backend sees that nobody waits."""
+    _run, port = room.serve(plans)
     with contextlib.ExitStack() as opened:
         for _ in range(63):
             answers("one of 63", opened.enter_context(client(port)))
         with client(port) as stream:
             call(stream, body=body)
-            asked = backend.accept()[0]
+            asked = opened.enter_context(backend.accept()[0])
             read_message(asked)
             with client(port) as one_more:
                 sees_end("a 65th beside them", one_more)
-        end = time.monotonic() + 5
+        sees_end("the silent backend", asked)
+        end = time.monotonic() + WAIT
         while True:
             with client(port) as one_more:
                 one_more.sendall(STRAY)
-                came = read_to(one_more, len(NOT_FOUND))
-            if came == NOT_FOUND:
-                return asked
+                if read_to(one_more, len(NOT_FOUND)) == NOT_FOUND:
+                    break
             expect("whether there is no room for long", time.monotonic() < end, True)
-            time.sleep(0.02)
 
 
 def case_hang_up(room):
-    """a client that hangs up while its thread waits for a silent backend makes room, and the backend is given up"""
+    """a client that hangs up while its backend is silent makes room, and the backend is given up"""
     with listener() as backend:
-        _run, port = room.serve(plan([backend.getsockname()[1]], 1), workers=2)
-        with hangs_up_among_64(room, port, backend, "{}") as asked:
-            sees_end("the silent backend", asked)
-
-
-def case_hang_up_beside_a_worker(room):
-    """a client that hangs up while a worker waits for its silent backend makes room, and the worker stays"""
-    with listener() as backend:
-        _run, port = room.serve(plan([backend.getsockname()[1]], 1), workers=2)
-        with hangs_up_among_64(room, port, backend, LONG_BODY) as asked:
-            expect("whether it still waits for the backend", is_quiet(asked), True)
+        plans = plan([backend.getsockname()[1]], 1)
+        for body in ("{}", LONG_BODY):
+            hangs_up_among_64(room, plans, backend, body)
 
 
 def case_named_backend(room):
-    """a backend whose address is a name is left to a worker, since the name must be looked up"""
+    """a backend whose address is a name is asked, and given up where nobody waits for it any more"""
     with listener() as backend:
         for name in (b"localhost", b"127.1"):
             named = plan([backend.getsockname()[1]], 1).replace(b"127.0.0.1", name)
-            _run, port = room.serve(named, workers=2)
-            with hangs_up_among_64(room, port, backend, "{}") as asked:
-                expect("whether it still waits for the backend", is_quiet(asked), True)
+            hangs_up_among_64(room, named, backend, "{}")
 
 
 def case_request_meanwhile(room):
@@ -263,21 +249,6 @@ def case_silent_to_its_deadline(room):
     room.ends("the program", run, DONE)
 
 
-def case_changing_pace(room):
-    """the answers of a backend are right while it is slow, and when it is quick again"""
-    with Backend("1", pause=0.06) as backend:
-        run, port = room.serve(plan([backend.port], 1), workers=2, streams=1)
-        with client(port) as stream:
-            for pause in (0.06, 0.001, 0.06, 0.001):
-                backend.pause = pause
-                for _ in range(15):
-                    call(stream)
-                    expect("a reply", read_reply(stream), ("200", b'{"b0":1}'))
-                # until it no longer counts as slow
-                time.sleep(1.1)
-    room.ends("the program", run, DONE)
-
-
 def case_reply_in_pieces(room):
     """a long reply that comes in pieces, with pauses, is joined byte for byte"""
     body = json.dumps("".join(f"{number:05}" for number in range(12_000)))
@@ -291,7 +262,7 @@ def case_reply_in_pieces(room):
 
 
 def case_asked_at_once(room):
-    """no more threads ask at once than there are workers, each for at most two branches, and each of many answers is right"""
+    """each of many answers is right, of calls that run at the same time, with short bodies and long ones"""
     def ask(port, number):
         with client(port) as stream:
             for each in range(50):
@@ -303,5 +274,4 @@ def case_asked_at_once(room):
     with Echo(pause=0.002) as backend:
         run, port = room.serve(plan([backend.port] * 3, 2), workers=4, streams=16)
         at_once(16, lambda number: ask(port, number))
-        expect(f"whether so many were asked at once, {backend.most}", 1 < backend.most <= 2 * 4, True)
     room.ends("the program", run, DONE)

@@ -1,6 +1,5 @@
 """Cases of tests/program.py: what waits for how long, and for whom."""
 import contextlib
-import ctypes
 import json
 import os
 import resource
@@ -13,8 +12,8 @@ import time
 
 from program_room import (
     Backend, DONE, LONG_BODY, NOT_FOUND, STRAY, Trickle, Untried, WAIT, Wrong, answers, be_nobody, call, client, expect,
-    full_listener, is_quiet, limit_now, limit_threads_now, listener, plan, processor_time_of, read_message, read_reply,
-    read_to, reply, request, sees_end, size_of, stop_now, threads_of_nobody, waits_of,
+    full_listener, is_quiet, limit_now, limit_threads_now, listener, mount, plan, processor_time_of, read_message, read_reply,
+    read_to, reply, request, sees_end, size_of, stop_now, waits_of,
 )
 
 
@@ -41,7 +40,7 @@ def case_trickle(room):
 
 
 def case_unread_replies(room):
-    """clients that do not read their replies take no worker's place from the calls of others"""
+    """clients that do not read their replies keep no backend from the calls of others"""
     with Backend(json.dumps("x" * 60_000)) as large, listener() as backend, contextlib.ExitStack() as opened:
         long = json.loads(plan([large.port] * 8, 8))[0]
         plans = [*json.loads(plan([backend.getsockname()[1]] * 4, 4)), {**long, "path": "/long"}]
@@ -60,8 +59,8 @@ def case_unread_replies(room):
         expect("another's reply", read_reply(stream)[0], "200")
 
 
-def case_one_door(room):
-    """a hang-up is noticed where another waits at the connection's door, which is opened all the time for a busy client"""
+def case_hang_up_beside_busy_clients(room):
+    """a hang-up is noticed though other clients of the same loop are busy all the time"""
     def be_busy(port, stop):
         while not stop.is_set():
             with client(port) as stream:
@@ -73,34 +72,21 @@ def case_one_door(room):
     with listener() as silent, Backend("1") as backend, contextlib.ExitStack() as opened:
         other = json.loads(plan([backend.port], 1))[0]
         plans = [*json.loads(plan([silent.getsockname()[1]], 1)), {**other, "path": "/other"}]
-        _run, port = room.serve(json.dumps(plans).encode(), workers=4)
-        streams = []
-        for number in range(65):
-            with contextlib.ExitStack() as short:
-                # whose numbers differ by 64
-                stream = (opened if number % 64 == 0 else short).enter_context(client(port))
-                answers("a stream", stream)
-            streams.append(stream)
-        for stream in (streams[0], streams[64]):
-            call(stream, body=LONG_BODY)
-            opened.enter_context(silent.accept()[0])
-        busy = threading.Thread(target=be_busy, args=(port, stop))
-        busy.start()
+        _run, port = room.serve(json.dumps(plans).encode())
+        stream = opened.enter_context(client(port))
+        call(stream)
+        opened.enter_context(silent.accept()[0])
+        busy = [threading.Thread(target=be_busy, args=(port, stop)) for _ in range(3)]
+        for one in busy:
+            one.start()
         time.sleep(0.2)
-        streams[0].shutdown(socket.SHUT_WR)
+        stream.shutdown(socket.SHUT_WR)
         try:
-            expect("the hang-up", bool(select.select([streams[0]], [], [], 5)[0]), True)
+            expect("the hang-up", read_reply(stream)[0], "499")
         finally:
             stop.set()
-            busy.join()
-
-
-def index_of(port):
-    """The index at which the gateway keeps how quick the backend at this port was."""
-    number = 0
-    for byte in f"127.0.0.1:{port}".encode():
-        number = number * 31 + byte
-    return number % 64
+            for one in busy:
+                one.join()
 
 
 def case_unreachable_to_its_deadline(room):
@@ -158,16 +144,6 @@ def case_three_unreachable(room):
     expect(f"whether it came soon, {took:.3f} seconds", took < 1.8, True)
 
 
-def see_hosts(path):
-    """Has this process see these hosts, in a mount namespace of its own."""
-    libc = ctypes.CDLL(None)
-    new_mounts, recursive, private, bind = 0x20000, 0x4000, 0x40000, 0x1000
-    if libc.unshare(new_mounts) or libc.mount(b"none", b"/", None, recursive | private, None):
-        raise OSError("no namespace")
-    if libc.mount(path.encode(), b"/etc/hosts", None, bind, None):
-        raise OSError("no hosts")
-
-
 def case_name_of_two_addresses(room):
     """the second address of a name is asked too, where the first takes no connection"""
     with full_listener() as full, socket.create_server(("127.0.0.2", full.getsockname()[1])) as backend:
@@ -175,7 +151,7 @@ def case_name_of_two_addresses(room):
         hosts = room.file("hosts", b"127.0.0.1 both\n127.0.0.2 both\n")
         plans = plan([full.getsockname()[1]], 1, timeout=1_000).replace(b"127.0.0.1", b"both")
         try:
-            _run, port = room.serve(plans, workers=2, limit=lambda: see_hosts(hosts))
+            _run, port = room.serve(plans, workers=2, limit=lambda: mount([(hosts, "/etc/hosts")]))
         except subprocess.SubprocessError:
             raise Untried("it can't have hosts of its own") from None
         with client(port) as stream:
@@ -203,44 +179,6 @@ def case_no_standard_streams(room):
             expect("whether the other gets nothing else", is_quiet(other), True)
 
 
-def case_two_at_one_index(room):
-    """a backend that takes no connection is not taken for a near one that the gateway keeps at the same index"""
-    backend = Backend("1")
-    with full_listener(lambda port: index_of(port) == index_of(backend.port)) as full:
-        silent = json.loads(plan([full.getsockname()[1]], 1))[0]
-        plans = [{**silent, "path": "/full"}, *json.loads(plan([backend.port], 1))]
-        _run, port = room.serve(json.dumps(plans).encode(), workers=4)
-        with client(port) as stream:
-            for _ in range(5):
-                call(stream)
-                expect("the reply", read_reply(stream), ("200", b'{"b0":1}'))
-            call(stream, path="/full")
-            time.sleep(0.1)
-            stream.shutdown(socket.SHUT_WR)
-            expect("a hang-up", read_reply(stream)[0], "499")
-            sees_end("the stream", stream)
-
-
-def case_waited(room):
-    """a worker waits for a job that waited for it no longer than up to the job's deadline"""
-    with listener() as silent, Backend("1") as backend:
-        slow = json.loads(plan([silent.getsockname()[1]], 1, timeout=2000))[0]
-        plans = [{**slow, "path": "/slow"}, *json.loads(plan([backend.port], 1))]
-        run, port = room.serve(json.dumps(plans).encode(), streams=5)
-        with contextlib.ExitStack() as opened:
-            began = time.monotonic()
-            for _ in range(4):
-                # each takes the worker shortly before its deadline
-                call(opened.enter_context(client(port)), path="/slow")
-                time.sleep(0.1)
-            stream = opened.enter_context(client(port))
-            call(stream)
-            expect("the reply", read_reply(stream), ("200", b'{"b0":1}'))
-            took = time.monotonic() - began
-        expect(f"whether the worker was free in time, after {took:.2f} seconds", took < 3.9, True)
-    room.ends("the program", run, DONE)
-
-
 def case_whole_time(room):
     """a call that comes while nothing else happens has its whole time"""
     with listener() as backend:
@@ -250,31 +188,28 @@ def case_whole_time(room):
                 time.sleep(0.25)
                 began = time.monotonic()
                 call(stream)
-                # its deadline ends it, or its worker, which waits no longer than that either
-                expect("the status", read_to(stream, 12) in (b"HTTP/1.1 504", b"HTTP/1.1 503"), True)
+                expect("the status", read_to(stream, 12), b"HTTP/1.1 504")
                 took = time.monotonic() - began
                 rest = b""
                 while not rest.endswith(b"}"):
                     rest += read_to(stream, 1)
-                expect(f"whether it came at its time, after {took:.3f} seconds", 0.4 < took < WAIT, True)
+                expect(f"whether it came at its time, after {took:.3f} seconds", 0.598 < took < WAIT, True)
                 backend.accept()[0].close()
     room.ends("the program", run, DONE)
 
 
-def case_one_thread(room):
-    """a stream takes one thread: where just one more can be had, it is served whole, with a call to a backend"""
+def case_no_thread(room):
+    """streams and calls take no thread: where none can be had any more, they are served"""
     with Backend("1") as backend:
-        run, port = room.serve(plan([backend.port], 1), streams=2, limit=be_nobody)
+        run, port = room.serve(plan([backend.port], 1), streams=3, limit=be_nobody)
         with client(port) as stream:
             answers("before", stream)
-            stream.shutdown(socket.SHUT_WR)
-            sees_end("the stream before", stream)
-        time.sleep(0.2)
-        limit_threads_now(run, threads_of_nobody() + 1)
-        with client(port) as stream:
-            answers("a request", stream)
-            call(stream)
-            expect("a call", read_reply(stream), ("200", b'{"b0":1}'))
+            limit_threads_now(run, 0)
+            for one in (stream, client(port), client(port)):
+                with one:
+                    answers("a request", one)
+                    call(one)
+                    expect("a call", read_reply(one), ("200", b'{"b0":1}'))
     room.ends("the program", run, DONE)
 
 
@@ -284,7 +219,7 @@ def case_no_descriptor(room):
         run, port = room.serve(plan([backend.getsockname()[1]], 1), workers=2, streams=3)
         with client(port) as stream:
             answers("before", stream)
-            # one for the accept that waits, and one for a worker
+            # one for a backend, and one for another stream
             most = max(int(name) for name in os.listdir(f"/proc/{run.pid}/fd"))
             limit_now(run, resource.RLIMIT_NOFILE, most + 3)
             call(stream)
@@ -365,7 +300,7 @@ def case_deadlines(room):
 
 
 def case_one_client(room):
-    """one client's calls wake those threads that have something to do, beside 64 workers"""
+    """one client's calls wake no thread but that of its loop, beside 64 workers"""
     calls = 5_000
     with Backend("1") as backend:
         run, port = room.serve(plan([backend.port], 1), workers=64, streams=calls // 100)
@@ -380,7 +315,7 @@ def case_one_client(room):
                     call(stream)
                     expect("a reply", read_reply(stream), ("200", b'{"b0":1}'))
                 woken = (waits_of(run) - waits) / 99
-                expect(f"whether few threads slept in a call, {woken:.1f}", woken < 14, True)
+                expect(f"whether it slept seldom in a call, {woken:.1f} times", woken < 4, True)
                 waits = waits_of(run)
                 stream.shutdown(socket.SHUT_WR)
                 sees_end("it", stream)

@@ -108,10 +108,10 @@ text_or_null text = option_map_or string text null
 abbrev pub number_or_null : Option ℕ → Data
 number_or_null n = option_map_or (λ n. number (unsigned n)) n null
 
--- The document of a reply that was written at that time, in milliseconds from 1970, and at that moment of the gateway's. The keys
--- are in byte order.
-abbrev pub log_document : ℕ → ℕ → CallId → ReplyEntry → Data
-log_document time moment id entry =
+-- The document of a reply that a worker wrote at that time, in milliseconds from 1970, and at that moment of the gateway's. The
+-- keys are in byte order.
+abbrev pub log_document : ℕ → ℕ → ℕ → CallId → ReplyEntry → Data
+log_document time moment worker id entry =
     object (
     member (codes "branch") (text_or_null (branch_told entry)) (
     member (codes "code") (text_or_null (option_map code_name (code_told entry))) (
@@ -121,8 +121,9 @@ log_document time moment id entry =
     member (codes "path") (text_or_null (path_told entry)) (
     member (codes "request") (number (unsigned id.request)) (
     member (codes "status") (number (unsigned (status_told entry))) (
-    member (codes "time") (number (unsigned time)) no_members)))))))))
+    member (codes "time") (number (unsigned time)) (
+    member (codes "worker") (number (unsigned worker)) no_members))))))))))
 
 -- the line: the document as compact JSON, with no LF
-unfoldable pub log_line : ℕ → ℕ → CallId → ReplyEntry → List ℕ
-log_line time moment id entry = compact_text (log_document time moment id entry)
+unfoldable pub log_line : ℕ → ℕ → ℕ → CallId → ReplyEntry → List ℕ
+log_line time moment worker id entry = compact_text (log_document time moment worker id entry)

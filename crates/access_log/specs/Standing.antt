@@ -11,11 +11,12 @@ standing_document time s =
     member (codes "asking") (number (unsigned s.asking)) (
     member (codes "connections") (number (unsigned s.connections)) (
     member (codes "counted") (number (unsigned s.tally.counted)) (
+    member (codes "dropped") (number (unsigned s.dropped)) (
     member (codes "late") (number (unsigned s.tally.late)) (
     member (codes "lingering") (number (unsigned s.lingering)) (
     member (codes "time") (number (unsigned time)) (
     member (codes "unknown") (number (unsigned s.tally.unknown)) (
-    member (codes "waiting") (number (unsigned s.waiting)) no_members))))))))
+    member (codes "waiting") (number (unsigned s.waiting)) no_members)))))))))
 
 -- the line: the document as compact JSON, with no LF
 unfoldable pub standing_line : ℕ → Standing → List ℕ

@@ -9,29 +9,31 @@ use serde_json::{Value, json};
 use std::alloc::{AllocError, Global};
 
 /// The line for a reply by its entry: an object in JSON, with no LF. `time` is when it was written, in milliseconds from 1970, and
-/// `moment` the same in the milliseconds in which the calls' arrivals are told.
+/// `moment` the same in the milliseconds in which the calls' arrivals are told. Each worker counts its connections by itself.
 #[tactic(auto, unfolding(crate::specs::Line::log_line))]
 pub fn log_line(
     alloc: Global,
     time: u64,
     moment: u64,
+    worker: u32,
     id: CallId,
     entry: &ReplyEntry,
 ) -> Result<String, AllocError>
-    ensures text { IfOk result (λ line. string_bytes line ≡ log_line time moment id entry.now) }
-    ensures reads_back { IfOk result (λ line. read (string_bytes line) ≡ Some (log_document time moment id entry.now)) }
+    ensures text { IfOk result (λ line. string_bytes line ≡ log_line time moment worker id entry.now) }
+    ensures reads_back { IfOk result (λ line. read (string_bytes line) ≡ Some (log_document time moment worker id entry.now)) }
 {
-    document(alloc, time, moment, id, entry)?.to_string(alloc)
+    document(alloc, time, moment, worker, id, entry)?.to_string(alloc)
 }
 
 fn document(
     alloc: Global,
     time: u64,
     moment: u64,
+    worker: u32,
     id: CallId,
     entry: &ReplyEntry,
 ) -> Result<Value, AllocError>
-    ensures { IfOk result (λ value. view value ≡ log_document time moment id entry.now) }
+    ensures { IfOk result (λ value. view value ≡ log_document time moment worker id entry.now) }
 {
     let branch = text_or_null(alloc, told::branch(entry))?;
     let code = text_or_null(alloc, told::code_name(entry))?;
@@ -46,7 +48,8 @@ fn document(
         "path": path,
         "request": id.request,
         "status": told::status(entry),
-        "time": time
+        "time": time,
+        "worker": worker
     })
 }
 

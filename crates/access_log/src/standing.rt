@@ -14,10 +14,12 @@ pub struct Standing {
     pub connections: u64,
     /// The streams that linger behind their last reply.
     pub lingering: u64,
-    /// The workers that ask a backend.
+    /// The backends that are asked.
     pub asking: u64,
-    /// The jobs that wait for a worker.
+    /// The branches that wait for a place to ask from.
     pub waiting: u64,
+    /// The lines of the log that were left out so far.
+    pub dropped: u64,
     /// How the results of branches were seen so far.
     pub tally: Tally,
 }
@@ -38,6 +40,7 @@ fn document(alloc: Global, time: u64, standing: &Standing) -> Result<Value, Allo
         "asking": standing.asking,
         "connections": standing.connections,
         "counted": standing.tally.counted,
+        "dropped": standing.dropped,
         "late": standing.tally.late,
         "lingering": standing.lingering,
         "time": time,

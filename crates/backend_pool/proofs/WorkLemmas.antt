@@ -5,7 +5,7 @@ use Rattle.std.proofs.lemmas.Grind.{common_steps}
 use Rattle.std.specs.List.{AllZip}
 use Rattle.connect_codec.specs.declared.answer.Outcome.{Outcome}
 use Rattle.gateway_theory.specs.Task.{HandedJob}
-use Rattle.backend_pool.specs.declared.asked.Asked.{Asked}
+use Rattle.branch_exchange.specs.declared.asked.Asked.{Asked}
 use Rattle.backend_pool.specs.Work.{Told, WorksAt, NextTells, RecordTells, IsOutcomeOf, desk_record}
 
 pub AllZip_more : {A B : Type 0} (R : A → B → Type 0) (xs : List A) (ys : List B) (x : A) (y : B) → AllZip R xs ys → R x y → AllZip R (xs ++ x ∷ []) (ys ++ y ∷ [])

@@ -2,19 +2,13 @@
 use Rattle.std.specs.Prelude.{◌≡◌, ℕ, ◌≤◌, ⊤, Bool, true, false, List, [], ◌∷◌, ◌++◌, length, Option, Some, None, Result, Ok, Err, MatchBool}
 use Rattle.std.specs.List.{AllZip}
 use Rattle.connect_codec.specs.declared.answer.Outcome.{Outcome}
-use Rattle.connect_codec.specs.Outcome.{outcome_of}
 use Rattle.gateway_theory.specs.Task.{HandedJob}
-use Rattle.backend_pool.specs.declared.asked.Asked.{Asked}
-use Rattle.backend_pool.specs.declared.asked.Asked.TheVariants.{Reply, Lost, NoMemory}
+use Rattle.branch_exchange.specs.Outcomes.{outcome_of_asked}
+use Rattle.branch_exchange.specs.declared.asked.Asked.{Asked}
+use Rattle.branch_exchange.specs.declared.asked.Asked.TheVariants.{Lost}
 use Rattle.backend_pool.specs.declared.desk_record.DeskRecord.{DeskRecord}
 
 -- ---- what is recorded of a job
-
--- the outcome that an answer comes to; for want of memory there is none
-abbrev pub outcome_of_asked : Asked → Option Outcome
-outcome_of_asked (Reply reply) = Some (outcome_of (Some reply))
-outcome_of_asked Lost = Some (outcome_of None)
-outcome_of_asked NoMemory = None
 
 -- the answer is one that the backend gives for the job; a job that is not wanted is not asked, and counts as lost
 abbrev pub ComesOf : (HandedJob → Asked → Type 0) → HandedJob → Asked → Type 0

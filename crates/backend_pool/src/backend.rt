@@ -1,7 +1,7 @@
 ghost use Rattle.gateway_theory.specs.Task.{HandedJob};
-ghost use Rattle.backend_pool.specs.declared.asked.Asked.{Asked};
+ghost use Rattle.branch_exchange.specs.declared.asked.Asked.{Asked};
 
-use crate::asked::Asked;
+use branch_exchange::Asked;
 use gateway_core::Job;
 use std::net::Net;
 use std::time::Clock;

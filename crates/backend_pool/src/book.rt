@@ -1,14 +1,14 @@
 ghost use Rattle.gateway_model.specs.Known.{IsKnown, is_whole};
 ghost use Rattle.gateway_theory.specs.Told.{TellsTook};
 ghost use Rattle.gateway_theory.specs.Serving.{CountsCalls, Keeps, KeepsBut};
-ghost use Rattle.gateway_theory.specs.Gateway.{conn_count, deadline_ahead, ends_calls, is_ended, is_idle_conn, is_open_conn, jobs_of, kept_record, next_reply, open_count, outs_of, shown, untaken_of, with_jobs};
-ghost use Rattle.std.specs.Prelude.{◌≡◌, ◌==◌, ◌+◌, ◌<◌, ◌≤◌, ◌^◌, ◌∷◌, ◌++◌, [], Err, IfErr, IfOk, IfSome, IsTrue, List, MatchResult, None, OnErr, OnOk, Some, false, true, length, option_map, option_to_list, ℕ, ◌↔◌, ◌⊎◌, slice_get};
+ghost use Rattle.gateway_theory.specs.Gateway.{conn_count, is_ended, is_open_conn, jobs_of, kept_record, next_reply, open_count, outs_of, shown, untaken_of, with_jobs};
+ghost use Rattle.std.specs.Prelude.{◌≡◌, ◌==◌, ◌+◌, ◌<◌, ◌≤◌, ◌^◌, ◌∷◌, ◌++◌, [], Err, IfErr, IfOk, IfSome, List, MatchResult, None, OnErr, OnOk, Some, false, true, length, option_map, option_to_list};
 ghost use Rattle.gateway_model.specs.declared.id.CallId.{CallId};
 ghost use Rattle.connect_codec.specs.declared.answer.Outcome.{Outcome as Outcomes};
 ghost use Rattle.gateway_model.specs.CallRecord.{CallRecord};
 ghost use Rattle.gateway_model.specs.Events.{Occurs, most_open};
 ghost use Rattle.gateway_model.specs.declared.event.Event.TheVariants.{BranchResult, Closing, Drain, HangUp, Moment, Piece};
-ghost use Rattle.gateway_model.specs.Past.{ArrivedCall, call, is_due, marked};
+ghost use Rattle.gateway_model.specs.Past.{ArrivedCall, call, marked};
 ghost use Rattle.gateway_model.specs.Record.{is_decided, is_lawful};
 ghost use Rattle.gateway_theory.specs.Refused.{RefusesOpening};
 ghost use Rattle.gateway_theory.specs.Served.{Served};
@@ -313,51 +313,6 @@ impl<H: ReplyHook + Drop, L: Ledger, J: Ledger, K: Ledger> Book<H, L, J, K> {
             → IsKnown (shown self.now.core) h (occurrences occurred) }
     {
         known_law();
-    }
-
-    /// How many jobs wait to be taken.
-    pub fn waiting_jobs(&self) -> usize
-        ensures { result ≡ length (jobs_of self.now.core) }
-    {
-        self.core.waiting_jobs()
-    }
-
-    /// The job that is to be taken next, if one waits.
-    pub fn next_job(&self) -> Option<&Job>
-        ensures { option_map (λ job. job.now.job) result ≡ slice_get (jobs_of self.now.core) 0 }
-    {
-        self.core.next_job()
-    }
-
-    /// The least deadline of the undecided calls, and of their branches that are out: no moment before it ends a call.
-    pub fn next_deadline(&self) -> Option<u64>
-        ensures least { result ≡ deadline_ahead self.now.core }
-        // a moment ends a call exactly if it has reached this
-        ensures quiet { (moment : ℕ) → ends_calls moment self.now.core ≡ is_due moment result }
-    {
-        self.core.next_deadline()
-    }
-
-    /// Whether who writes the connection's replies has something to do: a reply can be taken, or none will come any more.
-    pub fn has_news(&self, conn: ConnId) -> bool
-        ensures { IsTrue result ↔ ((0 < length (untaken_of conn self.now.core)) ⊎ IsTrue (is_ended conn self.now.core)) }
-    {
-        0 < self.core.untaken(conn) || self.core.ended(conn)
-    }
-
-    /// Whether each request of the connection has its reply, so that none of its calls is undecided. True where there
-    /// is no such connection.
-    pub fn is_idle(&self, conn: ConnId) -> bool
-        ensures { result ≡ is_idle_conn conn self.now.core }
-    {
-        self.core.is_idle(conn)
-    }
-
-    /// Whether some branch may be asked or is: a job waits to be taken, or one that was taken has no result yet.
-    pub fn is_asking(&self) -> bool
-        ensures { IsTrue result ↔ ((self.now.results < self.now.jobs) ⊎ (0 < length (jobs_of self.now.core))) }
-    {
-        self.results.total() < self.jobs.total() || 0 < self.core.waiting_jobs()
     }
 
     /// How the results were seen. Their number is the total of results.

@@ -1,11 +1,12 @@
-ghost use Rattle.std.specs.Prelude.{◌≡◌, ◌+◌, ◌≤◌};
+ghost use Rattle.std.specs.Prelude.{◌≡◌, ◌+◌, ◌<◌, ◌≤◌, MatchResult, OnErr, OnOk};
+ghost use Rattle.backend_pool.specs.Book.{Records};
 ghost use Rattle.backend_pool.specs.Work.{uncounted};
 
 use crate::backend::Backend;
 use crate::desk::Desk;
 use crate::gate::Gate;
 use crate::ledger_full::LedgerFull;
-use crate::shared::Shared;
+use crate::shared::{Shared, State};
 use crate::shares::WorkerShares;
 use crate::working::work;
 use connect_codec::Outcome;
@@ -33,27 +34,51 @@ impl<H: ReplyHook + Drop, L: Ledger, J: Ledger, K: Ledger> Desk for LockDesk<'_,
     fn next<R: Clock + Wait>(&mut self, rt: &R) -> Option<Job> {
         let mut state = self.shared.state.lock(rt);
         for _ in rt.forever() {
-            if state.may_ask() {
-                let Ok(job) = state.book.take_job(&mut self.jobs) else {
-                    self.shared.pass_on(state);
-                    return None;
-                };
-                if job.is_some() || state.shut {
-                    self.shared.pass_on(state);
-                    return job;
-                }
+            let Ok(job) = state.book.take_job(&mut self.jobs) else {
+                return None;
+            };
+            if job.is_some() || state.shut {
+                return job;
             }
-            state = self.shared.wait_for_job(rt, state);
+            state = self.shared.jobs.wait(rt, state);
         }
         unreachable!()
     }
 
     fn record<R: Clock + Wait>(&mut self, rt: &R, job: &Job, outcome: Option<Outcome>) -> bool {
-        self.shared.tick(rt);
         let mut state = self.shared.state.lock(rt);
         let recorded = state.record(job, outcome, &mut self.results);
-        self.shared.let_go(state, job.call().conn);
+        self.shared.wake();
         recorded.is_ok()
+    }
+}
+
+impl<H: ReplyHook + Drop, L: Ledger, J: Ledger, K: Ledger> State<H, L, J, K> {
+    /// Records how a job's branch ended; None where no memory was found for that.
+    fn record(
+        &mut self,
+        job: &Job,
+        outcome: Option<Outcome>,
+        mine: &mut Share<K>,
+    ) -> Result<(), LedgerFull>
+        requires { 0 < mine.old.parts }
+        ensures stands { OnOk result (Records outcome job.now.job self.old.book self.new.book) }
+        ensures unchanged { OnErr result (self.new.book ≡ self.old.book) }
+        ensures parts { mine.new.parts ≡ mine.old.parts }
+        ensures counted { MatchResult result (λ _. mine.new.amount ≡ mine.old.amount + 1)
+            (λ _. mine.new.amount ≡ mine.old.amount) }
+    {
+        let call = job.call();
+        match outcome {
+            Some(outcome) => {
+                self.book.result(&call, job.branch(), outcome, mine)?;
+                Ok(())
+            }
+            None => {
+                self.book.starved(&call, job.branch(), mine)?;
+                Ok(())
+            }
+        }
     }
 }
 

@@ -1,23 +1,17 @@
-ghost use Rattle.std.specs.Prelude.{◌≡◌, ◌++◌, ℕ, List, None, IfOk};
+ghost use Rattle.std.specs.Prelude.{◌≡◌, [], true};
 ghost use Rattle.std.specs.Io.KnownBytes.{Appends};
 ghost use Rattle.http_pieces.specs.declared.reply.HttpReply.{HttpReply};
-ghost use Rattle.http_pieces.specs.ReplyReader.{HasReadReply};
-ghost use Rattle.backend_pool.specs.Exchange.{ReadsOn, ReadsReply, Sends, TakesIn};
+ghost use Rattle.branch_exchange.specs.declared.asked.Asked.{Asked};
+ghost use Rattle.backend_pool.specs.Exchange.{ReadsReply, SendsOn};
 
-use crate::asked::Asked;
-use http_pieces::laws::reply_cut_law;
-use http_pieces::{HttpReply, ReplyReader, ReplyState};
-use std::alloc::{AllocError, Global};
-use std::io::{ErrorKind, Read, Write};
+use branch_exchange::{Asked, Exchange, MOST_READS};
+use http_pieces::Bytes;
+use std::alloc::Global;
+use std::io::{Read, Write};
+use wires::PIECE;
 
-/// Reads that are made for one reply.
-pub(crate) const MOST_READS: u32 = 131_072;
-
-/// Bytes that are asked for at one read.
-const PIECE: usize = 4096;
-
-/// Writes the request, and reads one reply (RFC 9112). `Lost` where a write or a read fails, a write takes nothing, the
-/// input ends before the reply is whole, the reply is refused, or 131,072 reads left it incomplete.
+/// Writes the request, and reads one reply (RFC 9112), over ends that wait. `Lost` where a write or a read fails, a write
+/// takes nothing, the input ends before the reply is whole, the reply is refused, or 131,072 reads left it incomplete.
 pub fn exchange<R: Read, W: Write>(
     alloc: Global,
     reader: &mut R,
@@ -30,90 +24,37 @@ pub fn exchange<R: Read, W: Write>(
     ensures read { (reply : HttpReply) → result ≡ Asked.Reply reply
         → ReadsReply (R.remaining reader.old) (R.remaining reader.new) reply }
 {
-    if send(writer, request) {
-        read_reply(alloc, reader)
-    } else {
-        Asked::Lost
+    let Ok(request) = Bytes::from_slice(alloc, request) else {
+        return Asked::NoMemory;
+    };
+    let mut exchange = Exchange::new(alloc, request);
+    if !send(writer, &mut exchange) {
+        return Asked::Lost;
     }
-}
-
-/// Writes the text and answers true, or stops at the first write that fails or takes nothing.
-pub(crate) fn send<W: Write>(writer: &mut W, text: &[u8]) -> bool
-    ensures { Sends (W.contents writer.old) (W.contents writer.new) text.now result }
-{
-    let mut done = 0;
-    while done < text.len() {
-        match writer.write(&text[done..]) {
-            Ok(0) | Err(_) => return false,
-            Ok(taken) => done += taken,
-        }
-    }
-    true
-}
-
-/// Reads one reply.
-fn read_reply<R: Read>(alloc: Global, reader: &mut R) -> Asked
-    ensures { (reply : HttpReply) → result ≡ Asked.Reply reply
-        → ReadsReply (R.remaining reader.old) (R.remaining reader.new) reply }
-{
-    let mut replies = ReplyReader::new(alloc);
-    for _turn in 0..MOST_READS {
-        match read_once(reader, &mut replies) {
-            ReplyRead::More => {}
-            ReplyRead::Nothing => return Asked::Lost,
-            ReplyRead::Ended(asked) => return asked,
+    let mut piece = [0u8; PIECE];
+    for _read in 0..MOST_READS {
+        match reader.read(&mut piece) {
+            Ok(0) | Err(_) => return Asked::Lost,
+            Ok(count) => match exchange.received(&piece[..count]) {
+                Some(end) => return end.asked(),
+                None => {}
+            },
         }
     }
     Asked::Lost
 }
 
-/// What one read for a reply came to.
-#[derive(Drop)]
-pub(crate) enum ReplyRead {
-    /// Bytes came, and the reply is not whole.
-    More,
-    /// Nothing came up to the stream's timeout.
-    Nothing,
-    /// The reply is whole, or none will come.
-    Ended(Asked),
-}
-
-/// Reads once, of a reply that is not whole yet.
-pub(crate) fn read_once<R: Read>(reader: &mut R, replies: &mut ReplyReader) -> ReplyRead
-    // Whatever was read before: with what this read brings it is no whole reply yet, or begins with the one that is
-    // given.
-    ensures { (bytes : List ℕ) → HasReadReply replies.old bytes None
-        → ReadsOn (R.remaining reader.old) (R.remaining reader.new) bytes replies.new result }
+/// Writes all that is left of the request, and answers whether it could: not where a write fails or takes nothing.
+fn send<W: Write>(writer: &mut W, exchange: &mut Exchange) -> bool
+    ensures sent { SendsOn (W.contents writer.old) (W.contents writer.new) exchange.old.left exchange.new.left }
+    ensures whole { result ≡ true → exchange.new.left ≡ [] }
+    ensures replies { exchange.new.replies ≡ exchange.old.replies }
 {
-    let mut piece = [0u8; PIECE];
-    let count = match reader.read(&mut piece) {
-        Ok(0) => return ReplyRead::Ended(Asked::Lost),
-        Ok(count) => count,
-        Err(error) if is_timeout(error.kind()) => return ReplyRead::Nothing,
-        Err(_) => return ReplyRead::Ended(Asked::Lost),
-    };
-    match take_in(replies, &piece[..count]) {
-        Ok(Some(reply)) => ReplyRead::Ended(Asked::Reply(reply)),
-        Ok(None) if replies.state() == ReplyState::More => ReplyRead::More,
-        Ok(None) => ReplyRead::Ended(Asked::Lost),
-        Err(_) => ReplyRead::Ended(Asked::NoMemory),
+    while !exchange.is_sent() {
+        match writer.write(exchange.request().waiting()) {
+            Ok(0) | Err(_) => return false,
+            Ok(count) => exchange.sent(count),
+        }
     }
-}
-
-/// Whether a read failed only since nothing came in its time, or since a signal interrupted it.
-fn is_timeout(kind: ErrorKind) -> bool {
-    matches!(
-        kind,
-        ErrorKind::WouldBlock | ErrorKind::TimedOut | ErrorKind::Interrupted
-    )
-}
-
-/// Takes a piece of the input, and gives the reply once it is whole. What follows it is dropped.
-fn take_in(replies: &mut ReplyReader, piece: &[u8]) -> Result<Option<HttpReply>, AllocError>
-    ensures { (bytes : List ℕ) → HasReadReply replies.old bytes None
-        → IfOk result (λ reply. TakesIn replies.new (bytes ++ piece.now) reply) }
-{
-    reply_cut_law();
-    let _taken = replies.push(piece)?;
-    Ok(replies.take())
+    true
 }

@@ -1,11 +1,11 @@
 ghost use Rattle.std.specs.Prelude.{◌≡◌, ◌+◌, ◌≤◌, IfSome, IfOk, OnErr, Some};
-ghost use Rattle.backend_pool.specs.Work.{ComesOf, IsOutcomeOf, WorksAt, outcome_of_asked, unrecorded};
+ghost use Rattle.backend_pool.specs.Work.{ComesOf, IsOutcomeOf, WorksAt, unrecorded};
 
-use crate::asked::Asked;
 use crate::backend::Backend;
 use crate::desk::Desk;
 use crate::gate::Gate;
-use connect_codec::{Outcome, outcome};
+use branch_exchange::{Asked, outcome_of};
+use connect_codec::Outcome;
 use gateway_core::Job;
 use std::alloc::Global;
 use std::net::Net;
@@ -63,16 +63,5 @@ fn ask<R: Net + Clock, B: Backend>(rt: &R, job: &Job, backend: &B) -> Asked
         backend.ask(rt, job)
     } else {
         Asked::Lost
-    }
-}
-
-/// The outcome that an answer comes to, where memory is found for it.
-pub fn outcome_of(alloc: Global, asked: Asked) -> Option<Outcome>
-    ensures { IfSome result (λ outcome. outcome_of_asked asked ≡ Some outcome) }
-{
-    match asked {
-        Asked::Reply(reply) => outcome(alloc, Some(reply)).ok(),
-        Asked::Lost => outcome(alloc, None).ok(),
-        Asked::NoMemory => None,
     }
 }

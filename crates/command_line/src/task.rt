@@ -41,7 +41,7 @@ pub struct Service {
     pub listen: Text,
     /// The path of the plan file, as it was given.
     pub plans: Text,
-    /// How many threads ask backends: 1 to 64.
+    /// How many event loops serve: 1 to 64.
     pub workers: u32,
     /// How many streams are accepted before the program ends, 1 to 1,000,000; None where it goes on.
     pub connections: Option<u64>,

@@ -1,98 +1,92 @@
-ghost use Rattle.std.specs.Prelude.{◌≡◌, ◌<◌};
-
-use crate::clock::SinceStart;
-use crate::server::{Host, Server};
-use backend_pool::{RemoteBackend, WorkerShares, worker};
-use connections::clock_side;
-use std::alloc::AllocError;
+use crate::host::Host;
+use crate::log_lines::LogLines;
+use crate::log_writer::LogWriter;
+use crate::loop_side::LoopSide;
+use crate::looping::{Common, Looping};
+use crate::resolver::Resolver;
+use std::alloc::{AllocError, Global};
 use std::net::{Net, TcpListener, TcpStream};
 use std::sync::Arc;
-use std::sync::ledger::Ledger;
-use std::thread::{self, JoinHandle, Threads};
+use std::thread::{self, JoinHandle};
 
-/// Starts so many workers, the clock's thread, and with a log the thread that tells how the gateway stands. Those that started
-/// are in the crew, also where it fails. They end once the gateway is shut and the watch has ended.
-pub(crate) fn start_crew<
-    M: Host + Net<Listener = TcpListener, Stream = TcpStream>,
-    L: Ledger + Send + Sync + 'static,
-    J: Ledger + Send + Sync + 'static,
-    K: Ledger + Send + Sync + 'static,
->(
-    server: &Arc<Server<M, L, J, K>>,
-    workers: u32,
-    shares: WorkerShares<J, K>,
-    crew: &mut Vec<JoinHandle<()>>,
-) -> Result<(), AllocError>
-    requires { (workers < shares.jobs.parts) × (workers < shares.results.parts) }
-{
-    let WorkerShares {
-        mut jobs,
-        mut results,
-    } = shares;
-    for _worker in 0..workers {
-        let mine = WorkerShares {
-            jobs: jobs.split_off(1, 0),
-            results: results.split_off(1, 0),
-        };
-        crew.reserve(1)?;
-        crew.push_reserved(start_worker(server, mine)?);
+/// The threads beside main, but for those that look up names: they are left to the program's end.
+#[derive(Drop)]
+pub(crate) struct Crew {
+    // each answers whether all clients of its loop have gone
+    loops: Vec<JoinHandle<bool>>,
+    resolver: Arc<Resolver>,
+    writer: Option<(Arc<LogLines>, JoinHandle<()>)>,
+}
+
+impl Crew {
+    /// No threads yet.
+    pub(crate) fn new(alloc: Global, resolver: Arc<Resolver>) -> Crew {
+        Crew {
+            loops: Vec::new(alloc),
+            resolver,
+            writer: None,
+        }
     }
-    crew.reserve(1)?;
-    crew.push_reserved(start_clock(server)?);
-    if server.watch.has_log() {
-        crew.reserve(1)?;
-        crew.push_reserved(start_teller(server)?);
+
+    /// Starts a thread for each loop, one that writes the log, if there is one, and those that look up names, if there are any.
+    /// Those that started are in the crew, also where it fails.
+    pub(crate) fn start<M: Host + Net<Listener = TcpListener, Stream = TcpStream>>(
+        &mut self,
+        common: &Common<M>,
+        loopings: Vec<Looping<M>>,
+        sides: &[Arc<LoopSide>],
+        looks_up: bool,
+    ) -> Result<(), AllocError> {
+        if looks_up {
+            Resolver::start(common.rt, common.alloc, &common.resolver)?;
+        }
+        if let Some(lines) = &common.lines {
+            self.start_writer(common, lines, sides)?;
+        }
+        self.loops.reserve(loopings.len())?;
+        for looping in loopings {
+            let thread = thread::spawn(&common.rt, move || looping.run())?;
+            self.loops.push(thread)?;
+        }
+        Ok(())
     }
-    Ok(())
-}
 
-/// Starts a worker, which asks backends over TCP. Its shares are dropped as it ends: nobody asks for their sum.
-fn start_worker<
-    M: Host + Net<Listener = TcpListener, Stream = TcpStream>,
-    L: Ledger + Send + Sync + 'static,
-    J: Ledger + Send + Sync + 'static,
-    K: Ledger + Send + Sync + 'static,
->(server: &Arc<Server<M, L, J, K>>, mine: WorkerShares<J, K>) -> Result<JoinHandle<()>, AllocError>
-    requires { (mine.jobs.parts ≡ 1) × (mine.results.parts ≡ 1) }
-{
-    let of = Arc::try_clone(server)?;
-    let job = move ||
-        requires { (mine.jobs.parts ≡ 1) × (mine.results.parts ≡ 1) }
-    {
-        let backend = RemoteBackend::new(of.alloc, of.watch.start());
-        let _ = worker(&of.rt, of.alloc, &of.shared, &backend, &of.watch, mine);
-    };
-    Ok(thread::spawn(&server.rt, job)?)
-}
+    fn start_writer<M: Host>(
+        &mut self,
+        common: &Common<M>,
+        lines: &Arc<LogLines>,
+        sides: &[Arc<LoopSide>],
+    ) -> Result<(), AllocError> {
+        let mut told = Vec::new(common.alloc);
+        for side in sides {
+            told.push(Arc::try_clone(side)?)?;
+        }
+        let writer = LogWriter::new(common.alloc, Arc::try_clone(lines)?, told);
+        let rt = common.rt;
+        let lines = Arc::try_clone(lines)?;
+        let thread = thread::spawn(&common.rt, move || writer.run(&rt))?;
+        self.writer = Some((lines, thread));
+        Ok(())
+    }
 
-/// Starts the thread that hands the moments of the clock to the gateway.
-fn start_clock<
-    M: Host,
-    L: Ledger + Send + Sync + 'static,
-    J: Ledger + Send + Sync + 'static,
-    K: Ledger + Send + Sync + 'static,
->(server: &Arc<Server<M, L, J, K>>) -> Result<JoinHandle<()>, AllocError> {
-    let of = Arc::try_clone(server)?;
-    let mut clock = SinceStart::new(server.watch.start());
-    let job = move || clock_side(&of.rt, &mut clock, &of.shared);
-    Ok(thread::spawn(&server.rt, job)?)
-}
-
-/// Starts the thread that tells how the gateway stands.
-fn start_teller<
-    M: Host,
-    L: Ledger + Send + Sync + 'static,
-    J: Ledger + Send + Sync + 'static,
-    K: Ledger + Send + Sync + 'static,
->(server: &Arc<Server<M, L, J, K>>) -> Result<JoinHandle<()>, AllocError> {
-    let of = Arc::try_clone(server)?;
-    let job = move || of.watch.tell_standing(&of.rt, &of.shared);
-    Ok(thread::spawn(&server.rt, job)?)
-}
-
-/// Waits until all these threads have ended.
-pub(crate) fn join_all<R: Threads>(rt: &R, crew: Vec<JoinHandle<()>>) {
-    for thread in crew {
-        thread.join(rt);
+    /// Waits until all loops have ended, to which nobody deals any more, and then ends the other threads. Answers whether the
+    /// clients of one loop at least have all gone.
+    pub(crate) fn end<M: Host>(self, rt: &M) -> bool {
+        let Crew {
+            loops,
+            resolver,
+            writer,
+        } = self;
+        let mut are_gone = false;
+        for thread in loops {
+            are_gone |= thread.join(rt);
+        }
+        resolver.end(rt);
+        if let Some((lines, thread)) = writer
+            && lines.end(rt)
+        {
+            thread.join(rt);
+        }
+        are_gone
     }
 }

@@ -4,17 +4,25 @@
 #![tactic(auto)]
 
 mod check;
-mod client_stream;
 mod clock;
-mod connection;
 mod crew;
+mod dealer;
+mod host;
+mod inbox;
+mod log_lines;
+mod log_writer;
+mod loop_log;
+mod loop_side;
+mod looping;
+mod mio_network;
+mod plan_file;
+mod resolver;
 mod serve;
-mod server;
-mod watch;
+mod socket;
 
 use command_line::{Task, read_words, task_of};
+use host::Host;
 use script_replay::{Fault, replay};
-use server::Host;
 use std::fs::Files;
 use std::io::{self, Eprint};
 use std::net::{Net, TcpListener, TcpStream};

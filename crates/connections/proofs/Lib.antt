@@ -1,4 +1,3 @@
 mod TellLemmas
 mod PumpLemmas
-mod ProgressLemmas
 mod WriteLemmas

@@ -12,7 +12,7 @@ use Rattle.connections.specs.Told.{Tells}
 use Rattle.connections.specs.Pumps.{Pumps, Counts, IsRead, taken_of, ends_by, answered, joined}
 use Rattle.connections.proofs.TellLemmas.{Tells-refl, Tells-trans, Consumes-refl, Consumes-trans}
 
-pub none_of : {A : Type 0} (xs : List A) → length xs ≡ 0 → xs ≡ []
+none_of : {A : Type 0} (xs : List A) → length xs ≡ 0 → xs ≡ []
 none_of [] is = refl
 none_of (x ∷ xs) is = absurd (omega arith)
 
@@ -34,7 +34,7 @@ is_read_last [] [] one reads = absurd (omega arith)
 is_read_last [] (x ∷ []) one reads = subst IsRead (sym (joined-one x)) (All-head IsRead x [] reads)
 is_read_last [] (x ∷ y ∷ final) one reads = absurd (omega arith)
 
-pub count_of : (final : List (List ℕ)) (k n j : ℕ) → length final ≡ 0 → j ≡ k + n + length (taken_of (joined final) Go) → j ≡ k + n
+count_of : (final : List (List ℕ)) (k n j : ℕ) → length final ≡ 0 → j ≡ k + n + length (taken_of (joined final) Go) → j ≡ k + n
 count_of [] k n j none counted = omega arith
 count_of (x ∷ xs) k n j none counted = absurd (omega arith)
 

@@ -1,4 +1,3 @@
 pub mod Told
 pub mod Pumps
 pub mod Writes
-pub mod Progress

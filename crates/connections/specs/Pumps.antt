@@ -5,8 +5,6 @@ use Rattle.connections.specs.declared.inlet.Fed.{Fed}
 use Rattle.connections.specs.declared.inlet.Fed.TheVariants.{Go, Stop, Full}
 use Rattle.connections.specs.declared.inlet.Heard.{Heard}
 use Rattle.connections.specs.declared.inlet.Heard.TheVariants.{Piece, HangUp}
-use Rattle.connections.specs.declared.pumping.Came.{Came}
-use Rattle.connections.specs.declared.pumping.Came.TheVariants.{Piece as Came-piece, Nothing, End}
 use Rattle.connections.specs.Told.{Tells}
 
 -- the bytes of a piece that are taken
@@ -38,19 +36,6 @@ most_read = 4096
 
 abbrev pub IsRead : List ℕ → Type 0
 IsRead piece = (0 < length piece) × (length piece ≤ most_read)
-
--- What one read brought: one piece, which the inlet was given, or nothing.
-abbrev pub Brings : Option (List ℕ) → Option (List ℕ) → Option (List Heard) → Option (List Heard) → ℕ → ℕ → Came → Type 0
-Brings before after old new took takes (Came-piece fed) =
-    (piece : List ℕ) × IsRead piece × Consumes before after piece × Tells old new (Piece piece fed ∷ []) × (takes ≡ took + length (taken_of piece fed))
-Brings before after old new took takes Nothing = Consumes before after [] × (new ≡ old) × (takes ≡ took)
-Brings before after old new took takes End = Consumes before after [] × (new ≡ old) × (takes ≡ took)
-
--- what the inlet said to what came last
-abbrev pub fed_of : Came → Fed
-fed_of (Came-piece fed) = fed
-fed_of Nothing = Go
-fed_of End = Go
 
 -- how many pieces have this answer as the last: the reading goes on at `Go`
 abbrev pub ends_by : Fed → ℕ

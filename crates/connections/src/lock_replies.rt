@@ -19,7 +19,7 @@ impl<H: ReplyHook + Drop, L: Ledger, J: Ledger, K: Ledger> ReplyQueue
             match state.book.take_reply(self.conn) {
                 NextReply::Ready(reply) => return Some(reply),
                 NextReply::Over => return None,
-                NextReply::Pending => state = self.shared.wait_for_reply(rt, state, self.conn),
+                NextReply::Pending => state = self.shared.replies.wait(rt, state),
             }
         }
         unreachable!()
@@ -28,6 +28,6 @@ impl<H: ReplyHook + Drop, L: Ledger, J: Ledger, K: Ledger> ReplyQueue
     fn close<R: Wait>(&mut self, rt: &R) {
         let mut state = self.shared.state.lock(rt);
         state.book.closing(self.conn);
-        self.shared.let_go(state, self.conn);
+        self.shared.wake();
     }
 }

@@ -1,5 +1,4 @@
 ghost use Rattle.std.specs.Prelude.{[], ◌∷◌, List, Option, None};
-ghost use Rattle.connections.specs.Progress.{Advances, Progress};
 ghost use Rattle.connections.specs.Told.{Tells};
 ghost use Rattle.connections.specs.Writes.{told_by};
 ghost use Rattle.connections.specs.declared.queue.Handed.{Handed};
@@ -15,21 +14,16 @@ pub enum Handed {
     Closing,
 }
 
-/// Where the replies of a connection come from. It may tell what it gave, and what it did for them.
+/// Where the replies of a connection come from. It may tell what it gave.
 pub trait ReplyQueue {
     // for proofs: what it was asked for so far, in order; None where it keeps no list
     ghost told: { Self → Option (List Handed) } = { λ _. None };
 
-    // for proofs: what it has read and asked so far, where it does so itself
-    ghost progress: { Self → Option Progress } = { λ _. None };
-
     /// Waits for the connection's next reply and gives it. None where no more can come.
     fn next<R: Wait>(&mut self, rt: &R) -> Option<Reply>
-        ensures told { Tells (told self.old) (told self.new) (told_by result) }
-        ensures progress { Advances (progress self.old) (progress self.new) };
+        ensures { Tells (told self.old) (told self.new) (told_by result) };
 
     /// Is told that the connection's writing has ended.
     fn close<R: Wait>(&mut self, rt: &R)
-        ensures told { Tells (told self.old) (told self.new) (Handed.Closing ∷ []) }
-        ensures progress { Advances (progress self.old) (progress self.new) };
+        ensures { Tells (told self.old) (told self.new) (Handed.Closing ∷ []) };
 }

@@ -1,11 +1,8 @@
-ghost use Rattle.std.specs.Prelude.{◌≡◌, ◌≢◌, ◌+◌, ◌≤◌, [], ◌∷◌, length, take, List, map, false, true, None, Some, IfSome, MatchOption};
+ghost use Rattle.std.specs.Prelude.{◌≡◌, ◌≢◌, ◌+◌, ◌≤◌, [], ◌∷◌, ◌++◌, length, take, List, map, false, true, None, Some, IfSome, MatchOption};
 ghost use Rattle.std.specs.Io.KnownBytes.{Appends};
 ghost use Rattle.gateway_theory.specs.Replies.{ReplyValue};
-ghost use Rattle.connections.specs.Progress.{Advances};
-ghost use Rattle.connections.specs.Told.{Tells};
 ghost use Rattle.connections.specs.Writes.{End, Writes, WritesToItsEnd, goes_on, calls_of};
 
-use crate::keeping::Keeping;
 use crate::queue::ReplyQueue;
 use gateway_core::{CallId, ConnId, Reply};
 use std::alloc::Global;
@@ -33,41 +30,22 @@ pub fn write_replies<R: Wait, W: Write, Q: ReplyQueue>(
     written
 }
 
-/// Writes the replies that the queue gives, as `write_replies` does, and hands each of them on once it is written.
-pub fn write_and_hand_on<R: Wait, W: Write, Q: ReplyQueue, K: Keeping>(
-    rt: &R,
-    writer: &mut W,
-    conn: ConnId,
-    replies: &mut Q,
-    kept: &mut K,
-)
-    // they are known to the proof alone
-    ensures written { (written : List ReplyValue) × Tells (K.told kept.old) (K.told kept.new) written
-        × WritesToItsEnd conn (W.contents writer.old) (W.contents writer.new)
-        (Q.told replies.old) (Q.told replies.new) written }
-    ensures progress { Advances (Q.progress replies.old) (Q.progress replies.new) }
-{
-    write_all(rt, writer, conn, replies, kept);
-    replies.close(rt);
-}
-
-/// Writes what the queue gives until it can't go on, and hands what was written to who keeps it.
-fn write_all<R: Wait, W: Write, Q: ReplyQueue, K: Keeping>(
+/// Writes what the queue gives until it can't go on, and keeps what was written, the last perhaps in part.
+fn write_all<R: Wait, W: Write, Q: ReplyQueue>(
     rt: &R,
     writer: &mut W,
     conn: ConnId,
     queue: &mut Q,
-    kept: &mut K,
+    written: &mut Vec<Reply>,
 )
-    ensures written { (end : End) × (written : List ReplyValue) × (goes_on end ≡ false)
-        × Tells (K.told kept.old) (K.told kept.new) written
+    ensures { (end : End) × (more : List ReplyValue) × (goes_on end ≡ false)
+        × (written.new.items ≡ written.old.items ++ more)
         × Writes conn 0 (W.contents writer.old) (W.contents writer.new)
-        (Q.told queue.old) (Q.told queue.new) written end [] }
-    ensures progress { Advances (Q.progress queue.old) (Q.progress queue.new) }
+        (Q.told queue.old) (Q.told queue.new) more end [] }
 {
     let mut request = 0;
     for _ in rt.forever() {
-        let Some(next) = write_next(rt, writer, conn, request, queue, kept) else {
+        let Some(next) = write_next(rt, writer, conn, request, queue, written) else {
             return;
         };
         request = next;
@@ -76,25 +54,24 @@ fn write_all<R: Wait, W: Write, Q: ReplyQueue, K: Keeping>(
 }
 
 /// Takes the reply to this request and writes it. Answers the next request; None where that was the last reply.
-fn write_next<R: Wait, W: Write, Q: ReplyQueue, K: Keeping>(
+fn write_next<R: Wait, W: Write, Q: ReplyQueue>(
     rt: &R,
     writer: &mut W,
     conn: ConnId,
     request: u64,
     queue: &mut Q,
-    kept: &mut K,
+    written: &mut Vec<Reply>,
 ) -> Option<u64>
-    ensures written { (end : End) × (written : List ReplyValue)
-        × MatchOption result (goes_on end ≡ false) (λ next. (goes_on end ≡ true) × (next ≡ request + length written))
-        × Tells (K.told kept.old) (K.told kept.new) written
+    ensures { (end : End) × (more : List ReplyValue)
+        × MatchOption result (goes_on end ≡ false) (λ next. (goes_on end ≡ true) × (next ≡ request + length more))
+        × (written.new.items ≡ written.old.items ++ more)
         × Writes conn request (W.contents writer.old) (W.contents writer.new)
-        (Q.told queue.old) (Q.told queue.new) written end [] }
-    ensures progress { Advances (Q.progress queue.old) (Q.progress queue.new) }
+        (Q.told queue.old) (Q.told queue.new) more end [] }
 {
     let Some(reply) = queue.next(rt) else {
         return None;
     };
-    if reply.id() != (CallId { conn, request }) || !kept.make_room() {
+    if reply.id() != (CallId { conn, request }) || written.reserve(1).is_err() {
         return None;
     }
     // no connection has so many requests
@@ -103,7 +80,7 @@ fn write_next<R: Wait, W: Write, Q: ReplyQueue, K: Keeping>(
     };
     let length = reply.bytes().len();
     let sent = send(reply.bytes(), writer);
-    kept.keep(reply);
+    written.push_reserved(reply);
     if sent == length { Some(next) } else { None }
 }
 

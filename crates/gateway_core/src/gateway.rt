@@ -252,6 +252,14 @@ impl<H: ReplyHook + Drop> Core<H> {
         self.streams.is_broken(conn.number())
     }
 
+    /// Whether the answer to a job of this call is wanted: its call can still be decided.
+    pub fn is_wanted(&self, call: &CallId) -> bool
+        ensures { IsWanted call.now self.now result }
+    {
+        self.streams.serving_law();
+        self.streams.is_live(call)
+    }
+
     /// How many branches of the call are out.
     pub fn branches_out(&self, call: &CallId) -> u32
         ensures { result ≡ outs_of call.now self.now }

@@ -1,5 +1,5 @@
 ghost use Rattle.std.specs.Option.{option_map_or};
-ghost use Rattle.std.specs.Prelude.{◌≡◌, ◌==◌, ◌<◌, ◌≤◌, ◌^◌, ◌∷◌, IfOk, IfErr, List, OnErr, false, true, not, filter, length, [], ℕ, option_map, slice_get};
+ghost use Rattle.std.specs.Prelude.{◌≡◌, ◌==◌, ◌<◌, ◌≤◌, ◌^◌, ◌∷◌, IfOk, IfErr, List, OnErr, false, true, not, filter, length, [], ℕ, is_some, option_map, slice_get};
 ghost use Rattle.http_pieces.specs.Reader.{is_over};
 ghost use Rattle.gateway_theory.specs.Ends.{is_broken_in, noted};
 ghost use Rattle.gateway_machine.specs.Linked.{IsNow};
@@ -13,7 +13,7 @@ ghost use Rattle.gateway_machine.specs.Ended.{BranchEnds};
 ghost use Rattle.gateway_model.specs.declared.seen.Seen.{Seen};
 ghost use Rattle.gateway_theory.specs.Opens.{JobTaken};
 ghost use Rattle.gateway_theory.specs.Serving.{Breaks, BringsAt, IsBehindIf, Closes, Ends, FedTo, gateway_value, HangsUp, IsListening, IsPlaced, IsServing, ListensAt, Opens, ReadsAt, TakesReply};
-ghost use Rattle.gateway_theory.specs.Store.{MachineValue, broken_at, conn_at, machine_value, conn_of};
+ghost use Rattle.gateway_theory.specs.Store.{MachineValue, broken_at, call_at, conn_at, machine_value, conn_of};
 ghost use Rattle.gateway_theory.specs.Tally.{tally_of};
 
 use crate::stream::Stream;
@@ -287,6 +287,13 @@ impl<H: ReplyHook + Drop> Streams<H> {
         ensures { result ≡ outs_of id.now self.now }
     {
         self.machine.branches_out(id)
+    }
+
+    /// Whether the call can still be decided.
+    pub(crate) fn is_live(&self, id: &CallId) -> bool
+        ensures { result ≡ is_some (call_at id.now self.now.machine.calls).live }
+    {
+        self.machine.is_live(id)
     }
 
     /// What is kept between two calls. It does nothing.

@@ -1,5 +1,5 @@
 //! The machine with its contexts.
-ghost use Rattle.std.specs.Prelude.{◌≡◌, ◌<◌, ◌==◌, IfErr, IfOk, None as Nothing, OnErr, OnOk, [], false, length, not, true, ℕ, option_map, slice_get};
+ghost use Rattle.std.specs.Prelude.{◌≡◌, ◌<◌, ◌==◌, IfErr, IfOk, None as Nothing, OnErr, OnOk, [], false, length, not, true, ℕ, is_some, option_map, slice_get};
 ghost use Rattle.std.specs.List.{count_by};
 ghost use Rattle.http_pieces.specs.Request.{most_requests};
 ghost use Rattle.gateway_model.specs.Arrival.{arrival_of};
@@ -257,6 +257,13 @@ impl<H: ReplyHook + Drop> LinkedMachine<H> {
         ensures { result ≡ count_by (λ b. b) (call_at id.now self.now.calls).out }
     {
         self.machine.branches_out(id)
+    }
+
+    /// Whether the call can still be decided.
+    pub fn is_live(&self, id: &CallId) -> bool
+        ensures { result ≡ is_some (call_at id.now self.now.calls).live }
+    {
+        self.machine.is_live(id)
     }
 
     /// How many connections are broken.

@@ -54,6 +54,17 @@ impl Reply {
         self.message.bytes.as_slice()
     }
 
+    /// The request that it answers, what that is answered by, and the bytes to be written.
+    pub fn into_parts(self) -> (CallId, ReplyEntry, Bytes)
+        ensures id { result.0 ≡ self.id }
+        ensures entry { result.1 ≡ self.entry }
+        ensures bytes { result.2 ≡ (answer_of self.entry).bytes }
+    {
+        let Reply { id, entry, message } = self;
+        let ReplyBytes { bytes, last: _ } = message;
+        (id, entry, bytes)
+    }
+
     /// Whether it is the connection's last: no request behind it is read.
     pub fn last(&self) -> bool
         ensures { result ≡ (answer_of self.now.entry).last }

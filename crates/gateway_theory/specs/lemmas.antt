@@ -78,3 +78,4 @@ pub mod Knowing
 pub mod Beginning
 pub mod Telling
 pub mod OneAtATime
+pub mod OneEvent

@@ -4,11 +4,15 @@
 
 mod desk;
 mod inlet;
+mod network;
 mod replies;
 mod room;
 mod steps;
+mod stream;
 
 pub use desk::MemoryDesk;
 pub use inlet::MemoryInlet;
+pub use network::ScriptedNetwork;
 pub use replies::MemoryReplies;
 pub use steps::{Mark, StepReader, StepWriter};
+pub use stream::{MemoryEnd, MemoryStream, StreamStep, memory_stream};

@@ -67,7 +67,7 @@ impl Machine {
     }
 
     /// Whether the call can still be decided.
-    fn is_live(&self, id: &CallId) -> bool
+    pub(crate) fn is_live(&self, id: &CallId) -> bool
         ensures { result ≡ is_some (call_at id.now self.now.calls).live }
     {
         match self.calls.find(id) {

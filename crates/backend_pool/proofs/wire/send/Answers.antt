@@ -1,6 +1,10 @@
-use Rattle.std.proofs.Common.{rules}
-use Rattle.backend_pool.proofs.ExchangeLemmas.{Appends-more}
+use Rattle.std.proofs.Common.{refl}
+use Rattle.backend_pool.proofs.ExchangeLemmas.{sends_more, sends_none}
 use Rattle.backend_pool.proofs.wire.send.Goals as goal
 
-pub loop-done-preserved : goal.loop-done-preserved
-loop-done-preserved g c = (search rules, Appends-more _ _ _ _ _ _ c.loop-done.invariant.1 c.in-Ok.ensures.bytes)
+pub loop-writer-init : goal.loop-writer-init
+loop-writer-init g c = (sends_none _ _, refl)
+
+pub loop-writer-preserved : goal.loop-writer-preserved
+loop-writer-preserved g c =
+    rw c.sent.ensures (sends_more _ _ _ _ c.loop-writer.exchange.left c.in-Ok.count c.loop-writer.invariant.0 (rw (c.waiting.ensures, c.request.ensures) at c.in-Ok.ensures.bytes), c.loop-writer.invariant.1)

@@ -1,11 +1,11 @@
-use Rattle.std.proofs.Common.{length, take, ◌-◌, ◌≤◌}
-use Rattle.std.specs.Io.KnownBytes.{Appends}
+use Rattle.std.proofs.Common.{◌≡◌, length}
+use Rattle.backend_pool.specs.Exchange.{SendsOn}
 use Rattle.backend_pool.proofs.wire.send.Given as goal
 
--- the first bytes are written
-abbrev pub invariant-loop-done : goal.invariant-loop-done
-invariant-loop-done g l =
-    (l.done ≤ length l.text) × Appends (g.W.Write.contents l.initial.writer) (g.W.Write.contents l.writer) (take l.done l.text)
+-- what was written and what is left is the request
+abbrev pub invariant-loop-writer : goal.invariant-loop-writer
+invariant-loop-writer g l =
+    SendsOn (g.W.Write.contents l.fn.writer) (g.W.Write.contents l.writer) l.fn.exchange.left l.exchange.left × (l.exchange.replies ≡ l.fn.exchange.replies)
 
-abbrev pub decreases-loop-done : goal.decreases-loop-done
-decreases-loop-done g l = length l.text - l.done
+abbrev pub decreases-loop-writer : goal.decreases-loop-writer
+decreases-loop-writer g l = length l.exchange.left

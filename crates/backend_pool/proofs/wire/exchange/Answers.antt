@@ -1,0 +1,24 @@
+use Rattle.std.proofs.Common.{◌++◌, take, sym, ◌∙◌}
+use Rattle.std.proofs.KnownBytes.{Consumes-trans}
+use Rattle.backend_pool.proofs.ExchangeLemmas.{reply_begins}
+use Rattle.backend_pool.proofs.wire.exchange.Goals as goal
+
+pub returns-in-Some-clause-read : goal.returns-in-Some-clause-read
+returns-in-Some-clause-read g c =
+    let before = c.loop-read.invariant.1 in
+    λ reply is. (
+      before.0 ++ take c.in-Ok-read.count c.read.new.buf,
+      Consumes-trans _ _ _ before.0 _ before.1 c.in-Ok-read.ensures.bytes.0,
+      reply_begins c.loop-read.exchange.left (before.0 ++ take c.in-Ok-read.count c.read.new.buf) c.received.new.self.replies c.in-Some.end reply (c.in-Some.ensures.comes before.0 before.2) (sym c.asked.ensures ∙ is),
+    )
+
+pub loop-read-preserved : goal.loop-read-preserved
+loop-read-preserved g c =
+    let before = c.loop-read.invariant.1 in (
+      c.loop-read.invariant.0,
+      (
+        before.0 ++ take c.in-Ok-read.count c.read.new.buf,
+        Consumes-trans _ _ _ before.0 _ before.1 c.in-Ok-read.ensures.bytes.0,
+        c.in-None.ensures.comes before.0 before.2,
+      ),
+    )

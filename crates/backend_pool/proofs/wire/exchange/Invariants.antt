@@ -1,0 +1,11 @@
+use Rattle.std.proofs.Common.{ℕ, List}
+use Rattle.std.specs.Prelude.{None}
+use Rattle.std.specs.Io.KnownBytes.{Appends, Consumes}
+use Rattle.http_pieces.specs.ReplyReader.{HasReadReply}
+use Rattle.backend_pool.proofs.wire.exchange.Given as goal
+
+-- the request was written, and all bytes that were read were taken: they are no whole reply
+abbrev pub invariant-loop-read : goal.invariant-loop-read
+invariant-loop-read g l =
+    Appends (g.W.Write.contents l.fn.writer) (g.W.Write.contents l.writer) l.fn.request
+    × ((bytes : List ℕ) × Consumes (g.R.Read.remaining l.fn.reader) (g.R.Read.remaining l.reader) bytes × HasReadReply l.exchange.replies bytes None)

@@ -1,0 +1,128 @@
+ghost use Rattle.std.specs.Prelude.{◌≡◌, ◌++◌, ◌≤◌, [], ℕ, List, Some, None, IsTrue, IfOk, ◌↔◌, drop, length};
+ghost use Rattle.http_pieces.specs.ReplyReader.{HasReadReply};
+ghost use Rattle.branch_exchange.specs.Exchange.{ComesTo, GoesOn, IsAnswer, TakesIn, exchange_value, loss_in};
+
+use crate::exchange_end::{ExchangeEnd, Loss};
+use http_pieces::laws::reply_cut_law;
+use http_pieces::{Bytes, HttpReply, ReplyReader, ReplyState};
+use std::alloc::{AllocError, Global};
+use std::marker::Model;
+use wires::Outbox;
+
+/// So many reads are made for one reply at most.
+pub const MOST_READS: u32 = 131_072;
+
+/// A request, as far as it was written, and its reply, as far as it was read (RFC 9112). It does no input or output. Contracts see what
+/// is left of the request, and the reader of the reply.
+#[derive(Drop)]
+pub struct Exchange {
+    request: Outbox,
+    replies: ReplyReader,
+    /// How many pieces were read that did not end it.
+    reads: u32,
+}
+
+impl Model for Exchange {
+    ghost use Rattle.branch_exchange.specs.Exchange.{ExchangeValue, exchange_value};
+
+    ghost Value = { ExchangeValue };
+
+    ghost view = { λ e. exchange_value e.request e.replies };
+}
+
+impl Exchange {
+    /// The whole request is to be written, and nothing was read. The reply is kept on this allocator.
+    pub fn new(alloc: Global, request: Bytes) -> Exchange
+        ensures left { result.left ≡ request }
+        ensures unread { HasReadReply result.replies [] None }
+    {
+        Exchange {
+            request: Outbox::of(request),
+            replies: ReplyReader::new(alloc),
+            reads: 0,
+        }
+    }
+
+    /// Whether the request was written whole.
+    pub fn is_sent(&self) -> bool
+        ensures { IsTrue result ↔ (self.now.left ≡ []) }
+    {
+        self.request.is_empty()
+    }
+
+    /// What is left to be written.
+    pub fn request(&self) -> &Outbox
+        ensures { result.now ≡ self.now.left }
+    {
+        &self.request
+    }
+
+    /// So many bytes more were written.
+    pub fn sent(&mut self, count: usize)
+        requires { count ≤ length self.old.left }
+        ensures { self.new ≡ exchange_value (drop count self.old.left) self.old.replies }
+    {
+        self.request.sent(count);
+    }
+
+    /// Takes a piece that was read. Answers once the reply is whole, or none will come: what follows the reply is dropped. A reply that
+    /// comes before its request was written whole is lost, and so is one that 131,072 pieces leave incomplete.
+    pub fn received(&mut self, piece: &[u8]) -> Option<ExchangeEnd>
+        ensures left { self.new.left ≡ self.old.left }
+        // Whatever was read before.
+        ensures comes { (bytes : List ℕ) → HasReadReply self.old.replies bytes None
+            → ComesTo self.old.left self.new.replies (bytes ++ piece.now) result }
+    {
+        match take_in(&mut self.replies, piece) {
+            Ok(Some(reply)) => Some(self.answer(reply)),
+            Ok(None) => self.go_on(),
+            Err(_) => Some(ExchangeEnd::NoMemory),
+        }
+    }
+
+    /// The reply, if its request was written whole.
+    fn answer(&self, reply: HttpReply) -> ExchangeEnd
+        ensures { IsAnswer self.now.left reply result }
+    {
+        if self.request.is_empty() {
+            ExchangeEnd::Reply(reply)
+        } else {
+            ExchangeEnd::Lost(Loss::Early)
+        }
+    }
+
+    #[tactic(auto, using(crate::proofs::ExchangeLemmas::lost_by))]
+    /// A piece more was read. None where the reply may become whole.
+    fn go_on(&mut self) -> Option<ExchangeEnd>
+        ensures same { self.new ≡ self.old }
+        ensures goes { (bytes : List ℕ) → HasReadReply self.old.replies bytes None → GoesOn self.new.replies bytes result }
+    {
+        self.reads = self.reads.saturating_add(1);
+        let state = self.replies.state();
+        if state == ReplyState::More && self.reads < MOST_READS {
+            return None;
+        }
+        Some(ExchangeEnd::Lost(loss_in(state)))
+    }
+}
+
+/// Why no reply comes of a reader in this state, though it may be read on.
+fn loss_in(state: ReplyState) -> Loss
+    ensures { result ≡ loss_in state }
+{
+    match state {
+        ReplyState::More => Loss::Reads,
+        ReplyState::Refused(fault) => Loss::Refused(fault),
+        ReplyState::Complete | ReplyState::Ended => Loss::End,
+    }
+}
+
+/// Takes a piece of the input, and gives the reply once it is whole. What follows it is dropped.
+fn take_in(replies: &mut ReplyReader, piece: &[u8]) -> Result<Option<HttpReply>, AllocError>
+    ensures { (bytes : List ℕ) → HasReadReply replies.old bytes None
+        → IfOk result (λ reply. TakesIn replies.new (bytes ++ piece.now) reply) }
+{
+    reply_cut_law();
+    let _taken = replies.push(piece)?;
+    Ok(replies.take())
+}

@@ -1,0 +1,77 @@
+ghost use Rattle.std.specs.Prelude.{◌≡◌, Err, IfErr, IfOk, List, Ok};
+ghost use Rattle.call_plan.specs.Plan.{PlanRecord};
+ghost use Rattle.call_plan.specs.PlanFile.{plans_in};
+ghost use Rattle.script_replay.specs.Fault.{IsOfPlanInput};
+ghost use Rattle.script_replay.specs.Input.{ReadsTooMuch, ReadsWhole};
+
+use call_plan::{PlanError, Plans, read_plans};
+use json_values::{json_value, text_at};
+use script_replay::{Fault, read_text};
+use serde_json::Value;
+use std::alloc::{AllocError, Global};
+use std::io::Read;
+use std::net::SocketAddr;
+
+/// The text of a plan file, from which each loop has plans of its own.
+#[derive(Drop)]
+pub(crate) struct PlanFile {
+    text: Vec<u8>,
+}
+
+impl PlanFile {
+    /// Reads a text to its end. `Plans` where it is too long, `Io` where a read failed, `Memory` for want of memory.
+    pub(crate) fn read<R: Read>(alloc: Global, reader: &mut R) -> Result<PlanFile, Fault>
+        ensures faults { IfErr result IsOfPlanInput }
+        ensures read { IfOk result (λ file. ReadsWhole (R.remaining reader.old) (R.remaining reader.new) file.text.items) }
+        ensures plans { result ≡ Err Fault.Plans → ReadsTooMuch (R.remaining reader.old) (R.remaining reader.new) }
+    {
+        match read_text(alloc, reader)? {
+            Some(text) => Ok(PlanFile { text }),
+            None => Err(Fault::Plans),
+        }
+    }
+
+    /// Its plans. `Plans` where it is refused, `Memory` for want of memory.
+    pub(crate) fn plans(&self, alloc: Global) -> Result<Plans, Fault>
+        ensures faults { IfErr result IsOfPlanInput }
+        ensures taken { IfOk result (λ plans. plans_in self.now.text.items ≡ Ok plans) }
+        ensures refused { result ≡ Err Fault.Plans → (plans : List PlanRecord) → plans_in self.now.text.items ≡ Ok plans → ⊥ }
+    {
+        match read_plans(alloc, self.text.as_slice()) {
+            Ok(plans) => Ok(plans),
+            Err(PlanError::Memory) => Err(Fault::Memory),
+            Err(_) => Err(Fault::Plans),
+        }
+    }
+
+    /// Whether the address of a backend is a name, which must be looked up.
+    pub(crate) fn has_names(&self, alloc: Global) -> Result<bool, AllocError> {
+        match json_value(alloc, self.text.as_slice())? {
+            Some(plans) => Ok(elements_of(&plans).iter().any(has_name)),
+            None => Ok(false),
+        }
+    }
+}
+
+/// Whether the address of a plan's backend is a name.
+fn has_name(plan: &Value) -> bool {
+    match plan.get("branches") {
+        Some(branches) => elements_of(branches).iter().any(is_named),
+        None => false,
+    }
+}
+
+/// Whether the address of a branch is a name, and no number.
+fn is_named(branch: &Value) -> bool {
+    match text_at(branch, "address") {
+        Some(address) => address.parse::<SocketAddr>().is_err(),
+        None => false,
+    }
+}
+
+fn elements_of(value: &Value) -> &[Value] {
+    match value.as_array() {
+        Some(elements) => elements.as_slice(),
+        None => &[],
+    }
+}

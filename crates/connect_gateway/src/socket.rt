@@ -1,0 +1,123 @@
+use mio::net::TcpStream;
+use std::alloc::AllocError;
+use std::io::{self, ErrorKind, Read, Write};
+use std::net::{Net, Shutdown, SocketAddr};
+use std::os::fd::{AsRawFd, RawFd};
+use std::sync::Arc;
+use std::sync::atomic::{AtomicBool, AtomicU64, Ordering};
+use wires::Stream;
+
+/// A request of so many bytes fits a packet.
+const PACKET: usize = 1_200;
+
+/// A socket whose reads and writes don't wait: a client's, or one to a backend. Where it could not be made its first write fails.
+#[derive(Drop)]
+pub(crate) struct Socket {
+    // given back before the client can see the end of its stream: whoever sees it finds the place free
+    seat: Option<Seat>,
+    stream: Result<TcpStream, ErrorKind>,
+}
+
+impl Socket {
+    /// A client's, which has that seat.
+    pub(crate) fn of_client(stream: TcpStream, seat: Seat) -> io::Result<Socket> {
+        stream.set_nodelay(true)?;
+        Ok(Socket {
+            seat: Some(seat),
+            stream: Ok(stream),
+        })
+    }
+
+    /// One that begins to connect to a backend, over which a request of so many bytes will be written.
+    pub(crate) fn to_backend<R: Net>(rt: &R, address: SocketAddr, length: usize) -> Socket {
+        Socket {
+            seat: None,
+            stream: connect(rt, address, length).map_err(|error| error.kind()),
+        }
+    }
+
+    /// Its descriptor, if it has one.
+    pub(crate) fn descriptor(&self) -> Option<RawFd> {
+        match &self.stream {
+            Ok(stream) => Some(stream.as_raw_fd()),
+            Err(_) => None,
+        }
+    }
+}
+
+/// Begins to connect. Only of a long request a part would wait until what is before it is acknowledged.
+fn connect<R: Net>(rt: &R, address: SocketAddr, length: usize) -> io::Result<TcpStream> {
+    let stream = TcpStream::connect(rt, address)?;
+    if length > PACKET {
+        stream.set_nodelay(true)?;
+    }
+    Ok(stream)
+}
+
+impl Read for Socket {
+    fn read(&mut self, buf: &mut [u8]) -> io::Result<usize> {
+        match &mut self.stream {
+            Ok(stream) => stream.read(buf),
+            Err(kind) => Err(io::Error::from(*kind)),
+        }
+    }
+}
+
+impl Write for Socket {
+    fn write(&mut self, buf: &[u8]) -> io::Result<usize> {
+        match &mut self.stream {
+            Ok(stream) => stream.write(buf),
+            Err(kind) => Err(io::Error::from(*kind)),
+        }
+    }
+
+    fn flush(&mut self) -> io::Result<()> {
+        Ok(())
+    }
+}
+
+impl Stream for Socket {
+    fn shut_sending(&self) -> io::Result<()> {
+        if let Some(seat) = &self.seat {
+            seat.leave();
+        }
+        match &self.stream {
+            Ok(stream) => stream.shutdown(Shutdown::Write),
+            Err(kind) => Err(io::Error::from(*kind)),
+        }
+    }
+}
+
+/// A place among the open connections of a loop.
+pub(crate) struct Seat {
+    open: Arc<AtomicU64>,
+    is_left: AtomicBool,
+}
+
+impl Seat {
+    /// One more among those that are counted there.
+    pub(crate) fn among(open: &Arc<AtomicU64>) -> Result<Seat, AllocError> {
+        let open = Arc::try_clone(open)?;
+        open.fetch_add(1, Ordering::SeqCst);
+        Ok(Seat {
+            open,
+            is_left: AtomicBool::new(false),
+        })
+    }
+
+    /// Gives the place back, once.
+    pub(crate) fn leave(&self) {
+        if !self.is_left.swap(true, Ordering::SeqCst) {
+            self.open.fetch_sub(1, Ordering::SeqCst);
+        }
+    }
+}
+
+impl Drop for Seat {
+    fn drop(self) {
+        self.leave();
+        let Self { open, is_left } = self;
+        drop(open);
+        drop(is_left);
+    }
+}

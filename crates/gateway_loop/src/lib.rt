@@ -1,0 +1,30 @@
+//! A loop that owns a gateway's core, its clients' streams and the exchanges with its backends, and does in turns what can be done
+//! without waiting. It does no input or output but through a `Network` and its wires.
+#![tactic(auto)]
+
+mod admission;
+mod asking;
+mod client;
+mod comings;
+mod connecting;
+mod edges;
+mod event_loop;
+mod exchanges;
+mod leaving;
+mod limits;
+mod looking_up;
+mod moments;
+mod names;
+mod network;
+mod phase;
+mod serving;
+mod standing;
+mod starting;
+mod tokens;
+mod turn;
+
+pub use comings::{Comings, Dealt, LookedUp, Ready};
+pub use event_loop::EventLoop;
+pub use limits::{MOST_ADDRESSES, MOST_EXCHANGES, MOST_LINGERING};
+pub use network::Network;
+pub use standing::LoopStanding;

@@ -1,0 +1,29 @@
+/// So many exchanges with backends are under way at most; further jobs wait in the core.
+pub const MOST_EXCHANGES: usize = 1_024;
+
+/// So many connections linger at most; a further one is closed at once.
+pub const MOST_LINGERING: usize = 64;
+
+/// So many addresses of a name are tried at most.
+pub const MOST_ADDRESSES: usize = 32;
+
+/// Places for clients: of the connections that are open, of which a core has at most 64, and of those that linger.
+pub(crate) const MOST_CLIENTS: usize = 128;
+
+/// Timers that are set at most: one for each exchange, and one for each client that lingers.
+pub(crate) const MOST_TIMERS: usize = MOST_EXCHANGES + MOST_CLIENTS;
+
+/// So often a client's stream is written in a turn at most.
+pub(crate) const MOST_WRITES: u32 = 16;
+
+/// So often a backend's stream is read in a turn at most, and written.
+pub(crate) const MOST_STEPS: u32 = 4;
+
+/// So many exchanges are begun in a turn at most.
+pub(crate) const MOST_STARTS: u32 = 256;
+
+/// How long a connection lingers, in milliseconds.
+pub(crate) const LINGER: u64 = 2_000;
+
+/// How long an address has to accept that another follows, where the job has no deadline, in milliseconds.
+pub(crate) const ATTEMPT: u64 = 1_000;

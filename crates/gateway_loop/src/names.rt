@@ -1,0 +1,85 @@
+ghost use Rattle.std.specs.Prelude.{◌<◌, length, IfSome};
+
+use crate::network::Network;
+use slab::Slab;
+use std::alloc::{AllocError, Global};
+use wires::Wire;
+
+/// The names that are looked up, each with the places of the exchanges that wait for it.
+#[derive(Drop)]
+pub(crate) struct Names {
+    alloc: Global,
+    names: Vec<Name>,
+}
+
+#[derive(Drop)]
+struct Name {
+    name: String,
+    places: Slab<usize>,
+}
+
+/// What came of waiting for a name.
+#[derive(Clone, Copy, PartialEq, Eq, Debug)]
+pub(crate) enum Waiting {
+    /// It waits under this number.
+    Under(usize),
+    /// The name can't be looked up.
+    Never,
+}
+
+impl Names {
+    pub(crate) fn new(alloc: Global) -> Names {
+        Names {
+            alloc,
+            names: Vec::new(alloc),
+        }
+    }
+
+    /// The exchange in that place waits for the name, which is looked up once for all who wait for it.
+    pub(crate) fn wait<W: Wire, N: Network<W>>(
+        &mut self,
+        net: &mut N,
+        name: &str,
+        place: usize,
+    ) -> Result<Waiting, AllocError> {
+        if let Some(index) = self.index(name) {
+            if let Some(known) = self.names.get_mut(index) {
+                return Ok(Waiting::Under(known.places.insert(place)?));
+            }
+        }
+        let mut places = Slab::new(self.alloc);
+        let number = places.insert(place)?;
+        let name = String::from_str(self.alloc, name)?;
+        self.names.reserve(1)?;
+        if !net.look_up(name.as_str()) {
+            return Ok(Waiting::Never);
+        }
+        self.names.push(Name { name, places })?;
+        Ok(Waiting::Under(number))
+    }
+
+    /// Who waits under this number waits no more.
+    pub(crate) fn leave(&mut self, name: &str, number: usize) {
+        if let Some(index) = self.index(name) {
+            if let Some(known) = self.names.get_mut(index) {
+                let _place = known.places.try_remove(number);
+            }
+        }
+    }
+
+    /// The name was looked up. The places of those who wait for it.
+    pub(crate) fn found(&mut self, name: &str) -> Option<Slab<usize>> {
+        let index = self.index(name)?;
+        let Name { name: _, places } = self.names.swap_remove(index);
+        Some(places)
+    }
+
+    /// Where the name stands.
+    fn index(&self, name: &str) -> Option<usize>
+        ensures { IfSome result (λ index. index < length self.now.names.items) }
+    {
+        self.names
+            .iter()
+            .position(|known| known.name.as_str() == name)
+    }
+}

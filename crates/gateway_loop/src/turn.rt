@@ -1,0 +1,43 @@
+ghost use Rattle.std.specs.Prelude.{◌≡◌};
+
+use crate::comings::Comings;
+use crate::event_loop::EventLoop;
+use crate::limits::{MOST_EXCHANGES, MOST_STARTS};
+use crate::network::Network;
+use gateway_core::ReplyHook;
+use wires::Wire;
+
+impl<H: ReplyHook + Drop, W: Wire + Drop> EventLoop<H, W> {
+    /// One turn: takes what the last wait brought, and does what can be done without waiting. `next_turn` tells when another is due.
+    pub fn turn<N: Network<W>>(&mut self, net: &mut N, comings: &mut Comings<H, W>)
+        ensures { self.new.core.plans ≡ self.old.core.plans }
+    {
+        self.tick(net);
+        self.admit_all(net, &mut comings.streams);
+        self.take_found(net, &mut comings.found);
+        for ready in comings.ready.iter() {
+            self.note_ready(*ready);
+        }
+        comings.ready.clear();
+        self.serve_line(net);
+        self.expire(net);
+        self.settle(net);
+    }
+
+    /// Begins to ask for the jobs that came, and writes the replies that are there, until neither brings anything more.
+    fn settle<N: Network<W>>(&mut self, net: &mut N)
+        ensures { self.new.core.plans ≡ self.old.core.plans }
+    {
+        let mut left = MOST_STARTS;
+        for _round in 0..MOST_STARTS {
+            let started = self.start_jobs(net, left);
+            left = left.saturating_sub(started);
+            let has_written = self.write_noted(net);
+            if started == 0 && !has_written {
+                break;
+            }
+        }
+        let has_jobs = self.core.waiting_jobs() > 0 && self.asking.len() < MOST_EXCHANGES;
+        self.again = has_jobs || !self.line.is_empty() || !self.noted.is_empty();
+    }
+}

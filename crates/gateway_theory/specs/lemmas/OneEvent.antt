@@ -1,0 +1,104 @@
+-- What one event more makes of the stream of a connection.
+use Rattle.std.proofs.Common.{◌≡◌, ℕ, suc, ◌<◌, ◌≤◌, Bool, true, false, List, [], ◌∷◌, ◌++◌, length, refl, sym, ap, ◌∙◌, arith, append-nil}
+use Rattle.std.specs.Prelude.{◌&&◌, ◌||◌, not, if◌then◌else◌}
+use Rattle.std.proofs.Math.Bool.{and-true, or-false}
+use Rattle.std.proofs.lemmas.Bool.{lt-ltb, le-ltb, eq-eqb, and_left, or_from}
+use Rattle.gateway_model.specs.declared.event.Event.{Event}
+use Rattle.gateway_model.specs.declared.event.Event.TheVariants.{Opening, Piece, HangUp, Moment, BranchResult, Drain, Closing}
+use Rattle.gateway_model.specs.Events.{Before, connections, hung_up, is_closing_of, is_hang_up_of, is_open, is_opening, listens, piece_of, stream, succeeds}
+
+and_false : (b : Bool) → (b && false) ≡ false
+and_false true = refl
+and_false false = refl
+
+or_true : (b : Bool) → (b || true) ≡ true
+or_true true = refl
+or_true false = refl
+
+more_by : (b : Bool) (n : ℕ) → n ≤ (if b then suc n else n)
+more_by true n = omega arith
+more_by false n = omega arith
+
+pub connections_grow : (opened : List ℕ) (e : Event) (es : Before) → connections opened es ≤ connections opened (e ∷ es)
+connections_grow opened e es = more_by (is_opening e && succeeds opened (length es)) (connections opened es)
+
+-- ---- a connection that was opened before
+
+pub kept_open : (opened : List ℕ) (c : ℕ) (e : Event) (es : Before) → c < connections opened es → is_closing_of c e ≡ false
+    → is_open opened c (e ∷ es) ≡ is_open opened c es
+kept_open opened c e es lt stays = rw (lt-ltb c (connections opened es) lt, stays) (and-true (is_open opened c es))
+
+pub kept_hung : (opened : List ℕ) (c : ℕ) (e : Event) (es : Before) → is_hang_up_of c e ≡ false → hung_up opened c (e ∷ es) ≡ hung_up opened c es
+kept_hung opened c e es stays = rw (stays, and_false (is_open opened c es)) (or-false (hung_up opened c es))
+
+pub now_hung : (opened : List ℕ) (c : ℕ) (es : Before) → is_open opened c es ≡ true → hung_up opened c (HangUp c ∷ es) ≡ true
+now_hung opened c es is = rw (is, eq-eqb c c refl) (or_true (hung_up opened c es))
+
+pub kept_stream : (opened : List ℕ) (c : ℕ) (e : Event) (es : Before) → piece_of c e ≡ [] → stream opened c (e ∷ es) ≡ stream opened c es
+kept_stream opened c e es none = elim (listens opened c es) as (λ b. (if b then stream opened c es ++ piece_of c e else stream opened c es) ≡ stream opened c es) [
+  | true ↦ rw none (append-nil (stream opened c es))
+  | false ↦ refl
+]
+
+pub deaf_stream : (opened : List ℕ) (c : ℕ) (e : Event) (es : Before) → listens opened c es ≡ false → stream opened c (e ∷ es) ≡ stream opened c es
+deaf_stream opened c e es deaf = rw deaf refl
+
+pub more_stream : (opened : List ℕ) (c : ℕ) (bytes : List ℕ) (es : Before) → listens opened c es ≡ true
+    → stream opened c (Piece c bytes ∷ es) ≡ stream opened c es ++ bytes
+more_stream opened c bytes es on = rw (on, eq-eqb c c refl) refl
+
+pub shut_open : (opened : List ℕ) (c : ℕ) (es : Before) → c < connections opened es → is_open opened c (Closing c ∷ es) ≡ false
+shut_open opened c es lt = rw (lt-ltb c (connections opened es) lt, eq-eqb c c refl) (and_false (is_open opened c es))
+
+pub stays_shut : (opened : List ℕ) (c : ℕ) (e : Event) (es : Before) → c < connections opened es → is_open opened c es ≡ false
+    → is_open opened c (e ∷ es) ≡ false
+stays_shut opened c e es lt shut = rw (lt-ltb c (connections opened es) lt, shut) refl
+
+pub shut_deaf : (opened : List ℕ) (c : ℕ) (es : Before) → is_open opened c es ≡ false → listens opened c es ≡ false
+shut_deaf opened c es shut = and_left (is_open opened c es) (not (hung_up opened c es)) shut
+
+pub shut_hung : (opened : List ℕ) (c : ℕ) (e : Event) (es : Before) → is_open opened c es ≡ false → hung_up opened c (e ∷ es) ≡ hung_up opened c es
+shut_hung opened c e es shut = rw shut (or-false (hung_up opened c es))
+
+-- ---- a connection that was not opened yet
+
+pub unborn_open : (opened : List ℕ) (c : ℕ) (es : Before) → connections opened es ≤ c → is_open opened c es ≡ false
+unborn_open opened c [] le = refl
+unborn_open opened c (e ∷ es) le =
+    let before : connections opened es ≤ c = omega (arith, le, connections_grow opened e es) in
+    rw (le-ltb c (connections opened es) before) (le-ltb c (connections opened (e ∷ es)) le)
+
+pub unborn_hung : (opened : List ℕ) (c : ℕ) (es : Before) → connections opened es ≤ c → hung_up opened c es ≡ false
+unborn_hung opened c [] le = refl
+unborn_hung opened c (e ∷ es) le =
+    let before : connections opened es ≤ c = omega (arith, le, connections_grow opened e es) in
+    or_from (hung_up opened c es) (is_open opened c es && is_hang_up_of c e) (unborn_hung opened c es before)
+    (and_left (is_open opened c es) (is_hang_up_of c e) (unborn_open opened c es before))
+
+pub unborn_stream : (opened : List ℕ) (c : ℕ) (es : Before) → connections opened es ≤ c → stream opened c es ≡ []
+unborn_stream opened c [] le = refl
+unborn_stream opened c (e ∷ es) le =
+    let before : connections opened es ≤ c = omega (arith, le, connections_grow opened e es) in
+    deaf_stream opened c e es (shut_deaf opened c es (unborn_open opened c es before)) ∙ unborn_stream opened c es before
+
+-- ---- one that opens
+
+pub born_hung : (opened : List ℕ) (es : Before) → hung_up opened (connections opened es) (Opening ∷ es) ≡ false
+born_hung opened es =
+    let c = connections opened es in
+    shut_hung opened c Opening es (unborn_open opened c es (omega arith)) ∙ unborn_hung opened c es (omega arith)
+
+pub born_open : (opened : List ℕ) (es : Before) → succeeds opened (length es) ≡ true → is_open opened (connections opened es) (Opening ∷ es) ≡ true
+born_open opened es succeeds_here =
+    let c = connections opened es in
+    rw (le-ltb c c (omega arith), succeeds_here) (lt-ltb c (suc c) (omega arith))
+
+pub born_listens : (opened : List ℕ) (es : Before) → succeeds opened (length es) ≡ true → listens opened (connections opened es) (Opening ∷ es) ≡ true
+born_listens opened es succeeds_here =
+    let c = connections opened es in
+    ap (λ b. b && not (hung_up opened c (Opening ∷ es))) (born_open opened es succeeds_here) ∙ ap (λ b. not b) (born_hung opened es)
+
+pub born_stream : (opened : List ℕ) (es : Before) → stream opened (connections opened es) (Opening ∷ es) ≡ []
+born_stream opened es =
+    let c = connections opened es in
+    deaf_stream opened c Opening es (shut_deaf opened c es (unborn_open opened c es (omega arith))) ∙ unborn_stream opened c es (omega arith)

@@ -1,0 +1,135 @@
+use crate::stream::{MemoryEnd, MemoryStream, memory_stream};
+use gateway_core::{CallId, ReplyEntry};
+use gateway_loop::Network;
+use http_server::Log;
+use std::alloc::{AllocError, Global};
+use std::collections::VecDeque;
+use std::net::SocketAddr;
+use wires::Told;
+
+/// A network over memory: it hands out the streams that it was given, tells the moment that it was told, and keeps what it was asked for.
+#[derive(Drop)]
+pub struct ScriptedNetwork {
+    alloc: Global,
+    moment: u64,
+    moments: Log<u64, u64>,
+    backends: VecDeque<MemoryStream>,
+    connected: Vec<SocketAddr>,
+    watched: Vec<(usize, bool)>,
+    looked_up: Vec<String>,
+    told: Vec<CallId>,
+    watches: u64,
+    watch_failing: Option<u64>,
+    finds_names: bool,
+}
+
+impl ScriptedNetwork {
+    /// A network with no backends, at moment 0.
+    pub fn new(alloc: Global) -> ScriptedNetwork {
+        ScriptedNetwork {
+            alloc,
+            moment: 0,
+            moments: Log::new(),
+            backends: VecDeque::new(alloc),
+            connected: Vec::new(alloc),
+            watched: Vec::new(alloc),
+            looked_up: Vec::new(alloc),
+            told: Vec::new(alloc),
+            watches: 0,
+            watch_failing: None,
+            finds_names: true,
+        }
+    }
+
+    /// It is this moment, in milliseconds, from now on.
+    pub fn set_moment(&mut self, moment: u64) {
+        self.moment = moment;
+    }
+
+    /// One more connection can be made: its other end.
+    pub fn add_backend(&mut self) -> Result<MemoryEnd, AllocError> {
+        let (stream, end) = memory_stream(self.alloc)?;
+        self.backends.push_back(stream)?;
+        Ok(end)
+    }
+
+    /// The next connection that is not yet told of is refused.
+    pub fn add_refusal(&mut self) -> Result<(), AllocError> {
+        self.backends.push_back(MemoryStream::refused())?;
+        Ok(())
+    }
+
+    /// How many watches were asked for.
+    pub fn watches(&self) -> u64 {
+        self.watches
+    }
+
+    /// The watch of that number, from 0, fails.
+    pub fn fail_watch(&mut self, number: u64) {
+        self.watch_failing = Some(number);
+    }
+
+    /// No name can be looked up from now on.
+    pub fn fail_look_ups(&mut self) {
+        self.finds_names = false;
+    }
+
+    /// The addresses that were connected to, in order.
+    pub fn connected(&self) -> &[SocketAddr] {
+        self.connected.as_slice()
+    }
+
+    /// The tokens that were watched, in order, and whether for writing too.
+    pub fn watched(&self) -> &[(usize, bool)] {
+        self.watched.as_slice()
+    }
+
+    /// The names that were looked up, in order.
+    pub fn looked_up(&self) -> &[String] {
+        self.looked_up.as_slice()
+    }
+
+    /// The requests whose replies were written whole, in order.
+    pub fn told(&self) -> &[CallId] {
+        self.told.as_slice()
+    }
+}
+
+impl Network<Told<MemoryStream>> for ScriptedNetwork {
+    ghost use Rattle.std.specs.Prelude.{map};
+
+    ghost told = { λ n. map (λ x. x.0) n.moments.items };
+
+    fn moment(&mut self) -> u64 {
+        self.moments = self.moments.and(&self.moment, &self.moment);
+        self.moment
+    }
+
+    fn connect(&mut self, address: SocketAddr, _length: usize) -> Told<MemoryStream> {
+        let _ = self.connected.push(address);
+        match self.backends.pop_front() {
+            Some(stream) => Told::new(stream),
+            None => Told::new(MemoryStream::refused()),
+        }
+    }
+
+    fn watch(&mut self, _wire: &Told<MemoryStream>, token: usize, writes: bool) -> bool {
+        let number = self.watches;
+        self.watches = number.saturating_add(1);
+        self.watch_failing != Some(number) && self.watched.push((token, writes)).is_ok()
+    }
+
+    fn look_up(&mut self, name: &str) -> bool {
+        if !self.finds_names {
+            return false;
+        }
+        match String::from_str(self.alloc, name) {
+            Ok(name) => self.looked_up.push(name).is_ok(),
+            Err(_) => false,
+        }
+    }
+
+    fn tell_reply(&mut self, id: CallId, _entry: &ReplyEntry) {
+        let _ = self.told.push(id);
+    }
+}

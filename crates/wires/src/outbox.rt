@@ -1,0 +1,66 @@
+ghost use Rattle.std.specs.Prelude.{◌≡◌, ◌≤◌, [], length, drop, IsTrue, ◌↔◌};
+
+use http_pieces::Bytes;
+use std::alloc::Global;
+use std::marker::Model;
+
+/// What waits to be written. Contracts see these bytes.
+#[derive(Drop)]
+pub struct Outbox {
+    bytes: Vec<u8>,
+    at: usize,
+}
+
+impl Model for Outbox {
+    ghost use Rattle.std.specs.Prelude.{List, ℕ, drop, ◌≤◌, length};
+
+    ghost Value = { List ℕ };
+
+    ghost view = { λ o. drop o.at o.bytes.items };
+
+    ghost invariant = { λ o. o.at ≤ length o.bytes.items };
+}
+
+impl Outbox {
+    /// Nothing waits.
+    pub fn new(alloc: Global) -> Outbox
+        ensures { result ≡ [] }
+    {
+        Outbox {
+            bytes: Vec::new(alloc),
+            at: 0,
+        }
+    }
+
+    /// All these bytes wait. They are not copied.
+    pub fn of(bytes: Bytes) -> Outbox
+        ensures { result ≡ bytes }
+    {
+        Outbox {
+            bytes: bytes.into_vec(),
+            at: 0,
+        }
+    }
+
+    /// Whether nothing waits.
+    pub fn is_empty(&self) -> bool
+        ensures { IsTrue result ↔ (self.now ≡ []) }
+    {
+        self.waiting().is_empty()
+    }
+
+    /// The bytes that wait.
+    pub fn waiting(&self) -> &[u8]
+        ensures { result.now ≡ self.now }
+    {
+        &self.bytes[self.at..]
+    }
+
+    /// So many of the first bytes were written.
+    pub fn sent(&mut self, count: usize)
+        requires { count ≤ length self.old }
+        ensures { self.new ≡ drop count self.old }
+    {
+        self.at += count;
+    }
+}
