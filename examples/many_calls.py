@@ -1,16 +1,58 @@
 #!/usr/bin/env python3
 """Makes many calls at once, and counts what was answered: python3 examples/many_calls.py PORT PATH [options]
 
-Each of the clients has a connection of its own, which it uses as long as it is let, and makes one call after the other.
+Each of the clients has a connection of its own, which it uses as long as it is let, and makes one call after the other;
+after one that failed it waits for half a second.
 Each call has a body of its own, and its answer must have that body in it, as examples/backend.py answers. With --chunked
-the bodies are sent in chunks. It prints the counts of statuses, of connections that ended without an answer, of wrong
-answers, and how long it took. Its status is 0 where each call was answered with 200, and right.
+the bodies are sent in chunks. With --at a command is run once a quarter of the calls have been answered. With --until a
+call that began before that command had ended may fail; its value says which moment that is. It prints the counts of
+statuses, of connections that ended without an answer, of wrong answers, how many of those that failed may fail, and how
+long it took. Its status is 0 where each other call was answered with 200, and right.
 """
 
 import argparse
 import asyncio
 import collections
 import time
+
+
+class Outcomes:
+    """What came of the calls so far."""
+
+    def __init__(self, options):
+        self.options = options
+        self.counts = collections.Counter()
+        # when the calls that failed had begun
+        self.failed = []
+        self.command_ended = None
+
+    async def add(self, outcome, began):
+        self.counts[outcome] += 1
+        if outcome != 200:
+            self.failed.append(began)
+            await asyncio.sleep(0.5)
+
+    async def run_command(self):
+        """Runs the command of --at in its time."""
+        while self.options.at and self.counts.total() < self.options.calls // 4:
+            await asyncio.sleep(0.01)
+        if self.options.at:
+            command = await asyncio.create_subprocess_shell(self.options.at)
+            if await command.wait():
+                raise SystemExit(f"many_calls: failed: {self.options.at}")
+            self.command_ended = time.monotonic()
+
+    def may_fail(self):
+        """How many of those that failed may fail."""
+        return sum(began < self.command_ended for began in self.failed) if self.options.until else 0
+
+    def told(self):
+        each = ", ".join(f"{count} of {what}" for what, count in sorted(self.counts.items(), key=str))
+        return f"{self.options.clients} clients, {self.counts.total()} calls: {each}" + (
+            f" ({self.may_fail()} of these began before {self.options.until})" if self.failed and self.options.until else "")
+
+    def are_right(self):
+        return self.counts[200] + self.may_fail() == self.counts.total() == self.options.calls
 
 
 async def read_reply(reader):
@@ -40,18 +82,19 @@ def request(options, client, call):
     return (head + f"Content-Length: {len(body)}\r\n\r\n").encode() + body, body
 
 
-async def run_client(options, client, counts):
+async def run_client(options, client, outcomes):
     stream = None
     for call in range(options.calls // options.clients):
         sent, wanted = request(options, client, call)
+        began = time.monotonic()
         try:
             if not stream:
                 stream = await asyncio.open_connection("127.0.0.1", options.port)
             stream[1].write(sent)
             status, ends, body = await asyncio.wait_for(read_reply(stream[0]), 60)
-            counts[status if status != 200 or wanted in body else "wrong"] += 1
+            await outcomes.add(status if status != 200 or wanted in body else "wrong", began)
         except (OSError, asyncio.IncompleteReadError, asyncio.TimeoutError):
-            counts["no answer"] += 1
+            await outcomes.add("no answer", began)
             ends = True
         if ends and stream:
             stream[1].close()
@@ -67,12 +110,14 @@ async def main():
     parser.add_argument("--clients", type=int, default=200)
     parser.add_argument("--calls", type=int, default=4000)
     parser.add_argument("--chunked", action="store_true")
+    parser.add_argument("--at", metavar="COMMAND")
+    parser.add_argument("--until", metavar="MOMENT")
     options = parser.parse_args()
-    counts, began = collections.Counter(), time.monotonic()
-    await asyncio.gather(*(run_client(options, client, counts) for client in range(options.clients)))
-    each = ", ".join(f"{count} of {what}" for what, count in sorted(counts.items(), key=str))
-    print(f"{options.clients} clients, {sum(counts.values())} calls: {each}, in {time.monotonic() - began:.1f} seconds")
-    return 0 if counts == {200: options.calls} else 1
+    outcomes, began = Outcomes(options), time.monotonic()
+    clients = (run_client(options, client, outcomes) for client in range(options.clients))
+    await asyncio.gather(outcomes.run_command(), *clients)
+    print(f"{outcomes.told()}, in {time.monotonic() - began:.1f} seconds")
+    return 0 if outcomes.are_right() else 1
 
 
 if __name__ == "__main__":
