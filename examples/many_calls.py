@@ -113,6 +113,8 @@ async def main():
     parser.add_argument("--at", metavar="COMMAND")
     parser.add_argument("--until", metavar="MOMENT")
     options = parser.parse_args()
+    if options.until and not options.at:
+        parser.error("--until is of the command of --at")
     outcomes, began = Outcomes(options), time.monotonic()
     clients = (run_client(options, client, outcomes) for client in range(options.clients))
     await asyncio.gather(outcomes.run_command(), *clients)
