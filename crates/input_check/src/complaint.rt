@@ -9,6 +9,12 @@ pub(crate) enum Complaint {
     Empty,
     CutOff,
     CommaBeforeEnd,
+    Comment,
+    SingleQuotes,
+    LeadingZero,
+    Yaml,
+    SecondValue,
+    NoComma,
     NotJson,
     // of its shape
     NotPlans,
@@ -39,7 +45,12 @@ pub(crate) enum Complaint {
     NotAStatus,
     NotAType,
     // what is taken and will not work
+    MisspelledKey,
     IgnoredKey,
+    RepeatedKey,
+    PathOfPattern,
+    AddressWithUser,
+    SeveralAddresses,
     NoTimeout,
     ZeroTimeout,
     AddressWithSlashes,
@@ -64,6 +75,14 @@ impl Complaint {
             Complaint::CutOff => "the text ends before its JSON does",
             Complaint::CommaBeforeEnd =>
                 "behind the last comma nothing follows: take the comma out",
+            Complaint::Comment => {
+                "JSON has no comments: put it into a key that begins with _, as \"_note\""
+            }
+            Complaint::SingleQuotes => "keys and texts stand in double quotes",
+            Complaint::LeadingZero => "a number has no 0 before its first digit",
+            Complaint::Yaml => "this looks like YAML: the file is to be JSON",
+            Complaint::SecondValue => "the JSON has ended before this: a file holds one value",
+            Complaint::NoComma => "a comma is missing before this",
             Complaint::NotJson => {
                 "here it is no JSON, or nests more than 127 deep, or a number is too large"
             }
@@ -105,7 +124,16 @@ impl Complaint {
             Complaint::NotABranch => "a whole number from 0 to 4,294,967,295, in digits alone",
             Complaint::NotAStatus => "a whole number from 200 to 999, in digits alone",
             Complaint::NotAType => "a text belongs here, or null for no content type",
-            Complaint::IgnoredKey => "no such key, so it is ignored; there is",
+            Complaint::MisspelledKey => "no such key, so it is ignored; there is",
+            Complaint::IgnoredKey => {
+                "no such key here, so it is ignored; a note's key may begin with _"
+            }
+            Complaint::RepeatedKey => "the object has this key twice: the last one counts",
+            Complaint::PathOfPattern => {
+                "no patterns: this path alone is served, with each { and * as it stands"
+            }
+            Complaint::AddressWithUser => "a host and a port alone, with no user before an @",
+            Complaint::SeveralAddresses => "one address: write a branch for each, or name a proxy",
             Complaint::NoTimeout => "no timeout_ms: its calls wait as long as a backend lets them",
             Complaint::ZeroTimeout => {
                 "each call ends as it arrives, with 504; leave the key out for no timeout"

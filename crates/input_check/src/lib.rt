@@ -17,5 +17,6 @@ mod script_fault;
 mod script_warnings;
 mod served;
 mod spelling;
+mod structure;
 
 pub use report::{PlanReport, ScriptReport, plan_report, script_report, too_long};

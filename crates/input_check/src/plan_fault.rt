@@ -11,7 +11,7 @@ const MOST_TIMEOUT: u64 = 9_999_999_999;
 
 const MOST_BRANCHES: usize = 16;
 
-const MOST_PLANS: usize = 256;
+pub(crate) const MOST_PLANS: usize = 256;
 
 pub(crate) fn plans_fault(value: &Value) -> Option<Finding<'_>> {
     let Some(plans) = value.as_array() else {

@@ -2,8 +2,9 @@
 use crate::complaint::Complaint;
 use crate::finding::{Finding, Place};
 use crate::lines::push_finding;
-use crate::plan_fault::{branches_of, is_branch_timeout, text_of};
+use crate::plan_fault::{MOST_PLANS, branches_of, is_branch_timeout, text_of};
 use crate::spelling::meant_key;
+use crate::structure::repeated_key;
 use serde_json::Value;
 use std::alloc::{AllocError, Global};
 
@@ -11,15 +12,27 @@ const PLAN_KEYS: [&str; 4] = ["path", "limit", "timeout_ms", "branches"];
 
 const BRANCH_KEYS: [&str; 4] = ["name", "address", "path", "timeout_ms"];
 
+/// All keys that are looked at in a plan file or a script.
+const FILE_KEYS: [&str; 8] = [
+    "path",
+    "limit",
+    "timeout_ms",
+    "branches",
+    "name",
+    "address",
+    "plans",
+    "events",
+];
+
 const MOST_PORT: u64 = 65_535;
 
-/// Adds the warnings of an array of plans.
+/// Adds the warnings of an array of plans, of as many as a file may have.
 pub(crate) fn push_plan_warnings(
     alloc: Global,
     lines: &mut String,
     plans: &[Value],
 ) -> Result<(), AllocError> {
-    for (k, plan) in plans.iter().enumerate() {
+    for (k, plan) in plans.iter().take(MOST_PLANS).enumerate() {
         if plan.is_object() {
             push_warnings_of_plan(alloc, lines, Place::Plan(k + 1, plan.get("path")), plan)?;
         }
@@ -34,6 +47,7 @@ fn push_warnings_of_plan<'v>(
     plan: &'v Value,
 ) -> Result<(), AllocError> {
     push_key_warnings(alloc, lines, place, plan, &PLAN_KEYS)?;
+    push_path_warning(alloc, lines, place, plan)?;
     let branches = branches_of(plan);
     push_plan_timeout_warning(alloc, lines, place, plan, branches)?;
     if is_above(plan.get("limit"), branches.len()) {
@@ -52,6 +66,21 @@ fn push_warnings_of_plan<'v>(
         push_branch_timeout_warning(alloc, lines, place, plan.get("timeout_ms"), branch)?;
     }
     Ok(())
+}
+
+/// Adds a warning for a path that looks like a pattern.
+fn push_path_warning<'v>(
+    alloc: Global,
+    lines: &mut String,
+    place: Place<'v>,
+    plan: &'v Value,
+) -> Result<(), AllocError> {
+    let path = text_of(plan, "path");
+    if !path.contains('{') && !path.contains('*') {
+        return Ok(());
+    }
+    let found = Finding::of(place, "path", None, Complaint::PathOfPattern);
+    push_warning(alloc, lines, &found)
 }
 
 /// Adds a warning for a plan whose calls may wait for ever, or don't wait at all.
@@ -98,6 +127,8 @@ fn push_address_warnings<'v>(
     let address = text_of(branch, "address");
     for (is_so, complaint) in [
         (address.contains("//"), Complaint::AddressWithSlashes),
+        (address.contains('@'), Complaint::AddressWithUser),
+        (address.contains(','), Complaint::SeveralAddresses),
         (address.starts_with(':'), Complaint::NoHost),
         (has_no_port(address), Complaint::NoSuchPort),
     ] {
@@ -147,7 +178,8 @@ fn has_no_port(address: &str) -> bool {
     }
 }
 
-/// Adds a warning for each key of an object that is not known and near to one that is.
+/// Adds a warning for each key of an object that is not known, but for those that begin with `_`; with the known one, if
+/// it is near to one.
 pub(crate) fn push_key_warnings<'v>(
     alloc: Global,
     lines: &mut String,
@@ -159,12 +191,36 @@ pub(crate) fn push_key_warnings<'v>(
         return Ok(());
     };
     for key in members.keys() {
-        if let Some(meant) = meant_key(alloc, key.as_str(), known)? {
-            let found = Finding::of(place, key.as_str(), None, Complaint::IgnoredKey);
+        let key = key.as_str();
+        if let Some(meant) = meant_key(alloc, key, known)? {
+            let found = Finding::of(place, key, None, Complaint::MisspelledKey);
             push_warning(alloc, lines, &found.meaning(meant))?;
+        } else if !key.starts_with('_') && !known.iter().any(|name| *name == key) {
+            push_warning(
+                alloc,
+                lines,
+                &Finding::of(place, key, None, Complaint::IgnoredKey),
+            )?;
         }
     }
     Ok(())
+}
+
+/// Adds a warning for the first key of a file's objects that stands twice in its object. The text is JSON.
+pub(crate) fn push_repeated_key(
+    alloc: Global,
+    lines: &mut String,
+    text: &[u8],
+) -> Result<(), AllocError> {
+    let Some(found) = repeated_key(alloc, text, &FILE_KEYS)? else {
+        return Ok(());
+    };
+    let place = Place::Text(found.line, found.column);
+    push_warning(
+        alloc,
+        lines,
+        &Finding::of(place, found.key, None, Complaint::RepeatedKey),
+    )
 }
 
 pub(crate) fn push_warning(

@@ -9,7 +9,7 @@ use crate::finding::{Finding, Place};
 use crate::json_fault::json_fault;
 use crate::lines::push_finding;
 use crate::plan_fault::plans_fault;
-use crate::plan_warnings::push_plan_warnings;
+use crate::plan_warnings::{push_plan_warnings, push_repeated_key};
 use crate::script_fault::{plans_of, script_fault};
 use crate::script_warnings::push_script_warnings;
 use crate::served::{push_number, push_served};
@@ -106,6 +106,7 @@ fn fine_plans(alloc: Global, plans: &Plans, text: &[u8]) -> Result<String, Alloc
     push_number(&mut lines, plans.len(), " plan\n", " plans\n")?;
     if let Ok(value) = read_value(alloc, text)? {
         push_served(&mut lines, plans, elements_of(&value))?;
+        push_repeated_key(alloc, &mut lines, text)?;
         push_plan_warnings(alloc, &mut lines, elements_of(&value))?;
     }
     Ok(lines)
@@ -116,6 +117,7 @@ fn refused_plans(alloc: Global, text: &[u8]) -> Result<String, AllocError> {
     match read_value(alloc, text)? {
         Ok(value) => {
             push_fault(alloc, &mut lines, plans_fault(&value))?;
+            push_repeated_key(alloc, &mut lines, text)?;
             push_plan_warnings(alloc, &mut lines, elements_of(&value))?;
         }
         Err(error) => push_finding(alloc, &mut lines, &json_fault(text, &error))?,
@@ -134,6 +136,7 @@ fn fine_script(
     push_number(&mut lines, events, " event\n", " events\n")?;
     if let Ok(script) = read_value(alloc, text)? {
         push_served(&mut lines, plans, plans_of(&script))?;
+        push_repeated_key(alloc, &mut lines, text)?;
         push_script_warnings(alloc, &mut lines, &script)?;
     }
     Ok(lines)
@@ -144,6 +147,7 @@ fn refused_script(alloc: Global, text: &[u8]) -> Result<String, AllocError> {
     match read_value(alloc, text)? {
         Ok(script) => {
             push_fault(alloc, &mut lines, script_fault(&script))?;
+            push_repeated_key(alloc, &mut lines, text)?;
             push_script_warnings(alloc, &mut lines, &script)?;
         }
         Err(error) => push_finding(alloc, &mut lines, &json_fault(text, &error))?,
