@@ -11,7 +11,7 @@ use crate::contexts::Contexts;
 use crate::ending::ending_of;
 use crate::hook::ReplyHook;
 use crate::joined::joined;
-use crate::reply::Reply;
+use crate::reply::{Reply, reply_of_call};
 use gateway_model::{CallId, CallRecord, Ending};
 use http_pieces::Bytes;
 use std::alloc::{AllocError, Global};
@@ -30,7 +30,7 @@ pub fn reply_to<H: ReplyHook + Drop>(
     ensures stocks { contexts.new.stocks ≡ contexts.old.stocks }
 {
     let bytes = bytes_of(alloc, contexts, &id, &call)?;
-    Ok(Reply::of_call(id, call, bytes))
+    Ok(reply_of_call(id, call, bytes))
 }
 
 /// Its bytes: the error of its last event, or the answers joined.

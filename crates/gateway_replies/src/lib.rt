@@ -16,5 +16,5 @@ pub use contexts::Contexts;
 pub use decided::reply_to;
 pub use ending::ending_reply;
 pub use hook::{CallHook, ReplyHook};
-pub use reply::Reply;
+pub use reply::{Reply, crowded_reply, judged_reply, refused_reply};
 pub use stock::{HOOKS, Stock};

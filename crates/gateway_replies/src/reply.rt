@@ -71,58 +71,58 @@ impl Reply {
     {
         self.message.last
     }
+}
 
-    /// The reply to a stream's refusal.
-    pub fn refused(alloc: Global, id: CallId, refusal: Refusal) -> Result<Reply, AllocError>
-        ensures { IfOk result (λ reply. reply ≡ reply_with id (ReplyEntry.Refused refusal)) }
-    {
-        Ok(Reply {
-            id,
-            entry: ReplyEntry::Refused(refusal),
-            message: refused(alloc, refusal)?,
-        })
-    }
+/// The reply to a stream's refusal.
+pub fn refused_reply(alloc: Global, id: CallId, refusal: Refusal) -> Result<Reply, AllocError>
+    ensures { IfOk result (λ reply. reply ≡ reply_with id (ReplyEntry.Refused refusal)) }
+{
+    Ok(Reply {
+        id,
+        entry: ReplyEntry::Refused(refusal),
+        message: refused(alloc, refusal)?,
+    })
+}
 
-    /// The reply to a request that is no call.
-    pub fn judged(
-        alloc: Global,
-        id: CallId,
-        verdict: Verdict,
-        last: bool,
-    ) -> Result<Reply, AllocError>
-        requires no_call { is_ask verdict ≡ false }
-        requires bare { HasBareStatus verdict }
-        ensures { IfOk result (λ reply. reply ≡ reply_with id (ReplyEntry.Judged verdict last)) }
-    {
-        let message = judged(alloc, &verdict, last)?;
-        Ok(Reply {
-            id,
-            entry: ReplyEntry::Judged(verdict, last),
-            message,
-        })
-    }
+/// The reply to a request that is no call.
+pub fn judged_reply(
+    alloc: Global,
+    id: CallId,
+    verdict: Verdict,
+    last: bool,
+) -> Result<Reply, AllocError>
+    requires no_call { is_ask verdict ≡ false }
+    requires bare { HasBareStatus verdict }
+    ensures { IfOk result (λ reply. reply ≡ reply_with id (ReplyEntry.Judged verdict last)) }
+{
+    let message = judged(alloc, &verdict, last)?;
+    Ok(Reply {
+        id,
+        entry: ReplyEntry::Judged(verdict, last),
+        message,
+    })
+}
 
-    /// The reply to a call too many.
-    pub fn crowded(alloc: Global, id: CallId, last: bool) -> Result<Reply, AllocError>
-        ensures { IfOk result (λ reply. reply ≡ reply_with id (ReplyEntry.Crowded last)) }
-    {
-        Ok(Reply {
-            id,
-            entry: ReplyEntry::Crowded(last),
-            message: crowded(alloc, last)?,
-        })
-    }
+/// The reply to a call too many.
+pub fn crowded_reply(alloc: Global, id: CallId, last: bool) -> Result<Reply, AllocError>
+    ensures { IfOk result (λ reply. reply ≡ reply_with id (ReplyEntry.Crowded last)) }
+{
+    Ok(Reply {
+        id,
+        entry: ReplyEntry::Crowded(last),
+        message: crowded(alloc, last)?,
+    })
+}
 
-    /// The reply to a decided call.
-    pub fn of_call(id: CallId, call: CallRecord, bytes: Bytes) -> Reply
-        requires { bytes ≡ (call_reply call).bytes }
-        ensures { result ≡ reply_with id (ReplyEntry.Call call) }
-    {
-        let last = call.last;
-        Reply {
-            id,
-            entry: ReplyEntry::Call(call),
-            message: ReplyBytes { bytes, last },
-        }
+/// The reply to a decided call.
+pub(crate) fn reply_of_call(id: CallId, call: CallRecord, bytes: Bytes) -> Reply
+    requires { bytes ≡ (call_reply call).bytes }
+    ensures { result ≡ reply_with id (ReplyEntry.Call call) }
+{
+    let last = call.last;
+    Reply {
+        id,
+        entry: ReplyEntry::Call(call),
+        message: ReplyBytes { bytes, last },
     }
 }

@@ -26,7 +26,9 @@ use crate::machine::times::start_first;
 use call_plan::Plans;
 use connect_codec::laws::timeout_law;
 use connect_codec::{Verdict, judge, target_path};
-use gateway_replies::{ArrivedCall, Contexts, Reply, ReplyHook, reply_to};
+use gateway_replies::{
+    ArrivedCall, Contexts, Reply, ReplyHook, crowded_reply, judged_reply, refused_reply, reply_to,
+};
 use gateway_theory::StepFault;
 use http_pieces::{Refusal, Request};
 use std::alloc::{AllocError, Global};
@@ -202,7 +204,7 @@ impl Machine {
             },
             verdict => {
                 let id = self.conns[index].next_id();
-                let reply = Reply::judged(alloc, id, verdict, request.closes())?;
+                let reply = judged_reply(alloc, id, verdict, request.closes())?;
                 Ok(Arriving::Answered(reply))
             }
         }
@@ -230,7 +232,7 @@ impl Machine {
     {
         let conn = &self.conns[index];
         if conn.is_full() {
-            let reply = Reply::crowded(alloc, conn.next_id(), asked.request.closes())?;
+            let reply = crowded_reply(alloc, conn.next_id(), asked.request.closes())?;
             return Ok(Arriving::Answered(reply));
         }
         let id = conn.next_id();
@@ -255,7 +257,7 @@ impl Machine {
         ensures err { OnErr result (self.new ≡ self.old) }
         ensures fault { IfErr result (λ f. f ≡ fault.Memory) }
     {
-        let reply = Reply::refused(alloc, self.conns[index].next_id(), refusal)?;
+        let reply = refused_reply(alloc, self.conns[index].next_id(), refusal)?;
         self.answer(index, reply)?;
         Ok(())
     }
