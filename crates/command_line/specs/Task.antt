@@ -1,7 +1,7 @@
 -- What the words of the command line ask for.
 use Rattle.std.specs.Prelude.{◌≤◌, ⊤, IfSome}
 use Rattle.command_line.specs.declared.task.Task.{Task}
-use Rattle.command_line.specs.declared.task.Task.TheVariants.{Replay, Serve, Check}
+use Rattle.command_line.specs.declared.task.Task.TheVariants.{Replay, Serve, Check, Version}
 use Rattle.script_replay.specs.declared.fault.Fault.{Fault}
 use Rattle.script_replay.specs.declared.fault.Fault.TheVariants.{Memory, Words}
 
@@ -9,6 +9,7 @@ use Rattle.script_replay.specs.declared.fault.Fault.TheVariants.{Memory, Words}
 abbrev pub IsInRange : Task → Type 0
 IsInRange Replay = ⊤
 IsInRange (Check _) = ⊤
+IsInRange Version = ⊤
 IsInRange (Serve service) =
     ((1 ≤ service.workers) × (service.workers ≤ 64)) × IfSome service.connections (λ count. (1 ≤ count) × (count ≤ 1000000))
 

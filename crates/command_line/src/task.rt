@@ -23,11 +23,21 @@ pub enum Task {
     Serve(Service),
     /// Says whether a file is fine, or what is wrong with it and where.
     Check(Checked),
+    /// Tells the program's version.
+    Version,
+}
+
+/// What is to be checked, and how.
+#[derive(Drop, PartialEq, Eq, Debug)]
+pub struct Checked {
+    pub file: CheckedFile,
+    /// Whether a file with warnings is refused too.
+    pub strict: bool,
 }
 
 /// A file that is to be checked, by its path as it was given.
 #[derive(Drop, PartialEq, Eq, Debug)]
-pub enum Checked {
+pub enum CheckedFile {
     /// As a plan file.
     Plans(Text),
     /// As a script.
@@ -61,6 +71,7 @@ pub fn task_of(alloc: Global, words: &[&str]) -> Result<Task, Fault>
         Some(("replay", _)) => Ok(Task::Replay),
         Some(("serve", options)) => service_of(alloc, options),
         Some(("check", options)) => checked_of(alloc, options),
+        Some(("version", _)) => Ok(Task::Version),
         _ => Err(Fault::Words),
     }
 }
@@ -69,7 +80,8 @@ fn command<'a>(alloc: Global) -> Result<Command<'a>, AllocError> {
     Command::new(alloc, "connect_gateway")
         .subcommand(Command::new(alloc, "replay"))?
         .subcommand(serve_command(alloc)?)?
-        .subcommand(check_command(alloc)?)
+        .subcommand(check_command(alloc)?)?
+        .subcommand(Command::new(alloc, "version"))
 }
 
 fn serve_command<'a>(alloc: Global) -> Result<Command<'a>, AllocError> {
@@ -84,7 +96,8 @@ fn serve_command<'a>(alloc: Global) -> Result<Command<'a>, AllocError> {
 fn check_command<'a>(alloc: Global) -> Result<Command<'a>, AllocError> {
     Command::new(alloc, "check")
         .arg(option(alloc, "plans"))?
-        .arg(option(alloc, "script"))
+        .arg(option(alloc, "script"))?
+        .arg(option(alloc, "strict").action(ArgAction::SetTrue))
 }
 
 /// An option of that name.
@@ -136,12 +149,13 @@ fn checked_of(alloc: Global, options: &ArgMatches<'_>) -> Result<Task, Fault>
     ensures faults { IfErr result IsOfWords }
     ensures in_range { IfOk result IsInRange }
 {
-    let checked = match (options.get_str("plans"), options.get_str("script")) {
-        (Some(plans), None) => Checked::Plans(Text::from_str(alloc, plans)?),
-        (None, Some(script)) => Checked::Script(Text::from_str(alloc, script)?),
+    let file = match (options.get_str("plans"), options.get_str("script")) {
+        (Some(plans), None) => CheckedFile::Plans(Text::from_str(alloc, plans)?),
+        (None, Some(script)) => CheckedFile::Script(Text::from_str(alloc, script)?),
         _ => return Err(Fault::Words),
     };
-    Ok(Task::Check(checked))
+    let strict = options.get_flag("strict");
+    Ok(Task::Check(Checked { file, strict }))
 }
 
 /// The value of an option.

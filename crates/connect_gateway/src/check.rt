@@ -4,39 +4,44 @@ ghost use Rattle.script_replay.specs.Fault.{IsOfInput, IsOfPlanInput, IsOfReadin
 ghost use Rattle.script_replay.specs.Input.{ReadsNoPlans, ReadsNoScript};
 ghost use Rattle.connect_gateway.specs.Check.{FindsPlans, FindsScript, WritesApproval, WritesRefusal};
 
-use command_line::Checked;
+use command_line::{Checked, CheckedFile};
 use input_check::{plan_report, script_report, too_long};
 use script_replay::{Fault, read_text};
 use std::alloc::Global;
 use std::fs::{File, Files};
 use std::io::{self, Read, Write};
 
-/// Checks the file that is named, and prints what is to be said of it.
+/// Checks the file that is named, and prints what is to be said of it. With `--strict` a file with warnings ends as a refused
+/// one does.
 pub(crate) fn check<R: Print + AllocGlobal + Files>(
     rt: &R,
     checked: &Checked,
 ) -> Result<(), Fault> {
     let alloc = rt.alloc();
     let mut writer = io::writer(rt);
-    match checked {
-        Checked::Plans(path) => {
+    let (warned, fault) = match &checked.file {
+        CheckedFile::Plans(path) => {
             let mut file = File::open(rt, path.as_str())?;
-            check_plans(alloc, &mut file, &mut writer)
+            (check_plans(alloc, &mut file, &mut writer)?, Fault::Plans)
         }
-        Checked::Script(path) => {
+        CheckedFile::Script(path) => {
             let mut file = File::open(rt, path.as_str())?;
-            check_script(alloc, &mut file, &mut writer)
+            (check_script(alloc, &mut file, &mut writer)?, Fault::Script)
         }
+    };
+    if warned && checked.strict {
+        return Err(fault);
     }
+    Ok(())
 }
 
 /// Reads a plan file and writes what is to be said of it: that it is fine and what it serves, or why it is refused.
-/// `Plans` where it is refused, `Io` where a read or a write failed, `Memory` for want of memory.
+/// `Plans` where it is refused, `Io` where a read or a write failed, `Memory` for want of memory. Answers whether it warned.
 pub(crate) fn check_plans<R: Read, W: Write>(
     alloc: Global,
     reader: &mut R,
     writer: &mut W,
-) -> Result<(), Fault>
+) -> Result<bool, Fault>
     ensures faults { IfErr result IsOfPlanInput }
     ensures fine { OnOk result (FindsPlans (R.remaining reader.old) (R.remaining reader.new)
         × WritesApproval (W.contents writer.old) (W.contents writer.new)) }
@@ -50,17 +55,18 @@ pub(crate) fn check_plans<R: Read, W: Write>(
     let report = plan_report(alloc, text.as_slice())?;
     write_text(&report.text, writer)?;
     match report.fault {
-        None => Ok(()),
+        None => Ok(report.warned),
         Some(_) => Err(Fault::Plans),
     }
 }
 
-/// Reads a script and writes what is to be said of it, as `check_plans` does. `Script` where it is refused.
+/// Reads a script and writes what is to be said of it, as `check_plans` does. `Script` where it is refused. Answers whether
+/// it warned.
 pub(crate) fn check_script<R: Read, W: Write>(
     alloc: Global,
     reader: &mut R,
     writer: &mut W,
-) -> Result<(), Fault>
+) -> Result<bool, Fault>
     ensures faults { IfErr result IsOfInput }
     ensures fine { OnOk result (FindsScript (R.remaining reader.old) (R.remaining reader.new)
         × WritesApproval (W.contents writer.old) (W.contents writer.new)) }
@@ -74,7 +80,7 @@ pub(crate) fn check_script<R: Read, W: Write>(
     let report = script_report(alloc, text.as_slice())?;
     write_text(&report.text, writer)?;
     match report.fault {
-        None => Ok(()),
+        None => Ok(report.warned),
         Some(_) => Err(Fault::Script),
     }
 }

@@ -24,10 +24,13 @@ use command_line::{Task, read_words, task_of};
 use host::Host;
 use script_replay::{Fault, replay};
 use std::fs::Files;
-use std::io::{self, Eprint};
+use std::io::{self, Eprint, Write};
 use std::net::{Net, TcpListener, TcpStream};
 use std::process::ExitCode;
 use std::rt::Env;
+
+/// As CHANGELOG.md has it.
+const VERSION: &str = "connect_gateway 0.2.0\n";
 
 fn main(rt: HostRuntime) -> ExitCode {
     match run_words(rt) {
@@ -63,5 +66,9 @@ fn run_words<
         }
         Task::Serve(service) => serve::serve(rt, &service),
         Task::Check(checked) => check::check(&rt, &checked),
+        Task::Version => {
+            io::writer(&rt).write_all(VERSION.as_bytes())?;
+            Ok(())
+        }
     }
 }

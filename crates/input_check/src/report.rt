@@ -23,6 +23,8 @@ use std::alloc::{AllocError, Global};
 pub struct PlanReport {
     /// Why `read_plans` refuses it, if it does; never want of memory.
     pub fault: Option<PlanError>,
+    /// Whether the text has a warning.
+    pub warned: bool,
     /// Lines, each ended by LF. The first begins with `fine: ` where there is no fault, else with `refused: `.
     pub text: String,
 }
@@ -32,6 +34,8 @@ pub struct PlanReport {
 pub struct ScriptReport {
     /// Why `read_script` refuses it, if it does; never want of memory.
     pub fault: Option<ScriptError>,
+    /// Whether the text has a warning.
+    pub warned: bool,
     /// Lines, as those of a `PlanReport`.
     pub text: String,
 }
@@ -42,15 +46,23 @@ pub fn plan_report(alloc: Global, text: &[u8]) -> Result<PlanReport, AllocError>
     ensures says { IfOk result (λ report. Says report.fault (string_bytes report.text)) }
 {
     match read_plans(alloc, text) {
-        Ok(plans) => Ok(PlanReport {
-            fault: None,
-            text: fine(alloc, &fine_plans(alloc, &plans, text)?)?,
-        }),
+        Ok(plans) => {
+            let lines = fine_plans(alloc, &plans, text)?;
+            Ok(PlanReport {
+                fault: None,
+                warned: lines.warned,
+                text: fine(alloc, &lines.text)?,
+            })
+        }
         Err(PlanError::Memory) => Err(AllocError),
-        Err(fault) => Ok(PlanReport {
-            fault: Some(fault),
-            text: refused(alloc, &refused_plans(alloc, text)?)?,
-        }),
+        Err(fault) => {
+            let lines = refused_plans(alloc, text)?;
+            Ok(PlanReport {
+                fault: Some(fault),
+                warned: lines.warned,
+                text: refused(alloc, &lines.text)?,
+            })
+        }
     }
 }
 
@@ -60,15 +72,23 @@ pub fn script_report(alloc: Global, text: &[u8]) -> Result<ScriptReport, AllocEr
     ensures says { IfOk result (λ report. Says report.fault (string_bytes report.text)) }
 {
     match read_script(alloc, text) {
-        Ok((plans, events)) => Ok(ScriptReport {
-            fault: None,
-            text: fine(alloc, &fine_script(alloc, &plans, events.len(), text)?)?,
-        }),
+        Ok((plans, events)) => {
+            let lines = fine_script(alloc, &plans, events.len(), text)?;
+            Ok(ScriptReport {
+                fault: None,
+                warned: lines.warned,
+                text: fine(alloc, &lines.text)?,
+            })
+        }
         Err(ScriptError::Memory) => Err(AllocError),
-        Err(fault) => Ok(ScriptReport {
-            fault: Some(fault),
-            text: refused(alloc, &refused_script(alloc, text)?)?,
-        }),
+        Err(fault) => {
+            let lines = refused_script(alloc, text)?;
+            Ok(ScriptReport {
+                fault: Some(fault),
+                warned: lines.warned,
+                text: refused(alloc, &lines.text)?,
+            })
+        }
     }
 }
 
@@ -101,28 +121,59 @@ fn refused(alloc: Global, lines: &String) -> Result<String, AllocError>
     Ok(text)
 }
 
-fn fine_plans(alloc: Global, plans: &Plans, text: &[u8]) -> Result<String, AllocError> {
-    let mut lines = String::new(alloc);
-    push_number(&mut lines, plans.len(), " plan\n", " plans\n")?;
-    if let Ok(value) = read_value(alloc, text)? {
-        push_served(&mut lines, plans, elements_of(&value))?;
-        push_repeated_key(alloc, &mut lines, text)?;
-        push_plan_warnings(alloc, &mut lines, elements_of(&value))?;
-    }
-    Ok(lines)
+/// Lines of a report.
+#[derive(Drop)]
+struct Lines {
+    text: String,
+    warned: bool,
 }
 
-fn refused_plans(alloc: Global, text: &[u8]) -> Result<String, AllocError> {
+impl Lines {
+    /// These, of which the first so many bytes are no warnings.
+    fn of(text: String, before: usize) -> Lines {
+        let warned = text.len() > before;
+        Lines { text, warned }
+    }
+}
+
+fn fine_plans(alloc: Global, plans: &Plans, text: &[u8]) -> Result<Lines, AllocError> {
+    let mut lines = String::new(alloc);
+    push_number(&mut lines, plans.len(), " plan\n", " plans\n")?;
+    let Ok(value) = read_value(alloc, text)? else {
+        return Ok(Lines {
+            text: lines,
+            warned: false,
+        });
+    };
+    push_served(&mut lines, plans, elements_of(&value))?;
+    let before = lines.len();
+    push_repeated_key(alloc, &mut lines, text)?;
+    push_plan_warnings(alloc, &mut lines, elements_of(&value))?;
+    Ok(Lines::of(lines, before))
+}
+
+fn refused_plans(alloc: Global, text: &[u8]) -> Result<Lines, AllocError> {
     let mut lines = String::new(alloc);
     match read_value(alloc, text)? {
         Ok(value) => {
             push_fault(alloc, &mut lines, plans_fault(&value))?;
+            let before = lines.len();
             push_repeated_key(alloc, &mut lines, text)?;
             push_plan_warnings(alloc, &mut lines, elements_of(&value))?;
+            Ok(Lines::of(lines, before))
         }
-        Err(error) => push_finding(alloc, &mut lines, &json_fault(text, &error))?,
+        Err(error) => no_json(alloc, text, &error),
     }
-    Ok(lines)
+}
+
+/// The line of a text that is no JSON.
+fn no_json(alloc: Global, text: &[u8], error: &Error) -> Result<Lines, AllocError> {
+    let mut lines = String::new(alloc);
+    push_finding(alloc, &mut lines, &json_fault(text, error))?;
+    Ok(Lines {
+        text: lines,
+        warned: false,
+    })
 }
 
 fn fine_script(
@@ -130,29 +181,35 @@ fn fine_script(
     plans: &Plans,
     events: usize,
     text: &[u8],
-) -> Result<String, AllocError> {
+) -> Result<Lines, AllocError> {
     let mut lines = String::new(alloc);
     push_number(&mut lines, plans.len(), " plan, ", " plans, ")?;
     push_number(&mut lines, events, " event\n", " events\n")?;
-    if let Ok(script) = read_value(alloc, text)? {
-        push_served(&mut lines, plans, plans_of(&script))?;
-        push_repeated_key(alloc, &mut lines, text)?;
-        push_script_warnings(alloc, &mut lines, &script)?;
-    }
-    Ok(lines)
+    let Ok(script) = read_value(alloc, text)? else {
+        return Ok(Lines {
+            text: lines,
+            warned: false,
+        });
+    };
+    push_served(&mut lines, plans, plans_of(&script))?;
+    let before = lines.len();
+    push_repeated_key(alloc, &mut lines, text)?;
+    push_script_warnings(alloc, &mut lines, &script)?;
+    Ok(Lines::of(lines, before))
 }
 
-fn refused_script(alloc: Global, text: &[u8]) -> Result<String, AllocError> {
+fn refused_script(alloc: Global, text: &[u8]) -> Result<Lines, AllocError> {
     let mut lines = String::new(alloc);
     match read_value(alloc, text)? {
         Ok(script) => {
             push_fault(alloc, &mut lines, script_fault(&script))?;
+            let before = lines.len();
             push_repeated_key(alloc, &mut lines, text)?;
             push_script_warnings(alloc, &mut lines, &script)?;
+            Ok(Lines::of(lines, before))
         }
-        Err(error) => push_finding(alloc, &mut lines, &json_fault(text, &error))?,
+        Err(error) => no_json(alloc, text, &error),
     }
-    Ok(lines)
 }
 
 /// The value of a text, or what the reader of JSON says of it.
