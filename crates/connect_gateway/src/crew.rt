@@ -1,91 +1,65 @@
 use crate::host::Host;
-use crate::log_lines::LogLines;
 use crate::log_writer::LogWriter;
-use crate::loop_side::LoopSide;
-use crate::looping::{Common, Looping};
-use crate::resolver::Resolver;
+use crate::looping::Looping;
+use crossbeam_channel::{Receiver, unbounded};
 use std::alloc::{AllocError, Global};
 use std::net::{Net, TcpListener, TcpStream};
-use std::sync::Arc;
 use std::thread::{self, JoinHandle};
+use std::time::Duration;
+
+/// So long the program's end waits for the lines of the log that are left, in milliseconds.
+const LAST_LINES: u64 = 1_000;
 
 /// The threads beside main, but for those that look up names: they are left to the program's end.
 #[derive(Drop)]
 pub(crate) struct Crew {
     // each answers whether all clients of its loop have gone
     loops: Vec<JoinHandle<bool>>,
-    resolver: Arc<Resolver>,
-    writer: Option<(Arc<LogLines>, JoinHandle<()>)>,
+    // the other end of this goes once all lines of the log are written
+    written: Option<Receiver<()>>,
 }
 
 impl Crew {
     /// No threads yet.
-    pub(crate) fn new(alloc: Global, resolver: Arc<Resolver>) -> Crew {
+    pub(crate) fn new(alloc: Global) -> Crew {
         Crew {
             loops: Vec::new(alloc),
-            resolver,
-            writer: None,
+            written: None,
         }
     }
 
-    /// Starts a thread for each loop, one that writes the log, if there is one, and those that look up names, if there are any.
-    /// Those that started are in the crew, also where it fails.
+    /// Starts a thread that writes the log, if there is one, and one for each loop. Those that started are in the crew, also where it
+    /// fails.
     pub(crate) fn start<M: Host + Net<Listener = TcpListener, Stream = TcpStream>>(
         &mut self,
-        common: &Common<M>,
+        rt: M,
+        alloc: Global,
         loopings: Vec<Looping<M>>,
-        sides: &[Arc<LoopSide>],
-        looks_up: bool,
+        writer: Option<LogWriter>,
     ) -> Result<(), AllocError> {
-        if looks_up {
-            Resolver::start(common.rt, common.alloc, &common.resolver)?;
-        }
-        if let Some(lines) = &common.lines {
-            self.start_writer(common, lines, sides)?;
+        if let Some(writer) = writer {
+            let (done, written) = unbounded(alloc)?;
+            drop(thread::spawn(&rt, move || writer.run(&rt, done))?);
+            self.written = Some(written);
         }
         self.loops.reserve(loopings.len())?;
         for looping in loopings {
-            let thread = thread::spawn(&common.rt, move || looping.run())?;
+            let thread = thread::spawn(&rt, move || looping.run())?;
             self.loops.push(thread)?;
         }
         Ok(())
     }
 
-    fn start_writer<M: Host>(
-        &mut self,
-        common: &Common<M>,
-        lines: &Arc<LogLines>,
-        sides: &[Arc<LoopSide>],
-    ) -> Result<(), AllocError> {
-        let mut told = Vec::new(common.alloc);
-        for side in sides {
-            told.push(Arc::try_clone(side)?)?;
-        }
-        let writer = LogWriter::new(common.alloc, Arc::try_clone(lines)?, told);
-        let rt = common.rt;
-        let lines = Arc::try_clone(lines)?;
-        let thread = thread::spawn(&common.rt, move || writer.run(&rt))?;
-        self.writer = Some((lines, thread));
-        Ok(())
-    }
-
-    /// Waits until all loops have ended, to which nobody deals any more, and then ends the other threads. Answers whether the
-    /// clients of one loop at least have all gone.
+    /// Waits until all loops have ended, to which nobody deals any more, and then for a second at most until the log is written.
+    /// Answers whether the clients of one loop at least have all gone.
     pub(crate) fn end<M: Host>(self, rt: &M) -> bool {
-        let Crew {
-            loops,
-            resolver,
-            writer,
-        } = self;
+        let Crew { loops, written } = self;
         let mut are_gone = false;
         for thread in loops {
             are_gone |= thread.join(rt);
         }
-        resolver.end(rt);
-        if let Some((lines, thread)) = writer
-            && lines.end(rt)
-        {
-            thread.join(rt);
+        if let Some(written) = written {
+            let _ended = written.recv_timeout(rt, Duration::from_millis(LAST_LINES));
         }
         are_gone
     }

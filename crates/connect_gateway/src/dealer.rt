@@ -1,5 +1,5 @@
 use crate::host::Host;
-use crate::loop_side::{DealtStream, LoopSide};
+use crate::loop_side::{LoopSide, Mail};
 use crate::socket::{Seat, Socket};
 use gateway_loop::Dealt;
 use mio::net::{TcpListener, TcpStream};
@@ -69,22 +69,16 @@ impl<M: Host + Net> Dealer<M> {
         Ok(())
     }
 
-    /// The loops.
-    pub(crate) fn sides(&self) -> &[Arc<LoopSide>] {
-        self.sides.as_slice()
-    }
-
     /// Listens no more, and deals no more.
     pub(crate) fn end(self) {
         let Dealer {
-            rt,
             listener,
             sides,
             ..
         } = self;
         drop(listener);
         for side in &sides {
-            side.streams.close(&rt);
+            side.close();
         }
     }
 
@@ -137,11 +131,11 @@ impl<M: Host + Net> Dealer<M> {
         let side = self.emptiest()?;
         let seat = Seat::among(&side.open).ok()?;
         let socket = Socket::of_client(stream, seat).ok()?;
-        let dealt: DealtStream = Dealt {
+        let dealt = Dealt {
             wire: Told::new(socket),
             stock: stock(self.alloc).ok()?,
         };
-        side.streams.put(&self.rt, dealt).ok()
+        side.hand_in(&self.rt, Mail::Stream(dealt)).ok()
     }
 
     /// The loop with the fewest connections. None where all are full or over.

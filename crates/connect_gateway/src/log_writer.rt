@@ -1,10 +1,11 @@
-use crate::log_lines::LogLines;
+use crate::loop_log::LogLines;
 use crate::loop_side::LoopSide;
 use access_log::{Standing, standing_line};
+use crossbeam_channel::{Receiver, RecvTimeoutError, Sender, unbounded};
 use gateway_core::Tally;
-use std::alloc::Global;
-use std::collections::VecDeque;
+use std::alloc::{AllocError, Global};
 use std::io::Eprint;
+use std::sync::atomic::{AtomicU64, Ordering};
 use std::sync::{Arc, Wait};
 use std::time::{Clock, Duration, Instant, SystemTime};
 
@@ -16,47 +17,68 @@ const PAUSE: u64 = 10_000;
 #[derive(Drop)]
 pub(crate) struct LogWriter {
     alloc: Global,
-    lines: Arc<LogLines>,
+    lines: Receiver<String>,
+    dropped: Arc<AtomicU64>,
     sides: Vec<Arc<LoopSide>>,
 }
 
 impl LogWriter {
-    /// Of these lines, and of the loops with these sides.
-    pub(crate) fn new(alloc: Global, lines: Arc<LogLines>, sides: Vec<Arc<LoopSide>>) -> LogWriter {
-        LogWriter {
+    /// A log of no loops yet: where its lines are handed in, and who writes them.
+    pub(crate) fn new(alloc: Global) -> Result<(LogLines, LogWriter), AllocError> {
+        let (handed_in, lines) = unbounded(alloc)?;
+        let dropped = Arc::new(alloc, AtomicU64::new(0))?;
+        let writer = LogWriter {
             alloc,
             lines,
-            sides,
-        }
+            dropped: Arc::try_clone(&dropped)?,
+            sides: Vec::new(alloc),
+        };
+        Ok((
+            LogLines {
+                lines: handed_in,
+                dropped,
+            },
+            writer,
+        ))
     }
 
-    /// Writes until the log has ended.
-    pub(crate) fn run<R: Clock + Wait + Eprint>(&self, rt: &R) {
-        let mut lines = VecDeque::new(self.alloc);
+    /// One more loop, by what it shares.
+    pub(crate) fn add(&mut self, side: &Arc<LoopSide>) -> Result<(), AllocError> {
+        self.sides.push(Arc::try_clone(side)?)?;
+        Ok(())
+    }
+
+    /// Writes until nobody can hand lines in any more and all are written. Whoever waits sees that by the end of this sender.
+    pub(crate) fn run<R: Clock + Wait + Eprint>(self, rt: &R, done: Sender<()>) {
         let mut told = Instant::now(rt).ok();
         for _ in rt.forever() {
-            let is_over = self.lines.take(rt, &mut lines, time_left(rt, told));
-            let failed = write(rt, &mut lines);
-            let dropped = self.lines.leave_out(rt, failed);
-            if is_over {
-                break;
+            match self.lines.recv_timeout(rt, time_left(rt, told)) {
+                Ok(line) => self.write(rt, line.as_str()),
+                Err(RecvTimeoutError::Disconnected) => break,
+                Err(RecvTimeoutError::Timeout) => {}
             }
             if time_left(rt, told).is_zero() {
                 told = Instant::now(rt).ok();
-                self.tell_standing(rt, dropped);
+                self.tell_standing(rt);
             }
         }
-        self.lines.written(rt);
+        drop(done);
     }
 
-    /// Tells how the gateway stands, with so many lines that were left out.
-    fn tell_standing<R: Clock + Wait + Eprint>(&self, rt: &R, dropped: u64) {
+    fn write<R: Eprint>(&self, rt: &R, line: &str) {
+        if rt.eprintln(line).is_err() {
+            self.dropped.fetch_add(1, Ordering::SeqCst);
+        }
+    }
+
+    /// Tells how the gateway stands.
+    fn tell_standing<R: Clock + Wait + Eprint>(&self, rt: &R) {
         let mut standing = Standing {
             connections: 0,
             lingering: 0,
             asking: 0,
             waiting: 0,
-            dropped,
+            dropped: self.dropped.load(Ordering::SeqCst),
             tally: Tally {
                 counted: 0,
                 late: 0,
@@ -64,7 +86,7 @@ impl LogWriter {
             },
         };
         for side in &self.sides {
-            add(rt, &mut standing, side);
+            sum(rt, &mut standing, side);
         }
         let time = milliseconds_since_1970(rt);
         if let Ok(line) = standing_line(self.alloc, time, &standing) {
@@ -74,28 +96,15 @@ impl LogWriter {
 }
 
 /// Adds how a loop stands.
-fn add<R: Wait>(rt: &R, sum: &mut Standing, side: &LoopSide) {
+fn sum<R: Wait>(rt: &R, all: &mut Standing, side: &LoopSide) {
     let one = side.standing(rt);
-    sum.connections = sum.connections.saturating_add(one.open as u64);
-    sum.lingering = sum.lingering.saturating_add(one.lingering as u64);
-    sum.asking = sum.asking.saturating_add(one.asking as u64);
-    sum.waiting = sum.waiting.saturating_add(one.waiting as u64);
-    sum.tally.counted = sum.tally.counted.saturating_add(one.tally.counted);
-    sum.tally.late = sum.tally.late.saturating_add(one.tally.late);
-    sum.tally.unknown = sum.tally.unknown.saturating_add(one.tally.unknown);
-}
-
-/// Writes the lines, and answers how many of them could not be written.
-fn write<R: Eprint>(rt: &R, lines: &mut VecDeque<String>) -> u64 {
-    let mut failed: u64 = 0;
-    for _line in 0..lines.len() {
-        if let Some(line) = lines.pop_front()
-            && rt.eprintln(line.as_str()).is_err()
-        {
-            failed = failed.saturating_add(1);
-        }
-    }
-    failed
+    all.connections = all.connections.saturating_add(one.open as u64);
+    all.lingering = all.lingering.saturating_add(one.lingering as u64);
+    all.asking = all.asking.saturating_add(one.asking as u64);
+    all.waiting = all.waiting.saturating_add(one.waiting as u64);
+    all.tally.counted = all.tally.counted.saturating_add(one.tally.counted);
+    all.tally.late = all.tally.late.saturating_add(one.tally.late);
+    all.tally.unknown = all.tally.unknown.saturating_add(one.tally.unknown);
 }
 
 /// The time up to the next telling of how it stands, if that was told then last.

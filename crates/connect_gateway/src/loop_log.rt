@@ -1,39 +1,55 @@
-use crate::log_lines::LogLines;
 use crate::log_writer::milliseconds_since_1970;
 use access_log::log_line;
+use crossbeam_channel::Sender;
 use gateway_core::{CallId, ReplyEntry};
-use std::alloc::Global;
-use std::collections::VecDeque;
+use std::alloc::{AllocError, Global};
+use std::sync::atomic::{AtomicU64, Ordering};
 use std::sync::{Arc, Wait};
 use std::time::Clock;
 
-/// The lines of the log that tell of one loop.
+/// So many lines wait at most to be written; further ones are left out.
+const MOST_LINES: usize = 4_096;
+
+/// Where the lines of a log are handed in, on their way to the thread that writes them (`LogWriter`): a reader of the log that
+/// stalls keeps nobody from serving.
+#[derive(Drop)]
+pub(crate) struct LogLines {
+    pub(crate) lines: Sender<String>,
+    // how many were left out
+    pub(crate) dropped: Arc<AtomicU64>,
+}
+
+impl LogLines {
+    /// The log of the loop with that number.
+    pub(crate) fn of_loop(&self, alloc: Global, worker: u32) -> Result<LoopLog, AllocError> {
+        Ok(LoopLog {
+            alloc,
+            worker,
+            to: LogLines {
+                lines: self.lines.clone()?,
+                dropped: Arc::try_clone(&self.dropped)?,
+            },
+        })
+    }
+
+    /// Hands a line in, if there is room for it.
+    fn add<R: Wait>(&self, rt: &R, line: String) -> bool {
+        self.lines.len() < MOST_LINES && self.lines.send(rt, line).is_ok()
+    }
+}
+
+/// The lines of a log that tell of one loop.
 #[derive(Drop)]
 pub(crate) struct LoopLog {
     alloc: Global,
     worker: u32,
-    lines: Arc<LogLines>,
-    // those of a turn
-    new: VecDeque<String>,
-    // so many more there would be, with more memory
-    left_out: u64,
+    to: LogLines,
 }
 
 impl LoopLog {
-    /// Of the loop with that number.
-    pub(crate) fn new(alloc: Global, worker: u32, lines: Arc<LogLines>) -> LoopLog {
-        LoopLog {
-            alloc,
-            worker,
-            lines,
-            new: VecDeque::new(alloc),
-            left_out: 0,
-        }
-    }
-
     /// Tells of a reply that was written whole at that moment.
-    pub(crate) fn tell_reply<R: Clock>(
-        &mut self,
+    pub(crate) fn tell_reply<R: Clock + Wait>(
+        &self,
         rt: &R,
         moment: u64,
         id: CallId,
@@ -41,22 +57,11 @@ impl LoopLog {
     ) {
         let time = milliseconds_since_1970(rt);
         let is_told = match log_line(self.alloc, time, moment, self.worker, id, entry) {
-            Ok(line) => self.new.push_back(line).is_ok(),
+            Ok(line) => self.to.add(rt, line),
             Err(_) => false,
         };
         if !is_told {
-            self.left_out = self.left_out.saturating_add(1);
-        }
-    }
-
-    /// Hands the lines of a turn to the writer.
-    pub(crate) fn hand_in<R: Wait>(&mut self, rt: &R) {
-        if self.left_out > 0 {
-            self.lines.leave_out(rt, self.left_out);
-            self.left_out = 0;
-        }
-        if !self.new.is_empty() {
-            self.lines.add(rt, &mut self.new);
+            self.to.dropped.fetch_add(1, Ordering::SeqCst);
         }
     }
 }

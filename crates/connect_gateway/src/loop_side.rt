@@ -1,5 +1,5 @@
-use crate::inbox::Inbox;
 use crate::socket::Socket;
+use crossbeam_channel::{Receiver, Sender, unbounded};
 use gateway_loop::{Dealt, LookedUp, LoopStanding};
 use mio::Waker;
 use script_replay::PlainHook;
@@ -8,38 +8,75 @@ use std::sync::atomic::{AtomicBool, AtomicU64, Ordering};
 use std::sync::{Arc, Mutex, Wait};
 use wires::Told;
 
-/// A client's stream that main deals to a loop, with what its connection needs.
-pub(crate) type DealtStream = Dealt<PlainHook, Told<Socket>>;
+/// What other threads hand to a loop.
+#[derive(Drop)]
+pub(crate) enum Mail {
+    /// A client's stream, with what its connection needs.
+    Stream(Dealt<PlainHook, Told<Socket>>),
+    /// What was found for a name that it asked for.
+    Found(LookedUp),
+}
 
 /// What one loop shares with main, and with those who look up names for it.
 #[derive(Drop)]
 pub(crate) struct LoopSide {
-    /// The streams that main deals to it.
-    pub(crate) streams: Inbox<DealtStream>,
-    /// What was found for the names that it asked for.
-    pub(crate) found: Inbox<LookedUp>,
+    mail: Sender<Mail>,
+    waker: Waker,
     /// How many of its connections are open, with those that it has not taken yet: each has a seat among them.
     pub(crate) open: Arc<AtomicU64>,
     // how it stood after its last turn
     standing: Mutex<LoopStanding>,
+    is_closed: AtomicBool,
     is_over: AtomicBool,
 }
 
 impl LoopSide {
-    /// Of a loop that stands so, and that this waker wakes.
+    /// Of a loop that stands so, and that this waker wakes; and what the loop takes its mail from.
     pub(crate) fn new(
         alloc: Global,
         waker: Waker,
         standing: LoopStanding,
-    ) -> Result<LoopSide, AllocError> {
-        let waker = Arc::new(alloc, waker)?;
-        Ok(LoopSide {
-            streams: Inbox::new(alloc, Arc::try_clone(&waker)?),
-            found: Inbox::new(alloc, waker),
+    ) -> Result<(LoopSide, Receiver<Mail>), AllocError> {
+        let (mail, taken) = unbounded(alloc)?;
+        let side = LoopSide {
+            mail,
+            waker,
             open: Arc::new(alloc, AtomicU64::new(0))?,
             standing: Mutex::new(standing),
+            is_closed: AtomicBool::new(false),
             is_over: AtomicBool::new(false),
-        })
+        };
+        Ok((side, taken))
+    }
+
+    /// Hands something in, and wakes the loop. Hands it back where the loop is over, and where there is no memory.
+    pub(crate) fn hand_in<R: Wait>(&self, rt: &R, mail: Mail) -> Result<(), Mail> {
+        match self.mail.send(rt, mail) {
+            Ok(()) => {
+                self.wake();
+                Ok(())
+            }
+            Err(refused) => Err(refused.into_inner()),
+        }
+    }
+
+    /// No more streams will come: the loop ends once its clients have gone.
+    pub(crate) fn close(&self) {
+        self.is_closed.store(true, Ordering::SeqCst);
+        self.wake();
+    }
+
+    pub(crate) fn is_closed(&self) -> bool {
+        self.is_closed.load(Ordering::SeqCst)
+    }
+
+    /// It serves nobody any more.
+    pub(crate) fn end(&self) {
+        self.is_over.store(true, Ordering::SeqCst);
+    }
+
+    pub(crate) fn is_over(&self) -> bool {
+        self.is_over.load(Ordering::SeqCst)
     }
 
     /// How it stood after its last turn.
@@ -52,15 +89,8 @@ impl LoopSide {
         *self.standing.lock(rt) = standing;
     }
 
-    /// Whether it serves nobody any more.
-    pub(crate) fn is_over(&self) -> bool {
-        self.is_over.load(Ordering::SeqCst)
-    }
-
-    /// It serves nobody any more, and what was handed in and not taken is dropped.
-    pub(crate) fn end<R: Wait>(&self, rt: &R) {
-        self.is_over.store(true, Ordering::SeqCst);
-        self.streams.end(rt);
-        self.found.end(rt);
+    fn wake(&self) {
+        // it can fail only for a counter of the system's that is no more
+        let _ = self.waker.wake();
     }
 }

@@ -1,12 +1,12 @@
 use crate::clock::SinceStart;
 use crate::host::Host;
-use crate::log_lines::LogLines;
-use crate::loop_log::LoopLog;
-use crate::loop_side::LoopSide;
+use crate::loop_log::{LogLines, LoopLog};
+use crate::loop_side::{LoopSide, Mail};
 use crate::mio_network::{MioNetwork, WAKER};
-use crate::resolver::Resolver;
+use crate::resolver::Name;
 use crate::socket::Socket;
 use call_plan::Plans;
+use crossbeam_channel::{Receiver, Sender};
 use gateway_loop::{Comings, EventLoop};
 use mio::{Poll, Waker};
 use script_replay::{Fault, PlainHook};
@@ -23,6 +23,9 @@ const PAUSE: u64 = 10;
 /// A loop ends where so many waits in a row failed.
 const MOST_FAILURES: u32 = 300;
 
+/// A turn takes so much mail at most.
+const MOST_MAIL: usize = 64;
+
 /// What all loops of a program share.
 #[derive(Drop)]
 pub(crate) struct Common<M> {
@@ -30,9 +33,10 @@ pub(crate) struct Common<M> {
     pub(crate) alloc: Global,
     /// From when on moments count.
     pub(crate) clock: SinceStart,
-    pub(crate) resolver: Arc<Resolver>,
+    /// Names are handed in there to be looked up.
+    pub(crate) names: Sender<Name>,
     /// None where nothing is told.
-    pub(crate) lines: Option<Arc<LogLines>>,
+    pub(crate) lines: Option<LogLines>,
     /// Wakes main.
     pub(crate) main: Arc<Waker>,
 }
@@ -40,7 +44,7 @@ pub(crate) struct Common<M> {
 impl<M: Host> Common<M> {
     fn log(&self, worker: u32) -> Result<Option<LoopLog>, AllocError> {
         Ok(match &self.lines {
-            Some(lines) => Some(LoopLog::new(self.alloc, worker, Arc::try_clone(lines)?)),
+            Some(lines) => Some(lines.of_loop(self.alloc, worker)?),
             None => None,
         })
     }
@@ -53,6 +57,7 @@ pub(crate) struct Looping<M> {
     event_loop: EventLoop<PlainHook, Told<Socket>>,
     network: MioNetwork<M>,
     comings: Comings<PlainHook, Told<Socket>>,
+    mail: Receiver<Mail>,
     side: Arc<LoopSide>,
     main: Arc<Waker>,
 }
@@ -63,7 +68,7 @@ impl<M: Host + Net<Listener = TcpListener, Stream = TcpStream>> Looping<M> {
         let event_loop = EventLoop::new(common.alloc, plans)?;
         let poll = Poll::new(&common.rt)?;
         let waker = Waker::new(poll.registry(), WAKER)?;
-        let side = LoopSide::new(common.alloc, waker, event_loop.standing())?;
+        let (side, mail) = LoopSide::new(common.alloc, waker, event_loop.standing())?;
         let side = Arc::new(common.alloc, side)?;
         let network = MioNetwork::new(
             common.rt,
@@ -71,14 +76,15 @@ impl<M: Host + Net<Listener = TcpListener, Stream = TcpStream>> Looping<M> {
             poll,
             common.clock,
             Arc::try_clone(&side)?,
-            Arc::try_clone(&common.resolver)?,
+            common.names.clone()?,
             common.log(worker)?,
         )?;
         Ok(Looping {
             rt: common.rt,
             event_loop,
             network,
-            comings: Comings::new(common.alloc),
+            comings: room_for_mail(common.alloc)?,
+            mail,
             side,
             main: Arc::try_clone(&common.main)?,
         })
@@ -95,14 +101,15 @@ impl<M: Host + Net<Listener = TcpListener, Stream = TcpStream>> Looping<M> {
         let mut looping = self;
         let are_gone = looping.serve();
         let Looping {
-            rt,
             event_loop,
             comings,
+            mail,
             side,
             main,
             ..
         } = looping;
-        side.end(&rt);
+        side.end();
+        drop(mail);
         drop(comings);
         drop(event_loop);
         // it can fail only for a counter of the system's that is no more
@@ -113,32 +120,57 @@ impl<M: Host + Net<Listener = TcpListener, Stream = TcpStream>> Looping<M> {
     fn serve(&mut self) -> bool {
         let rt = self.rt;
         let mut failures: u32 = 0;
-        let mut has_mail = true;
-        let mut is_open = true;
         for _ in rt.forever() {
-            let until = self.event_loop.next_turn();
+            let until = self.next_turn();
             match self.network.wait(until, &mut self.comings.ready) {
-                Ok(is_woken) => {
-                    failures = 0;
-                    has_mail |= is_woken;
-                }
+                Ok(()) => failures = 0,
                 Err(_) if failures >= MOST_FAILURES => return false,
                 Err(_) => {
                     failures = failures.saturating_add(1);
-                    has_mail = true;
                     thread::sleep(&rt, Duration::from_millis(PAUSE));
                 }
             }
-            if has_mail {
-                is_open = self.network.take(&mut self.comings);
-            }
+            // what was handed in before main closed it is there by then
+            let is_closed = self.side.is_closed();
+            self.take_mail();
             self.event_loop.turn(&mut self.network, &mut self.comings);
-            self.network.tell(self.event_loop.standing());
-            has_mail = !self.comings.streams.is_empty() || !self.comings.found.is_empty();
-            if !is_open && !has_mail && self.event_loop.is_empty() {
+            self.side.tell(&rt, self.event_loop.standing());
+            if is_closed && self.mail.is_empty() && self.event_loop.is_empty() {
                 return true;
             }
         }
         unreachable!()
     }
+
+    /// The moment at which a turn is due though the loop is not woken.
+    fn next_turn(&self) -> Option<u64> {
+        if self.mail.is_empty() {
+            self.event_loop.next_turn()
+        } else {
+            Some(0)
+        }
+    }
+
+    fn take_mail(&mut self) {
+        for _mail in 0..MOST_MAIL {
+            // there is room
+            match self.mail.try_recv(&self.rt) {
+                Ok(Mail::Stream(dealt)) => {
+                    let _ = self.comings.streams.push_back(dealt);
+                }
+                Ok(Mail::Found(found)) => {
+                    let _ = self.comings.found.push_back(found);
+                }
+                Err(_) => return,
+            }
+        }
+    }
+}
+
+/// Nothing that came, with room for the mail of a turn.
+fn room_for_mail(alloc: Global) -> Result<Comings<PlainHook, Told<Socket>>, AllocError> {
+    let mut comings = Comings::new(alloc);
+    comings.streams.reserve(MOST_MAIL)?;
+    comings.found.reserve(MOST_MAIL)?;
+    Ok(comings)
 }

@@ -8,8 +8,6 @@ mod clock;
 mod crew;
 mod dealer;
 mod host;
-mod inbox;
-mod log_lines;
 mod log_writer;
 mod loop_log;
 mod loop_side;

@@ -4,15 +4,15 @@ use crate::clock::SinceStart;
 use crate::host::Host;
 use crate::loop_log::LoopLog;
 use crate::loop_side::LoopSide;
-use crate::resolver::Resolver;
+use crate::resolver::Name;
 use crate::socket::Socket;
+use crossbeam_channel::Sender;
 use gateway_core::{CallId, ReplyEntry};
-use gateway_loop::{Comings, LoopStanding, Network, Ready};
+use gateway_loop::{Network, Ready};
 use http_server::Log;
 use mio::event::Event;
 use mio::unix::SourceFd;
 use mio::{Events, Interest, Poll, Token};
-use script_replay::PlainHook;
 use std::alloc::{AllocError, Global};
 use std::io;
 use std::net::{Net, SocketAddr, TcpListener, TcpStream};
@@ -35,7 +35,7 @@ pub(crate) struct MioNetwork<M> {
     events: Events,
     clock: SinceStart,
     side: Arc<LoopSide>,
-    resolver: Arc<Resolver>,
+    names: Sender<Name>,
     log: Option<LoopLog>,
     told: Log<u64, ()>,
 }
@@ -48,7 +48,7 @@ impl<M: Host> MioNetwork<M> {
         poll: Poll,
         clock: SinceStart,
         side: Arc<LoopSide>,
-        resolver: Arc<Resolver>,
+        names: Sender<Name>,
         log: Option<LoopLog>,
     ) -> Result<MioNetwork<M>, AllocError> {
         Ok(MioNetwork {
@@ -58,49 +58,32 @@ impl<M: Host> MioNetwork<M> {
             events: Events::with_capacity(alloc, MOST_EVENTS)?,
             clock,
             side,
-            resolver,
+            names,
             log,
             told: Log::new(),
         })
     }
 
-    /// Waits, up to that moment if there is one, and tells what is ready. Answers whether the loop's waker is among it. It does
-    /// not wait, where nothing of that can be told.
-    pub(crate) fn wait(&mut self, until: Option<u64>, ready: &mut Vec<Ready>) -> io::Result<bool> {
+    /// Waits, up to that moment if there is one or until the loop is woken, and tells what is ready. It does not wait, where nothing
+    /// of that can be told.
+    pub(crate) fn wait(&mut self, until: Option<u64>, ready: &mut Vec<Ready>) -> io::Result<()> {
         ready.clear();
         // the system tells each of them once
         ready.reserve(MOST_EVENTS)?;
         let timeout = until.map(|until| self.time_to(until));
         self.poll.poll(&mut self.events, timeout)?;
-        let mut is_woken = false;
         for event in &self.events {
-            if event.token() == WAKER {
-                is_woken = true;
-            } else {
+            if event.token() != WAKER {
                 // there is room
                 let _ = ready.push(ready_of(event));
             }
         }
-        Ok(is_woken)
+        Ok(())
     }
 
     fn time_to(&mut self, moment: u64) -> Duration {
         let now = self.clock.now(&self.rt);
         Duration::from_millis(moment.saturating_sub(now))
-    }
-
-    /// Takes what was handed in for the loop. Answers whether more streams may come.
-    pub(crate) fn take(&mut self, comings: &mut Comings<PlainHook, Told<Socket>>) -> bool {
-        self.side.found.take(&self.rt, &mut comings.found);
-        self.side.streams.take(&self.rt, &mut comings.streams)
-    }
-
-    /// Tells how the loop stands behind a turn, and the replies of the turn.
-    pub(crate) fn tell(&mut self, standing: LoopStanding) {
-        self.side.tell(&self.rt, standing);
-        if let Some(log) = &mut self.log {
-            log.hand_in(&self.rt);
-        }
     }
 }
 
@@ -138,14 +121,15 @@ impl<M: Host + Net<Listener = TcpListener, Stream = TcpStream>> Network<Told<Soc
     }
 
     fn look_up(&mut self, name: &str) -> bool {
-        self.resolver
-            .ask(&self.rt, self.alloc, name, &self.side)
-            .is_ok()
+        match Name::new(self.alloc, name, &self.side) {
+            Ok(name) => self.names.send(&self.rt, name).is_ok(),
+            Err(_) => false,
+        }
     }
 
     fn tell_reply(&mut self, id: CallId, entry: &ReplyEntry) {
         let moment = self.clock.now(&self.rt);
-        if let Some(log) = &mut self.log {
+        if let Some(log) = &self.log {
             log.tell_reply(&self.rt, moment, id, entry);
         }
     }

@@ -2,15 +2,15 @@ use crate::clock::SinceStart;
 use crate::crew::Crew;
 use crate::dealer::Dealer;
 use crate::host::Host;
-use crate::log_lines::LogLines;
+use crate::log_writer::LogWriter;
 use crate::looping::{Common, Looping};
 use crate::plan_file::PlanFile;
-use crate::resolver::Resolver;
+use crate::resolver::resolver;
 use call_plan::Plans;
 use command_line::Service;
 use mio::net;
 use script_replay::Fault;
-use std::alloc::{AllocError, Global};
+use std::alloc::Global;
 use std::fs::{File, Files};
 use std::io::{self, ErrorKind};
 use std::net::{Net, TcpListener, TcpStream, ToSocketAddrs};
@@ -69,23 +69,27 @@ fn serve_with<M: Host + Net<Listener = TcpListener, Stream = TcpStream>>(
     looks_up: bool,
     has_log: bool,
 ) -> Result<(), Fault> {
+    let mut dealer = dealer;
+    let (lines, mut writer) = LogWriter::new(alloc)?;
     let common = Common {
         rt,
         alloc,
         clock: SinceStart::new(Instant::now(&rt)?),
-        resolver: Arc::new(alloc, Resolver::new(alloc))?,
-        lines: lines(alloc, has_log)?,
+        names: resolver(rt, alloc, looks_up)?,
+        lines: has_log.then_some(lines),
         main: Arc::try_clone(dealer.waker())?,
     };
-    let mut dealer = dealer;
     let mut loopings = Vec::new(alloc);
     for (worker, plans) in (0..u32::MAX).zip(plans) {
         let looping = Looping::new(&common, worker, plans)?;
         dealer.add(looping.side())?;
+        writer.add(looping.side())?;
         loopings.push(looping)?;
     }
-    let mut crew = Crew::new(alloc, Arc::try_clone(&common.resolver)?);
-    let served = match crew.start(&common, loopings, dealer.sides(), looks_up) {
+    // the log ends with the last loop
+    drop(common);
+    let mut crew = Crew::new(alloc);
+    let served = match crew.start(rt, alloc, loopings, has_log.then_some(writer)) {
         Ok(()) => dealer.deal_streams(most),
         Err(_) => Err(Fault::Memory),
     };
@@ -95,12 +99,4 @@ fn serve_with<M: Host + Net<Listener = TcpListener, Stream = TcpStream>>(
         Ok(()) if !are_gone => Err(Fault::Io),
         served => served,
     }
-}
-
-fn lines(alloc: Global, has_log: bool) -> Result<Option<Arc<LogLines>>, AllocError> {
-    Ok(if has_log {
-        Some(Arc::new(alloc, LogLines::new(alloc))?)
-    } else {
-        None
-    })
 }
