@@ -40,7 +40,7 @@ fn answered<M: Host + Net<Listener = TcpListener, Stream = TcpStream> + AllocGlo
     let plans = plans_of(alloc, backend.local_addr()?)?;
     let (served, (asked, reply)) = thread::join(
         &rt,
-        || serve(rt, alloc, plans, front, 2, 1),
+        || serve(rt, alloc, plans, front, 2),
         || {
             thread::join(
                 &rt,

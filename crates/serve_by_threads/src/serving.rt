@@ -4,7 +4,6 @@ use crate::since_start::SinceStart;
 use backend_pool::{Blanks, Book, NoGate, RemoteBackend, Shared, Shares, WorkerShares, worker};
 use call_plan::Plans;
 use connections::{clock_side, read_side, write_side};
-use gateway_core::ConnId;
 use script_replay::{Fault, PlainHook, stock};
 use std::alloc::{AllocError, Global};
 use std::marker::Brand;
@@ -29,26 +28,24 @@ pub(crate) struct Server<M, L: Ledger, J: Ledger, K: Ledger> {
     shared: Shared<PlainHook, L, J, K>,
 }
 
-/// Serves so many streams by threads, as `serve_with` does.
+/// Serves one stream by threads, as `serve_with` does.
 pub(crate) fn serve<M: Host + Net<Listener = TcpListener, Stream = TcpStream>>(
     rt: M,
     alloc: Global,
     plans: Plans,
     listener: TcpListener,
     workers: u32,
-    streams: u32,
 ) -> Result<(), Fault> {
     // a part of each ledger for whoever has a share, and one more
     let blanks = Blanks {
-        bytes: Blank::new(u64::from(streams) + 1),
+        bytes: Blank::new(1),
         jobs: Blank::new(u64::from(workers) + 1),
         results: Blank::new(u64::from(workers) + 1),
     };
-    serve_with::<M, Brand, Brand, Brand>(rt, alloc, plans, blanks, listener, workers, streams)
+    serve_with::<M, Brand, Brand, Brand>(rt, alloc, plans, blanks, listener, workers)
 }
 
-/// Serves so many streams by threads: two for each of them, so many workers, and one for the clock. It ends once the
-/// streams have.
+/// Serves one stream by threads: two for its sides, so many workers, and one for the clock. It ends once the stream has.
 pub(crate) fn serve_with<
     M: Host + Net<Listener = TcpListener, Stream = TcpStream>,
     L: Ledger + Send + Sync + 'static,
@@ -61,12 +58,11 @@ pub(crate) fn serve_with<
     blanks: Blanks,
     listener: TcpListener,
     workers: u32,
-    streams: u32,
 ) -> Result<(), Fault>
     requires names { (blanks.bytes.name ≡ L.name) × (blanks.jobs.name ≡ J.name) × (blanks.results.name ≡ K.name) }
     requires parts { (blanks.bytes.parts ≡ L.parts) × (blanks.jobs.parts ≡ J.parts)
         × (blanks.results.parts ≡ K.parts) }
-    requires enough { (streams < blanks.bytes.parts) × (workers < blanks.jobs.parts) × (workers < blanks.results.parts) }
+    requires enough { (blanks.bytes.parts ≡ 1) × (workers < blanks.jobs.parts) × (workers < blanks.results.parts) }
 {
     let start = Instant::now(&rt)?;
     let (book, shares) = Book::<PlainHook, L, J, K>::new(alloc, plans, blanks)?;
@@ -75,18 +71,17 @@ pub(crate) fn serve_with<
         jobs,
         results,
     } = shares;
-    let server = Arc::new(
+    let shared = Shared::new(book);
+    let server = Server {
+        rt,
         alloc,
-        Server {
-            rt,
-            alloc,
-            start,
-            shared: Shared::new(book),
-        },
-    )?;
+        start,
+        shared,
+    };
+    let server = Arc::new(alloc, server)?;
     let mut crew = Vec::new(alloc);
     let served = match start_crew(&server, workers, WorkerShares { jobs, results }, &mut crew) {
-        Ok(()) => accept_streams(&server, bytes, listener, streams),
+        Ok(()) => serve_next(&server, &listener, bytes),
         Err(_) => Err(Fault::Memory),
     };
     server.shared.shut(&rt);
@@ -149,85 +144,30 @@ fn start_worker<
     Ok(thread::spawn(&server.rt, job)?)
 }
 
-/// Accepts so many streams, and waits until all of them have ended.
-fn accept_streams<
+/// Serves the next stream by its two sides, each in a thread of its own. Behind the last reply it is shut down both ways, which
+/// ends its read.
+fn serve_next<
     M: Host + Net<Listener = TcpListener, Stream = TcpStream>,
     L: Ledger + Send + Sync + 'static,
     J: Ledger + Send + Sync + 'static,
     K: Ledger + Send + Sync + 'static,
->(
-    server: &Arc<Server<M, L, J, K>>,
-    bytes: Share<L>,
-    listener: TcpListener,
-    streams: u32,
-) -> Result<(), Fault>
-    requires { streams < bytes.parts }
+>(server: &Server<M, L, J, K>, listener: &TcpListener, bytes: Share<L>) -> Result<(), Fault>
+    requires { bytes.parts ≡ 1 }
 {
-    let mut bytes = bytes;
-    let mut accepted = Ok(());
-    let mut connections = Vec::new(server.alloc);
-    for _stream in 0..streams {
-        let Ok((stream, _peer)) = listener.accept() else {
-            accepted = Err(Fault::Io);
-            break;
-        };
-        let mine = bytes.split_off(1, 0);
-        if connections.reserve(1).is_err() {
-            continue;
-        }
-        if let Some(thread) = start_connection(server, stream, mine) {
-            connections.push_reserved(thread);
-        }
-    }
-    drop(listener);
-    for thread in connections {
-        thread.join(&server.rt);
-    }
-    accepted
-}
-
-/// Opens a connection for a stream, and starts its threads. None where the gateway does not open it, or where memory or
-/// a thread is refused: then the stream is closed, and nothing was written to it.
-fn start_connection<
-    M: Host + Net<Listener = TcpListener, Stream = TcpStream>,
-    L: Ledger + Send + Sync + 'static,
-    J: Ledger + Send + Sync + 'static,
-    K: Ledger + Send + Sync + 'static,
->(server: &Arc<Server<M, L, J, K>>, stream: TcpStream, mine: Share<L>) -> Option<JoinHandle<()>>
-    requires { mine.parts ≡ 1 }
-{
-    let hooks = stock(server.alloc).ok()?;
-    let of = Arc::try_clone(server).ok()?;
-    let opened = server.shared.state.lock(&server.rt).book.opening(hooks);
-    let conn = opened.ok()?;
-    let job = move ||
-        requires { mine.parts ≡ 1 }
-    {
-        serve_stream(&*of, conn, &stream, mine);
+    let (stream, _peer) = listener.accept()?;
+    let opened = server
+        .shared
+        .state
+        .lock(&server.rt)
+        .book
+        .opening(stock(server.alloc)?);
+    let Ok(conn) = opened else {
+        return Err(Fault::Memory);
     };
-    match thread::spawn(&server.rt, job) {
-        Ok(thread) => Some(thread),
-        Err(_) => {
-            server.shared.state.lock(&server.rt).book.closing(conn);
-            None
-        }
-    }
-}
-
-/// Serves a connection by its two sides, each in a thread of its own. Behind the last reply the stream is shut down both
-/// ways, which ends its read.
-fn serve_stream<
-    M: Host + Net<Listener = TcpListener, Stream = TcpStream>,
-    L: Ledger + Send + Sync + 'static,
-    J: Ledger + Send + Sync + 'static,
-    K: Ledger + Send + Sync + 'static,
->(server: &Server<M, L, J, K>, conn: ConnId, stream: &TcpStream, mine: Share<L>)
-    requires { mine.parts ≡ 1 }
-{
-    let (mut reader, mut writer) = (stream, stream);
+    let (mut reader, mut writer) = (&stream, &stream);
     let (_share, _replies) = thread::join(
         &server.rt,
-        || read_side(&server.rt, &mut reader, &server.shared, conn, mine),
+        || read_side(&server.rt, &mut reader, &server.shared, conn, bytes),
         || {
             let replies = write_side(&server.rt, server.alloc, &mut writer, &server.shared, conn);
             // the client may have ended the stream before
@@ -235,4 +175,5 @@ fn serve_stream<
             replies
         },
     );
+    Ok(())
 }
