@@ -1,7 +1,8 @@
 -- Lemmas on what was written and read in an exchange over ends that wait.
 use Rattle.std.proofs.Common.{◌≡◌, ℕ, ◌-◌, List, [], ◌++◌, length, take, drop, refl, sym, ap, ◌∙◌, subst, append_assoc, append-nil}
-use Rattle.std.specs.Prelude.{Option, Some, None}
-use Rattle.std.specs.Io.KnownBytes.{Appends, Consumes}
+use Rattle.std.specs.Prelude.{Option, Some}
+use Rattle.std.specs.Io.KnownBytes.{Appends}
+use Rattle.std.proofs.KnownBytes.{Appends-nil, Appends-trans}
 use Rattle.std.proofs.lemmas.List.{take-append-drop}
 use Rattle.http_pieces.specs.ReplyReader.{ReplyReaderValue}
 use Rattle.http_pieces.specs.declared.reply.HttpReply.{HttpReply}
@@ -13,17 +14,11 @@ use Rattle.branch_exchange.specs.declared.exchange_end.ExchangeEnd.{ExchangeEnd}
 use Rattle.branch_exchange.specs.declared.exchange_end.ExchangeEnd.TheVariants as ends
 use Rattle.backend_pool.specs.Exchange.{SendsOn}
 
-appends_then : (u v w : Option (List ℕ)) (a b : List ℕ) → Appends u v a → Appends v w b → Appends u w (a ++ b)
-appends_then None v w a b x y = tt
-appends_then (Some xs) None w a b x y = absurd x
-appends_then (Some xs) (Some ys) None a b x y = absurd y
-appends_then (Some xs) (Some ys) (Some zs) a b x y = y ∙ ap (λ (t : List ℕ). t ++ b) x ∙ append_assoc xs a b
-
 -- some more was written
 pub sends_more : (u v w : Option (List ℕ)) (all left : List ℕ) (n : ℕ) → SendsOn u v all left → Appends v w (take n left) → SendsOn u w all (drop n left)
 sends_more u v w all left n s more = (
   s.0 ++ take n left,
-  appends_then u v w s.0 (take n left) s.1 more,
+  Appends-trans u v w s.0 (take n left) s.1 more,
   s.2 ∙ ap (λ (t : List ℕ). s.0 ++ t) (sym (take-append-drop n left)) ∙ sym (append_assoc s.0 (take n left) (drop n left)),
 )
 
@@ -32,8 +27,7 @@ pub sends_all : (u v : Option (List ℕ)) (all left : List ℕ) → SendsOn u v 
 sends_all u v all left s none = subst (λ (t : List ℕ). Appends u v t) (sym (s.2 ∙ ap (λ (t : List ℕ). s.0 ++ t) none ∙ append-nil s.0)) s.1
 
 pub sends_none : (u : Option (List ℕ)) (all : List ℕ) → SendsOn u u all all
-sends_none None all = ([], tt, refl)
-sends_none (Some xs) all = ([], sym (append-nil xs), refl)
+sends_none u all = ([], Appends-nil u, refl)
 
 -- where a reply is told, what was read begins with it
 pub reply_begins : (left bytes : List ℕ) (reader : ReplyReaderValue) (end : ExchangeEnd) (reply : HttpReply)

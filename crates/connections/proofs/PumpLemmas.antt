@@ -2,6 +2,7 @@
 use Rattle.std.specs.Prelude.{◌≡◌, ◌≢◌, ℕ, ◌+◌, ◌≤◌, All, Bool, false, true, List, [], ◌∷◌, ◌++◌, length, Option, refl}
 use Rattle.std.proofs.Common.{arith, sym, ap, ◌∙◌, append-nil, subst, length-append, lit≤}
 use Rattle.std.proofs.lemmas.Grind.{common_steps, flat_map-append}
+use Rattle.std.proofs.lemmas.List.{nil_from_length}
 use Rattle.std.proofs.lemmas.List.Elements.{All-nil, All-cons, All-append, All-head, All-tail}
 use Rattle.std.specs.Io.KnownBytes.{Consumes}
 use Rattle.connections.specs.declared.inlet.Fed.{Fed}
@@ -10,11 +11,8 @@ use Rattle.connections.specs.declared.inlet.Heard.{Heard}
 use Rattle.connections.specs.declared.inlet.Heard.TheVariants.{Piece}
 use Rattle.connections.specs.Told.{Tells}
 use Rattle.connections.specs.Pumps.{Pumps, Counts, IsRead, taken_of, ends_by, answered, joined}
-use Rattle.connections.proofs.TellLemmas.{Tells-refl, Tells-trans, Consumes-refl, Consumes-trans}
-
-none_of : {A : Type 0} (xs : List A) → length xs ≡ 0 → xs ≡ []
-none_of [] is = refl
-none_of (x ∷ xs) is = absurd (omega arith)
+use Rattle.std.proofs.KnownBytes.{Consumes-nil, Consumes-trans}
+use Rattle.connections.proofs.TellLemmas.{Tells-refl, Tells-trans}
 
 joined-more : (pieces : List (List ℕ)) (piece : List ℕ) → joined (pieces ++ piece ∷ []) ≡ joined pieces ++ piece
 joined-more pieces piece = grind (arith, common_steps, flat_map-append (λ (p : List ℕ). p) pieces (piece ∷ []))
@@ -46,7 +44,7 @@ Pumps-refl a t k = record {
   one_at_most = refl;
   few = lit≤ tt;
   reads = All-nil IsRead;
-  read = Consumes-refl a;
+  read = Consumes-nil a;
   given = Tells-refl t;
   counted = omega arith;
 }
@@ -56,7 +54,7 @@ ended : (n : ℕ) (a b c : Option (List ℕ)) (t s u : Option (List Heard)) (k j
     → Pumps n a b t s k j Go [] → IsRead bytes → Consumes b c bytes → Tells s u (Piece bytes fed ∷ []) → i ≡ j + length (taken_of bytes fed) → ends_by fed ≡ 1
     → Pumps (n + 1) a c t u k i fed []
 ended n a b c t s u k j i bytes fed p is_read read told counted one =
-    let none = none_of p.final p.one_at_most in
+    let none = nil_from_length p.final p.one_at_most in
     let before : joined p.pieces ++ joined p.final ≡ joined p.pieces = rw none (append-nil _) in
     let heard : (answered Go p.pieces ++ answered Go p.final) ++ [] ≡ answered Go p.pieces = rw none (grind (arith, common_steps)) in
     let count : j ≡ k + length (joined p.pieces) = count_of p.final _ _ _ p.one_at_most p.counted in
@@ -78,7 +76,7 @@ pub Pumps-more : (n : ℕ) (a b c : Option (List ℕ)) (t s u : Option (List Hea
 Pumps-more n a b c t s u k j i bytes Stop p is_read read told counted = ended n a b c t s u k j i bytes Stop p is_read read told counted refl
 Pumps-more n a b c t s u k j i bytes Full p is_read read told counted = ended n a b c t s u k j i bytes Full p is_read read told counted refl
 Pumps-more n a b c t s u k j i bytes Go p is_read read told counted =
-    let none = none_of p.final p.one_at_most in
+    let none = nil_from_length p.final p.one_at_most in
     let before : joined p.pieces ++ joined p.final ≡ joined p.pieces = rw none (append-nil _) in
     let heard : (answered Go p.pieces ++ answered Go p.final) ++ [] ≡ answered Go p.pieces = rw none (grind (arith, common_steps)) in
     let count : j ≡ k + length (joined p.pieces) = count_of p.final _ _ _ p.one_at_most p.counted in

@@ -13,7 +13,8 @@ use Rattle.connections.specs.declared.queue.Handed.{Handed}
 use Rattle.connections.specs.declared.queue.Handed.TheVariants.{Reply, Over}
 use Rattle.connections.specs.Told.{Tells}
 use Rattle.connections.specs.Writes.{End, NotYet, IsOver, Unwritten, CutShort, Writes, WritesOut, goes_on, bytes_of, begun, part, told_last, calls_of}
-use Rattle.connections.proofs.TellLemmas.{Tells-refl, Tells-trans, Appends-refl, Appends-trans}
+use Rattle.std.proofs.KnownBytes.{Appends-nil, Appends-trans}
+use Rattle.connections.proofs.TellLemmas.{Tells-refl, Tells-trans}
 
 -- ---- the bytes
 
@@ -42,7 +43,7 @@ calls_of-append conn a m n = rw (range-append a m n) (map-append (call_id conn) 
 -- ---- one after the other
 
 pub Writes-refl : (conn : ℕ) (a : Option (List ℕ)) (t : Option (List Handed)) → Writes conn 0 a a t t [] NotYet []
-Writes-refl conn a t = record { whole = []; are = refl; short = tt; own = refl; bytes = Appends-refl a; given = Tells-refl t }
+Writes-refl conn a t = record { whole = []; are = refl; short = tt; own = refl; bytes = Appends-nil a; given = Tells-refl t }
 
 pub Writes-join : (conn n : ℕ) (a b c : Option (List ℕ)) (t s u : Option (List Handed)) (xs ys all : List ReplyValue) (end : End)
     → Writes conn 0 a b t s xs NotYet [] → Writes conn n b c s u ys end [] → n ≡ length xs → all ≡ xs ++ ys → Writes conn 0 a c t u all end []
@@ -90,11 +91,11 @@ Writes-then conn a b t s u xs end last p told = record {
 -- ---- one turn
 
 pub Writes-over : (conn n : ℕ) (a : Option (List ℕ)) (t s : Option (List Handed)) → Tells t s (Over ∷ []) → Writes conn n a a t s [] IsOver []
-Writes-over conn n a t s told = record { whole = []; are = refl; short = tt; own = refl; bytes = Appends-refl a; given = told }
+Writes-over conn n a t s told = record { whole = []; are = refl; short = tt; own = refl; bytes = Appends-nil a; given = told }
 
 pub Writes-none : (conn n : ℕ) (a : Option (List ℕ)) (t s : Option (List Handed)) (id : CallId) → Tells t s (Reply id ∷ [])
     → Writes conn n a a t s [] (Unwritten id) []
-Writes-none conn n a t s id told = record { whole = []; are = refl; short = tt; own = refl; bytes = Appends-refl a; given = told }
+Writes-none conn n a t s id told = record { whole = []; are = refl; short = tt; own = refl; bytes = Appends-nil a; given = told }
 
 -- of a reply so many bytes were written
 pub Writes-one : (conn n : ℕ) (a b : Option (List ℕ)) (t s : Option (List Handed)) (r : ReplyValue) (sent : ℕ)
