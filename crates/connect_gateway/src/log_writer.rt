@@ -17,7 +17,7 @@ const PAUSE: u64 = 10_000;
 #[derive(Drop)]
 pub(crate) struct LogWriter {
     alloc: Global,
-    lines: Receiver<String>,
+    pub(crate) lines: Receiver<String>,
     dropped: Arc<AtomicU64>,
     sides: Vec<Arc<LoopSide>>,
 }

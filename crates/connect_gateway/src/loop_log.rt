@@ -32,9 +32,15 @@ impl LogLines {
         })
     }
 
-    /// Hands a line in, if there is room for it.
-    fn add<R: Wait>(&self, rt: &R, line: String) -> bool {
-        self.lines.len() < MOST_LINES && self.lines.send(rt, line).is_ok()
+    /// Hands in a line, if there is one and room for it; else that is counted.
+    pub(crate) fn add<R: Wait>(&self, rt: &R, line: Option<String>) {
+        let is_taken = match line {
+            Some(line) if self.lines.len() < MOST_LINES => self.lines.send(rt, line).is_ok(),
+            _ => false,
+        };
+        if !is_taken {
+            self.dropped.fetch_add(1, Ordering::SeqCst);
+        }
     }
 }
 
@@ -56,12 +62,7 @@ impl LoopLog {
         entry: &ReplyEntry,
     ) {
         let time = milliseconds_since_1970(rt);
-        let is_told = match log_line(self.alloc, time, moment, self.worker, id, entry) {
-            Ok(line) => self.to.add(rt, line),
-            Err(_) => false,
-        };
-        if !is_told {
-            self.to.dropped.fetch_add(1, Ordering::SeqCst);
-        }
+        let line = log_line(self.alloc, time, moment, self.worker, id, entry);
+        self.to.add(rt, line.ok());
     }
 }
