@@ -35,8 +35,8 @@ impl LogLines {
     /// Hands in a line, if there is one and room for it; else that is counted.
     pub(crate) fn add<R: Wait>(&self, rt: &R, line: Option<String>) {
         let is_taken = match line {
-            Some(line) if self.lines.len() < MOST_LINES => self.lines.send(rt, line).is_ok(),
-            _ => false,
+            Some(line) => self.lines.len() < MOST_LINES && self.lines.send(rt, line).is_ok(),
+            None => false,
         };
         if !is_taken {
             self.dropped.fetch_add(1, Ordering::SeqCst);

@@ -42,13 +42,18 @@ impl<H: ReplyHook + Drop, W: Wire + Drop> EventLoop<H, W> {
     fn look_at_all(&mut self)
         ensures { self.new.core.plans ≡ self.old.core.plans }
     {
+        // a call that ended behind an undecided one shows by its exchanges' time limits; but a branch that waits for a place has none
+        let has_waiting = self.core.waiting_jobs() > 0;
         for index in 0..self.open.len() {
             let Some(open) = self.open.get(index) else {
                 return;
             };
             let (conn, place) = *open;
-            if self.core.untaken(conn) > 0 || self.core.ended(conn) {
+            let has_news = self.core.untaken(conn) > 0 || self.core.ended(conn);
+            if has_news {
                 self.note(place);
+            }
+            if has_news || has_waiting {
                 self.give_up_unwanted(place);
             }
         }
