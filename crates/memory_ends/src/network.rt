@@ -12,6 +12,7 @@ use wires::Told;
 pub struct ScriptedNetwork {
     alloc: Global,
     moment: u64,
+    later: VecDeque<u64>,
     moments: Log<u64, u64>,
     backends: VecDeque<MemoryStream>,
     connected: Vec<SocketAddr>,
@@ -29,6 +30,7 @@ impl ScriptedNetwork {
         ScriptedNetwork {
             alloc,
             moment: 0,
+            later: VecDeque::new(alloc),
             moments: Log::new(),
             backends: VecDeque::new(alloc),
             connected: Vec::new(alloc),
@@ -44,6 +46,12 @@ impl ScriptedNetwork {
     /// It is this moment, in milliseconds, from now on.
     pub fn set_moment(&mut self, moment: u64) {
         self.moment = moment;
+    }
+
+    /// It is that later moment once it was asked for the time once more.
+    pub fn add_moment(&mut self, later: u64) -> Result<(), AllocError> {
+        self.later.push_back(later)?;
+        Ok(())
     }
 
     /// One more connection can be made: its other end.
@@ -101,8 +109,12 @@ impl Network<Told<MemoryStream>> for ScriptedNetwork {
     ghost told = { λ n. map (λ x. x.0) n.moments.items };
 
     fn moment(&mut self) -> u64 {
-        self.moments = self.moments.and(&self.moment, &self.moment);
-        self.moment
+        let moment = self.moment;
+        self.moments = self.moments.and(&moment, &moment);
+        if let Some(later) = self.later.pop_front() {
+            self.moment = later;
+        }
+        moment
     }
 
     fn connect(&mut self, address: SocketAddr, _length: usize) -> Told<MemoryStream> {
