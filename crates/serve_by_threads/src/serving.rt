@@ -155,12 +155,8 @@ fn serve_next<
     requires { bytes.parts ≡ 1 }
 {
     let (stream, _peer) = listener.accept()?;
-    let opened = server
-        .shared
-        .state
-        .lock(&server.rt)
-        .book
-        .opening(stock(server.alloc)?);
+    let hooks = stock(server.alloc)?;
+    let opened = server.shared.state.lock(&server.rt).book.opening(hooks);
     let Ok(conn) = opened else {
         return Err(Fault::Memory);
     };
