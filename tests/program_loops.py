@@ -224,6 +224,26 @@ def case_full_loops(room):
     room.ends("the program", run, DONE)
 
 
+def case_fewest(room):
+    """each stream goes to the worker with the fewest, also where one has given its own back"""
+    def worker_of(stream, lines):
+        answers("a stream", stream)
+        return json.loads(lines.readline())["worker"]
+
+    run, port = room.serve(b"[]", workers=3, log=True)
+    with contextlib.ExitStack() as opened, open(run.stderr.fileno(), "rb", closefd=False) as lines:
+        streams, workers = [], []
+        for _ in range(9):
+            streams.append(opened.enter_context(client(port)))
+            workers.append(worker_of(streams[-1], lines))
+        expect("how many each has", [workers.count(each) for each in range(3)], [3, 3, 3])
+        for at in (at for at, worker in enumerate(workers) if worker == 1):
+            streams[at].shutdown(socket.SHUT_WR)
+            sees_end("a stream that has ended", streams[at])
+        again = [worker_of(opened.enter_context(client(port)), lines) for _ in range(3)]
+        expect("who has the next", again, [1, 1, 1])
+
+
 def case_thousand(room):
     """a thousand connections at once, each with calls of its own: none is lost or wrong"""
     need_descriptors(4_096)
@@ -347,7 +367,8 @@ def case_slow_name(room):
     with listener() as backend, silent_name_server(room) as sees:
         port_asked = backend.getsockname()[1]
         named = json.loads(plan([port_asked], 1).replace(b"127.0.0.1", b"nowhere.test"))[0]
-        plans = [*json.loads(plan([port_asked], 1)), {**named, "path": "/named"}]
+        known = json.loads(plan([port_asked], 1).replace(b"127.0.0.1", b"localhost"))[0]
+        plans = [*json.loads(plan([port_asked], 1)), {**named, "path": "/named"}, {**known, "path": "/known"}]
         try:
             run, port = room.serve(json.dumps(plans).encode(), streams=3, limit=sees)
         except subprocess.SubprocessError:
@@ -355,11 +376,13 @@ def case_slow_name(room):
         with client(port) as waits, client(port) as leaves, client(port) as stream:
             for one, time_of_call in ((waits, 700), (leaves, 60_000)):
                 call(one, f"Connect-Timeout-Ms: {time_of_call}\r\n", path="/named")
-            for _ in range(20):
-                call(stream)
+            began = time.monotonic()
+            for path in ("/call", "/known") * 10:
+                call(stream, path=path)
                 with backend.accept()[0] as asked:
                     asked.sendall(reply("1"))
                     expect("another's reply", read_reply(stream), ("200", b'{"b0":1}'))
+            expect("whether another name is looked up meanwhile", time.monotonic() - began < 4, True)
             expect("at the deadline", read_reply(waits)[0], "504")
             leaves.shutdown(socket.SHUT_WR)
             expect("at the hang-up", read_reply(leaves)[0], "499")
