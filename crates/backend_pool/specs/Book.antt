@@ -15,7 +15,6 @@ use Rattle.gateway_model.specs.Occurrence.{Occurrence}
 use Rattle.gateway_model.specs.History.{History, after_event, after_opening, after_jobs}
 use Rattle.gateway_theory.specs.Replies.{ReplyValue}
 use Rattle.gateway_theory.specs.Served.{Served, after_reply}
-use Rattle.gateway_theory.specs.Serving.{Breaks, BreaksBy}
 use Rattle.gateway_theory.specs.Told.{IsWanted}
 use Rattle.gateway_theory.specs.Tally.{tally_of}
 use Rattle.backend_pool.specs.declared.shares.Totals.{Totals}

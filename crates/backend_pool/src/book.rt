@@ -12,8 +12,7 @@ ghost use Rattle.gateway_model.specs.Past.{ArrivedCall, call, marked};
 ghost use Rattle.gateway_model.specs.Record.{is_decided, is_lawful};
 ghost use Rattle.gateway_theory.specs.Refused.{RefusesOpening};
 ghost use Rattle.gateway_theory.specs.Served.{Served};
-ghost use Rattle.gateway_model.specs.Occurrence as concerning;
-ghost use Rattle.gateway_theory.specs.Serving.{Breaks, BreaksBy, HasFewCalls, TakesOnly, TellsStep};
+ghost use Rattle.gateway_theory.specs.Serving.{Breaks, HasFewCalls, TakesOnly, TellsStep};
 ghost use Rattle.gateway_model.specs.Starts.{Placed, occurrences};
 ghost use Rattle.gateway_model.specs.History.{History, no_history};
 ghost use Rattle.backend_pool.specs.declared.next_reply.NextReply.{NextReply};
@@ -156,7 +155,6 @@ impl<H: ReplyHook + Drop, L: Ledger, J: Ledger, K: Ledger> Book<H, L, J, K> {
     pub fn moment(&mut self, moment: u64) -> bool
         ensures stands { TakesEvent (Moment moment) self.old self.new }
         ensures broke { Breaks self.old.core self.new.core result }
-        ensures concerned { BreaksBy (concerning.Moment moment) self.old.core self.new.core }
         ensures counts { self.new ≡ record self.old { core = self.new.core } }
         ensures keeps { Keeps (λ c. true) self.old.core self.new.core }
     {
@@ -167,7 +165,6 @@ impl<H: ReplyHook + Drop, L: Ledger, J: Ledger, K: Ledger> Book<H, L, J, K> {
     pub fn drain(&mut self) -> bool
         ensures stands { TakesEvent Drain self.old self.new }
         ensures broke { Breaks self.old.core self.new.core result }
-        ensures concerned { BreaksBy concerning.Drain self.old.core self.new.core }
         ensures counts { self.new ≡ record self.old { core = self.new.core } }
         ensures keeps { Keeps (λ c. true) self.old.core self.new.core }
     {
@@ -195,7 +192,7 @@ impl<H: ReplyHook + Drop, L: Ledger, J: Ledger, K: Ledger> Book<H, L, J, K> {
         requires { 0 < mine.old.parts }
         ensures stands { OnOk result
             (TakesEvent (BranchResult call.now.conn call.now.request branch outcome) self.old self.new) }
-        ensures tells { IfOk result (λ took. TellsTook call.now branch outcome took self.old.core self.new.core) }
+        ensures tells { IfOk result (λ took. TellsTook call.now branch took self.old.core self.new.core) }
         ensures keeps { IfOk result (λ took.
             KeepsBut (λ c. false) (λ c. c == call.now.conn) (took.seen ∷ []) self.old.core self.new.core) }
         ensures counts { OnOk result
@@ -225,8 +222,7 @@ impl<H: ReplyHook + Drop, L: Ledger, J: Ledger, K: Ledger> Book<H, L, J, K> {
         ensures stands { OnOk result
             ((outcome : Outcomes)
             → TakesEvent (BranchResult call.now.conn call.now.request branch outcome) self.old self.new) }
-        ensures tells { IfOk result (λ took. (outcome : Outcomes)
-            → TellsTook call.now branch outcome took self.old.core self.new.core) }
+        ensures tells { IfOk result (λ took. TellsTook call.now branch took self.old.core self.new.core) }
         ensures keeps { IfOk result (λ took.
             KeepsBut (λ c. false) (λ c. c == call.now.conn) (took.seen ∷ []) self.old.core self.new.core) }
         ensures counts { OnOk result

@@ -1,8 +1,7 @@
 ghost use Rattle.std.specs.Prelude.{◌≡◌, ◌==◌, ◌∷◌, ◌++◌, ◌<◌, ◌≤◌, [], Err, IfOk, IfErr, IfSome, None, OnErr, OnOk, Some, false, not, ℕ, List, length, option_map, option_to_list, true, slice_get};
 ghost use Rattle.connect_codec.specs.declared.answer.Outcome.{Outcome as Outcomes};
 ghost use Rattle.gateway_theory.specs.Gateway.{conn_count, deadline_ahead, ends_calls, is_broken_conn, is_ended, is_idle_conn, is_open_conn, jobs_of, next_reply, open_count, outs_of, shown, untaken_of, with_jobs};
-ghost use Rattle.gateway_model.specs.Occurrence as concerning;
-ghost use Rattle.gateway_theory.specs.Serving.{TakesSome, WouldBegin, Breaks, BreaksBy, CountsCalls, HasFewCalls, NotListening, Keeps, KeepsBut, TakesOnly, TellsStep};
+ghost use Rattle.gateway_theory.specs.Serving.{TakesSome, WouldBegin, Breaks, CountsCalls, HasFewCalls, NotListening, Keeps, KeepsBut, TakesOnly, TellsStep};
 ghost use Rattle.gateway_theory.specs.Refused.{RefusesOpening};
 ghost use Rattle.gateway_theory.specs.Tally.{tally_of};
 ghost use Rattle.gateway_model.specs.Past.{is_due};
@@ -10,10 +9,10 @@ ghost use Rattle.gateway_model.specs.Starts.{Placed, occurrences};
 ghost use Rattle.gateway_model.specs.Events.{most_open, Occurs};
 ghost use Rattle.gateway_model.specs.declared.event.Event.TheVariants.{BranchResult, Closing, Drain, HangUp, Moment};
 ghost use Rattle.gateway_theory.specs.Task.{HandedJob};
-ghost use Rattle.gateway_theory.specs.Told.{HandsJobs, HandsReply, IsWanted, OpensFew, TakesBytes, TakesEvent, TakesOneOf, TakesOpening, TellsTook};
+ghost use Rattle.gateway_theory.specs.Told.{AddsEvent, AddsOpening, HandsJobs, HandsReply, IsWanted, LeavesLived, LeavesReplied, OpensFew, TakesBytes, TakesEvent, TakesOneOf, TakesOpening, TellsTook};
 ghost use Rattle.gateway_model.specs.Known.{IsKnown};
 ghost use Rattle.gateway_model.specs.History.{History, no_history};
-ghost use Rattle.gateway_theory.specs.Served.{Served};
+ghost use Rattle.gateway_theory.specs.Served.{Lives, Served};
 
 use crate::streams::Streams;
 use call_plan::Plans;
@@ -47,6 +46,7 @@ impl<H: ReplyHook + Drop> Core<H> {
         ensures plans { IfOk result (λ core. core.plans ≡ plans) }
         ensures tally { IfOk result (λ core. core.tally ≡ tally_of []) }
         ensures stands { IfOk result (λ core. Served core no_history) }
+        ensures lives { IfOk result (λ core. Lives core no_history []) }
     {
         let streams = Streams::new(alloc, plans)?;
         Ok(Core { streams })
@@ -56,6 +56,7 @@ impl<H: ReplyHook + Drop> Core<H> {
     /// `Exhausted` and `Memory`; it changes nothing, and the hooks come back.
     pub fn open_conn(&mut self, stock: Stock<H>) -> Result<ConnId, (Stock<H>, OpenError)>
         ensures stands { TakesOpening result self.old self.new }
+        ensures adds { AddsOpening result self.old self.new }
         ensures few { OpensFew result self.old }
         ensures number { IfOk result (λ conn. conn ≡ conn_count self.old) }
         ensures refused { IfErr result (λ e. RefusesOpening e.1 self.old) }
@@ -89,6 +90,7 @@ impl<H: ReplyHook + Drop> Core<H> {
     /// The peer of a connection hung up.
     pub fn hang_up(&mut self, conn: ConnId) -> Result<(), StepFault>
         ensures stands { TakesEvent (HangUp conn) self.old self.new }
+        ensures adds { AddsEvent (HangUp conn) self.old self.new }
         ensures tells { TellsStep conn self.old self.new result }
         ensures begins { result ≡ Err StepFault.Exhausted → ⊥ }
         ensures keeps { Keeps (λ c. c == conn) self.old self.new }
@@ -101,8 +103,8 @@ impl<H: ReplyHook + Drop> Core<H> {
     /// out. True where a connection broke in the step.
     pub fn moment(&mut self, moment: u64) -> bool
         ensures stands { TakesEvent (Moment moment) self.old self.new }
+        ensures adds { AddsEvent (Moment moment) self.old self.new }
         ensures broke { Breaks self.old self.new result }
-        ensures concerned { BreaksBy (concerning.Moment moment) self.old self.new }
         ensures keeps { Keeps (λ c. true) self.old self.new }
     {
         self.streams.serving_law();
@@ -112,8 +114,8 @@ impl<H: ReplyHook + Drop> Core<H> {
     /// The drain has begun. True where a connection broke in the step.
     pub fn drain(&mut self) -> bool
         ensures stands { TakesEvent Drain self.old self.new }
+        ensures adds { AddsEvent Drain self.old self.new }
         ensures broke { Breaks self.old self.new result }
-        ensures concerned { BreaksBy concerning.Drain self.old self.new }
         ensures keeps { Keeps (λ c. true) self.old self.new }
     {
         self.streams.serving_law();
@@ -123,6 +125,7 @@ impl<H: ReplyHook + Drop> Core<H> {
     /// Closes a connection, and answers whether it was open.
     pub fn close(&mut self, conn: ConnId) -> bool
         ensures stands { TakesEvent (Closing conn) self.old self.new }
+        ensures adds { AddsEvent (Closing conn) self.old self.new }
         ensures closed { result ≡ is_open_conn conn self.old }
         ensures keeps { KeepsBut (λ c. c == conn) (λ c. false) [] self.old self.new }
     {
@@ -133,7 +136,8 @@ impl<H: ReplyHook + Drop> Core<H> {
     /// A branch of a call ends with that outcome. Where memory is refused to what this starts or decides, the connection breaks.
     pub fn result(&mut self, call: &CallId, branch: u32, outcome: Outcome) -> Took
         ensures stands { TakesEvent (BranchResult call.now.conn call.now.request branch outcome) self.old self.new }
-        ensures tells { TellsTook call.now branch outcome result self.old self.new }
+        ensures adds { AddsEvent (BranchResult call.now.conn call.now.request branch outcome) self.old self.new }
+        ensures tells { TellsTook call.now branch result self.old self.new }
         ensures keeps { KeepsBut (λ c. false) (λ c. c == call.now.conn) (result.seen ∷ []) self.old self.new }
     {
         self.streams.serving_law();
@@ -144,7 +148,9 @@ impl<H: ReplyHook + Drop> Core<H> {
     pub fn starved(&mut self, call: &CallId, branch: u32) -> Took
         ensures stands { (outcome : Outcomes)
             → TakesEvent (BranchResult call.now.conn call.now.request branch outcome) self.old self.new }
-        ensures tells { (outcome : Outcomes) → TellsTook call.now branch outcome result self.old self.new }
+        ensures adds { (outcome : Outcomes)
+            → AddsEvent (BranchResult call.now.conn call.now.request branch outcome) self.old self.new }
+        ensures tells { TellsTook call.now branch result self.old self.new }
         ensures keeps { KeepsBut (λ c. false) (λ c. c == call.now.conn) (result.seen ∷ []) self.old self.new }
     {
         self.streams.serving_law();
@@ -154,6 +160,7 @@ impl<H: ReplyHook + Drop> Core<H> {
     /// Hands out the next job, in order of start.
     pub fn take_job(&mut self) -> Option<Job>
         ensures stands { HandsJobs (option_to_list (option_map (λ j. j.job) result)) self.old self.new }
+        ensures lives { LeavesLived (option_to_list (option_map (λ j. j.job) result)) self.old self.new }
         ensures first { jobs_of self.old ≡ option_to_list (option_map (λ j. j.job) result) ++ jobs_of self.new }
         ensures none { result ≡ None → jobs_of self.old ≡ [] }
         ensures wanted { (j : HandedJob) → result ≡ Some j → IsWanted j.job.call self.old j.wanted }
@@ -166,6 +173,7 @@ impl<H: ReplyHook + Drop> Core<H> {
     /// Hands out the next reply of a connection, in order of its requests.
     pub fn take_reply(&mut self, conn: ConnId) -> Option<Reply>
         ensures stands { HandsReply conn result self.old self.new }
+        ensures lives { LeavesReplied conn result self.old self.new }
         ensures first { untaken_of conn self.old ≡ option_to_list (option_map (λ r. r.entry) result) ++ untaken_of conn self.new }
         ensures its { IfSome result (λ r. r.id ≡ next_reply conn self.old) }
         ensures none { result ≡ None → untaken_of conn self.old ≡ [] }

@@ -1,6 +1,5 @@
 -- Which connections an occurrence and an event concern: at these, and at no others, one can break.
-use Rattle.std.specs.Prelude.{ℕ, Bool, false, ◌&&◌, not, ◌==◌, nat_lt, is_some, List, Option}
-use Rattle.std.specs.Option.{option_map_or}
+use Rattle.std.specs.Prelude.{ℕ, Bool, false, ◌&&◌, not, ◌==◌, nat_lt, is_some, List}
 use Rattle.gateway_model.specs.Occurrence.{Occurrence, Opening, Comes, HangUp, Moment, Result, Drain, Closing, Break}
 use Rattle.gateway_model.specs.Past.{Past, call_id, is_shut, is_undecided, deciding, counts, count_below, arrivals, mark_of}
 use Rattle.gateway_model.specs.Events.{Before, listens}
@@ -21,10 +20,6 @@ concerns c (Closing d) past = (d == c) && not (is_shut c past)
 concerns c (Break d) past = (d == c) && not (is_shut c past)
 concerns c (Result id i outcome) past = (id.conn == c) && counts (Result id i outcome) past
 concerns c o past = nat_lt 0 (decided_by c o past)
-
--- the connection can break there; where nothing occurs, its stream goes on
-abbrev pub breaks_at : ℕ → Option Occurrence → Past → Bool
-breaks_at c at past = option_map_or (λ o. concerns c o past) at (not (is_shut c past))
 
 -- the connection can break at the event: a piece or the hang-up of its own that has an effect; a result that counts for one of its calls;
 -- a moment or the drain that decides one of them. An opening and a closing break none

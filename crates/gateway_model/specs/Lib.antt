@@ -15,6 +15,7 @@ pub mod Decided
 pub mod Events
 pub mod History
 pub mod Concerns
+pub mod Breaks
 pub mod Run
 pub mod Known
 pub mod Headline

@@ -10,17 +10,17 @@ use Rattle.gateway_model.specs.declared.event.Event.{Event}
 use Rattle.gateway_model.specs.declared.event.Event.TheVariants as events
 use Rattle.gateway_theory.specs.Gateway.{GatewayValue}
 use Rattle.gateway_model.specs.Job.{JobValue}
-use Rattle.gateway_theory.specs.Served.{HasConns, Served}
+use Rattle.gateway_theory.specs.Served.{Adds, HasConns, Served}
 use Rattle.gateway_model.specs.declared.seen.Seen.{Seen}
 use Rattle.gateway_model.specs.History.{History, history_of}
 use Rattle.gateway_theory.specs.Serving.{KeepsBut}
 use Rattle.gateway_theory.specs.Starting.{job_started}
 use Rattle.gateway_run.specs.Log.{HasRun, LogValue, StartsAll}
-use Rattle.gateway_run.specs.Stepping.{BreaksAt, CollectsFor, after_step, log_after, opened_by}
+use Rattle.gateway_run.specs.Stepping.{AddsStep, CollectsFor, after_step, log_after, opened_by}
 use Rattle.gateway_run.specs.declared.stepping.Stepped.{Stepped}
 use Rattle.gateway_run.specs.declared.stepping.Stepped.TheVariants.{Done, Opened, NotOpened, Saw, Fault, Broke}
 use Rattle.gateway_run.proofs.Flags.{more_default}
-use Rattle.gateway_run.proofs.CoreLaws.{BreakingLaw, EventLaws, OpeningsLaws, StandingLaws}
+use Rattle.gateway_run.proofs.CoreLaws.{OpeningsLaws}
 use Rattle.gateway_run.proofs.Gathering.{collected_run}
 use Rattle.gateway_run.proofs.RunSteps.{Steps, run_on}
 use Rattle.gateway_theory.specs.lemmas.ServedOpens.{succeeds_more}
@@ -40,13 +40,8 @@ same_gathered f g v log es same h = record {
   queued_are = h.queued_are;
   unflagged = λ c off. h.unflagged c (same c ∙ off);
   flagged = λ c on. h.flagged c (same c ∙ on);
-  collected = λ c on. h.collected c (same c ∙ on);
-  shut = h.shut;
   none_left = λ c on. h.none_left c (same c ∙ on);
-  broke_are = h.broke_are;
-  unbroken = h.unbroken;
-  in_order = h.in_order;
-  all_unbroken = h.all_unbroken;
+  has_lived = h.has_lived;
 }
 
 turned : (a b : ℕ) → (a == b) ≡ (b == a)
@@ -54,15 +49,15 @@ turned a b = ⊎_elim (λ (same : (b == a) ≡ true). eq-eqb a b (sym (eqb-true 
     (λ (other : (b == a) ≡ false). ne_eqb a b (λ at. let clash : true ≡ false = sym (eq-eqb b a (sym at)) ∙ other in absurd (cc)) ∙ sym other) (cases_Bool (b == a))
 
 -- what is queued for the connection that the event closes was taken
-collected_for : (standing : StandingLaws) (e : Event) (v w : GatewayValue) (log later : LogValue) (es : Before) → HasRun (λ c. false) v log es → CollectsFor e v w log later
+collected_for : (e : Event) (v w : GatewayValue) (log later : LogValue) (es : Before) → HasRun (λ c. false) v log es → CollectsFor e v w log later
     → HasRun (λ c. is_closing_of c e) w later es
-collected_for standing e v w log later es h x = by_event e x
+collected_for e v w log later es h x = by_event e x
   where
     kept : (w ≡ v) × (later ≡ log) → HasRun (λ c. false) w later es
     kept y = subst (λ u. HasRun (λ c. false) u later es) (sym y.0) (subst (λ l. HasRun (λ c. false) v l es) (sym y.1) h)
 
     by_event : (f : Event) → CollectsFor f v w log later → HasRun (λ c. is_closing_of c f) w later es
-    by_event (Closing n) y = same_gathered (λ c. false || c == n) (λ c. n == c) w later es (λ c. turned c n) (collected_run standing (λ c. false) n v w log later es h y)
+    by_event (Closing n) y = same_gathered (λ c. false || c == n) (λ c. n == c) w later es (λ c. turned c n) (collected_run (λ c. false) n v w log later es h y)
     by_event Opening y = kept y
     by_event (events.Piece n bytes) y = kept y
     by_event (events.HangUp n) y = kept y
@@ -93,38 +88,36 @@ opens_later opened e es place o = record {
 module _ (e : Event) (es : Before) (v w : GatewayValue) (opened : List ℕ) where
   -- none succeeded at this event
   steps_on : {seen : List Seen} → ((taken : ℕ → List ReplyEntry) (handed : List JobValue) → Served v (history_of opened es taken handed) → Served w (history_of opened (e ∷ es) taken handed))
-      → BreaksAt e v w → KeepsBut (λ c. is_closing_of c e) (λ c. true) seen v w → Steps e es v w opened opened
-  steps_on {seen} served concerned keeps = record {
+      → ((taken : ℕ → List ReplyEntry) (handed : List JobValue) → Adds opened e (history_of opened es taken handed) v w)
+      → KeepsBut (λ c. is_closing_of c e) (λ c. true) seen v w → Steps e es v w opened opened
+  steps_on {seen} served adds keeps = record {
     served = served;
+    adds = adds;
     seen = seen;
     keeps = keeps;
-    concerned = concerned;
     opened_are = λ o h. record { rising = o.rising; openings = λ place its. opens_later opened e es place (o.openings place its) };
     same_count = λ h. refl;
     same_open = λ h c. refl;
-    same_listens = λ earlier le h c. refl;
     before = λ occurred h o. o;
-    after = λ earlier occurred le h o. o;
   }
 
   -- one did
   steps_open : {seen : List Seen} → OpeningsLaws → e ≡ Opening → open_connections opened es < most_open
       → ((taken : ℕ → List ReplyEntry) (handed : List JobValue) → Served v (history_of opened es taken handed) → Served w (history_of (opened ++ length es ∷ []) (e ∷ es) taken handed))
-      → BreaksAt e v w → KeepsBut (λ c. is_closing_of c e) (λ c. true) seen v w → Steps e es v w opened (opened ++ length es ∷ [])
-  steps_open {seen} openings e_is few served concerned keeps = record {
+      → ((taken : ℕ → List ReplyEntry) (handed : List JobValue) → Adds (opened ++ length es ∷ []) e (history_of opened es taken handed) v w)
+      → KeepsBut (λ c. is_closing_of c e) (λ c. true) seen v w → Steps e es v w opened (opened ++ length es ∷ [])
+  steps_open {seen} openings e_is few served adds keeps = record {
     served = served;
+    adds = adds;
     seen = seen;
     keeps = keeps;
-    concerned = concerned;
     opened_are = λ o h. record {
       rising = rising_more opened (length es) o.rising h.below;
       openings = λ place its. by_place o h place (succeeds opened place) refl its;
     };
     same_count = λ h. openings.connections opened (length es) es h.below (omega arith);
     same_open = λ h. openings.is_open opened (length es) es h.below (omega arith);
-    same_listens = λ earlier le h. openings.listens opened (length es) earlier h.below le;
     before = λ occurred h o. (openings.occurs v.plans opened (length es) es occurred h.below (omega arith)).0 o;
-    after = λ earlier occurred le h o. (openings.occurs v.plans opened (length es) earlier occurred h.below le).1 o;
   }
     where
       -- as many were open
@@ -154,17 +147,17 @@ module _ (e : Event) (es : Before) (v w : GatewayValue) (opened : List ℕ) wher
 
 -- ---- the event
 
-module _ {H : Type 0} (event : EventLaws) (openings : OpeningsLaws) (standing : StandingLaws) (breaking : BreakingLaw) (e : Event) (es : Before) (v u w x : GatewayValue) (log gathered next end : LogValue) (stepped : Stepped H) where
+module _ {H : Type 0} (openings : OpeningsLaws) (e : Event) (es : Before) (v u w x : GatewayValue) (log gathered next end : LogValue) (stepped : Stepped H) where
   pub event_run : {seen : List Seen} → HasRun (λ c. false) v log es → CollectsFor e v u log gathered
       → ((history : History) → Served u history → Served w (after_step stepped e history))
       → ((conn : ℕ) → stepped ≡ Opened conn → e ≡ Opening)
       → ((conn : ℕ) (history : History) → stepped ≡ Opened conn → Served u history → open_connections history.opened history.events < most_open)
-      → BreaksAt e u w → KeepsBut (λ c. is_closing_of c e) (λ c. true) seen u w → next ≡ log_after stepped (length es) gathered → StartsAll (length es) w x next end
+      → AddsStep stepped e u w → KeepsBut (λ c. is_closing_of c e) (λ c. true) seen u w → next ≡ log_after stepped (length es) gathered → StartsAll (length es) w x next end
       → HasRun (λ c. false) x end (e ∷ es)
-  event_run h collects served opens few concerned keeps next_is starts = by_step stepped refl
+  event_run h collects served opens few adds keeps next_is starts = by_step stepped refl
     where
       mid : HasRun (λ c. is_closing_of c e) u gathered es
-      mid = collected_for standing e v u log gathered es h collects
+      mid = collected_for e v u log gathered es h collects
 
       -- how many connections there are then
       still_open : (r : Stepped H) → Served w (history_of (opened_by r (length es) gathered.opened) (e ∷ es) mid.taken (map job_started mid.started))
@@ -179,9 +172,10 @@ module _ {H : Type 0} (event : EventLaws) (openings : OpeningsLaws) (standing : 
 
       none_new : (r : Stepped H) → stepped ≡ r → ((opened : List ℕ) → opened_by r (length es) opened ≡ opened) → log_after r (length es) gathered ≡ gathered
           → (e ≡ Opening → succeeds gathered.opened (length es) ≡ false) → HasRun (λ c. false) x end (e ∷ es)
-      none_new r r_is same kept fails = run_on event standing breaking e es u w gathered gathered mid
+      none_new r r_is same kept fails = run_on e es u w gathered gathered mid
           (steps_on e es u w gathered.opened (λ taken handed s. subst (λ o. Served w (history_of o (e ∷ es) taken handed)) (ap (λ y. opened_by y (length es) gathered.opened) r_is ∙ same gathered.opened)
-          (served (history_of gathered.opened es taken handed) s)) concerned keeps)
+          (served (history_of gathered.opened es taken handed) s))
+          (λ taken handed. subst (λ o. Adds o e (history_of gathered.opened es taken handed) u w) (ap (λ y. opened_by y (length es) gathered.opened) r_is ∙ same gathered.opened) (adds (history_of gathered.opened es taken handed))) keeps)
           (λ c. refl) (λ c. refl) refl x end (starts_on gathered (next_is ∙ ap (λ y. log_after y (length es) gathered) r_is ∙ kept))
           (mid.opened_size ∙ size) (mid.queued_size ∙ size) (mid.broke_size ∙ size)
         where
@@ -208,9 +202,10 @@ module _ {H : Type 0} (event : EventLaws) (openings : OpeningsLaws) (standing : 
           by_it false y = y
 
       by_step : (r : Stepped H) → stepped ≡ r → HasRun (λ c. false) x end (e ∷ es)
-      by_step (Opened conn) r_is = run_on event standing breaking e es u w gathered (log_after {H = H} (Opened conn) (length es) gathered) mid
+      by_step (Opened conn) r_is = run_on e es u w gathered (log_after {H = H} (Opened conn) (length es) gathered) mid
           (steps_open e es u w gathered.opened openings e_is (few conn (history_of gathered.opened es mid.taken (map job_started mid.started)) r_is mid.served)
-          (λ taken handed s. subst (λ o. Served w (history_of o (e ∷ es) taken handed)) (ap (λ y. opened_by y (length es) gathered.opened) r_is) (served (history_of gathered.opened es taken handed) s)) concerned keeps)
+          (λ taken handed s. subst (λ o. Served w (history_of o (e ∷ es) taken handed)) (ap (λ y. opened_by y (length es) gathered.opened) r_is) (served (history_of gathered.opened es taken handed) s))
+          (λ taken handed. subst (λ o. Adds o e (history_of gathered.opened es taken handed) u w) (ap (λ y. opened_by y (length es) gathered.opened) r_is) (adds (history_of gathered.opened es taken handed))) keeps)
           (λ c. more_default gathered.queued c []) (λ c. more_default gathered.broke c false) refl x end (starts_on (log_after {H = H} (Opened conn) (length es) gathered) (next_is ∙ ap (λ y. log_after y (length es) gathered) r_is))
           (length-append gathered.opened (length es ∷ []) ∙ (let a = mid.opened_size in omega (arith, a, size)))
           (length-append gathered.queued ([] ∷ []) ∙ (let a = mid.queued_size in omega (arith, a, size)))

@@ -3,7 +3,7 @@ use Rattle.std.proofs.Common.{◌≡◌, ℕ, zero, suc, ◌+◌, ◌<◌, ◌�
 use Rattle.std.specs.Prelude.{OnOk, ◌||◌, ◌==◌, filter, is_some, nat_lt, slice_index_or}
 use Rattle.std.specs.List.{range_with_len}
 use Rattle.std.specs.Option.{option_map_or}
-use Rattle.std.proofs.lemmas.Bool.{cases_Bool, eq-eqb, eqb-true, lt-ltb, le-ltb, ltb-true, ltb-false}
+use Rattle.std.proofs.lemmas.Bool.{cases_Bool, cases_lt, eq-eqb, eqb-true, lt-ltb, le-ltb, ltb-true, ltb-false}
 use Rattle.call_plan.specs.Plan.{PlanRecord}
 use Rattle.gateway_theory.specs.Conn.{ConnValue}
 use Rattle.gateway_model.specs.Events.{Before, IsRising, Occurs}
@@ -11,21 +11,24 @@ use Rattle.gateway_model.specs.declared.event.Event.TheVariants.{Closing, Openin
 use Rattle.gateway_model.specs.declared.event.Event.{Event}
 use Rattle.gateway_model.specs.declared.event.Event.TheVariants as events
 use Rattle.gateway_theory.specs.Gateway.{GatewayValue, is_broken_conn, is_open_conn}
-use Rattle.gateway_model.specs.Past.{marked}
+use Rattle.gateway_model.specs.Breaks.{by_events}
+use Rattle.gateway_model.specs.Past.{is_broken, marked}
 use Rattle.gateway_model.specs.Queue.{queued, queued_entries}
-use Rattle.gateway_theory.specs.Served.{QueueIs, Served}
+use Rattle.gateway_theory.specs.Served.{Lives, Served}
 use Rattle.gateway_model.specs.Starts.{Placed, occurrences, starts}
 use Rattle.gateway_theory.specs.Store.{conn_of}
-use Rattle.gateway_run.specs.Log.{Collects, absent, gathers, HasRun, LogValue, flag_at, is_flagged, is_started_on, log_value, queue_at}
-use Rattle.gateway_model.specs.Run.{BrokeAs, IsSublist, bytes_of, is_listed, is_start_of, run_start, starts_of}
-use Rattle.gateway_model.specs.History.{no_history}
+use Rattle.gateway_run.specs.Log.{Collects, absent, gathers, HasLived, HasRun, LogValue, flag_at, log_value, queue_at}
+use Rattle.gateway_model.specs.Run.{IsLived, bytes_of, is_listed, is_start_of, run_start, starts_of}
+use Rattle.gateway_model.specs.History.{History, history_of, no_history}
+use Rattle.gateway_theory.specs.Starting.{job_started}
 use Rattle.gateway_run.specs.Running.{IsRun}
 use Rattle.gateway_run.specs.Stepping.{CollectsFor}
-use Rattle.gateway_run.proofs.CoreLaws.{StandingLaws}
-use Rattle.gateway_run.proofs.Flags.{beyond, run_starts_on, same_jobs}
-use Rattle.gateway_run.proofs.Sublists.{sub_map, sub_none}
+use Rattle.gateway_run.proofs.Flags.{beyond, run_starts_on, same_starts}
 use Rattle.gateway_run.proofs.WholeLemmas.{filter_rising, listed_at, listed_below}
 use Rattle.gateway_theory.specs.lemmas.CutLemmas.{open_known}
+use Rattle.gateway_theory.specs.lemmas.Knowing.{broken_lived, queue_lived}
+use Rattle.gateway_theory.specs.lemmas.OwnLemmas.{unbroken_queue}
+use Rattle.gateway_theory.specs.lemmas.PrefixLemmas.{broken_shut, events_occur}
 
 pub on_then : {X E : Type 0} {A B : Type 0} (r : Result X E) → OnOk r A → (A → B) → OnOk r B
 on_then (Ok x) a f = f a
@@ -69,42 +72,29 @@ at_default (y ∷ xs) (suc n) x d lt e = at_default xs n x d (omega (arith, lt))
 
 -- ---- a run of no events
 
-pub run_first : (standing : StandingLaws) (v : GatewayValue) (log : LogValue) → Served v no_history → log ≡ log_value [] [] [] [] → HasRun (λ c. false) v log []
-run_first standing v log served log_is = subst (λ l. HasRun (λ c. false) v l []) (sym log_is) (record {
+pub run_first : (v : GatewayValue) (log : LogValue) → Served v no_history → Lives v no_history [] → log ≡ log_value [] [] [] [] → HasRun (λ c. false) v log []
+run_first v log served lives log_is = subst (λ l. HasRun (λ c. false) v l []) (sym log_is) (record {
   taken = λ c. [];
   started = [];
   served = served;
-  no_jobs = same_jobs 0 v.machine.jobs [] refl (λ c. (standing.jobs v no_history [] served refl).unopened c (let n = served.conns.count_is in omega (arith, n)));
+  no_jobs = lives.stands.lives.jobs_are;
   opened_are = record { rising = tt; openings = λ place its. absurd (cc) };
   opened_size = served.conns.count_is;
   queued_size = served.conns.count_is;
   broke_size = served.conns.count_is;
   starts_are = refl;
-  queued_are = λ c. nothing c;
-  unflagged = λ c off there. unset c;
+  queued_are = λ c. beyond [] c [] (omega arith);
+  unflagged = λ c off there. beyond [] c false (omega arith);
   flagged = λ c on there. absurd (cc);
-  collected = λ c on there. absurd (cc);
-  shut = λ c lt off. absurd (let n = served.conns.count_is in omega (arith, n, lt));
   none_left = λ c on. absurd (cc);
-  broke_are = λ c on. absurd (none_broken c on);
-  unbroken = λ c off occurred none. ap (λ xs. filter (is_started_on c) (starts xs)) (sym none);
-  in_order = λ occurred none. sub_none (starts occurred);
-  all_unbroken = λ off occurred none. ap starts (sym none);
+  has_lived = λ occurred none. record {
+    lived = [];
+    same = sym none;
+    lives = lives;
+    starts_lived = refl;
+    shut = λ c lt off. absurd (let n = served.conns.count_is in omega (arith, n, lt));
+  };
 })
-  where
-    nothing : (c : ℕ) → slice_index_or {A = List ℕ} [] c [] ≡ []
-    nothing c = beyond [] c [] (omega arith)
-
-    unset : (c : ℕ) → slice_index_or {A = Bool} [] c false ≡ false
-    unset c = beyond [] c false (omega arith)
-
-    none_broken : (c : ℕ) → is_flagged c v (log_value [] [] [] []) ≡ true → ⊥
-    none_broken c on = by_conn (conn_of c v.machine.conns) refl
-      where
-        by_conn : (k : Option ConnValue) → conn_of c v.machine.conns ≡ k → ⊥
-        by_conn None k_is =
-            let clash : true ≡ false = sym on ∙ ap (λ b. b || is_broken_conn c v) (unset c) ∙ ap (λ x. option_map_or (λ (y : ConnValue). y.broken) x false) k_is in cc
-        by_conn (Some k) k_is = let clash : false ≡ true = served.conns.open_are c ∙ ap (λ x. is_some x) k_is in cc
 
 -- ---- a run whose events were all taken
 
@@ -131,41 +121,64 @@ module _ (count : ℕ) (v : GatewayValue) (log : LogValue) (es : Before) (broken
       let n = h.served.conns.count_is in
       let m = h.opened_size in omega (arith, lt, n, m, count_is))
 
-  run_queued : (occurred : List Placed) → Occurs v.plans log.opened es occurred → (c : ℕ) → c < length log.opened → is_listed c broken ≡ false
-      → queue_at c log ≡ queued c (marked (occurrences occurred))
-  run_queued occurred o c lt off = h.queued_are c ∙ ap bytes_of (by_open (is_open_conn c v) refl)
-    where
-      flag : flag_at c log ≡ false
-      flag = sym (flag_is c) ∙ off
+  module _ (occurred : List Placed) (o : Occurs v.plans log.opened es occurred) where
+    abbrev was : HasLived v log es h.taken h.started occurred
+    was = h.has_lived occurred o
 
-      by_open : (b : Bool) → is_open_conn c v ≡ b → h.taken c ≡ queued_entries c (marked (occurrences occurred))
-      by_open true e = subst (λ b. QueueIs c (h.taken c) b occurred) flag (h.collected c (open_below c e) e occurred o)
-      by_open false e = subst (λ b. QueueIs c (h.taken c) b occurred) flag (h.shut c (let m = h.opened_size in omega (arith, lt, m)) e occurred o)
+    abbrev now : History
+    now = history_of log.opened es h.taken (map job_started h.started)
 
-  unflagged : (c : ℕ) → is_listed c broken ≡ false → is_flagged c v log ≡ false
-  unflagged c off = by_open (is_open_conn c v) refl
-    where
-      flag : flag_at c log ≡ false
-      flag = sym (flag_is c) ∙ off
+    flag_lived : (c : ℕ) → flag_at c log ≡ is_broken c (marked (occurrences was.lived))
+    flag_lived c = by_open (is_open_conn c v) refl
+      where
+        -- one that was not opened did not break
+        unknown : v.opened ≤ c → flag_at c log ≡ is_broken c (marked (occurrences was.lived))
+        unknown le = beyond log.broke c false (let n = h.broke_size in omega (arith, n, le)) ∙ sym (unshut (is_broken c (marked (occurrences was.lived))) refl)
+          where
+            unshut : (b : Bool) → is_broken c (marked (occurrences was.lived)) ≡ b → is_broken c (marked (occurrences was.lived)) ≡ false
+            unshut false e = e
+            unshut true e = absurd (let clash : true ≡ false = sym (broken_shut c (marked (occurrences was.lived)) e) ∙ (was.lives.stands.unopened c le).unshut in cc)
 
-      by_open : (b : Bool) → is_open_conn c v ≡ b → is_flagged c v log ≡ false
-      by_open true e = ap (λ b. b || is_broken_conn c v) flag ∙ sym (h.flagged c (open_below c e) e) ∙ flag
-      by_open false e = ap (λ b. b || is_broken_conn c v) flag ∙ by_conn (conn_of c v.machine.conns) refl e
-        where
-          by_conn : (k : Option ConnValue) → conn_of c v.machine.conns ≡ k → is_some (conn_of c v.machine.conns) ≡ false → is_broken_conn c v ≡ false
-          by_conn None k_is off = ap (λ x. option_map_or (λ (y : ConnValue). y.broken) x false) k_is
-          by_conn (Some k) k_is off = absurd (let clash : true ≡ false = sym (ap (λ x. is_some x) k_is) ∙ off in cc)
+        by_open : (b : Bool) → is_open_conn c v ≡ b → flag_at c log ≡ is_broken c (marked (occurrences was.lived))
+        by_open true e = h.flagged c (open_below c e) e ∙ broken_lived v now was.lived was.lives c e
+        by_open false e = ⊎_elim (λ (lt : c < v.opened). (was.shut c lt e).broken_is) (λ (le : v.opened ≤ c). unknown le) (cases_lt c v.opened)
 
-  run_starts : (occurred : List Placed) → Occurs v.plans log.opened es occurred → (c : ℕ) → is_listed c broken ≡ false
-      → filter (is_start_of c) log.starts ≡ filter (is_start_of c) (starts_of occurred)
-  run_starts occurred o c off =
-      ap (filter (is_start_of c)) h.starts_are ∙ run_starts_on c h.started ∙ ap (map run_start) (h.unbroken c (unflagged c off) occurred o) ∙ sym (run_starts_on c (starts occurred))
+    queue_all : (c : ℕ) → c < length log.opened → queue_at c log ≡ queued c (marked (occurrences was.lived))
+    queue_all c lt = h.queued_are c ∙ ap bytes_of (by_open (is_open_conn c v) refl)
+      where
+        by_open : (b : Bool) → is_open_conn c v ≡ b → h.taken c ≡ queued_entries c (marked (occurrences was.lived))
+        by_open true e = sym (append-nil (h.taken c)) ∙ ap (λ xs. h.taken c ++ xs) (sym (h.none_left c (open_below c e))) ∙ queue_lived v now was.lived was.lives c e
+        by_open false e = (was.shut c (let m = h.opened_size in omega (arith, lt, m)) e).queue_is
 
-  run_all_starts : (occurred : List Placed) → Occurs v.plans log.opened es occurred → broken ≡ [] → log.starts ≡ starts_of occurred
-  run_all_starts occurred o none = h.starts_are ∙ ap (map run_start) (h.all_unbroken (λ c. unflagged c (ap (is_listed c) none)) occurred o)
+    starts_all : log.starts ≡ starts_of was.lived
+    starts_all = h.starts_are ∙ ap (map run_start) was.starts_lived
 
-  run_in_order : (occurred : List Placed) → Occurs v.plans log.opened es occurred → IsSublist log.starts (starts_of occurred)
-  run_in_order occurred o = subst (λ xs. IsSublist xs (starts_of occurred)) (sym h.starts_are) (sub_map run_start h.started (starts occurred) (h.in_order occurred o))
+    run_lived : (lived : List Placed) × IsLived log.opened log.queued log.starts broken es occurred lived
+    run_lived = (
+      was.lived,
+      record {
+        same = was.same;
+        in_order = was.lives.in_order;
+        breaks = was.lives.breaks;
+        broken_are = λ c. flag_is c ∙ flag_lived c;
+        queued_are = queue_all;
+        starts_are = starts_all;
+      },
+    )
+
+    -- of one that did not break
+    module _ (c : ℕ) (off : is_listed c broken ≡ false) where
+      whole : is_broken c (marked (occurrences was.lived)) ≡ false
+      whole = sym (flag_is c ∙ flag_lived c) ∙ off
+
+      run_queued : c < length log.opened → queue_at c log ≡ queued c (marked (occurrences occurred))
+      run_queued lt = queue_all c lt ∙ ap bytes_of (unbroken_queue c (occurrences was.lived) whole
+          ∙ ap (λ us. queued_entries c (marked us)) (sym (events_occur was.lived) ∙ ap occurrences was.same))
+
+      run_starts : filter (is_start_of c) log.starts ≡ filter (is_start_of c) (starts_of occurred)
+      run_starts =
+          ap (filter (is_start_of c)) starts_all ∙ run_starts_on c (starts was.lived) ∙ ap (map run_start) (same_starts c was.lived whole)
+          ∙ sym (run_starts_on c (starts (by_events was.lived))) ∙ ap (λ xs. filter (is_start_of c) (starts_of xs)) was.same
 
   run_below : (c : ℕ) → is_listed c broken ≡ true → c < length log.opened
   run_below c e = let lt = listed_below (λ n. slice_index_or log.broke n false) 0 (length log.broke) c (sym (ap (is_listed c) broken_is) ∙ e) in omega (arith, lt, sizes, count_is)
@@ -176,25 +189,13 @@ module _ (count : ℕ) (v : GatewayValue) (log : LogValue) (es : Before) (broken
   run_sizes : length log.queued ≡ length log.opened
   run_sizes = h.queued_size ∙ sym h.opened_size
 
-  run_broke : (occurred : List Placed) → Occurs v.plans log.opened es occurred → (c : ℕ) → is_listed c broken ≡ true
-      → BrokeAs c v.plans log.opened (queue_at c log) log.starts es occurred
-  run_broke occurred o c on =
-      let so = h.broke_are c (ap (λ b. b || is_broken_conn c v) (sym (flag_is c) ∙ on)) occurred o in
-      let lt : c < count = let below = run_below c on in omega (arith, below, count_is) in (
-        so.0,
-        h.queued_are c ∙ ap bytes_of (sym (append-nil (h.taken c)) ∙ ap (λ xs. h.taken c ++ xs) (sym (h.none_left c (lt-ltb c count lt))) ∙ so.1),
-        ap (filter (is_start_of c)) h.starts_are ∙ run_starts_on c h.started ∙ ap (map run_start) so.2 ∙ sym (run_starts_on c (starts (so.0.newer ++ so.0.past))),
-      )
-
   -- all of it
   pub run_is : (plans : List PlanRecord) → v.plans ≡ plans → IsRun plans es log.opened log.queued log.starts broken
   run_is plans plans_are = record {
     opened_are = h.opened_are;
-    queued_are = λ occurred o c lt off. run_queued occurred (its occurred o) c lt off;
+    queued_are = λ occurred o c lt off. run_queued occurred (its occurred o) c off lt;
     starts_are = λ occurred o c off. run_starts occurred (its occurred o) c off;
-    broke = λ occurred o c on. subst (λ ps. BrokeAs c ps log.opened (queue_at c log) log.starts es occurred) plans_are (run_broke occurred (its occurred o) c on);
-    in_order = λ occurred o. run_in_order occurred (its occurred o);
-    unbroken = λ occurred o none. run_all_starts occurred (its occurred o) none;
+    lived = λ occurred o. run_lived occurred (its occurred o);
     one_each = run_sizes;
     known = run_below;
     rising = run_rising;

@@ -1,11 +1,19 @@
 -- Options, lists by places, and lists that are filtered.
-use Rattle.std.proofs.Common.{◌≡◌, ℕ, zero, suc, ◌<◌, ◌≤◌, Bool, true, false, List, [], ◌∷◌, ◌++◌, length, map, refl, sym, ap, ◌∙◌, arith, ⊎_elim}
-use Rattle.std.specs.Prelude.{if◌then◌else◌, ◌||◌, filter, slice_index_or, slice_set}
+use Rattle.std.proofs.Common.{◌≡◌, ℕ, zero, suc, ◌<◌, ◌≤◌, Bool, true, false, List, [], ◌∷◌, ◌++◌, length, map, refl, sym, ap, ◌∙◌, arith, append-nil, ⊎_elim}
+use Rattle.std.specs.Prelude.{if◌then◌else◌, ◌||◌, filter, not, slice_index_or, slice_set}
 use Rattle.std.proofs.lemmas.Bool.{cases_Bool, eq-eqb, eqb-true}
 use Rattle.gateway_model.specs.Known.{is_of}
 use Rattle.gateway_model.specs.Job.{JobValue}
+use Rattle.gateway_model.specs.Breaks.{by_events}
+use Rattle.gateway_model.specs.Occurrence.{Occurrence, Opening, Comes, HangUp, Moment, Result, Drain, Closing, Break}
+use Rattle.gateway_model.specs.Own.{is_break, without_breaks}
+use Rattle.gateway_model.specs.Past.{breaks, is_broken, mark_of, marked}
+use Rattle.gateway_model.specs.Starts.{Placed, jobs, jobs_by, occurrences, starts}
+use Rattle.std.proofs.lemmas.List.{append_cancel_left}
+use Rattle.std.proofs.lemmas.List.Elements.{filter-append}
+use Rattle.gateway_theory.specs.lemmas.OwnLemmas.{unbroken_started}
+use Rattle.gateway_theory.specs.lemmas.PrefixLemmas.{events_occur}
 use Rattle.gateway_theory.specs.Starting.{StartedJob, job_started, start}
-use Rattle.gateway_run.specs.Log.{is_started_on}
 use Rattle.gateway_model.specs.Run.{is_start_of, run_start}
 use Rattle.gateway_run.specs.Log.{start_at}
 
@@ -35,25 +43,14 @@ more_default [] (suc c) d = refl
 more_default (x ∷ xs) zero d = refl
 more_default (x ∷ xs) (suc c) d = more_default xs c d
 
-pub or_false_left : (a b : Bool) → (a || b) ≡ false → a ≡ false
-or_false_left true b e = absurd (cc)
-or_false_left false b e = refl
-
 pub or_false_right : (a b : Bool) → (a || b) ≡ false → b ≡ false
 or_false_right true b e = absurd (cc)
 or_false_right false b e = e
 
 -- ---- starts of a connection
 
-pub jobs_on : (c : ℕ) (started : List StartedJob) → filter (is_of c) (map job_started started) ≡ map job_started (filter (is_started_on c) started)
-jobs_on c [] = refl
-jobs_on c (s ∷ started) = by_it (is_of c s.1) (jobs_on c started)
-  where
-    by_it : (b : Bool) → filter (is_of c) (map job_started started) ≡ map job_started (filter (is_started_on c) started)
-        → (if b then s.1 ∷ filter (is_of c) (map job_started started) else filter (is_of c) (map job_started started))
-        ≡ map job_started (if b then s ∷ filter (is_started_on c) started else filter (is_started_on c) started)
-    by_it true rest = ap (λ js. s.1 ∷ js) rest
-    by_it false rest = rest
+abbrev pub is_started_on : ℕ → StartedJob → Bool
+is_started_on c s = is_of c s.1
 
 pub starts_on : (c place : ℕ) (js : List JobValue) → filter (is_started_on c) (map (start place) js) ≡ map (start place) (filter (is_of c) js)
 starts_on c place [] = refl
@@ -83,47 +80,53 @@ pub jobs_again : (place : ℕ) (js : List JobValue) → map job_started (map (st
 jobs_again place [] = refl
 jobs_again place (j ∷ js) = ap (λ xs. j ∷ xs) (jobs_again place js)
 
--- ---- jobs that are the same for each connection, where the one list is of one
+-- ---- starts of a connection that did not break
 
-pub none_else : (d : ℕ) (xs : List JobValue) → filter (is_of d) xs ≡ xs → (c : ℕ) → (c ≡ d → ⊥) → filter (is_of c) xs ≡ []
-none_else d [] all c ne = refl
-none_else d (j ∷ xs) all c ne = by_it (is_of d j) refl all (λ rest. none_else d xs rest c ne)
+one_more : (c : ℕ) (o : Placed) (lived : List Placed) → filter (is_started_on c) (starts (o ∷ lived))
+    ≡ filter (is_started_on c) (starts lived) ++ map (start o.0) (filter (is_of c) (jobs_by o.1 (mark_of (marked (occurrences lived)) o.1) (marked (occurrences lived))))
+one_more c o lived =
+    filter-append (is_started_on c) (starts lived) (map (start o.0) (jobs_by o.1 (mark_of (marked (occurrences lived)) o.1) (marked (occurrences lived))))
+    ∙ ap (λ xs. filter (is_started_on c) (starts lived) ++ xs) (starts_on c o.0 (jobs_by o.1 (mark_of (marked (occurrences lived)) o.1) (marked (occurrences lived))))
+
+-- what the newest starts is as if none had broken
+same_new : (c : ℕ) (o : Occurrence) (os : List Occurrence) → is_break o ≡ false → is_broken c (marked (o ∷ os)) ≡ false → is_broken c (marked os) ≡ false
+    → filter (is_of c) (jobs_by o (mark_of (marked os) o) (marked os)) ≡ filter (is_of c) (jobs_by o (mark_of (marked (without_breaks os)) o) (marked (without_breaks os)))
+same_new c o os plain off before = append_cancel_left (filter (is_of c) (jobs (marked os))) (filter (is_of c) now) (filter (is_of c) after) (
+    sym (filter-append (is_of c) (jobs (marked os)) now) ∙ unbroken_started c (o ∷ os) off
+    ∙ ap (λ b. filter (is_of c) (jobs (marked (if not b then o ∷ without_breaks os else without_breaks os)))) plain
+    ∙ filter-append (is_of c) (jobs (marked (without_breaks os))) after ∙ ap (λ xs. xs ++ filter (is_of c) after) (sym (unbroken_started c os before)))
   where
-    tails : (x : JobValue) (ys zs : List JobValue) → x ∷ ys ≡ x ∷ zs → ys ≡ zs
-    tails x ys zs e = cc
+    now : List JobValue
+    now = jobs_by o (mark_of (marked os) o) (marked os)
 
-    shorter : (ys : List JobValue) → length (filter (is_of d) ys) ≤ length ys
-    shorter [] = omega arith
-    shorter (y ∷ ys) = by_kept (is_of d y) (shorter ys)
-      where
-        by_kept : (b : Bool) → length (filter (is_of d) ys) ≤ length ys → length (if b then y ∷ filter (is_of d) ys else filter (is_of d) ys) ≤ length (y ∷ ys)
-        by_kept true le = omega (arith, le)
-        by_kept false le = omega (arith, le)
+    after : List JobValue
+    after = jobs_by o (mark_of (marked (without_breaks os)) o) (marked (without_breaks os))
 
-    by_it : (b : Bool) → is_of d j ≡ b → (if b then j ∷ filter (is_of d) xs else filter (is_of d) xs) ≡ j ∷ xs → (filter (is_of d) xs ≡ xs → filter (is_of c) xs ≡ []) → filter (is_of c) (j ∷ xs) ≡ []
-    by_it true e rest others =
-        let other : is_of c j ≡ false = ⊎_elim
-        (λ (its : is_of c j ≡ true). absurd (ne (sym (eqb-true j.call.conn c its) ∙ eqb-true j.call.conn d e))) (λ (no_more : is_of c j ≡ false). no_more) (cases_Bool (is_of c j)) in
-        ap (λ b. if b then j ∷ filter (is_of c) xs else filter (is_of c) xs) other ∙ others (tails j (filter (is_of d) xs) xs rest)
-    by_it false e rest others = absurd (let size : length (filter (is_of d) xs) ≡ suc (length xs) = ap (λ (ys : List JobValue). length ys) rest in omega (arith, size, shorter xs))
+no_job_breaks : (c : ℕ) (o : Occurrence) (os : List Occurrence) → is_break o ≡ true → filter (is_of c) (jobs_by o (mark_of (marked os) o) (marked os)) ≡ []
+no_job_breaks c (Break d) os e = refl
+no_job_breaks c Opening os e = absurd (cc)
+no_job_breaks c (Comes d x) os e = absurd (cc)
+no_job_breaks c (HangUp d) os e = absurd (cc)
+no_job_breaks c (Moment t) os e = absurd (cc)
+no_job_breaks c (Result id i r) os e = absurd (cc)
+no_job_breaks c Drain os e = absurd (cc)
+no_job_breaks c (Closing d) os e = absurd (cc)
 
-pub all_here : (d : ℕ) (js : List JobValue) → ((c : ℕ) → (c ≡ d → ⊥) → filter (is_of c) js ≡ []) → filter (is_of d) js ≡ js
-all_here d [] none = refl
-all_here d (j ∷ js) none = ⊎_elim
-    (λ (its : is_of d j ≡ true). ap (λ b. if b then j ∷ filter (is_of d) js else filter (is_of d) js) its ∙ ap (λ xs. j ∷ xs) (all_here d js (λ c ne. rest c (none c ne))))
-    (λ (other : is_of d j ≡ false). absurd (
-    let gone : filter (is_of j.call.conn) (j ∷ js) ≡ [] = none j.call.conn (λ same. let clash : true ≡ false = sym (eq-eqb j.call.conn d same) ∙ other in cc) in
-    let here : filter (is_of j.call.conn) (j ∷ js) ≡ j ∷ filter (is_of j.call.conn) js =
-    ap (λ b. if b then j ∷ filter (is_of j.call.conn) js else filter (is_of j.call.conn) js) (eq-eqb j.call.conn j.call.conn refl) in
-    let clash : j ∷ filter (is_of j.call.conn) js ≡ [] = sym here ∙ gone in cc))
-    (cases_Bool (is_of d j))
+pub same_starts : (c : ℕ) (lived : List Placed) → is_broken c (marked (occurrences lived)) ≡ false
+    → filter (is_started_on c) (starts lived) ≡ filter (is_started_on c) (starts (by_events lived))
+same_starts c [] off = refl
+same_starts c (o ∷ lived) off = one_more c o lived ∙ by (is_break o.1) refl (same_starts c lived before)
   where
-    rest : (c : ℕ) → filter (is_of c) (j ∷ js) ≡ [] → filter (is_of c) js ≡ []
-    rest c e = by_it (is_of c j) e
-      where
-        by_it : (b : Bool) → (if b then j ∷ filter (is_of c) js else filter (is_of c) js) ≡ [] → filter (is_of c) js ≡ []
-        by_it true x = absurd (cc)
-        by_it false x = x
+    before : is_broken c (marked (occurrences lived)) ≡ false
+    before = or_false_right (breaks c o.1) (is_broken c (marked (occurrences lived))) off
 
-pub same_jobs : (d : ℕ) (js xs : List JobValue) → filter (is_of d) xs ≡ xs → ((c : ℕ) → filter (is_of c) js ≡ filter (is_of c) xs) → js ≡ xs
-same_jobs d js xs all same = sym (all_here d js (λ c ne. same c ∙ none_else d xs all c ne)) ∙ same d ∙ all
+    by : (b : Bool) → is_break o.1 ≡ b → filter (is_started_on c) (starts lived) ≡ filter (is_started_on c) (starts (by_events lived))
+        → filter (is_started_on c) (starts lived) ++ map (start o.0) (filter (is_of c) (jobs_by o.1 (mark_of (marked (occurrences lived)) o.1) (marked (occurrences lived))))
+        ≡ filter (is_started_on c) (starts (if not b then o ∷ by_events lived else by_events lived))
+    by true e h = ap (λ xs. filter (is_started_on c) (starts lived) ++ map (start o.0) xs) (no_job_breaks c o.1 (occurrences lived) e)
+        ∙ append-nil (filter (is_started_on c) (starts lived)) ∙ h
+    by false e h =
+        ap (λ xs. xs ++ map (start o.0) (filter (is_of c) (jobs_by o.1 (mark_of (marked (occurrences lived)) o.1) (marked (occurrences lived))))) h
+        ∙ ap (λ xs. filter (is_started_on c) (starts (by_events lived)) ++ map (start o.0) xs) (same_new c o.1 (occurrences lived) e off before
+        ∙ ap (λ us. filter (is_of c) (jobs_by o.1 (mark_of (marked us) o.1) (marked us))) (sym (events_occur lived)))
+        ∙ sym (one_more c o (by_events lived))

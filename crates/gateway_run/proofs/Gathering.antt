@@ -10,19 +10,17 @@ use Rattle.gateway_model.specs.declared.reply_bytes.ReplyBytes.{ReplyBytes}
 use Rattle.gateway_theory.specs.Conn.{ConnValue}
 use Rattle.gateway_model.specs.Events.{Before, Occurs}
 use Rattle.gateway_theory.specs.Gateway.{GatewayValue, is_broken_conn, is_open_conn, untaken_of}
-use Rattle.gateway_model.specs.Job.{JobValue}
 use Rattle.gateway_model.specs.Queue.{answer_of, front}
 use Rattle.gateway_theory.specs.Replies.{ReplyValue}
-use Rattle.gateway_theory.specs.Served.{QueueIs, Served, with_reply, after_reply}
+use Rattle.gateway_theory.specs.Served.{Lives, Served, with_reply, after_reply}
 use Rattle.gateway_theory.specs.Serving.{TakesOnly}
 use Rattle.gateway_model.specs.Starts.{Placed}
 use Rattle.gateway_theory.specs.Starting.{job_started}
 use Rattle.gateway_theory.specs.Store.{conn_of}
-use Rattle.gateway_run.specs.Log.{BrokeSo, Collects, absent, gathers, HasRun, LogValue, TookReplies, flag_at, is_flagged, log_with, queue_at}
+use Rattle.gateway_run.specs.Log.{ClosedSo, Collects, absent, gathers, HasRun, LogValue, TookReplies, flag_at, log_with, queue_at}
 use Rattle.gateway_model.specs.Run.{bytes_of}
 use Rattle.gateway_model.specs.History.{History, history_of}
-use Rattle.gateway_run.proofs.CoreLaws.{StandingLaws}
-use Rattle.gateway_run.proofs.Flags.{or_false_right, set_here, set_other}
+use Rattle.gateway_run.proofs.Flags.{set_here, set_other}
 use Rattle.gateway_theory.specs.lemmas.CutLemmas.{open_known}
 
 only_then : (n : ℕ) (u v w : GatewayValue) → TakesOnly n u v → TakesOnly n v w → TakesOnly n u w
@@ -42,7 +40,10 @@ pub took_none : (n : ℕ) (v : GatewayValue) → TookReplies n [] v v
 took_none n v = record {
   only = record { plans_are = refl; opened_is = refl; begun_is = refl; tally_is = refl; jobs_are = refl; open_are = λ c. refl; broken_are = λ c. refl; others_are = λ c ne. refl };
   untaken_are = refl;
-  served = λ history h. (history.taken, h, λ c. same c (c == n) (history.taken c));
+  later = λ history. history.taken;
+  later_is = λ history c. same c (c == n) (history.taken c);
+  served = λ history h. h;
+  lives = λ history lived l. l;
 }
   where
     same : (c : ℕ) (b : Bool) (es : List ReplyEntry) → es ≡ (if b then es ++ [] else es)
@@ -51,14 +52,16 @@ took_none n v = record {
 
 pub took_more : (n : ℕ) (entries : List ReplyEntry) (reply : Option ReplyValue) (u v w : GatewayValue) → TookReplies n entries u v
     → ((history : History) → Served v history → Served w (after_reply n reply history))
+    → ((history : History) (lived : List Placed) → Lives v history lived → Lives w (after_reply n reply history) lived)
     → untaken_of n v ≡ option_to_list (option_map (λ (r : ReplyValue). r.entry) reply) ++ untaken_of n w → TakesOnly n v w
     → TookReplies n (entries ++ option_to_list (option_map (λ (r : ReplyValue). r.entry) reply)) u w
-took_more n entries reply u v w t stands first only = record {
+took_more n entries reply u v w t stands lives first only = record {
   only = only_then n u v w t.only only;
   untaken_are = t.untaken_are ∙ ap (λ xs. entries ++ xs) first ∙ sym (append_assoc entries (option_to_list (option_map (λ (r : ReplyValue). r.entry) reply)) (untaken_of n w));
-  served = λ history h.
-      let was = t.served history h in
-      (with_reply n reply was.0, stands (record history { taken = was.0 }) was.1, λ c. both history.taken was.0 c (was.2 c) (c == n));
+  later = λ history. with_reply n reply (t.later history);
+  later_is = λ history c. both history.taken (t.later history) c (t.later_is history c) (c == n);
+  served = λ history h. stands (record history { taken = t.later history }) (t.served history h);
+  lives = λ history lived l. lives (record history { taken = t.later history }) lived (t.lives history lived l);
 }
   where
     both : (taken later : ℕ → List ReplyEntry) (c : ℕ) → later c ≡ (if c == n then taken c ++ entries else taken c) → (b : Bool)
@@ -84,7 +87,7 @@ bytes_both xs ys = ap (flat_map (λ (r : ReplyBytes). r.bytes)) (map-append answ
 
 -- ---- a run whose log gathered what is queued for one connection more
 
-module _ (standing : StandingLaws) (gathered : ℕ → Bool) (n : ℕ) (v w : GatewayValue) (log later : LogValue) (es : Before) (h : HasRun gathered v log es) where
+module _ (gathered : ℕ → Bool) (n : ℕ) (v w : GatewayValue) (log later : LogValue) (es : Before) (h : HasRun gathered v log es) where
   same_run : w ≡ v → later ≡ log → length log.queued ≤ n → HasRun (λ c. gathered c || c == n) w later es
   same_run w_is later_is beyond = subst (λ x. HasRun (λ c. gathered c || c == n) x later es) (sym w_is) (subst (λ l. HasRun (λ c. gathered c || c == n) v l es) (sym later_is) (record {
     taken = h.taken;
@@ -99,13 +102,8 @@ module _ (standing : StandingLaws) (gathered : ℕ → Bool) (n : ℕ) (v w : Ga
     queued_are = h.queued_are;
     unflagged = λ c off there. h.unflagged c (first (gathered c) (c == n) off) there;
     flagged = λ c on there. h.flagged c (was c on there) there;
-    collected = λ c on there. h.collected c (was c on there) there;
-    shut = h.shut;
     none_left = λ c on. none_of c (c == n) refl on;
-    broke_are = h.broke_are;
-    unbroken = h.unbroken;
-    in_order = h.in_order;
-    all_unbroken = h.all_unbroken;
+    has_lived = h.has_lived;
   }))
     where
       -- one that was not opened has no replies
@@ -145,8 +143,11 @@ module _ (standing : StandingLaws) (gathered : ℕ → Bool) (n : ℕ) (v w : Ga
     abbrev next : LogValue
     next = log_with n (bytes_of (untaken_of n v)) (is_broken_conn n v) log
 
-    s : (after : ℕ → List ReplyEntry) × Served w (history_of log.opened es after (map job_started h.started)) × ((c : ℕ) → after c ≡ (if c == n then h.taken c ++ untaken_of n v else h.taken c))
-    s = t.served (history_of log.opened es h.taken (map job_started h.started)) h.served
+    abbrev now : History
+    now = history_of log.opened es h.taken (map job_started h.started)
+
+    abbrev after : ℕ → List ReplyEntry
+    after = t.later (history_of log.opened es h.taken (map job_started h.started))
 
     plain : (occurred : List Placed) → Occurs w.plans log.opened es occurred → Occurs v.plans log.opened es occurred
     plain occurred o = subst (λ plans. Occurs plans log.opened es occurred) t.only.plans_are o
@@ -155,11 +156,11 @@ module _ (standing : StandingLaws) (gathered : ℕ → Bool) (n : ℕ) (v w : Ga
     which c = ⊎_elim (λ (same : (c == n) ≡ true). inl (eqb-true c n same))
         (λ (ne : (c == n) ≡ false). inr (λ same. let clash : true ≡ false = sym (eq-eqb c n same) ∙ ne in cc)) (cases_Bool (c == n))
 
-    taken_here : s.0 n ≡ h.taken n ++ untaken_of n v
-    taken_here = s.2 n ∙ ap (λ b. if b then h.taken n ++ untaken_of n v else h.taken n) (eq-eqb n n refl)
+    taken_here : after n ≡ h.taken n ++ untaken_of n v
+    taken_here = t.later_is now n ∙ ap (λ b. if b then h.taken n ++ untaken_of n v else h.taken n) (eq-eqb n n refl)
 
-    taken_other : (c : ℕ) → (c ≡ n → ⊥) → s.0 c ≡ h.taken c
-    taken_other c other = s.2 c ∙ ap (λ b. if b then h.taken c ++ untaken_of n v else h.taken c) (ne_eqb c n other)
+    taken_other : (c : ℕ) → (c ≡ n → ⊥) → after c ≡ h.taken c
+    taken_other c other = t.later_is now c ∙ ap (λ b. if b then h.taken c ++ untaken_of n v else h.taken c) (ne_eqb c n other)
 
     flag_here : flag_at n next ≡ (flag_at n log || is_broken_conn n v)
     flag_here = set_here log.broke n (flag_at n log || is_broken_conn n v) false (let a = h.broke_size in let b = h.queued_size in omega (arith, a, b, lt))
@@ -179,8 +180,8 @@ module _ (standing : StandingLaws) (gathered : ℕ → Bool) (n : ℕ) (v w : Ga
     none_left : untaken_of n w ≡ []
     none_left = append_cancel_left (untaken_of n v) (untaken_of n w) [] (sym t.untaken_are ∙ sym (append-nil (untaken_of n v)))
 
-    queue : (c : ℕ) → (c ≡ n) ⊎ (c ≡ n → ⊥) → queue_at c next ≡ bytes_of (s.0 c)
-    queue c (inl same) = subst (λ m. queue_at m next ≡ bytes_of (s.0 m)) (sym same)
+    queue : (c : ℕ) → (c ≡ n) ⊎ (c ≡ n → ⊥) → queue_at c next ≡ bytes_of (after c)
+    queue c (inl same) = subst (λ m. queue_at m next ≡ bytes_of (after m)) (sym same)
         (set_here log.queued n (queue_at n log ++ bytes_of (untaken_of n v)) [] lt ∙ ap (λ xs. xs ++ bytes_of (untaken_of n v)) (h.queued_are n)
         ∙ sym (bytes_both (h.taken n) (untaken_of n v)) ∙ ap bytes_of (sym taken_here))
     queue c (inr other) = set_other log.queued n c (queue_at n log ++ bytes_of (untaken_of n v)) [] other ∙ h.queued_are c ∙ ap bytes_of (sym (taken_other c other))
@@ -208,38 +209,16 @@ module _ (standing : StandingLaws) (gathered : ℕ → Bool) (n : ℕ) (v w : Ga
         second false b e = e
     plainly c off there (inr other) = flag_other c other ∙ h.unflagged c (first (gathered c) (c == n) off) (sym (t.only.open_are c) ∙ there)
 
-    -- all that is queued for it was taken
-    whole : is_open_conn n w ≡ true → (occurred : List Placed) → Occurs w.plans log.opened es occurred → QueueIs n (s.0 n) (flag_at n next) occurred
-    whole there occurred o = by_conn (conn_of n w.machine.conns) refl
+    -- one that was closed
+    closed : (c : ℕ) → c < w.opened → is_open_conn c w ≡ false → (lived : List Placed) → (c < v.opened → is_open_conn c v ≡ false → ClosedSo c log h.taken lived) → (c ≡ n) ⊎ (c ≡ n → ⊥)
+        → ClosedSo c next after lived
+    closed c less off lived so (inl same) = let was = so (subst (λ m. c < m) t.only.opened_is less) (sym (t.only.open_are c) ∙ off) in record {
+      broken_is = subst (λ m. flag_at m next ≡ flag_at m log) (sym same) (flag_here ∙ unbroken) ∙ was.broken_is;
+      queue_is = subst (λ m. after m ≡ h.taken m) (sym same) (taken_here ∙ nothing) ∙ was.queue_is;
+    }
       where
-        by_conn : (k : Option ConnValue) → conn_of n w.machine.conns ≡ k → QueueIs n (s.0 n) (flag_at n next) occurred
-        by_conn None k_is = absurd (let clash : true ≡ false = sym there ∙ ap (λ y. is_some y) k_is in cc)
-        by_conn (Some k) k_is =
-            let none : front k.slots ≡ [] = sym (ap (λ x. option_map_or (λ (y : ConnValue). front y.slots) x []) k_is) ∙ none_left in
-            let broken : flag_at n next ≡ k.broken = flag_now there (gathered n) refl ∙ ap (λ x. option_map_or (λ (y : ConnValue). y.broken) x false) k_is in
-            subst (λ b. QueueIs n (s.0 n) b occurred) (sym broken)
-            (subst (λ q. QueueIs n q k.broken occurred) (ap (λ xs. s.0 n ++ xs) none ∙ append-nil (s.0 n))
-            (standing.queue n k w (history_of log.opened es s.0 (map job_started h.started)) occurred s.1 o k_is))
-
-    gather : (c : ℕ) → (gathered c || c == n) ≡ true → is_open_conn c w ≡ true → (occurred : List Placed) → Occurs w.plans log.opened es occurred → (c ≡ n) ⊎ (c ≡ n → ⊥)
-        → QueueIs c (s.0 c) (flag_at c next) occurred
-    gather c on there occurred o (inl same) =
-        subst (λ m. QueueIs m (s.0 m) (flag_at m next) occurred) (sym same) (whole (ap (λ m. is_open_conn m w) (sym same) ∙ there) occurred o)
-    gather c on there occurred o (inr other) =
-        subst (λ b. QueueIs c (s.0 c) b occurred) (sym (flag_other c other)) (subst (λ q. QueueIs c q (flag_at c log) occurred) (sym (taken_other c other))
-        (h.collected c (still c other on) (sym (t.only.open_are c) ∙ there) occurred (plain occurred o)))
-
-    closed : (c : ℕ) → c < w.opened → is_open_conn c w ≡ false → (occurred : List Placed) → Occurs w.plans log.opened es occurred → (c ≡ n) ⊎ (c ≡ n → ⊥)
-        → QueueIs c (s.0 c) (flag_at c next) occurred
-    closed c less off occurred o (inl same) = subst (λ m. QueueIs m (s.0 m) (flag_at m next) occurred) (sym same)
-        (subst (λ b. QueueIs n (s.0 n) b occurred) (sym (flag_here ∙ unbroken)) (subst (λ q. QueueIs n q (flag_at n log) occurred) (sym (taken_here ∙ nothing))
-        (h.shut n (subst (λ m. m < v.opened) same (subst (λ m. c < m) t.only.opened_is less)) shut occurred (plain occurred o))))
-      where
-        shut : is_open_conn n v ≡ false
-        shut = sym (t.only.open_are n) ∙ ap (λ m. is_open_conn m w) (sym same) ∙ off
-
         absent_is : conn_of n v.machine.conns ≡ None
-        absent_is = by_conn (conn_of n v.machine.conns) shut
+        absent_is = by_conn (conn_of n v.machine.conns) (sym (t.only.open_are n) ∙ ap (λ m. is_open_conn m w) (sym same) ∙ off)
           where
             by_conn : (k : Option ConnValue) → is_some k ≡ false → k ≡ None
             by_conn None e = refl
@@ -254,59 +233,20 @@ module _ (standing : StandingLaws) (gathered : ℕ → Bool) (n : ℕ) (v w : Ga
 
         nothing : h.taken n ++ untaken_of n v ≡ h.taken n
         nothing = ap (λ x. h.taken n ++ option_map_or (λ (y : ConnValue). front y.slots) x []) absent_is ∙ append-nil (h.taken n)
-    closed c less off occurred o (inr other) =
-        subst (λ b. QueueIs c (s.0 c) b occurred) (sym (flag_other c other)) (subst (λ q. QueueIs c q (flag_at c log) occurred) (sym (taken_other c other))
-        (h.shut c (subst (λ m. c < m) t.only.opened_is less) (sym (t.only.open_are c) ∙ off) occurred (plain occurred o)))
-
-    unflagged_before : (c : ℕ) → is_flagged c w next ≡ false → (c ≡ n) ⊎ (c ≡ n → ⊥) → is_flagged c v log ≡ false
-    unflagged_before c off (inl same) = both (flag_at c log) (is_broken_conn c v)
-        (first (flag_at c log) (is_broken_conn c v) (subst (λ m. (flag_at m log || is_broken_conn m v) ≡ false) (sym same) (sym flag_here ∙ ap (λ m. flag_at m next) (sym same) ∙ first (flag_at c next) (is_broken_conn c w) off)))
-        (sym (t.only.broken_are c) ∙ or_false_right (flag_at c next) (is_broken_conn c w) off)
-      where
-        both : (a b : Bool) → a ≡ false → b ≡ false → (a || b) ≡ false
-        both a b e f = rw (e, f) refl
-    unflagged_before c off (inr other) = both (flag_at c log) (is_broken_conn c v)
-        (sym (flag_other c other) ∙ first (flag_at c next) (is_broken_conn c w) off) (sym (t.only.broken_are c) ∙ or_false_right (flag_at c next) (is_broken_conn c w) off)
-      where
-        both : (a b : Bool) → a ≡ false → b ≡ false → (a || b) ≡ false
-        both a b e f = rw (e, f) refl
+    closed c less off lived so (inr other) = let was = so (subst (λ m. c < m) t.only.opened_is less) (sym (t.only.open_are c) ∙ off) in record {
+      broken_is = flag_other c other ∙ was.broken_is;
+      queue_is = taken_other c other ∙ was.queue_is;
+    }
 
     none_then : (c : ℕ) → (gathered c || c == n) ≡ true → (c ≡ n) ⊎ (c ≡ n → ⊥) → untaken_of c w ≡ []
     none_then c on (inl same) = ap (λ m. untaken_of m w) same ∙ none_left
     none_then c on (inr other) = t.only.others_are c (ne_eqb c n other) ∙ h.none_left c (still c other on)
 
-    -- what was taken and what can be are the same together
-    all_same : (c : ℕ) → (c ≡ n) ⊎ (c ≡ n → ⊥) → s.0 c ++ untaken_of c w ≡ h.taken c ++ untaken_of c v
-    all_same c (inl same) = subst (λ m. s.0 m ++ untaken_of m w ≡ h.taken m ++ untaken_of m v) (sym same)
-        (ap (λ xs. s.0 n ++ xs) none_left ∙ append-nil (s.0 n) ∙ taken_here)
-    all_same c (inr other) = ap (λ xs. xs ++ untaken_of c w) (taken_other c other) ∙ ap (λ xs. h.taken c ++ xs) (t.only.others_are c (ne_eqb c n other))
-
-    flagged_before : (c : ℕ) → is_flagged c w next ≡ true → (b : Bool) → is_flagged c v log ≡ b → is_flagged c v log ≡ true
-    flagged_before c on true e = e
-    flagged_before c on false e = absurd (by_parts (which c))
-      where
-        off : flag_at c log ≡ false
-        off = first (flag_at c log) (is_broken_conn c v) e
-
-        whole_now : is_broken_conn c v ≡ false
-        whole_now = or_false_right (flag_at c log) (is_broken_conn c v) e
-
-        by_parts : (c ≡ n) ⊎ (c ≡ n → ⊥) → ⊥
-        by_parts (inl same) =
-            let here : flag_at c next ≡ false = subst (λ m. flag_at m next ≡ false) (sym same) (flag_here ∙ ap (λ m. flag_at m log || is_broken_conn m v) (sym same) ∙ e) in
-            let clash : true ≡ false = sym on ∙ ap (λ b. b || is_broken_conn c w) here ∙ t.only.broken_are c ∙ whole_now in cc
-        by_parts (inr other) =
-            let clash : true ≡ false = sym on ∙ ap (λ b. b || is_broken_conn c w) (flag_other c other ∙ off) ∙ t.only.broken_are c ∙ whole_now in cc
-
-    broke_still : (c : ℕ) → is_flagged c w next ≡ true → (occurred : List Placed) → Occurs w.plans log.opened es occurred → BrokeSo c w.plans log.opened (s.0 c ++ untaken_of c w) h.started es occurred
-    broke_still c on occurred o = subst (λ ps. BrokeSo c ps log.opened (s.0 c ++ untaken_of c w) h.started es occurred) (sym t.only.plans_are)
-        (subst (λ xs. BrokeSo c v.plans log.opened xs h.started es occurred) (sym (all_same c (which c))) (h.broke_are c (flagged_before c on (is_flagged c v log) refl) occurred (plain occurred o)))
-
-    more_run : HasRun (λ c. gathered c || c == n) w next es
+    more_run : HasRun (λ c. gathered c || c == n) w (log_with n (bytes_of (untaken_of n v)) (is_broken_conn n v) log) es
     more_run = record {
-      taken = s.0;
+      taken = after;
       started = h.started;
-      served = s.1;
+      served = t.served now h.served;
       no_jobs = t.only.jobs_are ∙ h.no_jobs;
       opened_are = h.opened_are;
       opened_size = h.opened_size ∙ sym t.only.opened_is;
@@ -316,13 +256,14 @@ module _ (standing : StandingLaws) (gathered : ℕ → Bool) (n : ℕ) (v w : Ga
       queued_are = λ c. queue c (which c);
       unflagged = λ c off there. plainly c off there (which c);
       flagged = λ c on there. flag c on there (which c);
-      collected = λ c on there occurred o. gather c on there occurred o (which c);
-      shut = λ c less off occurred o. closed c less off occurred o (which c);
       none_left = λ c on. none_then c on (which c);
-      broke_are = broke_still;
-      unbroken = λ c off occurred o. h.unbroken c (unflagged_before c off (which c)) occurred (plain occurred o);
-      in_order = λ occurred o. h.in_order occurred (plain occurred o);
-      all_unbroken = λ off occurred o. h.all_unbroken (λ c. unflagged_before c (off c) (which c)) occurred (plain occurred o);
+      has_lived = λ occurred o. let x = h.has_lived occurred (plain occurred o) in record {
+        lived = x.lived;
+        same = x.same;
+        lives = t.lives now x.lived x.lives;
+        starts_lived = x.starts_lived;
+        shut = λ c less off. closed c less off x.lived (x.shut c) (which c);
+      };
     }
 
   pub collected_run : Collects n v w log later → HasRun (λ c. gathered c || c == n) w later es

@@ -3,9 +3,8 @@ pub mod RunLemmas
 pub mod Scripts
 pub mod Existence
 pub mod Flags
-pub mod Sublists
-pub mod Listening
 pub mod Gathering
+pub mod ClosedRuns
 pub mod RunSteps
 pub mod WholeLemmas
 pub mod EventRuns

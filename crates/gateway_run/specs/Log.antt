@@ -1,19 +1,18 @@
 -- What a run takes down as it goes, and how it stands for the events so far.
-use Rattle.std.specs.Prelude.{◌≡◌, ℕ, ◌<◌, ◌≤◌, Bool, true, false, ◌||◌, if◌then◌else◌, ◌==◌, List, [], ◌++◌, length, map, filter, slice_index_or, slice_set}
+use Rattle.std.specs.Prelude.{◌≡◌, ℕ, ◌<◌, ◌≤◌, Bool, true, false, ◌||◌, if◌then◌else◌, ◌==◌, List, [], ◌++◌, length, map, slice_index_or, slice_set}
 use Rattle.gateway_model.specs.declared.entry.ReplyEntry.{ReplyEntry}
-use Rattle.call_plan.specs.Plan.{PlanRecord}
-use Rattle.gateway_model.specs.Known.{is_of}
+use Rattle.gateway_model.specs.Breaks.{by_events}
 use Rattle.gateway_model.specs.Events.{Before, IsOpened, Occurs}
 use Rattle.gateway_theory.specs.Gateway.{GatewayValue, is_broken_conn, is_open_conn, jobs_of, untaken_of, with_jobs}
 use Rattle.gateway_model.specs.Job.{JobValue}
-use Rattle.gateway_model.specs.Past.{marked}
+use Rattle.gateway_model.specs.Past.{is_broken, marked}
 use Rattle.gateway_model.specs.Queue.{queued_entries}
-use Rattle.gateway_theory.specs.Served.{QueueIs, Served}
+use Rattle.gateway_theory.specs.Served.{Lives, Served}
 use Rattle.gateway_theory.specs.Serving.{TakesOnly}
 use Rattle.gateway_model.specs.Starts.{Placed, occurrences, starts}
 use Rattle.gateway_theory.specs.Starting.{StartedJob, job_started}
 use Rattle.gateway_model.specs.declared.run.Start.{Start}
-use Rattle.gateway_model.specs.Run.{Breakage, IsSublist, bytes_of, run_start}
+use Rattle.gateway_model.specs.Run.{bytes_of, run_start}
 use Rattle.gateway_model.specs.History.{History, history_of, after_jobs}
 
 -- the start of a job's branch at the event of that place
@@ -43,8 +42,10 @@ flag_at c log = slice_index_or log.broke c false
 pub record TookReplies (n : ℕ) (entries : List ReplyEntry) (v w : GatewayValue) : Type 0 where
   pub only : TakesOnly n v w
   pub untaken_are : untaken_of n v ≡ entries ++ untaken_of n w
-  pub served : (h : History) → Served v h
-      → (later : ℕ → List ReplyEntry) × Served w (record h { taken = later }) × ((c : ℕ) → later c ≡ (if c == n then h.taken c ++ entries else h.taken c))
+  pub later : History → ℕ → List ReplyEntry
+  pub later_is : (h : History) (c : ℕ) → later h c ≡ (if c == n then h.taken c ++ entries else h.taken c)
+  pub served : (h : History) → Served v h → Served w (record h { taken = later h })
+  pub lives : (h : History) (lived : List Placed) → Lives v h lived → Lives w (record h { taken = later h }) lived
 
 -- the log, in which this stands behind what was queued for the connection, and whether it is broken
 abbrev pub log_with : ℕ → List ℕ → Bool → LogValue → LogValue
@@ -59,22 +60,23 @@ pub data Collects (n : ℕ) (v w : GatewayValue) (log later : LogValue) : Type 0
 pub record StartsAll (place : ℕ) (v w : GatewayValue) (log later : LogValue) : Type 0 where
   pub rest : w ≡ with_jobs [] v
   pub served : (h : History) → Served v h → Served w (after_jobs (jobs_of v) h)
+  pub lives : (h : History) (lived : List Placed) → Lives v h lived → Lives w (after_jobs (jobs_of v) h) lived
   pub log_is : later ≡ record log { starts = log.starts ++ map (start_at place) (jobs_of v) }
 
 -- ---- how it stands for the events
 
-abbrev pub is_flagged : ℕ → GatewayValue → LogValue → Bool
-is_flagged c v log = flag_at c log || is_broken_conn c v
+-- of a connection that was closed: whether it broke, and what was queued for it
+pub record ClosedSo (c : ℕ) (log : LogValue) (taken : ℕ → List ReplyEntry) (lived : List Placed) : Type 0 where
+  pub broken_is : flag_at c log ≡ is_broken c (marked (occurrences lived))
+  pub queue_is : taken c ≡ queued_entries c (marked (occurrences lived))
 
-abbrev pub is_started_on : ℕ → StartedJob → Bool
-is_started_on c s = is_of c s.1
-
--- what is queued for a connection that broke, and what has started, is by what had occurred before it did
-abbrev pub BrokeSo : ℕ → List PlanRecord → List ℕ → List ReplyEntry → List StartedJob → Before → List Placed → Type 0
-BrokeSo c plans opened queue started es occurred =
-    (b : Breakage c plans opened es occurred)
-    × (queue ≡ queued_entries c (marked (occurrences (b.newer ++ b.past))))
-    × (filter (is_started_on c) started ≡ filter (is_started_on c) (starts (b.newer ++ b.past)))
+-- what was lived, where that occurred, and these replies were taken and these jobs started
+pub record HasLived (v : GatewayValue) (log : LogValue) (es : Before) (taken : ℕ → List ReplyEntry) (started : List StartedJob) (occurred : List Placed) : Type 0 where
+  pub lived : List Placed
+  pub same : by_events lived ≡ occurred
+  pub lives : Lives v (history_of log.opened es taken (map job_started started)) lived
+  pub starts_lived : started ≡ starts lived
+  pub shut : (c : ℕ) → c < v.opened → is_open_conn c v ≡ false → ClosedSo c log taken lived
 
 -- how far a run is after these events, newest first, where what is queued was taken for those of the open connections of which this is so
 pub record HasRun (gathered : ℕ → Bool) (v : GatewayValue) (log : LogValue) (es : Before) : Type 0 where
@@ -90,14 +92,5 @@ pub record HasRun (gathered : ℕ → Bool) (v : GatewayValue) (log : LogValue) 
   pub queued_are : (c : ℕ) → queue_at c log ≡ bytes_of (taken c)
   pub unflagged : (c : ℕ) → gathered c ≡ false → is_open_conn c v ≡ true → flag_at c log ≡ false
   pub flagged : (c : ℕ) → gathered c ≡ true → is_open_conn c v ≡ true → flag_at c log ≡ is_broken_conn c v
-  pub collected : (c : ℕ) → gathered c ≡ true → is_open_conn c v ≡ true → (occurred : List Placed) → Occurs v.plans log.opened es occurred
-      → QueueIs c (taken c) (flag_at c log) occurred
-  pub shut : (c : ℕ) → c < v.opened → is_open_conn c v ≡ false → (occurred : List Placed) → Occurs v.plans log.opened es occurred
-      → QueueIs c (taken c) (flag_at c log) occurred
   pub none_left : (c : ℕ) → gathered c ≡ true → untaken_of c v ≡ []
-  pub broke_are : (c : ℕ) → is_flagged c v log ≡ true → (occurred : List Placed) → Occurs v.plans log.opened es occurred
-      → BrokeSo c v.plans log.opened (taken c ++ untaken_of c v) started es occurred
-  pub unbroken : (c : ℕ) → is_flagged c v log ≡ false → (occurred : List Placed) → Occurs v.plans log.opened es occurred
-      → filter (is_started_on c) started ≡ filter (is_started_on c) (starts occurred)
-  pub in_order : (occurred : List Placed) → Occurs v.plans log.opened es occurred → IsSublist started (starts occurred)
-  pub all_unbroken : ((c : ℕ) → is_flagged c v log ≡ false) → (occurred : List Placed) → Occurs v.plans log.opened es occurred → started ≡ starts occurred
+  pub has_lived : (occurred : List Placed) → Occurs v.plans log.opened es occurred → HasLived v log es taken started occurred

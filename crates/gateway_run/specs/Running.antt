@@ -7,7 +7,7 @@ use Rattle.gateway_model.specs.Queue.{queued}
 use Rattle.gateway_model.specs.Starts.{Placed, occurrences}
 use Rattle.gateway_model.specs.declared.event.Event.{Event}
 use Rattle.gateway_model.specs.declared.run.Start.{Start}
-use Rattle.gateway_model.specs.Run.{IsSublist, is_listed, starts_of, is_start_of, BrokeAs}
+use Rattle.gateway_model.specs.Run.{IsLived, is_listed, starts_of, is_start_of}
 use Rattle.gateway_model.specs.Events.{is_opening}
 
 -- how many stocks of hooks it takes
@@ -21,10 +21,7 @@ pub record IsRun (plans : List PlanRecord) (es : Before) (opened : List ℕ) (qu
       → slice_index_or queued_bytes c [] ≡ queued c (marked (occurrences occurred))
   pub starts_are : (occurred : List Placed) → Occurs plans opened es occurred → (c : ℕ) → is_listed c broken ≡ false
       → filter (is_start_of c) begun ≡ filter (is_start_of c) (starts_of occurred)
-  pub broke : (occurred : List Placed) → Occurs plans opened es occurred → (c : ℕ) → is_listed c broken ≡ true
-      → BrokeAs c plans opened (slice_index_or queued_bytes c []) begun es occurred
-  pub in_order : (occurred : List Placed) → Occurs plans opened es occurred → IsSublist begun (starts_of occurred)
-  pub unbroken : (occurred : List Placed) → Occurs plans opened es occurred → broken ≡ [] → begun ≡ starts_of occurred
+  pub lived : (occurred : List Placed) → Occurs plans opened es occurred → (lived : List Placed) × IsLived opened queued_bytes begun broken es occurred lived
   pub one_each : length queued_bytes ≡ length opened
   pub known : (c : ℕ) → is_listed c broken ≡ true → c < length opened
   pub rising : IsRising broken

@@ -1,14 +1,11 @@
 -- What a step answers, and what a run takes down of it.
 use Rattle.std.specs.Prelude.{◌≡◌, ◌≤◌, ⊤, ℕ, Bool, true, false, List, [], ◌∷◌, ◌++◌, length, Result, Ok, Err}
 use Rattle.gateway_model.specs.declared.entry.ReplyEntry.{ReplyEntry}
-use Rattle.gateway_model.specs.Concerns.{can_break}
 use Rattle.gateway_model.specs.Job.{JobValue}
 use Rattle.connect_codec.specs.declared.answer.Outcome.{Outcome}
 use Rattle.gateway_model.specs.declared.id.CallId.{CallId}
-use Rattle.gateway_model.specs.Past.{call_id, marked}
-use Rattle.gateway_theory.specs.Served.{Served}
-use Rattle.gateway_model.specs.Starts.{Placed, occurrences}
-use Rattle.gateway_model.specs.Events.{Before, Occurs}
+use Rattle.gateway_model.specs.Past.{call_id}
+use Rattle.gateway_theory.specs.Served.{Adds}
 use Rattle.gateway_model.specs.declared.event.Event.{Event}
 use Rattle.gateway_model.specs.declared.event.Event.TheVariants.{Opening, Piece, HangUp, Moment, BranchResult, Drain, Closing}
 use Rattle.gateway_model.specs.declared.seen.Seen.{Seen}
@@ -90,7 +87,7 @@ TellsBreaks _ v w = ⊥
 
 -- how a result was seen is told, and that a connection broke by it
 abbrev pub TellsResult : {H : Type 0} → CallId → ℕ → Outcome → Stepped H → GatewayValue → GatewayValue → Type 0
-TellsResult id branch outcome (Saw took) v w = TellsTook id branch outcome took v w
+TellsResult id branch outcome (Saw took) v w = TellsTook id branch took v w
 TellsResult id branch outcome _ v w = ⊥
 
 abbrev pub Tells : {H : Type 0} → Event → Stepped H → GatewayValue → GatewayValue → Type 0
@@ -102,8 +99,6 @@ Tells (BranchResult conn request branch outcome) stepped v w = TellsResult (call
 Tells Drain stepped v w = TellsBreaks stepped v w
 Tells (Closing conn) stepped v w = stepped ≡ Done
 
--- a connection that breaks in the step is one that the event can break
-abbrev pub BreaksAt : Event → GatewayValue → GatewayValue → Type 0
-BreaksAt e v w =
-    (h : History) (occurred : List Placed) → Served v h → Occurs v.plans h.opened h.events occurred
-    → (c : ℕ) → is_broken_conn c w ≡ true → is_broken_conn c v ≡ false → can_break c h.opened e h.events (marked (occurrences occurred)) ≡ true
+-- what the step of this event adds to what was lived
+abbrev pub AddsStep : {H : Type 0} → Stepped H → Event → GatewayValue → GatewayValue → Type 0
+AddsStep stepped e v w = (h : History) → Adds (opened_by stepped (length h.events) h.opened) e h v w

@@ -5,7 +5,7 @@ ghost use Rattle.gateway_theory.specs.Served.{Served};
 ghost use Rattle.gateway_theory.specs.Serving.{KeepsBut};
 ghost use Rattle.gateway_model.specs.Events.{is_opening};
 ghost use Rattle.gateway_model.specs.History.{History};
-ghost use Rattle.gateway_run.specs.Stepping.{BreaksAt, Tells, after_step, done_of, opening_of, seen_in, taken_of};
+ghost use Rattle.gateway_run.specs.Stepping.{AddsStep, Tells, after_step, done_of, opening_of, seen_in, taken_of};
 
 use gateway_core::{CallId, ConnId, Core, OpenError, ReplyHook, StepFault, Stock, Took};
 use gateway_model::Event;
@@ -36,12 +36,12 @@ pub fn step<H: ReplyHook + Drop>(
 ) -> Stepped<H>
     requires { is_some stock ≡ is_opening event }
     ensures stands { (h : History) → Served core.old h → Served core.new (after_step result event h) }
+    ensures adds { AddsStep result event core.old core.new }
     ensures tells { Tells event result core.old core.new }
     ensures opens { (conn : ℕ) → result ≡ Stepped.Opened conn → event ≡ Event.Opening }
     ensures few { (conn : ℕ) (h : History) → result ≡ Stepped.Opened conn → Served core.old h
         → open_connections h.opened h.events < most_open }
     ensures back { (hooks : List H) (error : _) → result ≡ Stepped.NotOpened hooks error → stock ≡ Some hooks }
-    ensures concerned { BreaksAt event core.old core.new }
     ensures keeps { KeepsBut (λ c. is_closing_of c event) (λ c. true) (seen_in result) core.old core.new }
 {
     match event {

@@ -7,7 +7,7 @@ ghost use Rattle.gateway_model.specs.Past.{marked};
 ghost use Rattle.gateway_model.specs.Queue.{queued};
 ghost use Rattle.gateway_model.specs.Starts.{Placed, occurrences};
 ghost use Rattle.gateway_run.specs.Log.{HasRun, log_value};
-ghost use Rattle.gateway_model.specs.Run.{BrokeAs, IsSublist, is_listed, is_start_of};
+ghost use Rattle.gateway_model.specs.Run.{IsLived, is_listed, is_start_of};
 ghost use Rattle.gateway_model.specs.Events.{is_opening};
 ghost use Rattle.gateway_run.specs.Running.{IsRun};
 ghost use Rattle.gateway_model.specs.Run.{newest_first, starts_of};
@@ -20,8 +20,6 @@ use call_plan::Plans;
 use gateway_core::{Core, ReplyHook, Stock};
 use gateway_model::{Event, Run, RunError};
 use gateway_theory::event_laws::openings_law;
-use gateway_theory::laws::event_law;
-use gateway_theory::served_laws::{breaking_law, standing_law};
 use std::alloc::{AllocError, Global};
 use std::vec::IntoIter;
 
@@ -46,7 +44,12 @@ pub fn run<H: ReplyHook + Drop>(
     // The openings that succeeded, each where fewer connections were open than may be.
     ensures opened { IfOk result (λ run. IsOpened run.opened.items (newest_first events.items)) }
 
-    // Of each connection that did not break: what is queued for it is by all that occurs, and so are its starts.
+    // What is queued for every connection, and what starts, in order, is by what occurred and by where connections broke.
+    ensures lived { IfOk result (λ run. (occurred : List Placed)
+        → Occurs plans run.opened.items (newest_first events.items) occurred
+        → (lived : List Placed) × IsLived run.opened.items run.queued.items run.starts.items run.broken.items
+        (newest_first events.items) occurred lived) }
+    // For a connection that did not break the second does not matter.
     ensures queued { IfOk result (λ run. (occurred : List Placed)
         → Occurs plans run.opened.items (newest_first events.items) occurred → (c : ℕ) → c < length run.opened.items
         → is_listed c run.broken.items ≡ false
@@ -56,17 +59,6 @@ pub fn run<H: ReplyHook + Drop>(
         → is_listed c run.broken.items ≡ false
         → filter (is_start_of c) run.starts.items ≡ filter (is_start_of c) (starts_of occurred)) }
 
-    // Of each that broke: it broke at an event that can break it, and both are by what had occurred before it did.
-    ensures broke { IfOk result (λ run. (occurred : List Placed)
-        → Occurs plans run.opened.items (newest_first events.items) occurred → (c : ℕ)
-        → is_listed c run.broken.items ≡ true
-        → BrokeAs c plans run.opened.items (slice_index_or run.queued.items c []) run.starts.items (newest_first events.items) occurred) }
-    // All that starts, in order: less what was lost where one broke, and all of it where none did.
-    ensures order { IfOk result (λ run. (occurred : List Placed)
-        → Occurs plans run.opened.items (newest_first events.items) occurred → IsSublist run.starts.items (starts_of occurred)) }
-    ensures unbroken { IfOk result (λ run. (occurred : List Placed)
-        → Occurs plans run.opened.items (newest_first events.items) occurred
-        → run.broken.items ≡ [] → run.starts.items ≡ starts_of occurred) }
     ensures one_each { IfOk result (λ run. length run.queued.items ≡ length run.opened.items) }
     ensures broken { IfOk result (λ run. (c : ℕ) → is_listed c run.broken.items ≡ true → c < length run.opened.items) }
     ensures rising { IfOk result (λ run. IsRising run.broken.items) }
@@ -89,8 +81,6 @@ fn whole_run<H: ReplyHook + Drop>(
     ensures { IfOk result (λ run. IsRun plans (newest_first events.items)
         run.opened.items run.queued.items run.starts.items run.broken.items) }
 {
-    event_law();
-    standing_law();
     let mut core = Core::new(alloc, plans)?;
     let mut log = Log::new(alloc);
     take_events(&mut core, &mut log, events, stocks)?;
@@ -152,10 +142,7 @@ fn take_event<H: ReplyHook + Drop>(
         → OnOk result (HasRun (λ c. false) core.new log.new (event ∷ es)) }
     ensures plans { OnOk result (core.new.plans ≡ core.old.plans) }
 {
-    event_law();
-    breaking_law();
     openings_law();
-    standing_law();
     collect_for(core, log, &event)?;
     let stepped = step(core, event, stock);
     note(log, place, &stepped)?;
@@ -193,7 +180,6 @@ fn collect_all<H: ReplyHook + Drop>(core: &mut Core<H>, log: &mut Log) -> Result
     ensures opened { OnOk result (log.new.opened ≡ log.old.opened) }
     ensures plans { OnOk result (core.new.plans ≡ core.old.plans) }
 {
-    standing_law();
     for number in 0..log.opened.len() {
         log.collect(core, number as u64)?;
     }

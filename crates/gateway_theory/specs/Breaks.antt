@@ -1,22 +1,23 @@
 -- What an occurrence makes of the machine, where connections can break at it.
-use Rattle.std.specs.Prelude.{◌≡◌, ℕ, max, Bool, true, false, ◌&&◌, ◌||◌, not, if◌then◌else◌, ◌==◌, List, [], ◌++◌, Option, None, option_to_list, option_map, is_some}
+use Rattle.std.specs.Prelude.{◌≡◌, ℕ, max, Bool, true, false, ◌&&◌, ◌||◌, not, if◌then◌else◌, ◌==◌, List, [], ◌++◌, Option, None, is_some}
 use Rattle.gateway_model.specs.declared.id.CallId.{CallId}
-use Rattle.gateway_model.specs.Occurrence.{Occurrence, Comes, Coming}
-use Rattle.gateway_model.specs.Past.{is_call, is_drain, is_result_of, moment_of, marked}
+use Rattle.gateway_model.specs.Occurrence.{Occurrence, Comes, Coming, Result}
+use Rattle.gateway_model.specs.Past.{is_call, is_drain, is_result_of, moment_of}
 use Rattle.gateway_model.specs.declared.entry.ReplyEntry.{ReplyEntry}
-use Rattle.gateway_model.specs.Queue.{queued_entries}
-use Rattle.gateway_model.specs.Starts.{Placed, occurrences}
 use Rattle.gateway_theory.specs.Step.{CallState, Step, call_state, has_out}
 use Rattle.gateway_theory.specs.Machine.{ConnState, MachineState, ConnAfter, step_of, starting, next_id, arriving, with_slot}
-use Rattle.gateway_model.specs.Past.{how_seen}
 use Rattle.gateway_model.specs.declared.seen.Seen.{Seen}
 use Rattle.gateway_model.specs.declared.seen.Seen.TheVariants.{Counted, Late, Unknown}
-use Rattle.gateway_theory.specs.Fate.{Unbroken, BrokenAt, still_out, Fate, is_broken, starting_conn}
-use Rattle.gateway_model.specs.Concerns.{breaks_at, concerns}
 
--- the connection is broken, or breaks now
-abbrev pub is_broken_after : (ℕ → Bool) → (ℕ → Fate) → ℕ → Bool
-is_broken_after breaks fates c = is_broken (fates c) || breaks c
+-- the connection was broken, or breaks now
+abbrev pub is_broken_after : (ℕ → Bool) → (ℕ → Bool) → ℕ → Bool
+is_broken_after breaks were_broken c = were_broken c || breaks c
+
+-- the connection of whose calls branches can start at the occurrence
+abbrev pub starting_conn : Occurrence → ℕ
+starting_conn (Comes c x) = c
+starting_conn (Result id i outcome) = id.conn
+starting_conn o = 0
 
 -- a call that stays, but for the branch that a result is of
 pub record CallStays (id : CallId) (o : Occurrence) (old new : CallState) : Type 0 where
@@ -41,42 +42,22 @@ abbrev pub ConnBy : Bool → Bool → Option ReplyEntry → ConnState → ConnSt
 ConnBy true comes reply old new = ConnStays old new
 ConnBy false comes reply old new = new ≡ (if comes then with_slot reply old else old)
 
--- each connection that breaks now is one that the occurrence concerns
-abbrev pub AreConcerned : (ℕ → Bool) → (ℕ → Fate) → Occurrence → List Occurrence → Type 0
-AreConcerned breaks fates o os = (c : ℕ) → is_broken (fates c) ≡ false → breaks c ≡ true → concerns c o (marked os) ≡ true
-
 -- the machine after an occurrence at which nothing comes on a stream
-pub record AfterBreaks (breaks : ℕ → Bool) (fates : ℕ → Fate) (o : Occurrence) (s t : MachineState) : Type 0 where
+pub record AfterBreaks (breaks : ℕ → Bool) (were_broken : ℕ → Bool) (o : Occurrence) (s t : MachineState) : Type 0 where
   pub moment_is : t.moment ≡ max s.moment (moment_of o)
   pub drained_is : t.drained ≡ (is_drain o || s.drained)
-  pub calls_are : (id : CallId) → CallAfter (is_broken_after breaks fates id.conn) id o (s.calls id) (t.calls id) (step_of id o s).call
-  pub conns_are : (c : ℕ) → ConnOn (is_broken_after breaks fates c) o s c (s.conns c) (t.conns c)
-  pub jobs_are : t.jobs ≡ s.jobs ++ (if is_broken_after breaks fates (starting_conn o) then [] else starting o s)
+  pub calls_are : (id : CallId) → CallAfter (is_broken_after breaks were_broken id.conn) id o (s.calls id) (t.calls id) (step_of id o s).call
+  pub conns_are : (c : ℕ) → ConnOn (is_broken_after breaks were_broken c) o s c (s.conns c) (t.conns c)
+  pub jobs_are : t.jobs ≡ s.jobs ++ (if is_broken_after breaks were_broken (starting_conn o) then [] else starting o s)
 
 -- the machine after something came on that connection's stream
-pub record ComingBreaks (breaks : ℕ → Bool) (fates : ℕ → Fate) (c : ℕ) (x : Coming) (s t : MachineState) : Type 0 where
+pub record ComingBreaks (breaks : ℕ → Bool) (were_broken : ℕ → Bool) (c : ℕ) (x : Coming) (s t : MachineState) : Type 0 where
   pub moment_is : t.moment ≡ s.moment
   pub drained_is : t.drained ≡ s.drained
-  pub calls_are : (id : CallId) → CallAfter (is_broken_after breaks fates id.conn) id (Comes c x) (s.calls id) (t.calls id)
+  pub calls_are : (id : CallId) → CallAfter (is_broken_after breaks were_broken id.conn) id (Comes c x) (s.calls id) (t.calls id)
       (if is_call (next_id c s) id then (arriving c x s).call else s.calls id)
-  pub conns_are : (d : ℕ) → ConnBy (is_broken_after breaks fates d) (d == c) (arriving c x s).reply (s.conns d) (t.conns d)
-  pub jobs_are : t.jobs ≡ s.jobs ++ (if is_broken_after breaks fates c then [] else (arriving c x s).jobs)
-
--- the machine after memory was refused to a piece of that connection's stream that brings no request
-pub record AfterRefusal (c : ℕ) (s t : MachineState) : Type 0 where
-  pub moment_is : t.moment ≡ s.moment
-  pub drained_is : t.drained ≡ s.drained
-  pub jobs_are : t.jobs ≡ s.jobs
-  pub outs_are : (id : CallId) (i : ℕ) → has_out (t.calls id) i ≡ has_out (s.calls id) i
-  pub others_are : (id : CallId) → (id.conn == c) ≡ false → t.calls id ≡ s.calls id
-  pub conn_is : ConnStays (s.conns c) (t.conns c)
-  pub conns_are : (d : ℕ) → (d == c) ≡ false → t.conns d ≡ s.conns d
-
--- what is queued for a connection that broke: all of the past before that, and no more
-abbrev pub BrokeWith : ℕ → List ReplyEntry → List Occurrence → Type 0
-BrokeWith c queue os =
-    (since : List Occurrence) × (at : Option Occurrence) × (older : List Occurrence)
-    × (os ≡ since ++ option_to_list at ++ older) × (breaks_at c at (marked older) ≡ true) × (queue ≡ queued_entries c (marked older))
+  pub conns_are : (d : ℕ) → ConnBy (is_broken_after breaks were_broken d) (d == c) (arriving c x s).reply (s.conns d) (t.conns d)
+  pub jobs_are : t.jobs ≡ s.jobs ++ (if is_broken_after breaks were_broken c then [] else (arriving c x s).jobs)
 
 -- a call at an occurrence that nothing follows from: it stays, and neither a reply nor a job comes of it
 pub record NothingOf (id : CallId) (o : Occurrence) (c : CallState) (s : Step) : Type 0 where
@@ -96,19 +77,6 @@ pub record GivenUp (breaks : ℕ → Bool) (s u : MachineState) : Type 0 where
 -- no call of a connection that breaks can be decided
 abbrev pub NoneLive : (ℕ → Bool) → MachineState → Type 0
 NoneLive broken s = (id : CallId) → broken id.conn ≡ true → (s.calls id).live ≡ None
-
--- the same over events with their places: what is queued is all of the past before an occurrence of one of them, which concerned
--- the connection; or memory was refused to a piece that brought no request
-abbrev pub BrokeAtEvent : ℕ → List ReplyEntry → List Placed → Type 0
-BrokeAtEvent c queue placed =
-    (since : List Placed) × (at : Option Placed) × (older : List Placed)
-    × (placed ≡ since ++ option_to_list at ++ older) × (breaks_at c (option_map (λ o. o.1) at) (marked (occurrences older)) ≡ true)
-    × (queue ≡ queued_entries c (marked (occurrences older)))
-
--- how a result of that branch is seen: late, if it comes for a broken connection's branch that is still out
-abbrev pub how_seen_fated : CallId → ℕ → Fate → List Occurrence → Seen
-how_seen_fated id i Unbroken os = how_seen id i (marked os)
-how_seen_fated id i (BrokenAt since at older) os = if still_out id i (BrokenAt since at older) os then Late else Unknown
 
 -- how it is seen by what is kept
 abbrev pub seen_by : CallState → ℕ → Seen

@@ -1,5 +1,5 @@
 -- The open connections with their streams, and what they stand for.
-use Rattle.std.specs.Prelude.{◌≡◌, ℕ, ◌+◌, ◌<◌, ◌≤◌, Bool, true, false, ◌&&◌, ◌||◌, not, is_none, is_some, if◌then◌else◌, ◌==◌, All, List, [], ◌∷◌, ◌++◌, take, length, Option, None, Some, option_map, slice_set, slice_index_or}
+use Rattle.std.specs.Prelude.{◌≡◌, ℕ, ◌+◌, ◌<◌, ◌≤◌, Bool, true, false, ◌&&◌, ◌||◌, not, is_none, is_some, if◌then◌else◌, ◌==◌, List, [], ◌∷◌, ◌++◌, take, length, Option, None, Some, option_map, slice_set, slice_index_or}
 use Rattle.std.specs.List.{count_by, list_any}
 use Rattle.std.specs.Option.{option_map_or}
 use Rattle.http_pieces.specs.Reader.{ReaderValue, Reading, reader_value, Partial, Waiting, Stopped, Done, HasRead, after_request, is_over}
@@ -9,17 +9,12 @@ use Rattle.gateway_model.specs.declared.entry.ReplyEntry.{ReplyEntry}
 use Rattle.gateway_model.specs.Arrival.{arrival_of}
 use Rattle.gateway_theory.specs.Conn.{ConnValue}
 use Rattle.gateway_theory.specs.Enters.{Enters}
-use Rattle.gateway_theory.specs.Fate.{Fate, is_broken}
-use Rattle.gateway_theory.specs.Fated.{FatedStands}
 use Rattle.gateway_model.specs.Job.{JobValue}
-use Rattle.gateway_theory.specs.Kept.{KeptValue}
 use Rattle.gateway_theory.specs.Least.{ends_any, least_deadline}
-use Rattle.gateway_theory.specs.Machine.{ConnState, new_conn}
-use Rattle.gateway_model.specs.Occurrence.{Occurrence, Request, Refused}
-use Rattle.gateway_theory.specs.Arrivals.{calls_arrived, calls_in}
-use Rattle.gateway_theory.specs.Orderly.{FatesAre}
+use Rattle.gateway_model.specs.Occurrence.{Request, Refused}
+use Rattle.gateway_theory.specs.Arrivals.{calls_in}
 use Rattle.gateway_theory.specs.Step.{Live}
-use Rattle.gateway_theory.specs.Store.{MachineValue, call_at, machine, conn_of}
+use Rattle.gateway_theory.specs.Store.{MachineValue, call_at, conn_of}
 use Rattle.gateway_theory.specs.Ends.{is_broken_in}
 use Rattle.gateway_model.specs.Known.{Shown}
 use Rattle.gateway_model.specs.CallRecord.{CallRecord}
@@ -121,25 +116,6 @@ is_listening k = not k.broken && not k.hung_up
 abbrev pub StreamsStand : GatewayValue → (ℕ → List ℕ) → Type 0
 StreamsStand v texts =
     (c : ℕ) (k : ConnValue) (s : StreamValue) → conn_of c v.machine.conns ≡ Some k → stream_of c v.streams ≡ Some s → is_listening k ≡ true → HasCome k s.reader (texts c)
-
--- of the connections that were not opened yet there is nothing
-pub record Unopened (v : GatewayValue) (closed : ℕ → ConnState) (fates : ℕ → Fate) (c : ℕ) : Type 0 where
-  pub state_is : closed c ≡ new_conn
-  pub unbroken : is_broken (fates c) ≡ false
-  pub no_conn : conn_of c v.machine.conns ≡ None
-  pub no_stream_is : stream_of c v.streams ≡ None
-  pub no_call : All (λ (k : KeptValue). (k.id.conn == c) ≡ false) v.machine.calls
-
--- the gateway stands for what has occurred, newest first, where these are the texts of the streams that go on, and these replies
--- and jobs were taken
-pub record GatewayStands (v : GatewayValue) (texts : ℕ → List ℕ) (taken : ℕ → List ReplyEntry) (handed : List JobValue) (os : List Occurrence) : Type 0 where
-  pub closed : ℕ → ConnState
-  pub fates : ℕ → Fate
-  pub fated : FatedStands (machine closed v.machine) fates taken handed os
-  pub fates_are : FatesAre fates v.machine.conns
-  pub streams_stand : StreamsStand v texts
-  pub unopened : (c : ℕ) → v.opened ≤ c → Unopened v closed fates c
-  pub begun_is : v.begun ≤ calls_arrived os
 
 -- the text of that stream, with these bytes behind it
 abbrev pub with_bytes : ℕ → List ℕ → (ℕ → List ℕ) → ℕ → List ℕ

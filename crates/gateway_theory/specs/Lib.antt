@@ -9,8 +9,7 @@ pub mod Begins
 pub mod Machine
 pub mod Standing
 pub mod Starting
-pub mod Fate
-pub mod Fated
+pub mod Lived
 pub mod Breaks
 pub mod Kept
 pub mod Conn
@@ -23,11 +22,11 @@ pub mod Enters
 pub mod Opens
 pub mod Orderly
 pub mod Gateway
+pub mod GatewayLived
 pub mod Refused
 pub mod Serving
 pub mod Served
 pub mod Told
 pub mod EventAdds
-pub mod Breaking
 pub mod RequestLaws
 pub mod lemmas

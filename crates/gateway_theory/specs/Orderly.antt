@@ -1,8 +1,7 @@
 -- The machine between two occurrences.
-use Rattle.std.specs.Prelude.{◌≡◌, ℕ, ◌+◌, ◌<◌, true, false, ◌==◌, All, List, length, None, Some, is_some}
+use Rattle.std.specs.Prelude.{◌≡◌, ℕ, ◌+◌, ◌<◌, Bool, true, false, ◌==◌, All, List, length, None, Some, is_some}
 use Rattle.gateway_theory.specs.Conn.{ConnValue}
 use Rattle.gateway_theory.specs.Ends.{AreApart}
-use Rattle.gateway_theory.specs.Fate.{Fate, is_broken}
 use Rattle.gateway_theory.specs.Kept.{KeptValue}
 use Rattle.gateway_theory.specs.Store.{MachineValue, conn_at, conn_of}
 
@@ -24,6 +23,6 @@ pub record IsOrderly (v : MachineValue) : Type 0 where
   pub apart : AreApart v.calls
   pub conns_apart : ConnsApart v.conns
 
--- the connections that are open have their fates
-abbrev pub FatesAre : (ℕ → Fate) → List ConnValue → Type 0
-FatesAre fates conns = (c : ℕ) (k : ConnValue) → conn_of c conns ≡ Some k → k.broken ≡ is_broken (fates c)
+-- the connections that are open are broken as these say
+abbrev pub BrokenAre : (ℕ → Bool) → List ConnValue → Type 0
+BrokenAre were_broken conns = (c : ℕ) (k : ConnValue) → conn_of c conns ≡ Some k → k.broken ≡ were_broken c

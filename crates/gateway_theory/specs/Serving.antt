@@ -17,21 +17,17 @@ use Rattle.gateway_theory.specs.Ends.{CallsEnd, is_broken_in}
 use Rattle.gateway_model.specs.Arrival.{arrival_of}
 use Rattle.gateway_model.specs.Known.{is_of}
 use Rattle.gateway_theory.specs.Enters.{Enters, arriving_at, entered_at}
-use Rattle.gateway_model.specs.Events.{Occurs, most_open}
-use Rattle.gateway_model.specs.Concerns.{concerns}
-use Rattle.gateway_model.specs.Occurrence.{Coming, Occurrence, Request, Refused}
+use Rattle.gateway_model.specs.Events.{most_open}
+use Rattle.gateway_model.specs.Occurrence.{Coming, Request, Refused}
 use Rattle.gateway_theory.specs.Arrivals.{calls_in}
 use Rattle.gateway_theory.specs.Gateway.{Feeds, GatewayValue, StreamValue, calls_with, is_listening, is_broken_conn, is_waiting, new_stream, refusals, stream_at, stream_of, untaken_of}
 use Rattle.gateway_model.specs.Job.{JobValue}
 use Rattle.gateway_theory.specs.Kept.{KeptValue}
 use Rattle.gateway_theory.specs.Opens.{closed_at, opened_as, ReplyTaken}
 use Rattle.gateway_theory.specs.Orderly.{IsOrderly}
-use Rattle.gateway_model.specs.Past.{marked, most_calls}
+use Rattle.gateway_model.specs.Past.{most_calls}
 use Rattle.gateway_model.specs.Queue.{IsPrefixOf}
 use Rattle.gateway_theory.specs.Replies.{ReplyValue}
-use Rattle.gateway_theory.specs.Served.{Served}
-use Rattle.gateway_model.specs.Starts.{Placed, occurrences}
-use Rattle.gateway_model.specs.History.{History}
 use Rattle.gateway_theory.specs.Store.{MachineValue, broken_at, conn_at, conn_of, hung_at, numbers}
 use Rattle.gateway_theory.specs.Tally.{tally_of}
 use Rattle.gateway_theory.specs.declared.tally.Tally.{Tally}
@@ -312,13 +308,6 @@ pub record TellsStep {A : Type 0} (c : ℕ) (v w : GatewayValue) (result : Resul
   pub broke : result ≡ Err Memory → is_broken_conn c w ≡ true
   pub exhausted : result ≡ Err Exhausted → (is_broken_conn c w ≡ true) × (most_begun ≤ w.begun)
   pub unbroken : OnOk result (is_broken_conn c w ≡ false)
-
--- a connection that breaks in the step is one that this occurrence concerns
-abbrev pub BreaksBy : Occurrence → GatewayValue → GatewayValue → Type 0
-BreaksBy o v w =
-    (h : History) (occurred : List Placed)
-    → Served v h → Occurs v.plans h.opened h.events occurred
-    → (c : ℕ) → is_broken_conn c w ≡ true → is_broken_conn c v ≡ false → concerns c o (marked (occurrences occurred)) ≡ true
 
 -- nothing changes but what can be taken of the connection of that number
 pub record TakesOnly (n : ℕ) (v w : GatewayValue) : Type 0 where

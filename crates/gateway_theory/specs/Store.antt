@@ -4,7 +4,6 @@ use Rattle.std.specs.Option.{option_map_or}
 use Rattle.std.specs.List.{sum_by}
 use Rattle.gateway_model.specs.declared.id.CallId.{CallId}
 use Rattle.gateway_model.specs.Job.{JobValue}
-use Rattle.gateway_theory.specs.Fate.{Fate, is_broken}
 use Rattle.gateway_model.specs.Past.{is_call}
 use Rattle.gateway_theory.specs.Step.{CallState, Live, call_state, gone}
 use Rattle.gateway_theory.specs.Kept.{KeptValue}
@@ -115,8 +114,8 @@ filled_in (Some r) conns = fill_first r conns
 
 -- ---- how it stands for what has occurred
 
--- the connections that are open have their fates, and of one that is broken or not open no call can be decided
-pub record HasFates (fates : ℕ → Fate) (v : MachineValue) : Type 0 where
-  pub open_are : (c : ℕ) (k : ConnValue) → conn_of c v.conns ≡ Some k → k.broken ≡ is_broken (fates c)
+-- the connections that are open are broken as these say, and of one that is broken or not open no call can be decided
+pub record HasBroken (were_broken : ℕ → Bool) (v : MachineValue) : Type 0 where
+  pub open_are : (c : ℕ) (k : ConnValue) → conn_of c v.conns ≡ Some k → k.broken ≡ were_broken c
   pub none_live : (id : CallId) → conn_of id.conn v.conns ≡ None → (call_at id v.calls).live ≡ None
-  pub broken_none : (id : CallId) → is_broken (fates id.conn) ≡ true → (call_at id v.calls).live ≡ None
+  pub broken_none : (id : CallId) → were_broken id.conn ≡ true → (call_at id v.calls).live ≡ None

@@ -5,6 +5,9 @@ ghost use Rattle.gateway_model.specs.Occurrence.{Occurrence, Opening, Result};
 ghost use Rattle.gateway_model.specs.declared.call_event.CallEvent.{CallEvent};
 ghost use Rattle.gateway_model.specs.Past.{Mark, Past, ArrivedCall, call, decided, arrivals, is_broken, is_out, how_seen, outs, call_id, mark_of, marked, moment_of, now, past_of};
 ghost use Rattle.gateway_model.specs.Known.{is_of};
+ghost use Rattle.gateway_model.specs.Job.{JobValue};
+ghost use Rattle.gateway_theory.specs.Machine.{MachineState};
+ghost use Rattle.gateway_theory.specs.Lived.{LivedStands, breaks_of, broken_all};
 ghost use Rattle.gateway_model.specs.Own.{is_visible, own, without_breaks};
 ghost use Rattle.gateway_model.specs.Decided.{IsDecidedAt};
 ghost use Rattle.gateway_theory.specs.Finished.{IsOutSince, StartsAt, jobs_below};
@@ -147,4 +150,10 @@ pub fn breaks_law()
         → IsPrefixOf (queued_entries conn (marked occurred)) (queued_entries conn (marked (without_breaks occurred))) }
     ensures first_starts { (conn : ℕ) (occurred : List Occurrence)
         → IsPrefixOf (filter (is_of conn) (jobs (marked occurred))) (filter (is_of conn) (jobs (marked (without_breaks occurred)))) }
+{}
+
+/// Where connections break, the machine stands for that too.
+pub fn lived_law()
+    ensures breaks { (taken : ℕ → List ReplyEntry) (handed : List JobValue) (broken : List ℕ) (s : MachineState) (occurred : List Occurrence)
+        → LivedStands s taken handed occurred → LivedStands (broken_all broken s) taken handed (breaks_of broken ++ occurred) }
 {}

@@ -12,8 +12,9 @@ use Rattle.gateway_model.specs.declared.event.Event.TheVariants.{Piece}
 use Rattle.gateway_model.specs.Known.{is_of}
 use Rattle.gateway_theory.specs.Gateway.{GatewayValue, is_broken_conn, untaken_of}
 use Rattle.gateway_model.specs.Job.{JobValue}
-use Rattle.gateway_model.specs.History.{History, after_event}
-use Rattle.gateway_theory.specs.Served.{Served, ServedUpTo}
+use Rattle.gateway_model.specs.History.{History}
+use Rattle.gateway_theory.specs.Served.{Adds, FedUpTo, HasConns}
+use Rattle.gateway_theory.specs.Told.{AddsEvent}
 use Rattle.gateway_theory.specs.Serving.{CountsCalls, NotListening, Keeps, TellsStep, most_begun}
 
 -- nothing was fed yet, or the connection listens, and did
@@ -25,13 +26,13 @@ pub data Listening (conn : ℕ) (v w : GatewayValue) : Type 0 where
 pub record Delivery (conn : ℕ) (piece rest : List ℕ) (v w : GatewayValue) : Type 0 where
   pub done : List ℕ
   pub whole : done ++ rest ≡ piece
-  pub served : (history : History) → Served v history → ServedUpTo conn done w history
+  pub fed : (history : History) → HasConns v history.opened history.events → FedUpTo conn done history v w
   pub keeps : Keeps (λ c. c == conn) v w
   pub counts : CountsCalls v w
   pub listening : Listening conn v w
 
 abbrev pub Begins : Type 0
-Begins = (n : ℕ) (v : GatewayValue) (history : History) → Served v history → ServedUpTo n [] v history
+Begins = (n : ℕ) (v : GatewayValue) (history : History) → HasConns v history.opened history.events → FedUpTo n [] history v v
 
 -- nothing changed
 keeps_still : (breaks : ℕ → Bool) (v : GatewayValue) → Keeps breaks v v
@@ -69,7 +70,7 @@ pub begun : Begins → (conn : ℕ) (piece : List ℕ) (v : GatewayValue) → De
 begun begins conn piece v = record {
   done = [];
   whole = refl;
-  served = λ history h. begins conn v history h;
+  fed = λ history h. begins conn v history h;
   keeps = keeps_still (λ c. c == conn) v;
   counts = counts_still v;
   listening = first refl;
@@ -139,27 +140,35 @@ from_err (Ok t) f bad same = absurd (cc)
 from_err (Err e) f bad same = ap Err same
 
 pub fed_on : (conn n : ℕ) (piece rest : List ℕ) (u v w : GatewayValue) → Delivery conn piece rest u v
-    → ((fed : List ℕ) (history : History) → ServedUpTo conn fed v history → ServedUpTo conn (fed ++ take n rest) w history)
+    → ((fed : List ℕ) (history : History) (first : GatewayValue) → FedUpTo conn fed history first v → FedUpTo conn (fed ++ take n rest) history first w)
     → Keeps (λ c. c == conn) v w → CountsCalls v w → (NotListening conn v → ⊥) → (NotListening conn w → ⊥) → Delivery conn piece (drop n rest) u w
 fed_on conn n piece rest u v w d stands keeps counts was now = record {
   done = d.done ++ take n rest;
   whole = append_assoc d.done (take n rest) (drop n rest) ∙ ap (λ xs. d.done ++ xs) (take-append-drop n rest) ∙ d.whole;
-  served = λ history h. stands d.done history (d.served history h);
+  fed = λ history h. stands d.done history u (d.fed history h);
   keeps = keeps_then (λ c. c == conn) u v w d.keeps keeps (counts_then u v w d.counts counts);
   counts = counts_then u v w d.counts counts;
   listening = later now (at_first conn u v d.listening was);
 }
 
-pub fed_whole : (conn : ℕ) (piece rest : List ℕ) (v w : GatewayValue) → Delivery conn piece rest v w → rest ≡ []
-    → (history : History) → Served v history → Served w (after_event (Piece conn piece) history)
-fed_whole conn piece rest v w d none history h =
-    subst (λ bytes. Served w (after_event (Piece conn bytes) history)) (sym (append-nil d.done) ∙ ap (λ xs. d.done ++ xs) (sym none) ∙ d.whole) (d.served history h).served
+-- what one event adds, if it does so by the connections
+adds_by : (conn : ℕ) (piece : List ℕ) (v w : GatewayValue) → Keeps (λ c. c == conn) v w
+    → ((history : History) → HasConns v history.opened history.events → Adds history.opened (Piece conn piece) history v w) → AddsEvent (Piece conn piece) v w
+adds_by conn piece v w keeps adds history = record {
+  plans_are = keeps.plans_are;
+  conns = λ h. (adds history h).conns h;
+  lives = λ lived l. (adds history l.conns).lives lived l;
+}
+
+pub fed_whole : (conn : ℕ) (piece rest : List ℕ) (v w : GatewayValue) → Delivery conn piece rest v w → rest ≡ [] → AddsEvent (Piece conn piece) v w
+fed_whole conn piece rest v w d none = adds_by conn piece v w d.keeps (λ history h.
+    subst (λ bytes. Adds history.opened (Piece conn bytes) history v w) (sym (append-nil d.done) ∙ ap (λ xs. d.done ++ xs) (sym none) ∙ d.whole) (d.fed history h).adds)
 
 pub fed_fault : (conn : ℕ) (piece rest : List ℕ) (u v w : GatewayValue) → Delivery conn piece rest u v
-    → ((fed : List ℕ) (history : History) → ServedUpTo conn fed v history → Served w (after_event (Piece conn (fed ++ rest)) history))
-    → (history : History) → Served u history → Served w (after_event (Piece conn piece) history)
-fed_fault conn piece rest u v w d stands history h =
-    subst (λ bytes. Served w (after_event (Piece conn bytes) history)) d.whole (stands d.done history (d.served history h))
+    → ((fed : List ℕ) (history : History) (first : GatewayValue) → FedUpTo conn fed history first v → Adds history.opened (Piece conn (fed ++ rest)) history first w)
+    → Keeps (λ c. c == conn) v w → CountsCalls v w → AddsEvent (Piece conn piece) u w
+fed_fault conn piece rest u v w d stands keeps counts = adds_by conn piece u w (keeps_then (λ c. c == conn) u v w d.keeps keeps (counts_then u v w d.counts counts)) (λ history h.
+    subst (λ bytes. Adds history.opened (Piece conn bytes) history u w) d.whole (stands d.done history u (d.fed history h)))
 
 -- ---- what is left of a slice
 

@@ -1,7 +1,7 @@
 ghost use Rattle.std.specs.Prelude.{◌==◌};
 ghost use Rattle.gateway_model.specs.declared.event.Event.TheVariants.{Piece};
 ghost use Rattle.gateway_theory.specs.Serving.{CountsCalls, Keeps, TellsStep};
-ghost use Rattle.gateway_theory.specs.Told.{TakesEvent};
+ghost use Rattle.gateway_theory.specs.Told.{AddsEvent, TakesEvent};
 
 use gateway_core::{ConnId, Core, ReplyHook, StepFault};
 use gateway_theory::served_laws::parts_law;
@@ -16,6 +16,7 @@ pub fn deliver<H: ReplyHook + Drop>(
     piece: &[u8],
 ) -> Result<(), StepFault>
     ensures stands { TakesEvent (Piece conn piece.now) core.old core.new }
+    ensures adds { AddsEvent (Piece conn piece.now) core.old core.new }
     ensures tells { TellsStep conn core.old core.new result }
     ensures counts { CountsCalls core.old core.new }
     ensures keeps { Keeps (λ c. c == conn) core.old core.new }

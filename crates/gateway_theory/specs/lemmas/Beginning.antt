@@ -8,19 +8,16 @@ use Rattle.gateway_model.specs.Occurrence.{Occurrence}
 use Rattle.gateway_model.specs.Past.{marked}
 use Rattle.gateway_model.specs.Queue.{IsPrefixOf, answer_of, queued, queued_entries}
 use Rattle.gateway_model.specs.Run.{bytes_of}
-use Rattle.gateway_theory.specs.lemmas.Breaking.{entries_later}
+use Rattle.gateway_model.specs.Own.{without_breaks}
+use Rattle.gateway_model.specs.Starts.{occurrences}
+use Rattle.gateway_theory.specs.lemmas.PrefixLemmas.{events_occur, prefix_queue}
 use Rattle.gateway_theory.specs.lemmas.PastLemmas.{prefix-flat_map, prefix-map, prefix-trans}
 
 module _ (s : Shown) (history : History) (os : List Occurrence) (known : IsKnown s history os) (c : ℕ) (there : s.is_open c ≡ true) where
   pub taken_begin : IsPrefixOf (history.taken c) (queued_entries c (marked os))
-  taken_begin = by_break (s.is_broken c) refl
-    where
-      by_break : (b : Bool) → s.is_broken c ≡ b → IsPrefixOf (history.taken c) (queued_entries c (marked os))
-      by_break false e = (s.untaken c, sym (known.queue_is c (ap (λ b. b && not (s.is_broken c)) there ∙ ap not e)))
-      by_break true e = let broke = known.broke c e in
-          prefix-trans (history.taken c) (queued_entries c (marked broke.older)) (queued_entries c (marked os)) (s.untaken c, sym broke.queue_is)
-          (subst (λ us. IsPrefixOf (queued_entries c (marked broke.older)) (queued_entries c (marked us))) (sym broke.occurred_is)
-          (entries_later c (broke.since ++ option_to_list broke.at) broke.older))
+  taken_begin = subst (λ us. IsPrefixOf (history.taken c) (queued_entries c (marked us))) (sym (events_occur known.lived) ∙ known.same)
+      (prefix-trans (history.taken c) (queued_entries c (marked (occurrences known.lived))) (queued_entries c (marked (without_breaks (occurrences known.lived))))
+      (s.untaken c, sym (known.queue_is c there)) (prefix_queue c (occurrences known.lived)))
 
   pub bytes_begin : IsPrefixOf (bytes_of (history.taken c)) (queued c (marked os))
   bytes_begin = prefix-flat_map (λ (reply : ReplyBytes). reply.bytes) (map answer_of (history.taken c)) (map answer_of (queued_entries c (marked os)))

@@ -29,8 +29,7 @@ use Rattle.gateway_theory.specs.Serving.{HasBrought, IsBehind, IsBehindIf, Reads
 use Rattle.gateway_theory.specs.Store.{MachineValue, broken_conn, conn_at, conn_of}
 use Rattle.gateway_theory.specs.declared.tally.Tally.{Tally}
 use Rattle.gateway_theory.specs.lemmas.Cases.{or_none}
-use Rattle.gateway_theory.specs.lemmas.FeedLemmas.{stream_found, stream_set}
-use Rattle.gateway_theory.specs.lemmas.GatewayOpens.{stream_added}
+use Rattle.gateway_theory.specs.lemmas.FeedLemmas.{stream_added, stream_found, stream_set}
 use Rattle.gateway_theory.specs.lemmas.GatewaySteps.{Goes, ListensOn, NoCallOf, WasBefore, goes_forgotten, goes_result, goes_starved, goes_then, going_parts}
 use Rattle.gateway_theory.specs.lemmas.OrderLemmas.{some_same}
 use Rattle.gateway_theory.specs.lemmas.StoreLemmas.{conn_broken}

@@ -176,7 +176,7 @@ after_final laws s more given later e f h g final =
     let u = laws.unique 0 (s ++ more) (given ++ later) given f e g (requests_stay laws 0 s more given e final h) in
     (append_cancel_left given later [] (u.0 ∙ sym (append-nil given)), u.1)
 
-gains_both : RequestLaws → (plans : List PlanRecord) (s p q : List ℕ) (x y z : List Coming)
+pub gains_both : RequestLaws → (plans : List PlanRecord) (s p q : List ℕ) (x y z : List Coming)
     → Gains plans s (s ++ p) x → Gains plans (s ++ p) ((s ++ p) ++ q) y → Gains plans s (s ++ (p ++ q)) z → z ≡ x ++ y
 gains_both laws plans s p q x y z g h w =
     let middle = laws.unique 0 (s ++ p) (g.given ++ g.more) h.given g.later h.ending g.longer_is h.text_is in

@@ -9,13 +9,13 @@ use Rattle.gateway_theory.specs.declared.trigger.Trigger.{Trigger}
 use Rattle.gateway_theory.specs.Breaks.{is_broken_after, CallStays, ConnStays, CallAfter, ConnOn, AfterBreaks}
 use Rattle.gateway_theory.specs.Conn.{ConnValue, state_of}
 use Rattle.gateway_theory.specs.Ends.{ended_if, ended_call, without_reply, is_broken_in, ended_below, ConnEnds, MayEnd, CallsEnd}
-use Rattle.gateway_theory.specs.Fate.{Fate, is_broken, starting_conn}
+use Rattle.gateway_theory.specs.Breaks.{starting_conn}
 use Rattle.gateway_theory.specs.Kept.{KeptValue}
 use Rattle.gateway_theory.specs.Machine.{ConnState, MachineState, ConnAfter, slot_at, step_of, starting}
 use Rattle.gateway_model.specs.Occurrence.{Occurrence}
 use Rattle.gateway_model.specs.Past.{call_id, is_call, shuts, is_drain, is_result_of, moment_of}
 use Rattle.gateway_theory.specs.Step.{CallState, Step, call_state, gone, has_out, step}
-use Rattle.gateway_theory.specs.Store.{MachineValue, machine_value, machine, call_at, conn_of, HasFates}
+use Rattle.gateway_theory.specs.Store.{MachineValue, machine_value, machine, call_at, conn_of, HasBroken}
 use Rattle.gateway_theory.specs.lemmas.Cases.{and_true, or_none}
 use Rattle.gateway_theory.specs.lemmas.EndLemmas.{id_below, out_same, open_number}
 use Rattle.gateway_theory.specs.lemmas.LimitLemmas.{same_call}
@@ -114,13 +114,13 @@ call_after o trigger false true id old new stepped no_result new_is same = stays
 call_after o trigger false false id old new stepped no_result new_is same = new_is ∙ same refl
 
 -- what an occurrence makes of the machine that ends calls by this trigger, where v is the machine with the moment and the drain told
-pub ends_breaks : (o : Occurrence) (trigger : Trigger) (s v w : MachineValue) (closed : ℕ → ConnState) (fates : ℕ → Fate)
+pub ends_breaks : (o : Occurrence) (trigger : Trigger) (s v w : MachineValue) (closed : ℕ → ConnState) (were_broken : ℕ → Bool)
     → ((d : ℕ) → shuts d o ≡ false) → ((id : CallId) (i : ℕ) → is_result_of id i o ≡ false) → starting o (machine closed s) ≡ []
     → ((id : CallId) (c : CallState) → step s.moment id o c ≡ ended_call trigger id c)
     → v ≡ machine_value (max s.moment (moment_of o)) (is_drain o || s.drained) s.conns s.calls s.jobs
-    → HasFates fates s → CallsEnd trigger v w
-    → AfterBreaks (λ c. is_broken_in c w.conns) fates o (machine closed s) (machine closed w)
-ends_breaks o trigger s v w closed fates no_closing no_result no_start steps v_is f ends = by_parts (subst (λ x. CallsEnd trigger x w) v_is ends)
+    → HasBroken were_broken s → CallsEnd trigger v w
+    → AfterBreaks (λ c. is_broken_in c w.conns) were_broken o (machine closed s) (machine closed w)
+ends_breaks o trigger s v w closed were_broken no_closing no_result no_start steps v_is f ends = by_parts (subst (λ x. CallsEnd trigger x w) v_is ends)
   where
     u : MachineValue
     u = machine_value (max s.moment (moment_of o)) (is_drain o || s.drained) s.conns s.calls s.jobs
@@ -135,17 +135,17 @@ ends_breaks o trigger s v w closed fates no_closing no_result no_start steps v_i
     same id true e = absurd (cc)
     same id false e = ap (λ (x : Step). x.call) (sym (steps id (call_at id s.calls)))
 
-    by_parts : CallsEnd trigger u w → AfterBreaks (λ c. is_broken_in c w.conns) fates o (machine closed s) (machine closed w)
+    by_parts : CallsEnd trigger u w → AfterBreaks (λ c. is_broken_in c w.conns) were_broken o (machine closed s) (machine closed w)
     by_parts e = record {
       moment_is = e.moment_is;
       drained_is = e.drained_is;
-      calls_are = λ id. call_after o trigger (is_broken (fates id.conn)) (is_broken_in id.conn w.conns) id (call_at id s.calls) (call_at id w.calls)
+      calls_are = λ id. call_after o trigger (were_broken id.conn) (is_broken_in id.conn w.conns) id (call_at id s.calls) (call_at id w.calls)
           (step_of id o (machine closed s)).call (no_result id)
           (ap (call_at id) e.calls_are ∙ call_ended trigger (λ c. is_broken_in c w.conns) id s.calls)
           (same id (is_broken_in id.conn w.conns));
-      conns_are = λ c. conn_after o trigger (machine closed s) s.calls c (closed c) (conn_of c s.conns) (conn_of c w.conns) (is_broken (fates c)) (is_broken_in c w.conns) (e.conns_are c)
+      conns_are = λ c. conn_after o trigger (machine closed s) s.calls c (closed c) (conn_of c s.conns) (conn_of c w.conns) (were_broken c) (is_broken_in c w.conns) (e.conns_are c)
           (λ k k_is. (open_number c s.conns k k_is, f.open_are c k k_is)) refl no_closing replies
           (λ shut j. none_of (call_id c j) shut);
       jobs_are = e.jobs_are ∙ sym (append-nil s.jobs)
-          ∙ ap (λ js. s.jobs ++ js) (sym (cond_both (is_broken_after (λ c. is_broken_in c w.conns) fates (starting_conn o)) [] (starting o (machine closed s)) (λ js. js ≡ []) (λ _. refl) (λ _. no_start)));
+          ∙ ap (λ js. s.jobs ++ js) (sym (cond_both (is_broken_after (λ c. is_broken_in c w.conns) were_broken (starting_conn o)) [] (starting o (machine closed s)) (λ js. js ≡ []) (λ _. refl) (λ _. no_start)));
     }

@@ -11,14 +11,13 @@ use Rattle.gateway_theory.specs.Breaks.{is_broken_after, CallStays, ConnStays, C
 use Rattle.gateway_theory.specs.Conn.{ConnValue, added, next_of, state_of}
 use Rattle.gateway_theory.specs.Ends.{is_broken_in}
 use Rattle.gateway_theory.specs.Enters.{arriving_at, entered_at, kept_now, Enters}
-use Rattle.gateway_theory.specs.Fate.{Fate, is_broken}
 use Rattle.gateway_theory.specs.Kept.{KeptValue}
 use Rattle.gateway_theory.specs.Machine.{ConnState, arriving, is_full, next_id, with_slot}
 use Rattle.gateway_model.specs.Occurrence.{Coming, Comes, Request, Refused}
 use Rattle.gateway_theory.specs.Orderly.{ConnsApart}
 use Rattle.gateway_model.specs.Past.{ArrivedCall, call_id, is_call, asked_of}
 use Rattle.gateway_theory.specs.Step.{CallState, Live, Step, call_state, gone, has_out}
-use Rattle.gateway_theory.specs.Store.{MachineValue, machine, call_at, conn_at, conn_of, conn_state, broken_at, broken_conn, IsFound, HasFates}
+use Rattle.gateway_theory.specs.Store.{MachineValue, machine, call_at, conn_at, conn_of, conn_state, broken_at, broken_conn, IsFound, HasBroken}
 use Rattle.gateway_theory.specs.lemmas.Cases.{and_true}
 use Rattle.gateway_theory.specs.lemmas.EndLemmas.{just_broken}
 use Rattle.gateway_theory.specs.lemmas.LimitLemmas.{same_call}
@@ -53,8 +52,8 @@ call_kept next id s None calls l_is none_gone f = ap (call_at id) (append-nil ca
 stays_out : (id : CallId) (c : ℕ) (x : Coming) (old new : CallState) → ((i : ℕ) → has_out new i ≡ has_out old i) → CallStays id (Comes c x) old new
 stays_out id c x old new same = record { outs_are = λ i. same i ∙ sym (and_true (has_out old i)) }
 
-module _ (i : ℕ) (x : Coming) (v : MachineValue) (closed : ℕ → ConnState) (fates : ℕ → Fate) (lt : i < length v.conns) (apart : ConnsApart v.conns)
-    (unbroken : (conn_at i v.conns).broken ≡ false) (fresh : IsFound (next_of (conn_at i v.conns)) v.calls None) (h : HasFates fates v) where
+module _ (i : ℕ) (x : Coming) (v : MachineValue) (closed : ℕ → ConnState) (were_broken : ℕ → Bool) (lt : i < length v.conns) (apart : ConnsApart v.conns)
+    (unbroken : (conn_at i v.conns).broken ≡ false) (fresh : IsFound (next_of (conn_at i v.conns)) v.calls None) (h : HasBroken were_broken v) where
   abbrev pub k : ConnValue
   k = conn_at i v.conns
 
@@ -73,18 +72,18 @@ module _ (i : ℕ) (x : Coming) (v : MachineValue) (closed : ℕ → ConnState) 
   step_is : arriving k.number x (machine closed v) ≡ s
   step_is = ap (λ (m : ConnState). arrive v.moment v.drained (is_full m.slots) (call_id k.number (m.taken + length m.slots)) x) state_is
 
-  fate_is : is_broken (fates k.number) ≡ false
+  fate_is : were_broken k.number ≡ false
   fate_is = sym (h.open_are k.number k found) ∙ unbroken
 
   -- ---- it came
 
-  enters : (w : MachineValue) → w ≡ entered_at i s v → ComingBreaks (λ c. is_broken_in c w.conns) fates k.number x (machine closed v) (machine closed w)
-  enters w w_is = subst (λ t. ComingBreaks (λ c. is_broken_in c t.conns) fates k.number x (machine closed v) (machine closed t)) (sym w_is) (record {
+  enters : (w : MachineValue) → w ≡ entered_at i s v → ComingBreaks (λ c. is_broken_in c w.conns) were_broken k.number x (machine closed v) (machine closed w)
+  enters w w_is = subst (λ t. ComingBreaks (λ c. is_broken_in c t.conns) were_broken k.number x (machine closed v) (machine closed t)) (sym w_is) (record {
     moment_is = refl;
     drained_is = refl;
-    calls_are = λ id. by_call id (is_broken_after broken_now fates id.conn) refl;
-    conns_are = λ d. by_conn d (is_broken_after broken_now fates d) refl;
-    jobs_are = ap (λ js. v.jobs ++ js) (ap (λ b. if b then [] else s.jobs) (sym (on k.number (eq-eqb k.number k.number refl))) ∙ ap (λ (y : Step). if is_broken_after broken_now fates k.number then [] else y.jobs) (sym step_is));
+    calls_are = λ id. by_call id (is_broken_after broken_now were_broken id.conn) refl;
+    conns_are = λ d. by_conn d (is_broken_after broken_now were_broken d) refl;
+    jobs_are = ap (λ js. v.jobs ++ js) (ap (λ b. if b then [] else s.jobs) (sym (on k.number (eq-eqb k.number k.number refl))) ∙ ap (λ (y : Step). if is_broken_after broken_now were_broken k.number then [] else y.jobs) (sym step_is));
   })
     where
       t : MachineValue
@@ -96,12 +95,12 @@ module _ (i : ℕ) (x : Coming) (v : MachineValue) (closed : ℕ → ConnState) 
       conn_is : (d : ℕ) → conn_of d t.conns ≡ (if d == k.number then Some (added s.reply k) else conn_of d v.conns)
       conn_is d = conn_set d i (added s.reply k) v.conns lt apart refl
 
-      on : (d : ℕ) → (d == k.number) ≡ true → is_broken_after broken_now fates d ≡ false
+      on : (d : ℕ) → (d == k.number) ≡ true → is_broken_after broken_now were_broken d ≡ false
       on d its =
-          ap (λ b. b || broken_now d) (ap (λ n. is_broken (fates n)) (eqb-true d k.number its) ∙ fate_is)
+          ap (λ b. b || broken_now d) (ap (λ n. were_broken n) (eqb-true d k.number its) ∙ fate_is)
           ∙ ap (λ o. option_map_or (λ (y : ConnValue). y.broken) o false) (conn_is d ∙ ap (λ b. if b then Some (added s.reply k) else conn_of d v.conns) its) ∙ unbroken
 
-      other : (d : ℕ) → is_broken_after broken_now fates d ≡ true → (d == k.number) ≡ false
+      other : (d : ℕ) → is_broken_after broken_now were_broken d ≡ true → (d == k.number) ≡ false
       other d broken = ⊎_elim
           (λ (its : (d == k.number) ≡ true). let clash : true ≡ false = sym broken ∙ on d its in absurd (cc))
           (λ (ne : (d == k.number) ≡ false). ne) (cases_Bool (d == k.number))
@@ -115,8 +114,8 @@ module _ (i : ℕ) (x : Coming) (v : MachineValue) (closed : ℕ → ConnState) 
       call_is : (id : CallId) → call_at id t.calls ≡ (if is_call (next_of k) id then s.call else call_at id v.calls)
       call_is id = call_kept (next_of k) id s s.call.live v.calls refl (arrive_gone v.moment v.drained (is_full k.slots) (next_of k) x) fresh
 
-      by_call : (id : CallId) (b : Bool) → is_broken_after broken_now fates id.conn ≡ b
-          → CallAfter (is_broken_after broken_now fates id.conn) id (Comes k.number x) (call_at id v.calls) (call_at id t.calls)
+      by_call : (id : CallId) (b : Bool) → is_broken_after broken_now were_broken id.conn ≡ b
+          → CallAfter (is_broken_after broken_now were_broken id.conn) id (Comes k.number x) (call_at id v.calls) (call_at id t.calls)
           (if is_call (next_id k.number (machine closed v)) id then (arriving k.number x (machine closed v)).call else call_at id v.calls)
       by_call id true b_is = rw b_is (stays_out id k.number x (call_at id v.calls) (call_at id t.calls)
           (λ n. ap (λ c. has_out c n) (call_is id ∙ ap (λ b. if b then s.call else call_at id v.calls) (not_next id (other id.conn b_is)))))
@@ -138,8 +137,8 @@ module _ (i : ℕ) (x : Coming) (v : MachineValue) (closed : ℕ → ConnState) 
           ap (λ o. option_map_or state_of o (closed d)) (conn_is d ∙ ap (λ b. if b then Some (added s.reply k) else conn_of d v.conns) b_is)
           ∙ sym (ap (λ b. if b then with_slot (arriving k.number x (machine closed v)).reply (conn_state closed v.conns d) else conn_state closed v.conns d) b_is)
 
-      by_conn : (d : ℕ) (b : Bool) → is_broken_after broken_now fates d ≡ b
-          → ConnBy (is_broken_after broken_now fates d) (d == k.number) (arriving k.number x (machine closed v)).reply (conn_state closed v.conns d) (conn_state closed t.conns d)
+      by_conn : (d : ℕ) (b : Bool) → is_broken_after broken_now were_broken d ≡ b
+          → ConnBy (is_broken_after broken_now were_broken d) (d == k.number) (arriving k.number x (machine closed v)).reply (conn_state closed v.conns d) (conn_state closed t.conns d)
       by_conn d true b_is = rw b_is (same_conn (ap (λ o. option_map_or state_of o (closed d)) (conn_is d ∙ ap (λ b. if b then Some (added s.reply k) else conn_of d v.conns) (other d b_is))))
         where
           same_conn : conn_state closed t.conns d ≡ conn_state closed v.conns d → ConnStays (conn_state closed v.conns d) (conn_state closed t.conns d)
@@ -148,12 +147,12 @@ module _ (i : ℕ) (x : Coming) (v : MachineValue) (closed : ℕ → ConnState) 
 
   -- ---- memory was refused
 
-  breaks : (w : MachineValue) → w ≡ broken_at k.number v → ComingBreaks (λ c. is_broken_in c w.conns) fates k.number x (machine closed v) (machine closed w)
-  breaks w w_is = subst (λ t. ComingBreaks (λ c. is_broken_in c t.conns) fates k.number x (machine closed v) (machine closed t)) (sym w_is) (record {
+  breaks : (w : MachineValue) → w ≡ broken_at k.number v → ComingBreaks (λ c. is_broken_in c w.conns) were_broken k.number x (machine closed v) (machine closed w)
+  breaks w w_is = subst (λ t. ComingBreaks (λ c. is_broken_in c t.conns) were_broken k.number x (machine closed v) (machine closed t)) (sym w_is) (record {
     moment_is = refl;
     drained_is = refl;
-    calls_are = λ id. by_call id (is_broken_after broken_now fates id.conn) refl;
-    conns_are = λ d. by_conn d (is_broken_after broken_now fates d) refl;
+    calls_are = λ id. by_call id (is_broken_after broken_now were_broken id.conn) refl;
+    conns_are = λ d. by_conn d (is_broken_after broken_now were_broken d) refl;
     jobs_are = sym (append-nil v.jobs) ∙ ap (λ js. v.jobs ++ js) (sym (ap (λ b. if b then [] else (arriving k.number x (machine closed v)).jobs) (broken_here k.number (eq-eqb k.number k.number refl))));
   })
     where
@@ -167,11 +166,11 @@ module _ (i : ℕ) (x : Coming) (v : MachineValue) (closed : ℕ → ConnState) 
       or_yes true b e = refl
       or_yes false b e = e
 
-      broken_here : (d : ℕ) → (d == k.number) ≡ true → is_broken_after broken_now fates d ≡ true
-      broken_here d its = or_yes (is_broken (fates d)) (broken_now d)
+      broken_here : (d : ℕ) → (d == k.number) ≡ true → is_broken_after broken_now were_broken d ≡ true
+      broken_here d its = or_yes (were_broken d) (broken_now d)
           (just_broken d k.number v.conns its (ap (λ n. is_some (conn_of n v.conns)) (eqb-true d k.number its) ∙ ap is_some found))
 
-      other : (d : ℕ) → is_broken_after broken_now fates d ≡ false → (d == k.number) ≡ false
+      other : (d : ℕ) → is_broken_after broken_now were_broken d ≡ false → (d == k.number) ≡ false
       other d on = ⊎_elim
           (λ (its : (d == k.number) ≡ true). let clash : true ≡ false = sym (broken_here d its) ∙ on in absurd (cc))
           (λ (ne : (d == k.number) ≡ false). ne) (cases_Bool (d == k.number))
@@ -179,8 +178,8 @@ module _ (i : ℕ) (x : Coming) (v : MachineValue) (closed : ℕ → ConnState) 
       call_is : (id : CallId) → call_at id t.calls ≡ (if id.conn == k.number then call_state (call_at id v.calls).out None else call_at id v.calls)
       call_is id = call_given_up id k.number v.calls
 
-      by_call : (id : CallId) (b : Bool) → is_broken_after broken_now fates id.conn ≡ b
-          → CallAfter (is_broken_after broken_now fates id.conn) id (Comes k.number x) (call_at id v.calls) (call_at id t.calls)
+      by_call : (id : CallId) (b : Bool) → is_broken_after broken_now were_broken id.conn ≡ b
+          → CallAfter (is_broken_after broken_now were_broken id.conn) id (Comes k.number x) (call_at id v.calls) (call_at id t.calls)
           (if is_call (next_id k.number (machine closed v)) id then (arriving k.number x (machine closed v)).call else call_at id v.calls)
       by_call id true b_is = rw b_is (stays_out id k.number x (call_at id v.calls) (call_at id t.calls)
           (λ n. ap (λ c. has_out c n) (call_is id) ∙ cond_both (id.conn == k.number) (call_state (call_at id v.calls).out None) (call_at id v.calls) (λ c. has_out c n ≡ has_out (call_at id v.calls) n) (λ _. refl) (λ _. refl)))
@@ -203,13 +202,13 @@ module _ (i : ℕ) (x : Coming) (v : MachineValue) (closed : ℕ → ConnState) 
           by_it true (Some y) = record { taken_is = refl; slots_are = refl }
           by_it false o = record { taken_is = refl; slots_are = refl }
 
-      by_conn : (d : ℕ) (b : Bool) → is_broken_after broken_now fates d ≡ b
-          → ConnBy (is_broken_after broken_now fates d) (d == k.number) (arriving k.number x (machine closed v)).reply (conn_state closed v.conns d) (conn_state closed t.conns d)
+      by_conn : (d : ℕ) (b : Bool) → is_broken_after broken_now were_broken d ≡ b
+          → ConnBy (is_broken_after broken_now were_broken d) (d == k.number) (arriving k.number x (machine closed v)).reply (conn_state closed v.conns d) (conn_state closed t.conns d)
       by_conn d true b_is = rw b_is (same_state d)
       by_conn d false b_is = rw b_is (
           ap (λ o. option_map_or state_of o (closed d)) (conn_broken d k.number v.conns ∙ ap (λ b. if b then option_map broken_conn (conn_of d v.conns) else conn_of d v.conns) (other d b_is))
           ∙ sym (ap (λ b. if b then with_slot (arriving k.number x (machine closed v)).reply (conn_state closed v.conns d) else conn_state closed v.conns d) (other d b_is)))
 
-  pub enter_breaks : (w : MachineValue) → Enters i x v w → ComingBreaks (λ c. is_broken_in c w.conns) fates k.number x (machine closed v) (machine closed w)
+  pub enter_breaks : (w : MachineValue) → Enters i x v w → ComingBreaks (λ c. is_broken_in c w.conns) were_broken k.number x (machine closed v) (machine closed w)
   enter_breaks w (inl e) = enters w e
   enter_breaks w (inr e) = breaks w e

@@ -14,7 +14,7 @@ use Rattle.gateway_model.specs.Known.{is_of}
 use Rattle.gateway_model.specs.Events.{Before, Gains, Occurs, OccursAt, connections, hung_up, is_closing_of, is_open, listens, once, onto, stream, succeeds}
 use Rattle.gateway_model.specs.declared.event.Event.{Event}
 use Rattle.gateway_model.specs.declared.event.Event.TheVariants.{Opening, Piece, HangUp, Moment, BranchResult, Drain, Closing}
-use Rattle.gateway_theory.specs.Fate.{starting_conn}
+use Rattle.gateway_theory.specs.Breaks.{starting_conn}
 use Rattle.gateway_model.specs.Job.{JobValue, job_of}
 use Rattle.gateway_model.specs.Occurrence.{Coming, Occurrence}
 use Rattle.gateway_model.specs.Occurrence as occurs
@@ -131,7 +131,7 @@ uncounted id of i r p closed = ⊎_elim
     none true false d = refl
     none false b d = refl
 
-quiet_shut : (c k : ℕ) (o : Occurrence) (os : List Occurrence) → IsShutTo c o os → Quiet (call_id c k) (mark_of (marked os) o) (marked os)
+pub quiet_shut : (c k : ℕ) (o : Occurrence) (os : List Occurrence) → IsShutTo c o os → Quiet (call_id c k) (mark_of (marked os) o) (marked os)
 quiet_shut c k o os (no_coming, inl closed) = by_what o refl
   where
     plain : ((q : CallId) → is_answer_to q o ≡ false) → Quiet (call_id c k) (mark_of (marked os) o) (marked os)
@@ -162,7 +162,7 @@ quiet_shut c k o os (no_coming, inr (d, is)) = subst (λ x. Quiet (call_id c k) 
       (ap (option_and_then (ends_at_arrival (marked os))) (no_asked (call_id c k) (mark_of (marked os) (occurs.Closing d)) (marked os) refl)));
 })
 
-shut_queue : (c : ℕ) (o : Occurrence) (os : List Occurrence) → IsShutTo c o os → queued_entries c (marked (o ∷ os)) ≡ queued_entries c (marked os)
+pub shut_queue : (c : ℕ) (o : Occurrence) (os : List Occurrence) → IsShutTo c o os → queued_entries c (marked (o ∷ os)) ≡ queued_entries c (marked os)
 shut_queue c o os h =
     ap (λ n. front (map (λ k. entry (call_id c k) (marked (o ∷ os))) (range_with_len 0 n))) (no_more (coming_on c o (is_broken c (marked os))) h.0)
     ∙ ap front (same_entries (λ k. entry (call_id c k) (marked (o ∷ os))) (λ k. entry (call_id c k) (marked os))
@@ -212,7 +212,7 @@ shut_jobs c o os (no_coming, inl closed) = by_what o refl
 
 -- ---- over all that comes of an event
 
-abbrev AllShut : ℕ → List Occurrence → List Occurrence → Type 0
+abbrev pub AllShut : ℕ → List Occurrence → List Occurrence → Type 0
 AllShut c [] os = ⊤
 AllShut c (o ∷ new) os = IsShutTo c o os × AllShut c new (o ∷ os)
 
@@ -231,7 +231,7 @@ still_closed c [] os e = e
 still_closed c (o ∷ new) os e = still_closed c new (o ∷ os) (ap (λ b. past.shuts c o || b) e ∙ or_true (past.shuts c o))
 
 -- a connection that was opened and is not open has closed
-closed_by : (plans : List PlanRecord) (opened : List ℕ) (c : ℕ) (es : Before) (occurred : List Placed) → Occurs plans opened es occurred → c < connections opened es
+pub closed_by : (plans : List PlanRecord) (opened : List ℕ) (c : ℕ) (es : Before) (occurred : List Placed) → Occurs plans opened es occurred → c < connections opened es
     → is_open opened c es ≡ false → is_shut c (marked (occurrences occurred)) ≡ true
 closed_by plans opened c [] occurred o lt shut = absurd (omega (arith, lt))
 closed_by plans opened c (e ∷ es) occurred (before, was, (os, at, is)) lt shut =
@@ -278,7 +278,7 @@ module _ (plans : List PlanRecord) (opened : List ℕ) (c : ℕ) (es : Before) (
   one_shut true o h = (h, tt)
   one_shut false o h = tt
 
-  comings_shut : (d : ℕ) (xs : List Coming) (us : List Occurrence) → (d == c) ≡ false → is_shut c (marked us) ≡ true → AllShut c (map (occurs.Comes d) xs) us
+  pub comings_shut : (d : ℕ) (xs : List Coming) (us : List Occurrence) → (d == c) ≡ false → is_shut c (marked us) ≡ true → AllShut c (map (occurs.Comes d) xs) us
   comings_shut d [] us ne closed = tt
   comings_shut d (x ∷ xs) us ne closed = ((ap (λ b. if b && not (is_broken c (marked us)) then Some x else None) ne, inl closed), comings_shut d xs (occurs.Comes d x ∷ us) ne closed)
 

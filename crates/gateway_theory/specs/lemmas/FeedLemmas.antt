@@ -1,7 +1,7 @@
 -- A piece of a stream, as the gateway's value takes it.
 use Rattle.std.proofs.Common.{◌≡◌, ℕ, zero, suc, ◌<◌, true, false, List, [], ◌∷◌, ◌++◌, length, Option, None, Some, refl, sym, ap, ◌∙◌, subst, arith, ⊎_elim, inl, inr, append-nil, All}
 use Rattle.std.specs.Prelude.{◌⊎◌, if◌then◌else◌, ◌==◌, option_map, slice_set, slice_index_or}
-use Rattle.std.specs.Option.{option_map_or}
+use Rattle.std.specs.Option.{option_map_or, option_or}
 use Rattle.std.proofs.lemmas.Bool.{cases_Bool, eq-eqb, eqb-true}
 use Rattle.std.proofs.lemmas.List.Elements.{All-append, All-map}
 use Rattle.http_pieces.specs.Reader.{Reading, Partial, Waiting, Stopped, Done, is_over}
@@ -15,19 +15,13 @@ use Rattle.gateway_model.specs.declared.id.CallId.{CallId}
 use Rattle.gateway_theory.specs.Conn.{next_of}
 use Rattle.gateway_theory.specs.Ends.{is_broken_in}
 use Rattle.gateway_theory.specs.Enters.{kept_now}
-use Rattle.gateway_theory.specs.Fate.{Fate, Unbroken, BrokenAt, fate_after, fates_after, is_broken}
-use Rattle.gateway_theory.specs.Fated.{FatedStands}
 use Rattle.gateway_theory.specs.Kept.{KeptValue}
 use Rattle.gateway_theory.specs.Machine.{ConnState}
-use Rattle.gateway_theory.specs.Orderly.{FatesAre, IsOrderly}
+use Rattle.gateway_theory.specs.Orderly.{IsOrderly}
 use Rattle.gateway_theory.specs.Step.{Live}
 use Rattle.gateway_theory.specs.Store.{MachineValue, machine, conn_at, conn_of, broken_conn, given_up_if}
-use Rattle.gateway_theory.specs.lemmas.Concerned.{enter_concern, open_unclosed}
-use Rattle.gateway_theory.specs.lemmas.EnterSteps.{enter_breaks}
-use Rattle.gateway_theory.specs.lemmas.ComingFates.{fated_coming}
 use Rattle.gateway_theory.specs.lemmas.OpenSteps.{eqb_sym}
-use Rattle.gateway_theory.specs.lemmas.OrderLemmas.{broken_order, entered_order, fresh_next, has_fates, same_given, some_same}
-use Rattle.gateway_theory.specs.lemmas.OrderSteps.{fates_next}
+use Rattle.gateway_theory.specs.lemmas.OrderLemmas.{broken_order, entered_order, fresh_next, has_broken, same_given, some_same}
 use Rattle.gateway_theory.specs.lemmas.StoreLemmas.{conn_broken}
 use Rattle.gateway_theory.specs.lemmas.StoreMore.{conn_found, conn_set}
 
@@ -61,6 +55,13 @@ stream_set d (suc i) new (s ∷ streams) lt apart same = ⊎_elim
     (λ (there : (s.number == d) ≡ false). rw there
     (stream_set d i new streams (omega (arith, lt)) (λ a b less within. apart (suc a) (suc b) (omega (arith, less)) (omega (arith, within))) same))
     (cases_Bool (s.number == d))
+
+pub stream_added : (d : ℕ) (s : StreamValue) (streams : List StreamValue) → stream_of d (streams ++ s ∷ []) ≡ option_or (stream_of d streams) (if s.number == d then Some s else None)
+stream_added d s [] = refl
+stream_added d s (x ∷ streams) = ⊎_elim
+    (λ (here : (x.number == d) ≡ true). rw here refl)
+    (λ (there : (x.number == d) ≡ false). rw there (stream_added d s streams))
+    (cases_Bool (x.number == d))
 
 -- ---- what a piece brings
 
@@ -116,46 +117,9 @@ module _ (i : ℕ) (x : Coming) (v w : MachineValue) (lt : i < length v.conns) (
           (All-map (λ (c : KeptValue). (c.id.conn == d) ≡ false) (given_up_if k.number) v.calls
           (λ j dflt within. ap (λ (y : CallId). y.conn == d) (same_given k.number (slice_index_or v.calls j dflt)) ∙ all j dflt within))
 
-  orderly_then : IsOrderly w
+  pub orderly_then : IsOrderly w
   orderly_then = by_way enters
     where
       by_way : Enters i x v w → IsOrderly w
       by_way (inl e) = entered_order i (arriving_at i x v) v w lt unbroken e orderly
       by_way (inr e) = broken_order k.number v w e orderly
-
-  -- what it stands for then
-  module _ (closed : ℕ → ConnState) (fates : ℕ → Fate) (taken : ℕ → List ReplyEntry) (handed : List JobValue) (os : List Occurrence) (are : FatesAre fates v.conns)
-      (h : FatedStands (machine closed v) fates taken handed os) where
-    abbrev pub later : ℕ → Fate
-    later = fates_after (λ c. is_broken_in c w.conns) (Comes k.number x) os fates
-
-    on_fate : is_broken (fates k.number) ≡ false
-    on_fate = sym (are k.number k (conn_found i v.conns lt orderly.conns_apart)) ∙ unbroken
-
-    pub coming_stands : FatedStands (machine closed w) later taken handed (Comes k.number x ∷ os)
-    coming_stands = fated_coming k.number x (λ c. is_broken_in c w.conns) (machine closed v) (machine closed w) fates taken handed os
-        (λ _. open_unclosed k.number k v closed fates taken handed os (conn_found i v.conns lt orderly.conns_apart) on_fate h)
-        h (enter_concern i x v w closed fates taken handed os lt orderly are h enters)
-        (enter_breaks i x v closed fates lt orderly.conns_apart unbroken (fresh_next i v lt orderly) (has_fates fates v orderly are) w enters)
-
-    pub coming_fates : FatesAre later w.conns
-    coming_fates = fates_next (Comes k.number x) os fates w (λ c l l_is on. ⊎_elim
-        (λ (its : (c == k.number) ≡ true). ap (λ n. is_broken (fates n)) (eqb-true c k.number its) ∙ on_fate)
-        (λ (ne : (c == k.number) ≡ false). sym (are c l (sym (other_conn c ne) ∙ l_is)) ∙ on)
-        (cases_Bool (c == k.number)))
-
-    -- a connection that is not open does not break
-    pub coming_none : (c : ℕ) → conn_of c v.conns ≡ None → is_broken (fates c) ≡ false → (conn_of c w.conns ≡ None) × (is_broken (later c) ≡ false)
-    coming_none c none on = (none_then, by_fate (fates c) on)
-      where
-        apart : (c == k.number) ≡ false
-        apart = ⊎_elim
-            (λ (its : (c == k.number) ≡ true). absurd (let clash : None ≡ Some k = sym none ∙ ap (λ n. conn_of n v.conns) (eqb-true c k.number its) ∙ conn_found i v.conns lt orderly.conns_apart in cc))
-            (λ (ne : (c == k.number) ≡ false). ne) (cases_Bool (c == k.number))
-
-        none_then : conn_of c w.conns ≡ None
-        none_then = other_conn c apart ∙ none
-
-        by_fate : (f : Fate) → is_broken f ≡ false → is_broken (fate_after (is_broken_in c w.conns) (Comes k.number x) os f) ≡ false
-        by_fate Unbroken e = ap (λ o. is_broken (fate_after (option_map_or (λ (y : ConnValue). y.broken) o false) (Comes k.number x) os Unbroken)) none_then
-        by_fate (BrokenAt since at older) e = absurd (cc)

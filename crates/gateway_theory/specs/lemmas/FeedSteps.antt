@@ -1,6 +1,7 @@
 -- What the gateway stands for after a piece of a stream.
 use Rattle.std.proofs.Common.{◌≡◌, ℕ, ◌+◌, ◌≤◌, ◌<◌, Bool, true, false, List, [], ◌∷◌, ◌++◌, take, length, None, Some, refl, sym, ap, ◌∙◌, subst, arith, ⊎_elim, inl, inr, append-nil, All}
-use Rattle.std.specs.Prelude.{◌⊎◌, if◌then◌else◌, ◌&&◌, not, ◌==◌}
+use Rattle.std.specs.Prelude.{◌⊎◌, if◌then◌else◌, ◌&&◌, ◌||◌, not, ◌==◌}
+use Rattle.std.specs.Option.{option_map_or}
 use Rattle.std.proofs.lemmas.Bool.{cases_Bool, eqb-true}
 use Rattle.std.proofs.lemmas.List.{length-append}
 use Rattle.http_pieces.specs.Reader.{ReaderValue, Reading, Partial, Waiting, Stopped, Done, HasRead, HasReadTo, after_request, ending_after, is_over}
@@ -9,18 +10,28 @@ use Rattle.http_pieces.specs.Requests.{Open, RefusedBy, Closed, Requests}
 use Rattle.call_plan.specs.Plan.{PlanRecord}
 use Rattle.gateway_model.specs.declared.entry.ReplyEntry.{ReplyEntry}
 use Rattle.gateway_model.specs.Arrival.{arrival_of}
-use Rattle.gateway_theory.specs.Conn.{ConnValue, added}
+use Rattle.gateway_theory.specs.Conn.{ConnValue, added, state_of}
 use Rattle.gateway_theory.specs.Enters.{Enters, arriving_at}
 use Rattle.gateway_model.specs.Events.{Gains, refusal_gained}
-use Rattle.gateway_theory.specs.Fated.{FatedStands}
-use Rattle.gateway_theory.specs.Gateway.{StreamValue, stream_at, stream_of, StreamsApart, GatewayValue, Brings, Feeds, calls_brought, refusals, is_waiting, HasCome, is_listening, StreamsStand, Unopened, GatewayStands, with_bytes}
+use Rattle.gateway_theory.specs.Ends.{is_broken_in}
+use Rattle.gateway_theory.specs.Gateway.{StreamValue, stream_at, stream_of, StreamsApart, GatewayValue, Brings, Feeds, calls_brought, refusals, is_waiting, HasCome, is_listening, StreamsStand, with_bytes}
+use Rattle.gateway_theory.specs.GatewayLived.{ConnsLive, GatewayLives, newly_broken}
+use Rattle.gateway_theory.specs.Lived.{LivedStands, breaks_of}
 use Rattle.gateway_model.specs.Job.{JobValue}
+use Rattle.gateway_model.specs.Past.{is_broken, marked}
 use Rattle.gateway_model.specs.Occurrence.{Occurrence, Coming, Comes, Request, Refused}
 use Rattle.gateway_theory.specs.Arrivals.{calls_arrived, calls_in}
-use Rattle.gateway_theory.specs.Orderly.{FatesAre, IsOrderly}
-use Rattle.gateway_theory.specs.Store.{MachineValue, machine, conn_at, conn_of}
-use Rattle.gateway_theory.specs.lemmas.FeedLemmas.{stream_found, stream_set, midway, other_conn, this_conn, calls_kept, later, coming_stands, coming_fates, coming_none}
-use Rattle.gateway_theory.specs.lemmas.OrderLemmas.{some_same}
+use Rattle.gateway_theory.specs.Orderly.{IsOrderly}
+use Rattle.gateway_theory.specs.Store.{MachineValue, machine, conn_at, conn_of, numbers}
+use Rattle.gateway_theory.specs.lemmas.FeedLemmas.{stream_found, stream_set, midway, other_conn, this_conn, calls_kept, orderly_then}
+use Rattle.gateway_theory.specs.lemmas.Adding.{AreBreaks}
+use Rattle.gateway_theory.specs.lemmas.Concerned.{which_broke}
+use Rattle.gateway_theory.specs.lemmas.EnterSteps.{enter_breaks}
+use Rattle.gateway_theory.specs.lemmas.Growing.{grew_entered}
+use Rattle.gateway_theory.specs.lemmas.LivedEnds.{WasOrNew, arrived_behind, back_of, broken_behind, coming_lives, conns_lives, broken_in, broken_are_in, newly_is, unshut_then}
+use Rattle.gateway_theory.specs.lemmas.LivedEvents.{breaks_each, filter_once, numbers_once}
+use Rattle.gateway_theory.specs.lemmas.LivedSteps.{listed}
+use Rattle.gateway_theory.specs.lemmas.OrderLemmas.{fresh_next, some_same}
 use Rattle.gateway_theory.specs.lemmas.StoreMore.{conn_found}
 
 none_gained : (q : HttpRequest) (left : List ℕ) → refusal_gained (Open left) (ending_after q) ≡ []
@@ -113,7 +124,7 @@ module _ (i n : ℕ) (bytes : List ℕ) (v w : GatewayValue) (texts : ℕ → Li
     (within : i < length v.machine.conns) (with_stream : i < length v.streams) (orderly : IsOrderly v.machine) (streams_apart : StreamsApart v.streams)
     (same : (stream_at i v.streams).number ≡ (conn_at i v.machine.conns).number)
     (unbroken : (conn_at i v.machine.conns).broken ≡ false) (on : (conn_at i v.machine.conns).hung_up ≡ false) (goes : is_over (stream_at i v.streams).reader.reading ≡ false)
-    (f : Feeds i n bytes v w) (h : GatewayStands v texts taken handed os) where
+    (f : Feeds i n bytes v w) (h : GatewayLives v texts taken handed os) where
   abbrev pub c : ℕ
   c = (conn_at i v.machine.conns).number
 
@@ -132,7 +143,7 @@ module _ (i n : ℕ) (bytes : List ℕ) (v w : GatewayValue) (texts : ℕ → Li
   stream_is : stream_of c v.streams ≡ Some s
   stream_is = ap (λ m. stream_of m v.streams) (sym same) ∙ stream_found i v.streams with_stream streams_apart
 
-  come : HasCome k s.reader (texts c)
+  pub come : HasCome k s.reader (texts c)
   come = h.streams_stand c k s conn_is stream_is (rw (unbroken, on) refl)
 
   left : (l : List ℕ) × (s.reader.reading ≡ Partial l)
@@ -141,7 +152,7 @@ module _ (i n : ℕ) (bytes : List ℕ) (v w : GatewayValue) (texts : ℕ → Li
   no_refusal : refusals s.reader.reading ≡ 0
   no_refusal = ap refusals left.1
 
-  what : ((w.machine ≡ v.machine) × (calls_brought v.plans f.pushed.reading ≡ 0) × Brought v.plans (texts c) (texts c ++ more) come.given f.new [])
+  pub what : ((w.machine ≡ v.machine) × (calls_brought v.plans f.pushed.reading ≡ 0) × Brought v.plans (texts c) (texts c ++ more) come.given f.new [])
       ⊎ ((x : Coming) × Enters i x v.machine w.machine × (calls_brought v.plans f.pushed.reading ≡ calls_in x) × Brought v.plans (texts c) (texts c ++ more) come.given f.new (x ∷ []))
   what = brought v.plans i (texts c) (texts c ++ more) left.0 come.given f.pushed f.new v.machine w.machine
       (subst (λ x. HasReadTo x (texts c) come.given) left.1 come.reads.reads) (f.reads (texts c) come.given come.reads) f.pushed.reading refl f.brings
@@ -197,70 +208,74 @@ module _ (i n : ℕ) (bytes : List ℕ) (v w : GatewayValue) (texts : ℕ → Li
   no_stream_then : (d : ℕ) → (d == c) ≡ false → stream_of d v.streams ≡ None → stream_of d w.streams ≡ None
   no_stream_then d ne none = stream_then d ∙ ap (λ x. if x then Some (record s { reader = f.new }) else stream_of d v.streams) ne ∙ none
 
-  pub fed_stands : (gained : List Coming) × Gains v.plans (texts c) (texts c ++ more) gained
-      × (((gained ≡ []) × GatewayStands w (with_bytes c more texts) taken handed os)
-      ⊎ ((x : Coming) × (gained ≡ x ∷ []) × GatewayStands w (with_bytes c more texts) taken handed (Comes c x ∷ os)))
-  fed_stands = by_what what
-    where
-      by_what : ((w.machine ≡ v.machine) × (calls_brought v.plans f.pushed.reading ≡ 0) × Brought v.plans (texts c) (texts c ++ more) come.given f.new [])
-          ⊎ ((x : Coming) × Enters i x v.machine w.machine × (calls_brought v.plans f.pushed.reading ≡ calls_in x) × Brought v.plans (texts c) (texts c ++ more) come.given f.new (x ∷ []))
-          → (gained : List Coming) × Gains v.plans (texts c) (texts c ++ more) gained
-          × (((gained ≡ []) × GatewayStands w (with_bytes c more texts) taken handed os)
-          ⊎ ((x : Coming) × (gained ≡ x ∷ []) × GatewayStands w (with_bytes c more texts) taken handed (Comes c x ∷ os)))
-      by_what (inl (m_is, calls, b)) = (
-        [],
-        b.gains,
-        inl (
-          refl,
-          record {
-            closed = h.closed;
-            fates = h.fates;
-            fated = subst (λ m. FatedStands (machine h.closed m) h.fates taken handed os) (sym m_is) h.fated;
-            fates_are = subst (λ (m : MachineValue). FatesAre h.fates m.conns) (sym m_is) h.fates_are;
-            streams_stand = streams_then [] b (λ d ne. ap (λ (m : MachineValue). conn_of d m.conns) m_is)
-                (λ l l_is. inr (ap (λ (y : ConnValue). y.taken + length y.slots) (some_same (sym l_is ∙ ap (λ (m : MachineValue). conn_of c m.conns) m_is ∙ conn_is)) ∙ omega arith));
-            unopened = λ d le. still d (h.unopened d (subst (λ m. m ≤ d) f.opened_is le));
-            begun_is = let le : w.begun ≤ v.begun + calls_brought v.plans f.pushed.reading = f.begun_is in let was : v.begun ≤ calls_arrived os = h.begun_is in omega (arith, le, was, calls);
-          },
-        ),
-      )
-        where
-          still : (d : ℕ) → Unopened v h.closed h.fates d → Unopened w h.closed h.fates d
-          still d u = record {
-            state_is = u.state_is;
-            unbroken = u.unbroken;
-            no_conn = ap (λ (m : MachineValue). conn_of d m.conns) m_is ∙ u.no_conn;
-            no_stream_is = no_stream_then d (not_this d u.no_conn) u.no_stream_is;
-            no_call = subst (λ (m : MachineValue). All (λ y. (y.id.conn == d) ≡ false) m.calls) (sym m_is) u.no_call;
-          }
-      by_what (inr (x, enters, calls, b)) = (
-        x ∷ [],
-        b.gains,
-        inr (
-          x,
-          refl,
-          record {
-            closed = h.closed;
-            fates = later i x v.machine w.machine within orderly unbroken enters h.closed h.fates taken handed os h.fates_are h.fated;
-            fated = coming_stands i x v.machine w.machine within orderly unbroken enters h.closed h.fates taken handed os h.fates_are h.fated;
-            fates_are = coming_fates i x v.machine w.machine within orderly unbroken enters h.closed h.fates taken handed os h.fates_are h.fated;
-            streams_stand = streams_then (x ∷ []) b (λ d ne. other_conn i x v.machine w.machine within orderly unbroken enters d ne)
-                (λ l l_is. ⊎_elim (λ (broke : l.broken ≡ true). inl broke)
-                (λ (e : l ≡ added (arriving_at i x v.machine).reply k). inr (ap (λ (y : ConnValue). y.taken + length y.slots) e
-                ∙ (let size : length (k.slots ++ (arriving_at i x v.machine).reply ∷ []) ≡ length k.slots + 1 = length-append k.slots ((arriving_at i x v.machine).reply ∷ []) in omega (arith, size))))
-                (this_conn i x v.machine w.machine within orderly unbroken enters l l_is));
-            unopened = λ d le. still d (h.unopened d (subst (λ m. m ≤ d) f.opened_is le));
-            begun_is = let le : w.begun ≤ v.begun + calls_brought v.plans f.pushed.reading = f.begun_is in let was : v.begun ≤ calls_arrived os = h.begun_is in omega (arith, le, was, calls);
-          },
-        ),
-      )
-        where
-          still : (d : ℕ) → Unopened v h.closed h.fates d
-              → Unopened w h.closed (later i x v.machine w.machine within orderly unbroken enters h.closed h.fates taken handed os h.fates_are h.fated) d
-          still d u = record {
-            state_is = u.state_is;
-            unbroken = (coming_none i x v.machine w.machine within orderly unbroken enters h.closed h.fates taken handed os h.fates_are h.fated d u.no_conn u.unbroken).1;
-            no_conn = (coming_none i x v.machine w.machine within orderly unbroken enters h.closed h.fates taken handed os h.fates_are h.fated d u.no_conn u.unbroken).0;
-            no_stream_is = no_stream_then d (not_this d u.no_conn) u.no_stream_is;
-            no_call = calls_kept i x v.machine w.machine within orderly unbroken enters d (not_this d u.no_conn) u.no_call;
-          }
+  -- ---- something comes
+
+  module _ (x : Coming) (enters : Enters i x v.machine w.machine) where
+    none_then : (d : ℕ) → conn_of d v.machine.conns ≡ None → conn_of d w.machine.conns ≡ None
+    none_then d none = other_conn i x v.machine w.machine within orderly unbroken enters d (not_this d none) ∙ none
+
+    back : (d : ℕ) (l : ConnValue) → conn_of d w.machine.conns ≡ Some l → WasOrNew d v.machine l os
+    back = back_of v.machine w.machine os (grew_entered i x v.machine w.machine within unbroken orderly enters) none_then
+
+    order_then : IsOrderly w.machine
+    order_then = orderly_then i x v.machine w.machine within orderly unbroken enters
+
+    pub fed_lives : calls_brought v.plans f.pushed.reading ≡ calls_in x → Brought v.plans (texts c) (texts c ++ more) come.given f.new (x ∷ [])
+        → GatewayLives w (with_bytes c more texts) taken handed (Comes c x ∷ (breaks_of (newly_broken v.machine.conns w.machine.conns) ++ os))
+    fed_lives calls b = record {
+      closed = h.closed;
+      lives = coming_lives v.machine w.machine os orderly order_then h.conns_live back taken handed (Comes c x) h.closed h.closed h.lives c x
+          (enter_breaks i x v.machine h.closed (broken_in v.machine.conns) within orderly.conns_apart unbroken (fresh_next i v.machine within orderly) (broken_are_in v.machine orderly) w.machine enters)
+          (λ on. h.conns_live.open_are c k conn_is unbroken)
+          (λ on. ap (λ o. (option_map_or state_of o (h.closed c)).closed) conn_is);
+      conns_live = conns_lives v.machine w.machine os orderly order_then h.conns_live back (Comes c x) (λ d. refl) (λ d l l_is. refl);
+      streams_stand = streams_then (x ∷ []) b (λ d ne. other_conn i x v.machine w.machine within orderly unbroken enters d ne)
+          (λ l l_is. ⊎_elim (λ (broke : l.broken ≡ true). inl broke)
+          (λ (e : l ≡ added (arriving_at i x v.machine).reply k). inr (ap (λ (y : ConnValue). y.taken + length y.slots) e
+          ∙ (let size : length (k.slots ++ (arriving_at i x v.machine).reply ∷ []) ≡ length k.slots + 1 = length-append k.slots ((arriving_at i x v.machine).reply ∷ []) in omega (arith, size))))
+          (this_conn i x v.machine w.machine within orderly unbroken enters l l_is));
+      unopened = λ d le. let u = h.unopened d (subst (λ m. m ≤ d) f.opened_is le) in record {
+        state_is = u.state_is;
+        unshut = unshut_then v.machine w.machine os orderly order_then h.conns_live back (Comes c x) (λ d. refl) d refl (none_then d u.no_conn) u.unshut;
+        no_conn = none_then d u.no_conn;
+        no_stream_is = no_stream_then d (not_this d u.no_conn) u.no_stream_is;
+        no_call = calls_kept i x v.machine w.machine within orderly unbroken enters d (not_this d u.no_conn) u.no_call;
+      };
+      begun_is = let le : w.begun ≤ v.begun + calls_brought v.plans f.pushed.reading = f.begun_is in let was : v.begun ≤ calls_arrived os = h.begun_is in
+          let behind : calls_arrived (breaks_of (newly_broken v.machine.conns w.machine.conns) ++ os) ≡ calls_arrived os = arrived_behind (newly_broken v.machine.conns w.machine.conns) os in
+          omega (arith, le, was, calls, behind);
+    }
+
+    -- only this connection may have broken
+    pub fed_may : (P : ℕ → List Occurrence → Type 0) → ((us : List Occurrence) → is_broken c (marked us) ≡ false → P c us) → AreBreaks P (breaks_of (newly_broken v.machine.conns w.machine.conns)) os
+    fed_may P may = breaks_each P os (newly_broken v.machine.conns w.machine.conns)
+        (filter_once (λ d. is_broken_in d w.machine.conns && not (is_broken_in d v.machine.conns)) (numbers w.machine.conns) (numbers_once w.machine.conns order_then.conns_apart))
+        (λ d ds on off.
+        let which = both_parts (is_broken_in d w.machine.conns) (is_broken_in d v.machine.conns) (sym (newly_is d v.machine.conns w.machine.conns) ∙ on) in
+        let its : d ≡ c = which_broke c d v.machine.conns w.machine.conns which.0 which.1
+        (λ ne. ap (λ o. option_map_or (λ (y : ConnValue). y.broken) o false) (other_conn i x v.machine w.machine within orderly unbroken enters d ne)) in
+        subst (λ m. P m (breaks_of ds ++ os)) (sym its)
+        (may (breaks_of ds ++ os) (broken_behind c ds os ∙ ap (λ b. b || is_broken c (marked os)) (ap (λ m. listed ds m) (sym its) ∙ off) ∙ sym (h.conns_live.broken_are c k conn_is) ∙ unbroken)))
+      where
+        both_parts : (a b : Bool) → (a && not b) ≡ true → (a ≡ true) × (b ≡ false)
+        both_parts true false e = (refl, refl)
+        both_parts true true e = absurd (cc)
+        both_parts false b e = absurd (cc)
+
+  -- nothing comes
+  pub still_lives : w.machine ≡ v.machine → calls_brought v.plans f.pushed.reading ≡ 0 → Brought v.plans (texts c) (texts c ++ more) come.given f.new [] → GatewayLives w (with_bytes c more texts) taken handed os
+  still_lives m_is calls b = record {
+    closed = h.closed;
+    lives = subst (λ m. LivedStands (machine h.closed m) taken handed os) (sym m_is) h.lives;
+    conns_live = subst (λ (m : MachineValue). ConnsLive m.conns os) (sym m_is) h.conns_live;
+    streams_stand = streams_then [] b (λ d ne. ap (λ (m : MachineValue). conn_of d m.conns) m_is)
+        (λ l l_is. inr (ap (λ (y : ConnValue). y.taken + length y.slots) (some_same (sym l_is ∙ ap (λ (m : MachineValue). conn_of c m.conns) m_is ∙ conn_is)) ∙ omega arith));
+    unopened = λ d le. let u = h.unopened d (subst (λ m. m ≤ d) f.opened_is le) in record {
+      state_is = u.state_is;
+      unshut = u.unshut;
+      no_conn = ap (λ (m : MachineValue). conn_of d m.conns) m_is ∙ u.no_conn;
+      no_stream_is = no_stream_then d (not_this d u.no_conn) u.no_stream_is;
+      no_call = subst (λ (m : MachineValue). All (λ y. (y.id.conn == d) ≡ false) m.calls) (sym m_is) u.no_call;
+    };
+    begun_is = let le : w.begun ≤ v.begun + calls_brought v.plans f.pushed.reading = f.begun_is in let was : v.begun ≤ calls_arrived os = h.begun_is in omega (arith, le, was, calls);
+  }

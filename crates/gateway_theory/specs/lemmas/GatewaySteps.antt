@@ -1,7 +1,6 @@
--- What the gateway stands for after each event that is no piece of a stream.
-use Rattle.std.proofs.Common.{◌≡◌, ℕ, ◌+◌, ◌≤◌, ◌<◌, Bool, true, false, List, ◌∷◌, map, length, Option, None, Some, refl, sym, ap, ◌∙◌, subst, arith, inl, inr, All}
+-- What a step does to connections, calls and streams.
+use Rattle.std.proofs.Common.{◌≡◌, ℕ, ◌+◌, ◌<◌, Bool, true, false, List, length, Option, None, Some, refl, sym, ap, ◌∙◌, subst, arith, inl, inr, All}
 use Rattle.std.specs.Prelude.{if◌then◌else◌, ◌&&◌, not, ◌==◌, is_some, option_map, slice_set, slice_index_or}
-use Rattle.std.specs.Option.{option_map_or}
 use Rattle.std.proofs.lemmas.Bool.{cond_both, or_parts}
 use Rattle.std.proofs.lemmas.List.{length-map}
 use Rattle.std.proofs.lemmas.List.Elements.{All-map, All-filter, All-set}
@@ -9,28 +8,18 @@ use Rattle.connect_codec.specs.declared.answer.Outcome.{Outcome}
 use Rattle.gateway_model.specs.declared.entry.ReplyEntry.{ReplyEntry}
 use Rattle.gateway_theory.specs.declared.fault.Took.{Took}
 use Rattle.gateway_model.specs.declared.id.CallId.{CallId}
-use Rattle.gateway_theory.specs.Conn.{ConnValue, state_of}
-use Rattle.gateway_theory.specs.Ends.{is_broken_in}
-use Rattle.gateway_theory.specs.Fate.{Fate, Unbroken, BrokenAt, fate_after, fates_after, is_broken}
-use Rattle.gateway_theory.specs.Fated.{ConnFated, FatedStands}
-use Rattle.gateway_theory.specs.Gateway.{StreamValue, is_listening, stream_of, GatewayValue, StreamsStand, Unopened, GatewayStands}
-use Rattle.gateway_model.specs.Job.{JobValue}
+use Rattle.gateway_theory.specs.Conn.{ConnValue}
+use Rattle.gateway_theory.specs.Gateway.{StreamValue, is_listening, stream_of, GatewayValue, StreamsStand}
 use Rattle.gateway_theory.specs.Kept.{KeptValue}
-use Rattle.gateway_model.specs.Occurrence.{Occurrence, Result}
-use Rattle.gateway_theory.specs.Orderly.{FatesAre, IsOrderly}
 use Rattle.gateway_model.specs.Past.{is_call}
 use Rattle.gateway_theory.specs.Results.{back_at, back_kept, Forgets, result_at, ResultTaken, Starved, StepsAt, stepped_at, stepped_kept}
 use Rattle.gateway_theory.specs.Replies.{reply_with}
-use Rattle.gateway_theory.specs.Store.{MachineValue, machine, conn_of, conn_state, filled_in, hung_at, hung_if, kept_at, no_call, broken_at, broken_conn, given_up_if}
-use Rattle.gateway_theory.specs.lemmas.Concerned.{result_concern, starved_concern}
+use Rattle.gateway_theory.specs.Store.{MachineValue, conn_of, filled_in, hung_at, kept_at, no_call, broken_at, broken_conn, given_up_if}
 use Rattle.gateway_theory.specs.lemmas.EndLemmas.{fills_in, MayFill}
-use Rattle.gateway_theory.specs.lemmas.FateLemmas.{fated_after}
-use Rattle.gateway_theory.specs.lemmas.OrderLemmas.{has_fates, same_given, some_same}
-use Rattle.gateway_theory.specs.lemmas.OrderSteps.{fates_next, filled_back}
-use Rattle.gateway_theory.specs.lemmas.ResultSteps.{result_breaks}
-use Rattle.gateway_theory.specs.lemmas.StarvedSteps.{forgotten_stands, starved_breaks}
+use Rattle.gateway_theory.specs.lemmas.OrderLemmas.{same_given, some_same}
+use Rattle.gateway_theory.specs.lemmas.OrderSteps.{filled_back}
 use Rattle.gateway_theory.specs.lemmas.StoreLemmas.{conn_broken}
-use Rattle.gateway_theory.specs.lemmas.StoreMore.{conn_hung, hung_before}
+use Rattle.gateway_theory.specs.lemmas.StoreMore.{hung_before}
 
 -- ---- what a step may do to connections and calls
 
@@ -156,15 +145,7 @@ hung_listens n v c l l_is going =
     let on : k.0.hung_up ≡ false = (or_parts k.0.hung_up (k.0.number == n) (sym (ap (λ (x : ConnValue). x.hung_up) k.2) ∙ parts.1)).0 in
     (k.0, k.1, rw (sym (ap (λ (x : ConnValue). x.broken) k.2) ∙ parts.0, on) refl, ap (λ (x : ConnValue). x.taken + length x.slots) k.2)
 
--- ---- what the gateway stands for then
-
-pub still_off : (w : MachineValue) (o : Occurrence) (os : List Occurrence) (fates : ℕ → Fate) (c : ℕ) → conn_of c w.conns ≡ None → is_broken (fates c) ≡ false
-    → is_broken (fates_after (λ c. is_broken_in c w.conns) o os fates c) ≡ false
-still_off w o os fates c none on = by_fate (fates c) on
-  where
-    by_fate : (f : Fate) → is_broken f ≡ false → is_broken (fate_after (is_broken_in c w.conns) o os f) ≡ false
-    by_fate Unbroken x = ap (λ y. is_broken (fate_after (option_map_or (λ (k : ConnValue). k.broken) y false) o os Unbroken)) none
-    by_fate (BrokenAt since at older) x = absurd (cc)
+-- ---- the streams then
 
 pub streams_go : (v w : GatewayValue) (texts : ℕ → List ℕ) → ListensOn v.machine w.machine
     → ((c : ℕ) (t : StreamValue) → stream_of c w.streams ≡ Some t → stream_of c v.streams ≡ Some t) → StreamsStand v texts → StreamsStand w texts
@@ -177,87 +158,3 @@ streams_go v w texts on same h = λ c l t l_is t_is going.
       settled = was.settled;
       came = k.3 ∙ was.came;
     }
-
--- the peer of a connection hangs up
-pub hung_stands : (n : ℕ) (v : GatewayValue) (texts : ℕ → List ℕ) (taken : ℕ → List ReplyEntry) (handed : List JobValue) (os : List Occurrence) → GatewayStands v texts taken handed os
-    → GatewayStands (record v { machine = hung_at n v.machine }) texts taken handed os
-hung_stands n v texts taken handed os h = record {
-  closed = h.closed;
-  fates = h.fates;
-  fated = record {
-    fates_are = h.fated.fates_are;
-    moment_is = h.fated.moment_is;
-    drained_is = h.fated.drained_is;
-    calls_stand = h.fated.calls_stand;
-    conns_stand = λ c. subst (λ s. ConnFated c s (taken c) (h.fates c) os) (sym (state_is c)) (h.fated.conns_stand c);
-    jobs_are = h.fated.jobs_are;
-  };
-  fates_are = λ c l l_is. let k = hung_before n c v.machine.conns l l_is in ap (λ (x : ConnValue). x.broken) k.2 ∙ h.fates_are c k.0 k.1;
-  streams_stand = streams_go v (record v { machine = hung_at n v.machine }) texts (hung_listens n v.machine) (λ c t t_is. t_is) h.streams_stand;
-  unopened = λ c le. still c (h.unopened c le);
-  begun_is = h.begun_is;
-}
-  where
-    state_is : (c : ℕ) → conn_state h.closed (map (hung_if n) v.machine.conns) c ≡ conn_state h.closed v.machine.conns c
-    state_is c = ap (λ o. option_map_or state_of o (h.closed c)) (conn_hung c n v.machine.conns) ∙ by_conn (conn_of c v.machine.conns)
-      where
-        by_conn : (o : Option ConnValue) → option_map_or state_of (option_map (hung_if n) o) (h.closed c) ≡ option_map_or state_of o (h.closed c)
-        by_conn None = refl
-        by_conn (Some k) = cond_both (k.number == n) (record k { hung_up = true }) k (λ x. state_of x ≡ state_of k) (λ _. refl) (λ _. refl)
-
-    still : (c : ℕ) → Unopened v h.closed h.fates c → Unopened (record v { machine = hung_at n v.machine }) h.closed h.fates c
-    still c x = record {
-      state_is = x.state_is;
-      unbroken = x.unbroken;
-      no_conn = conn_hung c n v.machine.conns ∙ ap (option_map (hung_if n)) x.no_conn;
-      no_stream_is = x.no_stream_is;
-      no_call = x.no_call;
-    }
-
-module _ (id : CallId) (branch : ℕ) (outcome : Outcome) (v w : GatewayValue) (texts : ℕ → List ℕ) (taken : ℕ → List ReplyEntry) (handed : List JobValue) (os : List Occurrence)
-    (streams_are : w.streams ≡ v.streams) (opened_is : w.opened ≡ v.opened) (begun_same : w.begun ≡ v.begun) (orderly : IsOrderly v.machine) (h : GatewayStands v texts taken handed os) where
-  -- after a step that is this occurrence, and a call that is forgotten
-  step_stands : (u : MachineValue) → Goes v.machine u → Forgets id u w.machine
-      → FatedStands (machine h.closed u) (fates_after (λ c. is_broken_in c u.conns) (Result id branch outcome) os h.fates) taken handed (Result id branch outcome ∷ os)
-      → GatewayStands w texts taken handed (Result id branch outcome ∷ os)
-  step_stands u g forgets stands = record {
-    closed = h.closed;
-    fates = fates_after (λ c. is_broken_in c u.conns) (Result id branch outcome) os h.fates;
-    fated = forgotten_stands id u w.machine h.closed (fates_after (λ c. is_broken_in c u.conns) (Result id branch outcome) os h.fates) taken handed (Result id branch outcome ∷ os) forgets stands;
-    fates_are = subst (λ ks. FatesAre (fates_after (λ c. is_broken_in c u.conns) (Result id branch outcome) os h.fates) ks) (sym conns_are)
-        (fates_next (Result id branch outcome) os h.fates u (λ c l l_is on. let k = g.back c l l_is on in sym (h.fates_are c k.0 k.1) ∙ k.2));
-    streams_stand = streams_go v w texts (goes_listens v.machine w.machine whole) (λ c t t_is. ap (stream_of c) (sym streams_are) ∙ t_is) h.streams_stand;
-    unopened = λ c le. still c (h.unopened c (subst (λ m. m ≤ c) opened_is le));
-    begun_is = let same = begun_same in let was = h.begun_is in omega (arith, same, was);
-  }
-    where
-      whole : Goes v.machine w.machine
-      whole = goes_then v.machine u w.machine g (goes_forgotten id u w.machine forgets)
-
-      conns_are : w.machine.conns ≡ u.conns
-      conns_are = by_way forgets
-        where
-          by_way : Forgets id u w.machine → w.machine.conns ≡ u.conns
-          by_way (inl e) = ap (λ (m : MachineValue). m.conns) e
-          by_way (inr e) = ap (λ (m : MachineValue). m.conns) e.1
-
-      still : (c : ℕ) → Unopened v h.closed h.fates c → Unopened w h.closed (fates_after (λ c. is_broken_in c u.conns) (Result id branch outcome) os h.fates) c
-      still c x = record {
-        state_is = x.state_is;
-        unbroken = still_off u (Result id branch outcome) os h.fates c (g.none c x.no_conn) x.unbroken;
-        no_conn = whole.none c x.no_conn;
-        no_stream_is = ap (stream_of c) streams_are ∙ x.no_stream_is;
-        no_call = whole.no_call c x.no_call;
-      }
-
-  pub result_stands : (u : MachineValue) (took : Took) → ResultTaken id branch outcome v.machine u took → Forgets id u w.machine → GatewayStands w texts taken handed (Result id branch outcome ∷ os)
-  result_stands u took r forgets = step_stands u (goes_result id branch outcome v.machine u took r) forgets
-      (fated_after (Result id branch outcome) (λ c. is_broken_in c u.conns) (machine h.closed v.machine) (machine h.closed u) h.fates taken handed os refl h.fated
-      (result_concern id branch outcome v.machine u took h.closed h.fates taken handed os h.fates_are h.fated r)
-      (result_breaks v.machine u h.closed h.fates id branch outcome took (has_fates h.fates v.machine orderly h.fates_are) r))
-
-  pub starved_stands : (u : MachineValue) (took : Took) → Starved id branch v.machine u took → Forgets id u w.machine → GatewayStands w texts taken handed (Result id branch outcome ∷ os)
-  starved_stands u took r forgets = step_stands u (goes_starved id branch v.machine u took r) forgets
-      (fated_after (Result id branch outcome) (λ c. is_broken_in c u.conns) (machine h.closed v.machine) (machine h.closed u) h.fates taken handed os refl h.fated
-      (starved_concern id branch outcome v.machine u took h.closed h.fates taken handed os h.fates_are h.fated r)
-      (starved_breaks id branch outcome v.machine u h.closed h.fates took (has_fates h.fates v.machine orderly h.fates_are) r))

@@ -22,25 +22,23 @@ use Rattle.gateway_theory.specs.Conn.{ConnValue, conn_value, without_first}
 use Rattle.gateway_theory.specs.Ends.{EndsBy, ended_if, is_broken_in}
 use Rattle.gateway_theory.specs.Enters.{Enters}
 use Rattle.gateway_model.specs.Events.{stream}
-use Rattle.gateway_theory.specs.Fate.{Fate, is_broken}
 use Rattle.gateway_model.specs.declared.entry.ReplyEntry.{ReplyEntry}
-use Rattle.gateway_theory.specs.Gateway.{Feeds, GatewayStands, GatewayValue, is_listening, is_broken_conn, next_reply, stream_at, stream_of, untaken_of}
+use Rattle.gateway_theory.specs.Gateway.{Feeds, GatewayValue, is_listening, is_broken_conn, next_reply, stream_at, stream_of, untaken_of}
 use Rattle.gateway_theory.specs.Machine.{slot_at}
 use Rattle.gateway_model.specs.Past.{call_id}
 use Rattle.gateway_model.specs.Queue.{IsPrefixOf, front}
 use Rattle.gateway_theory.specs.Task.{HandedJob}
 use Rattle.gateway_model.specs.Occurrence.{Coming, Occurrence, Result}
 use Rattle.gateway_theory.specs.Opens.{JobTaken}
-use Rattle.gateway_theory.specs.Orderly.{FatesAre, IsOrderly}
+use Rattle.gateway_theory.specs.Orderly.{IsOrderly}
 use Rattle.gateway_theory.specs.Replies.{ReplyValue}
 use Rattle.gateway_theory.specs.Results.{Forgets, ResultTaken, Starved, result_at}
-use Rattle.gateway_theory.specs.Serving.{IsWhole, TakesSome, WouldBegin, begins_by, BreaksBy, Closes, CountsCalls, IsFault, TellsStep, most_begun, Ends, FedTo, NotListening, came, dropped, not_fed, unread, HangsUp, unnoticed, hung, IsServing, Keeps, KeepsBut, ListensAt, Opens, TakesOnly, TakesReply, absent, taken}
+use Rattle.gateway_theory.specs.Serving.{IsWhole, TakesSome, WouldBegin, begins_by, Closes, CountsCalls, IsFault, TellsStep, most_begun, Ends, FedTo, NotListening, came, dropped, not_fed, unread, HangsUp, unnoticed, hung, IsServing, Keeps, KeepsBut, ListensAt, Opens, TakesOnly, TakesReply, absent, taken}
 use Rattle.gateway_model.specs.Starts.{occurrences}
 use Rattle.gateway_theory.specs.Step.{CallState, Live, ended_by, has_out}
 use Rattle.gateway_theory.specs.Store.{MachineValue, broken_at, conn_at, conn_of, given_up_if, hung_at, kept_at}
 use Rattle.gateway_theory.specs.Tally.{tally_of}
 use Rattle.gateway_theory.specs.lemmas.Cases.{or_none}
-use Rattle.gateway_theory.specs.lemmas.Concerned.{ends_concern, result_concern, starved_concern}
 use Rattle.gateway_theory.specs.lemmas.EndLemmas.{fills_in, just_broken, broken_then}
 use Rattle.gateway_theory.specs.lemmas.FeedLemmas.{other_conn, stream_set}
 use Rattle.gateway_theory.specs.lemmas.Growing.{Grew, MayGrow, grew_broken, grew_ended, grew_entered, grew_forgotten, grew_hung, grew_result, grew_same, grew_starved, grew_then, is_off, off_then}
@@ -458,24 +456,6 @@ ended_keeps trigger told v w conns_are jobs_are x = keeps_grew (λ c. true) v w 
     (ap (λ (y : GatewayValue). y.begun) x.rest) (ap (λ (y : GatewayValue). y.tally) x.rest)
     (grew_ended trigger told v.machine w.machine conns_are jobs_are x.ends) (λ c now before. refl)
 
--- a connection that breaks was not broken by its fate
-fate_before : (c : ℕ) (fates : ℕ → Fate) (v w : GatewayValue) → FatesAre fates v.machine.conns → Grew v.machine w.machine → is_broken_conn c w ≡ true → is_broken_conn c v ≡ false → is_broken (fates c) ≡ false
-fate_before c fates v w are g now before = by_conn (conn_of c v.machine.conns) refl (conn_of c w.machine.conns) refl (g.conns_are c)
-  where
-    by_conn : (k : Option ConnValue) → conn_of c v.machine.conns ≡ k → (l : Option ConnValue) → conn_of c w.machine.conns ≡ l → MayGrow (conn_of c v.machine.conns) (conn_of c w.machine.conns) → is_broken (fates c) ≡ false
-    by_conn (Some k) k_is l l_is m = sym (are c k k_is) ∙ sym (broken_of c v.machine.conns k k_is) ∙ before
-    by_conn None k_is None l_is m = absurd (let clash : true ≡ false = sym now ∙ ap (λ k. is_broken_there k) l_is in cc)
-    by_conn None k_is (Some l) l_is m = absurd (subst (λ x. MayGrow x (Some l)) k_is (subst (λ y. MayGrow (conn_of c v.machine.conns) y) l_is m))
-
--- a connection that breaks as calls end is one that this concerns
-pub ended_concerns : (o : Occurrence) (trigger : Trigger) (told : MachineValue) (v w : GatewayValue) → IsServing v → EndsBy o trigger v.machine told → Ends trigger told v w → BreaksBy o v w
-ended_concerns o trigger told v w serving by x = λ history occurred h occurs c now before.
-    let stands : GatewayStands v (λ d. stream history.opened d history.events) history.taken history.handed (occurrences occurred) = h.stands occurred occurs in
-    ends_concern o trigger v.machine told w.machine stands.closed stands.fates history.taken history.handed (occurrences occurred)
-    (ap (λ (m : MachineValue). m.conns) by.machine_is) (ap (λ (m : MachineValue). m.calls) by.machine_is) by.steps serving.orderly stands.fates_are stands.fated x.ends c
-    (fate_before c stands.fates v w stands.fates_are
-    (grew_ended trigger told v.machine w.machine (ap (λ (m : MachineValue). m.conns) by.machine_is) (ap (λ (m : MachineValue). m.jobs) by.machine_is) x.ends) now before) now
-
 module _ (id : CallId) (branch : ℕ) (u : MachineValue) (took : Took) (v w : GatewayValue) (orderly : IsOrderly v.machine) (rest : w ≡ record v { machine = w.machine; tally = w.tally }) (forgets : Forgets id u w.machine)
     (tally_is : (before : List Seen) → v.tally ≡ tally_of before → w.tally ≡ tally_of (took.seen ∷ before)) where
   forgotten_broken : (c : ℕ) → is_broken_conn c w ≡ is_broken_in c u.conns
@@ -508,22 +488,6 @@ module _ (id : CallId) (branch : ℕ) (u : MachineValue) (took : Took) (v w : Ga
           by_live : (b : Bool) → is_broken_in c (if b then broken_at id.conn v.machine else v.machine).conns ≡ is_broken_conn c v
           by_live true = broken_then c id.conn v.machine.conns ne
           by_live false = refl
-
--- and so is one that breaks by a result
-module _ (id : CallId) (branch : ℕ) (outcome : Outcome) (u : MachineValue) (took : Took) (v w : GatewayValue) (orderly : IsOrderly v.machine) (forgets : Forgets id u w.machine) where
-  pub result_concerns : ResultTaken id branch outcome v.machine u took → BreaksBy (Result id branch outcome) v w
-  result_concerns r = λ history occurred h occurs c now before.
-      let stands : GatewayStands v (λ d. stream history.opened d history.events) history.taken history.handed (occurrences occurred) = h.stands occurred occurs in
-      result_concern id branch outcome v.machine u took stands.closed stands.fates history.taken history.handed (occurrences occurred) stands.fates_are stands.fated r c
-      (fate_before c stands.fates v w stands.fates_are (grew_then v.machine u w.machine (grew_result id branch outcome v.machine u took orderly r) (grew_forgotten id u w.machine forgets)) now before)
-      (sym (ap (is_broken_in c) (forgotten_conns id u w.machine forgets)) ∙ now)
-
-  pub starved_concerns : Starved id branch v.machine u took → BreaksBy (Result id branch outcome) v w
-  starved_concerns r = λ history occurred h occurs c now before.
-      let stands : GatewayStands v (λ d. stream history.opened d history.events) history.taken history.handed (occurrences occurred) = h.stands occurred occurs in
-      starved_concern id branch outcome v.machine u took stands.closed stands.fates history.taken history.handed (occurrences occurred) stands.fates_are stands.fated r c
-      (fate_before c stands.fates v w stands.fates_are (grew_then v.machine u w.machine (grew_starved id branch v.machine u took r) (grew_forgotten id u w.machine forgets)) now before)
-      (sym (ap (is_broken_in c) (forgotten_conns id u w.machine forgets)) ∙ now)
 
 pub job_rest : (v w : GatewayValue) (job : Option HandedJob) → JobTaken v.machine w.machine job → w ≡ record v { machine = w.machine }
     → w ≡ record v { machine = record v.machine { jobs = w.machine.jobs } }

@@ -10,24 +10,23 @@ use Rattle.gateway_model.specs.declared.call_event.CallEvent.TheVariants.{Answer
 use Rattle.gateway_model.specs.declared.id.CallId.{CallId}
 use Rattle.gateway_model.specs.CallRecord.{CallRecord, last_event}
 use Rattle.gateway_theory.specs.Conn.{ConnValue}
-use Rattle.gateway_model.specs.Events.{Occurs, stream}
-use Rattle.gateway_theory.specs.Fate.{BrokenAt, Fate, HasFate, Unbroken, has_result, is_broken}
-use Rattle.gateway_theory.specs.Fated.{CallFated}
-use Rattle.gateway_theory.specs.Gateway.{GatewayStands, GatewayValue, is_broken_conn, kept_record, outs_of, shown}
+use Rattle.gateway_model.specs.Breaks.{by_events}
+use Rattle.gateway_model.specs.Events.{Occurs}
+use Rattle.gateway_theory.specs.Gateway.{GatewayValue, kept_record, outs_of, shown}
 use Rattle.gateway_model.specs.Known.{is_whole}
 use Rattle.gateway_theory.specs.LiveStands.{LiveStands, MayLive}
 use Rattle.gateway_model.specs.Occurrence.{Occurrence}
 use Rattle.gateway_model.specs.Past.{ArrivedCall, Past, began, branches, call, can_be_decided, count_below, decided, decides, is_shut, is_out, mark_of, marked, outs, started}
 use Rattle.gateway_model.specs.Queue.{own_events, record_deadlines, record_of}
 use Rattle.gateway_model.specs.Record.{answers_among, is_decided, is_ending, is_lawful}
-use Rattle.gateway_theory.specs.Served.{Served}
+use Rattle.gateway_theory.specs.Served.{Lives, Served}
 use Rattle.gateway_model.specs.Starts.{Placed, occurrences}
 use Rattle.gateway_model.specs.History.{History}
 use Rattle.gateway_theory.specs.Step.{CallState, Live}
 use Rattle.gateway_theory.specs.Store.{call_at, conn_of}
 use Rattle.gateway_theory.specs.lemmas.LimitLemmas.{count_less, out_started, outs_limit}
 use Rattle.gateway_theory.specs.lemmas.OrderLemmas.{some_same}
-use Rattle.gateway_theory.specs.lemmas.PastLemmas.{call_stays}
+use Rattle.gateway_theory.specs.lemmas.PrefixLemmas.{call_within, events_occur}
 use Rattle.gateway_theory.specs.lemmas.RecordLemmas.{Going, among_more, none_decides, lawful, same_follow}
 use Rattle.gateway_theory.specs.lemmas.SlotLemmas.{count_take}
 use Rattle.gateway_theory.specs.lemmas.StandsLemmas.{last_is}
@@ -95,41 +94,26 @@ outs_same id out past same =
     let least = outs_at_least id out past (λ i is. same i ∙ is) in
     omega (arith, most, least)
 
-still_called : (id : CallId) (a : ArrivedCall) (since older : List Occurrence) → call id (marked older) ≡ Some a → call id (marked (since ++ older)) ≡ Some a
-still_called id a [] older is = is
-still_called id a (o ∷ since) older is = call_stays id (mark_of (marked (since ++ older)) o) (marked (since ++ older)) a (still_called id a since older is)
-
 pub outs_kept : (id : CallId) (a : ArrivedCall) (v : GatewayValue) (history : History) (occurred : List Placed)
     → Served v history → Occurs v.plans history.opened history.events occurred → call id (marked (occurrences occurred)) ≡ Some a → outs_of id v ≤ a.plan.limit
-outs_kept id a v history occurred h o a_is = by_fate (stands.fates id.conn) (stands.fated.fates_are id.conn) (stands.fated.calls_stand id)
+outs_kept id a v history occurred h o a_is = by_call (call id (marked os)) refl
   where
+    x : (lived : List Placed) × (by_events lived ≡ occurred) × Lives v history lived
+    x = h.stands occurred o
+
     os : List Occurrence
-    os = occurrences occurred
+    os = occurrences x.0
 
-    c : CallState
-    c = call_at id v.machine.calls
+    few : outs_of id v ≡ outs id (marked os)
+    few = outs_same id (call_at id v.machine.calls).out (marked os) (x.2.stands.lives.calls_stand id).out_is
 
-    stands : GatewayStands v (λ d. stream history.opened d history.events) history.taken history.handed os
-    stands = h.stands occurred o
-
-    by_fate : (f : Fate) → HasFate id.conn f os → CallFated id c f os → count_by (λ b. b) c.out ≤ a.plan.limit
-    by_fate Unbroken fate is =
-        let most : outs id (marked os) ≤ a.plan.limit = outs_limit id os a a_is in
-        let few : count_by (λ b. b) c.out ≤ outs id (marked os) = outs_at_most id c.out (marked os) (λ i out. sym (is.out_is i) ∙ out) in
-        omega (arith, most, few)
-    by_fate (BrokenAt since at older) fate is = by_call (call id (marked older)) refl
-      where
-        few : count_by (λ b. b) c.out ≤ outs id (marked older)
-        few = outs_at_most id c.out (marked older)
-            (λ i out. (and_parts (is_out id i (marked older)) (not (has_result id i (since ++ option_to_list at))) (sym (is.out_is i) ∙ out)).0)
-
-        by_call : (b : Option ArrivedCall) → call id (marked older) ≡ b → count_by (λ b. b) c.out ≤ a.plan.limit
-        by_call (Some b) b_is =
-            let most : outs id (marked older) ≤ b.plan.limit = outs_limit id older b b_is in
-            let same : Some b ≡ Some a = sym (still_called id b (since ++ option_to_list at) older b_is) ∙ ap (λ xs. call id (marked xs)) (sym fate.0) ∙ a_is in
-            let limits : b.plan.limit ≡ a.plan.limit = ap (λ x. option_map_or (λ (y : ArrivedCall). y.plan.limit) x 0) same in
-            omega (arith, most, few, limits)
-        by_call None b_is = let none : outs id (marked older) ≡ 0 = rw b_is refl in omega (arith, none, few)
+    by_call : (b : Option ArrivedCall) → call id (marked os) ≡ b → outs_of id v ≤ a.plan.limit
+    by_call (Some b) b_is =
+        let most : outs id (marked os) ≤ b.plan.limit = outs_limit id os b b_is in
+        let same : Some b ≡ Some a = sym (call_within id b os b_is) ∙ ap (λ us. call id (marked us)) (sym (events_occur x.0) ∙ ap occurrences x.1) ∙ a_is in
+        let limits : b.plan.limit ≡ a.plan.limit = ap (λ y. option_map_or (λ (z : ArrivedCall). z.plan.limit) y 0) same in
+        omega (arith, most, few, limits)
+    by_call None b_is = let none : outs id (marked os) ≡ 0 = rw b_is refl in omega (arith, none, few)
 
 -- ---- the record of a call that goes on
 
@@ -177,53 +161,29 @@ record_lawful id a os a_is on =
     unshut false is = refl
     unshut true is = absurd (cc)
 
-record_stands : (id : CallId) (k : ConnValue) (l : Live) (v : GatewayValue) (history : History)
-    (occurred : List Placed) → Served v history → Occurs v.plans history.opened history.events occurred → conn_of id.conn v.machine.conns ≡ Some k → k.broken ≡ false
-    → (call_at id v.machine.calls).live ≡ Some l → (is_lawful (record_of l.asked l.deadlines l.events) ≡ true) × (is_decided (record_of l.asked l.deadlines l.events) ≡ false)
-record_stands id k l v history occurred h o k_is on l_is = by_fate (stands.fates id.conn) (sym (stands.fates_are id.conn k k_is) ∙ on) (stands.fated.calls_stand id)
+-- the record that is kept of a call
+pub record_kept : (id : CallId) (kept : CallRecord) (v : GatewayValue) (history : History)
+    (occurred : List Placed) → Served v history → Occurs v.plans history.opened history.events occurred → is_whole id.conn (shown v) ≡ true
+    → kept_record id v ≡ Some kept → (is_lawful kept ≡ true) × (is_decided kept ≡ false)
+record_kept id kept v history occurred h o whole kept_is = by_live (call_at id v.machine.calls).live refl
   where
+    x : (lived : List Placed) × (by_events lived ≡ occurred) × Lives v history lived
+    x = h.stands occurred o
+
     os : List Occurrence
-    os = occurrences occurred
+    os = occurrences x.0
 
-    c : CallState
-    c = call_at id v.machine.calls
-
-    stands : GatewayStands v (λ d. stream history.opened d history.events) history.taken history.handed os
-    stands = h.stands occurred o
-
-    by_live : LiveStands id l c.out (marked os) → (is_lawful (record_of l.asked l.deadlines l.events) ≡ true) × (is_decided (record_of l.asked l.deadlines l.events) ≡ false)
-    by_live s =
+    lawful_now : (l : Live) → LiveStands id l (call_at id v.machine.calls).out (marked os) → (is_lawful (record_of l.asked l.deadlines l.events) ≡ true) × (is_decided (record_of l.asked l.deadlines l.events) ≡ false)
+    lawful_now l s =
         let going : Going id l.asked (marked os) = (lawful id os l.asked s.call_is).going s.undecided s.unshut in
         rw s.events_are (
           rw (same_follow l.asked l.deadlines (own_events id (marked os)) [] (own_events id (marked os)) ∙ going.follow l.deadlines, going.early) refl,
           ends_never (record_of l.asked [] []) [] (own_events id (marked os)) (going.on []) refl,
         )
 
-    by_fate : (f : Fate) → is_broken f ≡ false → CallFated id c f os → (is_lawful (record_of l.asked l.deadlines l.events) ≡ true) × (is_decided (record_of l.asked l.deadlines l.events) ≡ false)
-    by_fate Unbroken unbroken is = by_live (subst (λ x. MayLive id x c.out (marked os)) l_is is.live_is)
-    by_fate (BrokenAt since at older) unbroken is = absurd (cc)
-
--- the record that is kept of a call of a connection that goes on
-pub record_kept : (id : CallId) (kept : CallRecord) (v : GatewayValue) (history : History)
-    (occurred : List Placed) → Served v history → Occurs v.plans history.opened history.events occurred → is_whole id.conn (shown v) ≡ true
-    → kept_record id v ≡ Some kept → (is_lawful kept ≡ true) × (is_decided kept ≡ false)
-record_kept id kept v history occurred h o whole kept_is = by_conn (conn_of id.conn v.machine.conns) refl
-  where
-    off : (b : Bool) → (true && not b) ≡ true → b ≡ false
-    off false e = refl
-    off true e = absurd (cc)
-
-    by_conn : (k : Option ConnValue) → conn_of id.conn v.machine.conns ≡ k → (is_lawful kept ≡ true) × (is_decided kept ≡ false)
-    by_conn None k_is = absurd (let clash : false ≡ true = sym (ap (λ x. is_some x && not (is_broken_conn id.conn v)) k_is) ∙ whole in cc)
-    by_conn (Some k) k_is = by_live (call_at id v.machine.calls).live refl
-      where
-        on : k.broken ≡ false
-        on = sym (ap (λ x. option_map_or (λ (y : ConnValue). y.broken) x false) k_is)
-            ∙ off (is_broken_conn id.conn v) (sym (ap (λ x. is_some x && not (is_broken_conn id.conn v)) k_is) ∙ whole)
-
-        by_live : (l : Option Live) → (call_at id v.machine.calls).live ≡ l → (is_lawful kept ≡ true) × (is_decided kept ≡ false)
-        by_live None l_is = absurd (
-            let clash : None ≡ Some kept = sym (ap (λ x. option_map (λ (y : Live). record_of y.asked y.deadlines y.events) x) l_is) ∙ kept_is in cc)
-        by_live (Some l) l_is = subst (λ (r : CallRecord). (is_lawful r ≡ true) × (is_decided r ≡ false))
-            (some_same (sym (ap (λ x. option_map (λ (y : Live). record_of y.asked y.deadlines y.events) x) l_is) ∙ kept_is))
-            (record_stands id k l v history occurred h o k_is on l_is)
+    by_live : (l : Option Live) → (call_at id v.machine.calls).live ≡ l → (is_lawful kept ≡ true) × (is_decided kept ≡ false)
+    by_live None l_is = absurd (
+        let clash : None ≡ Some kept = sym (ap (λ y. option_map (λ (z : Live). record_of z.asked z.deadlines z.events) y) l_is) ∙ kept_is in cc)
+    by_live (Some l) l_is = subst (λ (r : CallRecord). (is_lawful r ≡ true) × (is_decided r ≡ false))
+        (some_same (sym (ap (λ y. option_map (λ (z : Live). record_of z.asked z.deadlines z.events) y) l_is) ∙ kept_is))
+        (lawful_now l (subst (λ y. MayLive id y (call_at id v.machine.calls).out (marked os)) l_is (x.2.stands.lives.calls_stand id).live_is))

@@ -8,16 +8,6 @@ use Rattle.gateway_theory.specs.lemmas.CutLemmas.{IsSame, same_before}
 use Rattle.gateway_theory.specs.lemmas.OpenCount.{count_same}
 use Rattle.gateway_theory.specs.lemmas.ServedOpens.{grown, succeeds_more}
 
--- the openings without the last, which are those with it up to there
-pub shrunk : (opened : List ℕ) (n : ℕ) → ((place : ℕ) → succeeds opened place ≡ true → place < n) → IsShifted n (opened ++ n ∷ []) opened
-shrunk opened n below = record {
-  before = λ t lt. sym ((grown opened n below).before t lt);
-  after = λ t lt. none (suc t) (omega (arith, lt)) ∙ sym (succeeds_more opened n t ∙ ap (λ b. b || (n == t)) (none t (omega (arith, lt))) ∙ ne_eqb n t (λ same. absurd (omega (arith, lt, same))));
-}
-  where
-    none : (t : ℕ) → n ≤ t → succeeds opened t ≡ false
-    none t le = ⊎_elim (λ (its : succeeds opened t ≡ true). absurd (let lt = below t its in omega (arith, lt, le))) (λ (no : succeeds opened t ≡ false). no) (cases_Bool (succeeds opened t))
-
 pub same_openings : (opened : List ℕ) (place : ℕ) (es : Before) → ((other : ℕ) → succeeds opened other ≡ true → other < place) → length es ≤ place
     → IsSame opened (opened ++ place ∷ []) es es
 same_openings opened place es below le = same_before opened (opened ++ place ∷ []) place es le (grown opened place below)

@@ -14,7 +14,7 @@ use Rattle.gateway_theory.specs.lemmas.BreakLemmas.{ends_breaks}
 use Rattle.gateway_theory.specs.lemmas.BroughtLemmas.{brought_go}
 use Rattle.gateway_theory.specs.lemmas.GatewaySteps.{ListensOn, hung_listens}
 use Rattle.gateway_theory.specs.lemmas.OrderSteps.{ends_order}
-use Rattle.gateway_theory.specs.lemmas.ServedLemmas.{goes_ended}
+use Rattle.gateway_theory.specs.lemmas.EndingSteps.{goes_ended}
 use Rattle.gateway_theory.specs.lemmas.ServingLemmas.{Keeps, keeps_ended, keeps_hung, keeps_same, machine_kept, serving_kept}
 use Rattle.gateway_theory.specs.lemmas.StoreMore.{broken_hung, conn_hung}
 

@@ -13,7 +13,7 @@ use Rattle.gateway_theory.specs.Enters.{Enters}
 use Rattle.gateway_theory.specs.Ends.{is_broken_in}
 use Rattle.gateway_theory.specs.Gateway.{Feeds, GatewayValue, calls_brought, no_stream, stream_at}
 use Rattle.gateway_theory.specs.RequestLaws.{RequestLaws}
-use Rattle.gateway_theory.specs.Served.{Served}
+use Rattle.gateway_theory.specs.Served.{HasConns}
 use Rattle.gateway_theory.specs.Serving.{FedTo, IsServing, ListensAt, came, dropped, not_fed, unread}
 use Rattle.gateway_theory.specs.Told.{TakesOne}
 use Rattle.gateway_theory.specs.lemmas.EventLemmas.{gains_unique}
@@ -22,14 +22,14 @@ use Rattle.gateway_theory.specs.lemmas.FeedSteps.{Brought, brought}
 use Rattle.gateway_theory.specs.lemmas.ServedPieces.{over_gains, read_here}
 
 module _ (laws : RequestLaws) (n : ℕ) (bytes : List ℕ) (v w : GatewayValue) (history : History)
-    (serving : IsServing v) (h : Served v history) where
+    (serving : IsServing v) (h : HasConns v history.opened history.events) where
   abbrev text : List ℕ
   text = stream history.opened n history.events
 
   -- a stream that is over
   over_one : (i m : ℕ) (l : ListensAt n v i) → is_over (stream_at i v.streams).reader.reading ≡ true → m ≡ length bytes → TakesOne v.plans text bytes m
   over_one i m l over all =
-      let read = read_here n v v history serving h i l in
+      let read = read_here n v v history serving i l h in
       record {
         one = λ gained gains.
             let none : [] ≡ gained = gains_unique laws v.plans text (text ++ take m bytes) [] gained
@@ -43,7 +43,7 @@ module _ (laws : RequestLaws) (n : ℕ) (bytes : List ℕ) (v w : GatewayValue) 
   on_one i m l going f = record { one = one_gained; all = λ given ending its ended. absurd (ended left.0 (goes_on given ending its)) }
     where
       read : (given : List HttpRequest) × HasRead (stream_at i v.streams).reader text given
-      read = read_here n v v history serving h i l
+      read = read_here n v v history serving i l h
 
       left : (xs : List ℕ) × ((stream_at i v.streams).reader.reading ≡ Partial xs)
       left = midway (stream_at i v.streams).reader.reading going (serving.settled i no_stream l.stream_there)

@@ -5,11 +5,10 @@ use Rattle.std.specs.Option.{option_or, option_map_or}
 use Rattle.std.proofs.lemmas.Bool.{cond_both, cases_Bool, eq-eqb, eqb-true}
 use Rattle.gateway_model.specs.declared.entry.ReplyEntry.{ReplyEntry}
 use Rattle.gateway_model.specs.declared.id.CallId.{CallId}
-use Rattle.gateway_theory.specs.Breaks.{AfterBreaks, AfterRefusal, ConnStays, GivenUp}
+use Rattle.gateway_theory.specs.Breaks.{AfterBreaks, ConnStays, GivenUp}
 use Rattle.gateway_theory.specs.Conn.{ConnValue, conn_value, state_of, without_first}
 use Rattle.gateway_theory.specs.Ends.{is_broken_in}
-use Rattle.gateway_theory.specs.Fate.{Fate}
-use Rattle.gateway_theory.specs.Fated.{FatedStands}
+use Rattle.gateway_theory.specs.Lived.{LivedStands}
 use Rattle.gateway_model.specs.Job.{JobValue}
 use Rattle.gateway_theory.specs.Machine.{ConnState, MachineState, ConnAfter, After, new_conn, slot_at, step_of}
 use Rattle.gateway_model.specs.Occurrence.{Occurrence, Opening, Closing}
@@ -18,7 +17,7 @@ use Rattle.gateway_theory.specs.Orderly.{ConnsApart}
 use Rattle.gateway_model.specs.Past.{call_id, shuts}
 use Rattle.gateway_theory.specs.Replies.{ReplyValue}
 use Rattle.gateway_theory.specs.Step.{CallState, Live, Step, call_state, ended_live, has_out, kept, step}
-use Rattle.gateway_theory.specs.Store.{MachineValue, machine, call_at, conn_at, conn_of, conn_state, broken_at, broken_conn, HasFates}
+use Rattle.gateway_theory.specs.Store.{MachineValue, machine, call_at, conn_at, conn_of, conn_state, broken_at, broken_conn, HasBroken}
 use Rattle.gateway_theory.specs.lemmas.Cases.{or_none}
 use Rattle.gateway_theory.specs.lemmas.GivingUp.{given_up}
 use Rattle.gateway_theory.specs.lemmas.ResultSteps.{given, eta_none, broken_not_live, none_broken}
@@ -27,12 +26,12 @@ use Rattle.gateway_theory.specs.lemmas.StoreMore.{conn_added, conn_found, conn_s
 use Rattle.gateway_theory.specs.lemmas.Taking.{reply_taken}
 
 -- the calls of broken connections are given up, of which none could be decided
-given_call : (v : MachineValue) (fates : ℕ → Fate) (closed : ℕ → ConnState) (breaks : ℕ → Bool) (id : CallId) → HasFates fates v → (breaks id.conn ≡ true → is_broken_in id.conn v.conns ≡ true)
+given_call : (v : MachineValue) (were_broken : ℕ → Bool) (closed : ℕ → ConnState) (breaks : ℕ → Bool) (id : CallId) → HasBroken were_broken v → (breaks id.conn ≡ true → is_broken_in id.conn v.conns ≡ true)
     → call_at id v.calls ≡ (given breaks (machine closed v)).calls id
-given_call v fates closed breaks id h same = by_broken (breaks id.conn) refl
+given_call v were_broken closed breaks id h same = by_broken (breaks id.conn) refl
   where
     by_broken : (b : Bool) → breaks id.conn ≡ b → call_at id v.calls ≡ (if breaks id.conn then call_state (call_at id v.calls).out None else call_at id v.calls)
-    by_broken true b_is = rw b_is (eta_none (call_at id v.calls) (broken_not_live v fates id h (same b_is)))
+    by_broken true b_is = rw b_is (eta_none (call_at id v.calls) (broken_not_live v were_broken id h (same b_is)))
     by_broken false b_is = rw b_is refl
 
 all_given : (breaks : ℕ → Bool) (m : MachineState) → GivenUp breaks m (given breaks m)
@@ -67,9 +66,9 @@ eqb_sym a b = ⊎_elim
     (λ (f : (b == a) ≡ false). e ∙ sym f) (cases_Bool (b == a)))
     (cases_Bool (a == b))
 
-close_after : (n : ℕ) (v : MachineValue) (closed : ℕ → ConnState) (fates : ℕ → Fate) (k : ConnValue) → conn_of n v.conns ≡ Some k → HasFates fates v
+close_after : (n : ℕ) (v : MachineValue) (closed : ℕ → ConnState) (were_broken : ℕ → Bool) (k : ConnValue) → conn_of n v.conns ≡ Some k → HasBroken were_broken v
     → After (Closing n) (given (λ c. is_broken_in c (closed_at n v).conns) (machine closed v)) (machine (closed_with n v.conns closed) (closed_at n v))
-close_after n v closed fates k opened_is h = record {
+close_after n v closed were_broken k opened_is h = record {
   moment_is = omega arith;
   drained_is = refl;
   calls_are = λ id. call_given_up id n v.calls ∙ by_call id (id.conn == n) refl ∙ sym (closing_call u.moment id n (u.calls id));
@@ -94,7 +93,7 @@ close_after n v closed fates k opened_is h = record {
             → call_state (if is_broken_in id.conn w.conns then call_state (call_at id v.calls).out None else call_at id v.calls).out None ≡ call_state (call_at id v.calls).out None
         by_broken true f = rw f refl
         by_broken false f = rw f refl
-    by_call id false e = rw (e, eqb_sym n id.conn ∙ e) (given_call v fates closed (λ c. is_broken_in c w.conns) id h
+    by_call id false e = rw (e, eqb_sym n id.conn ∙ e) (given_call v were_broken closed (λ c. is_broken_in c w.conns) id h
         (λ broken. ap (λ o. option_map_or (λ (y : ConnValue). y.broken) o false) (ap (λ b. if b then None else conn_of id.conn v.conns) (sym e) ∙ sym (conn_is id.conn)) ∙ broken))
 
     by_conn : (c : ℕ) (b : Bool) → (c == n) ≡ b → ConnAfter (Closing n) u c (conn_state closed v.conns c) (conn_state (closed_with n v.conns closed) w.conns c)
@@ -119,13 +118,13 @@ close_after n v closed fates k opened_is h = record {
         new_is = ap (λ o. option_map_or state_of o (closed_with n v.conns closed c)) (conn_is c ∙ ap (λ b. if b then None else conn_of c v.conns) e)
             ∙ ap (λ m. option_map_or state_of (conn_of c v.conns) m) (ap (λ b. if b then closed_from (conn_of n v.conns) (closed c) else closed c) e)
 
-pub close_breaks : (n : ℕ) (v w : MachineValue) (closed : ℕ → ConnState) (fates : ℕ → Fate) (k : ConnValue) → conn_of n v.conns ≡ Some k → HasFates fates v → w ≡ closed_at n v
-    → AfterBreaks (λ c. is_broken_in c w.conns) fates (Closing n) (machine closed v) (machine (closed_with n v.conns closed) w)
-close_breaks n v w closed fates k opened_is h w_is =
-    subst (λ x. AfterBreaks (λ c. is_broken_in c x.conns) fates (Closing n) (machine closed v) (machine (closed_with n v.conns closed) x)) (sym w_is)
-    (given_up (Closing n) (λ c. is_broken_in c (closed_at n v).conns) fates (machine closed v) (given (λ c. is_broken_in c (closed_at n v).conns) (machine closed v))
-    (machine (closed_with n v.conns closed) (closed_at n v)) refl (none_broken v fates closed h) (all_given (λ c. is_broken_in c (closed_at n v).conns) (machine closed v))
-    (close_after n v closed fates k opened_is h)).0
+pub close_breaks : (n : ℕ) (v w : MachineValue) (closed : ℕ → ConnState) (were_broken : ℕ → Bool) (k : ConnValue) → conn_of n v.conns ≡ Some k → HasBroken were_broken v → w ≡ closed_at n v
+    → AfterBreaks (λ c. is_broken_in c w.conns) were_broken (Closing n) (machine closed v) (machine (closed_with n v.conns closed) w)
+close_breaks n v w closed were_broken k opened_is h w_is =
+    subst (λ x. AfterBreaks (λ c. is_broken_in c x.conns) were_broken (Closing n) (machine closed v) (machine (closed_with n v.conns closed) x)) (sym w_is)
+    (given_up (Closing n) (λ c. is_broken_in c (closed_at n v).conns) were_broken (machine closed v) (given (λ c. is_broken_in c (closed_at n v).conns) (machine closed v))
+    (machine (closed_with n v.conns closed) (closed_at n v)) refl (none_broken v were_broken closed h) (all_given (λ c. is_broken_in c (closed_at n v).conns) (machine closed v))
+    (close_after n v closed were_broken k opened_is h)).0
 
 -- ---- a connection opens
 
@@ -136,12 +135,12 @@ opening_step moment id c = by_live c.live refl
     by_live None e = ap (λ (l : Option Live). ended_live moment id Opening c.out l) e ∙ ap (λ (l : Option Live). kept (call_state c.out l)) (sym e)
     by_live (Some l) e = ap (λ (x : Option Live). ended_live moment id Opening c.out x) e ∙ ap (λ (x : Option Live). kept (call_state c.out x)) (sym e)
 
-open_after : (n : ℕ) (v : MachineValue) (closed : ℕ → ConnState) (fates : ℕ → Fate) → conn_of n v.conns ≡ None → closed n ≡ new_conn → HasFates fates v
+open_after : (n : ℕ) (v : MachineValue) (closed : ℕ → ConnState) (were_broken : ℕ → Bool) → conn_of n v.conns ≡ None → closed n ≡ new_conn → HasBroken were_broken v
     → After Opening (given (λ c. is_broken_in c (opened_as n v).conns) (machine closed v)) (machine closed (opened_as n v))
-open_after n v closed fates none new h = record {
+open_after n v closed were_broken none new h = record {
   moment_is = omega arith;
   drained_is = refl;
-  calls_are = λ id. given_call v fates closed (λ c. is_broken_in c w.conns) id h (λ broken. sym (broken_same id.conn) ∙ broken)
+  calls_are = λ id. given_call v were_broken closed (λ c. is_broken_in c w.conns) id h (λ broken. sym (broken_same id.conn) ∙ broken)
       ∙ ap (λ (x : Step). x.call) (sym (opening_step u.moment id (u.calls id)));
   conns_are = λ c. subst (λ m. ConnAfter Opening u c (conn_state closed v.conns c) m) (sym (state_is c (conn_of c v.conns) refl (cases_Bool (n == c))))
       (same_slots Opening u c (conn_state closed v.conns c) (conn_state closed v.conns c) refl refl refl
@@ -178,32 +177,13 @@ open_after n v closed fates none new h = record {
         ap (λ x. option_map_or state_of x (closed c)) (conn_is c ∙ ap (λ x. option_or x (if n == c then Some (conn_value n 0 [] false false) else None)) o_is
         ∙ ap (λ b. if b then Some (conn_value n 0 [] false false) else None) ne ∙ sym o_is)
 
-pub open_breaks : (n : ℕ) (v w : MachineValue) (closed : ℕ → ConnState) (fates : ℕ → Fate) → conn_of n v.conns ≡ None → closed n ≡ new_conn → HasFates fates v → w ≡ opened_as n v
-    → AfterBreaks (λ c. is_broken_in c w.conns) fates Opening (machine closed v) (machine closed w)
-open_breaks n v w closed fates none new h w_is =
-    subst (λ x. AfterBreaks (λ c. is_broken_in c x.conns) fates Opening (machine closed v) (machine closed x)) (sym w_is)
-    (given_up Opening (λ c. is_broken_in c (opened_as n v).conns) fates (machine closed v) (given (λ c. is_broken_in c (opened_as n v).conns) (machine closed v))
-    (machine closed (opened_as n v)) refl (none_broken v fates closed h) (all_given (λ c. is_broken_in c (opened_as n v).conns) (machine closed v))
-    (open_after n v closed fates none new h)).0
-
--- ---- memory is refused to a piece that brings no request
-
-pub broken_refused : (n : ℕ) (v w : MachineValue) (closed : ℕ → ConnState) → w ≡ broken_at n v → AfterRefusal n (machine closed v) (machine closed w)
-broken_refused n v w closed w_is = subst (λ x. AfterRefusal n (machine closed v) (machine closed x)) (sym w_is) (record {
-  moment_is = refl;
-  drained_is = refl;
-  jobs_are = refl;
-  outs_are = λ id i. ap (λ c. has_out c i) (call_given_up id n v.calls)
-      ∙ cond_both (id.conn == n) (call_state (call_at id v.calls).out None) (call_at id v.calls) (λ c. has_out c i ≡ has_out (call_at id v.calls) i) (λ _. refl) (λ _. refl);
-  others_are = λ id ne. call_given_up id n v.calls ∙ ap (λ b. if b then call_state (call_at id v.calls).out None else call_at id v.calls) ne;
-  conn_is = subst (λ o. ConnStays (conn_state closed v.conns n) (option_map_or state_of o (closed n))) (sym (conn_broken n n v.conns)) (by_it n (n == n) (conn_of n v.conns));
-  conns_are = λ d ne. ap (λ o. option_map_or state_of o (closed d)) (conn_broken d n v.conns ∙ ap (λ b. if b then option_map broken_conn (conn_of d v.conns) else conn_of d v.conns) ne);
-})
-  where
-    by_it : (d : ℕ) (b : Bool) (o : Option ConnValue) → ConnStays (option_map_or state_of o (closed d)) (option_map_or state_of (if b then option_map broken_conn o else o) (closed d))
-    by_it d true None = record { taken_is = refl; slots_are = refl }
-    by_it d true (Some k) = record { taken_is = refl; slots_are = refl }
-    by_it d false o = record { taken_is = refl; slots_are = refl }
+pub open_breaks : (n : ℕ) (v w : MachineValue) (closed : ℕ → ConnState) (were_broken : ℕ → Bool) → conn_of n v.conns ≡ None → closed n ≡ new_conn → HasBroken were_broken v → w ≡ opened_as n v
+    → AfterBreaks (λ c. is_broken_in c w.conns) were_broken Opening (machine closed v) (machine closed w)
+open_breaks n v w closed were_broken none new h w_is =
+    subst (λ x. AfterBreaks (λ c. is_broken_in c x.conns) were_broken Opening (machine closed v) (machine closed x)) (sym w_is)
+    (given_up Opening (λ c. is_broken_in c (opened_as n v).conns) were_broken (machine closed v) (given (λ c. is_broken_in c (opened_as n v).conns) (machine closed v))
+    (machine closed (opened_as n v)) refl (none_broken v were_broken closed h) (all_given (λ c. is_broken_in c (opened_as n v).conns) (machine closed v))
+    (open_after n v closed were_broken none new h)).0
 
 -- ---- a reply is taken
 
@@ -211,11 +191,11 @@ first_slot : (slots : List (Option ReplyEntry)) (e : ReplyEntry) → slot_at 0 s
 first_slot [] e there = absurd (cc)
 first_slot (s ∷ slots) e there = ap (λ x. x ∷ slots) there
 
-pub reply_handed : (i : ℕ) (r : ReplyValue) (v w : MachineValue) (closed : ℕ → ConnState) (fates : ℕ → Fate) (taken : ℕ → List ReplyEntry) (handed : List JobValue) (os : List Occurrence)
-    → i < length v.conns → ConnsApart v.conns → ReplyTaken i v w (Some r) → FatedStands (machine closed v) fates taken handed os
-    → FatedStands (machine closed w) fates (λ d. if d == (conn_at i v.conns).number then taken d ++ r.entry ∷ [] else taken d) handed os
-reply_handed i r v w closed fates taken handed os lt apart t h =
-    reply_taken n r.entry (drop 1 k.slots) (machine closed v) (machine closed w) fates taken handed os h
+pub reply_handed : (i : ℕ) (r : ReplyValue) (v w : MachineValue) (closed : ℕ → ConnState) (taken : ℕ → List ReplyEntry) (handed : List JobValue) (os : List Occurrence)
+    → i < length v.conns → ConnsApart v.conns → ReplyTaken i v w (Some r) → LivedStands (machine closed v) taken handed os
+    → LivedStands (machine closed w) (λ d. if d == (conn_at i v.conns).number then taken d ++ r.entry ∷ [] else taken d) handed os
+reply_handed i r v w closed taken handed os lt apart t h =
+    reply_taken n r.entry (drop 1 k.slots) (machine closed v) (machine closed w) taken handed os h
     (ap (λ (m : ConnState). m.slots) state_is ∙ first_slot k.slots r.entry t.0)
     (ap (λ x. record (machine closed x) { conns = conn_state closed w.conns }) t.2)
     (λ d. by_conn d (d == n) refl)

@@ -12,13 +12,12 @@ use Rattle.gateway_model.specs.declared.id.CallId.{CallId}
 use Rattle.gateway_theory.specs.Conn.{ConnValue, added, conn_value, next_of, without_first}
 use Rattle.gateway_theory.specs.Ends.{AreApart, IsSettled, is_broken_in}
 use Rattle.gateway_theory.specs.Enters.{entered_at, kept_now}
-use Rattle.gateway_theory.specs.Fate.{Fate}
 use Rattle.gateway_theory.specs.Kept.{KeptValue}
 use Rattle.gateway_theory.specs.Opens.{closed_at, opened_as}
-use Rattle.gateway_theory.specs.Orderly.{ConnsApart, FatesAre, IsInOrder, IsOrderly}
+use Rattle.gateway_theory.specs.Orderly.{ConnsApart, BrokenAre, IsInOrder, IsOrderly}
 use Rattle.gateway_model.specs.Past.{is_call}
 use Rattle.gateway_theory.specs.Step.{CallState, Live, Step, gone}
-use Rattle.gateway_theory.specs.Store.{MachineValue, call_at, conn_at, conn_of, kept_at, no_call, no_conn, given_up, given_up_if, broken_conn, broken_if, broken_at, IsFound, HasFates}
+use Rattle.gateway_theory.specs.Store.{MachineValue, call_at, conn_at, conn_of, kept_at, no_call, no_conn, given_up, given_up_if, broken_conn, broken_if, broken_at, IsFound, HasBroken}
 use Rattle.gateway_theory.specs.lemmas.LimitLemmas.{same_call}
 use Rattle.gateway_theory.specs.lemmas.StoreLemmas.{conn_broken}
 use Rattle.gateway_theory.specs.lemmas.StoreMore.{conn_added, conn_found, conn_set, conn_without}
@@ -131,8 +130,8 @@ none_live : (o : Option Live) → (is_some o ≡ true → ⊥) → o ≡ None
 none_live None h = refl
 none_live (Some l) h = absurd (h refl)
 
-pub has_fates : (fates : ℕ → Fate) (v : MachineValue) → IsOrderly v → FatesAre fates v.conns → HasFates fates v
-has_fates fates v h are = record {
+pub has_broken : (were_broken : ℕ → Bool) (v : MachineValue) → IsOrderly v → BrokenAre were_broken v.conns → HasBroken were_broken v
+has_broken were_broken v h are = record {
   open_are = are;
   none_live = λ id shut. none_live (call_at id v.calls).live (λ live.
       let c = live_open v id h.calls_are live in

@@ -1,4 +1,4 @@
--- The machine is orderly after endings and results, and its connections have their fates.
+-- The machine is orderly after endings and results, and its connections have their were_broken.
 use Rattle.std.proofs.Common.{◌≡◌, ℕ, ◌+◌, ◌<◌, Bool, true, false, List, [], length, Option, None, Some, refl, sym, ap, ◌∙◌, subst, arith, inl, inr, All}
 use Rattle.std.specs.Prelude.{if◌then◌else◌, not, is_some, option_map, slice_set, slice_index_or}
 use Rattle.std.specs.Option.{option_map_or}
@@ -11,10 +11,9 @@ use Rattle.gateway_theory.specs.declared.trigger.Trigger.{Trigger}
 use Rattle.gateway_model.specs.declared.entry.ReplyEntry.{ReplyEntry}
 use Rattle.gateway_theory.specs.Conn.{ConnValue}
 use Rattle.gateway_theory.specs.Ends.{AreApart, CallsEnd, MayEnd, ended_below, ended_if, is_broken_in, without_reply}
-use Rattle.gateway_theory.specs.Fate.{Fate, Unbroken, BrokenAt, is_broken, fate_after, fates_after}
 use Rattle.gateway_theory.specs.Kept.{KeptValue}
 use Rattle.gateway_model.specs.Occurrence.{Occurrence}
-use Rattle.gateway_theory.specs.Orderly.{ConnsApart, FatesAre, IsInOrder, IsOrderly}
+use Rattle.gateway_theory.specs.Orderly.{ConnsApart, BrokenAre, IsInOrder, IsOrderly}
 use Rattle.gateway_model.specs.Past.{is_call}
 use Rattle.gateway_theory.specs.Replies.{reply_with}
 use Rattle.gateway_theory.specs.Results.{back_at, back_kept, Forgets, result_at, ResultTaken, Starved, StepsAt, stepped_at, stepped_kept}
@@ -31,28 +30,9 @@ by_numbers new conns same apart = same_numbers new conns size
     size : length new ≡ length conns
     size = sym (length-map new (λ (k : ConnValue). k.number)) ∙ ap (λ ns. length ns) same ∙ length-map conns (λ (k : ConnValue). k.number)
 
--- ---- fates
+-- ---- were_broken
 
 -- a connection that broke stays so: each that is not broken was not
-pub fates_next : (o : Occurrence) (os : List Occurrence) (fates : ℕ → Fate) (w : MachineValue)
-    → ((c : ℕ) (k : ConnValue) → conn_of c w.conns ≡ Some k → k.broken ≡ false → is_broken (fates c) ≡ false)
-    → FatesAre (fates_after (λ c. is_broken_in c w.conns) o os fates) w.conns
-fates_next o os fates w still = λ c k k_is. by_fate c k (fates c) refl (ap (λ x. option_map_or (λ (y : ConnValue). y.broken) x false) k_is) (still c k k_is)
-  where
-    by_fate : (c : ℕ) (k : ConnValue) (f : Fate) → fates c ≡ f → is_broken_in c w.conns ≡ k.broken → (k.broken ≡ false → is_broken (fates c) ≡ false)
-        → k.broken ≡ is_broken (fate_after (is_broken_in c w.conns) o os (fates c))
-    by_fate c k Unbroken f_is breaks_is on =
-        sym breaks_is ∙ by_broken (is_broken_in c w.conns) ∙ sym (ap (λ f. is_broken (fate_after (is_broken_in c w.conns) o os f)) f_is)
-      where
-        by_broken : (b : Bool) → b ≡ is_broken (if b then BrokenAt [] (Some o) os else Unbroken)
-        by_broken true = refl
-        by_broken false = refl
-    by_fate c k (BrokenAt since at older) f_is breaks_is on = by_broken k.broken refl ∙ sym (ap (λ f. is_broken (fate_after (is_broken_in c w.conns) o os f)) f_is)
-      where
-        by_broken : (b : Bool) → k.broken ≡ b → k.broken ≡ true
-        by_broken true e = e
-        by_broken false e = absurd (let clash : false ≡ true = sym (on e) ∙ ap is_broken f_is in cc)
-
 -- ---- endings
 
 end_order : (trigger : Trigger) (breaks : Bool) (conns new : List ConnValue) (k : KeptValue)

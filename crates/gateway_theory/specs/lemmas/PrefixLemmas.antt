@@ -13,20 +13,23 @@ use Rattle.gateway_model.specs.Occurrence.{Occurrence, Opening, Comes, HangUp, M
 use Rattle.gateway_model.specs.Job.{JobValue}
 use Rattle.gateway_model.specs.Known.{is_of}
 use Rattle.gateway_model.specs.Own.{is_break, without_breaks}
-use Rattle.gateway_model.specs.Starts.{jobs, jobs_by}
+use Rattle.gateway_model.specs.Breaks.{by_events}
+use Rattle.gateway_model.specs.Starts.{Placed, jobs, jobs_by, occurrences}
+use Rattle.gateway_model.specs.declared.id.CallId.{CallId}
+use Rattle.gateway_theory.specs.lemmas.Frame.{call_same}
 use Rattle.gateway_theory.specs.lemmas.EventStarts.{shut_jobs}
 use Rattle.gateway_model.specs.Past.{ArrivedCall, Mark, Past, arrivals, asked_by, asked_now, breaks, call, call_id, coming_now, coming_on, counts, decided, deciding, ends_at_arrival, event_by, is_broken, is_shut, mark_of, marked, now, own_event, shuts}
 use Rattle.gateway_model.specs.Queue.{IsPrefixOf, call_entry, came, entry, entry_by, front, own_events, queued_entries, record_deadlines}
 use Rattle.gateway_theory.specs.lemmas.Cases.{or_none}
-use Rattle.gateway_theory.specs.lemmas.OwnLemmas.{call_entry_by, map_range, none_if, unbroken_queue, unbroken_started}
-use Rattle.gateway_theory.specs.lemmas.PastLemmas.{prefix-refl, prefix-trans, queued_entries_grow}
+use Rattle.gateway_theory.specs.lemmas.OwnLemmas.{call_entry_by, map_range, none_if, own_alike, own_without, unbroken_queue, unbroken_started}
+use Rattle.gateway_theory.specs.lemmas.PastLemmas.{call_stays, prefix-refl, prefix-trans, queued_entries_grow}
 
 -- ---- once it broke nothing more is queued
 
 -- nothing comes on it, and nothing happens to its calls
-record Still (c : ℕ) (m : Mark) (past : Past) : Type 0 where
-  none_comes : coming_on c m.what (is_broken c past) ≡ None
-  no_event : (k : ℕ) → own_event (call_id c k) m past ≡ None
+pub record Still (c : ℕ) (m : Mark) (past : Past) : Type 0 where
+  pub none_comes : coming_on c m.what (is_broken c past) ≡ None
+  pub no_event : (k : ℕ) → own_event (call_id c k) m past ≡ None
 
 still_entry : (c k : ℕ) (m : Mark) (past : Past) → Still c m past → entry (call_id c k) (m ∷ past) ≡ entry (call_id c k) past
 still_entry c k m past s = ap (λ o. option_and_then (entry_by (call_id c k) (m ∷ past)) o) came_still ∙ by_came (came (call_id c k) past)
@@ -68,12 +71,12 @@ still_entry c k m past s = ap (λ o. option_and_then (entry_by (call_id c k) (m 
     by_came (Some (Request r (Asks plan timeout id), true)) = refl
     by_came (Some (Request r (Asks plan timeout id), false)) = called
 
-still_queue : (c : ℕ) (m : Mark) (past : Past) → Still c m past → queued_entries c (m ∷ past) ≡ queued_entries c past
+pub still_queue : (c : ℕ) (m : Mark) (past : Past) → Still c m past → queued_entries c (m ∷ past) ≡ queued_entries c past
 still_queue c m past s =
     ap (λ o. front (map (λ k. entry (call_id c k) (m ∷ past)) (range_with_len 0 (if is_some o then suc (arrivals c past) else arrivals c past)))) s.none_comes
     ∙ ap (λ xs. front xs) (map_range (λ k. entry (call_id c k) (m ∷ past)) (λ k. entry (call_id c k) past) 0 (arrivals c past) (λ k lt. still_entry c k m past s))
 
-broken_shut : (c : ℕ) (past : Past) → is_broken c past ≡ true → is_shut c past ≡ true
+pub broken_shut : (c : ℕ) (past : Past) → is_broken c past ≡ true → is_shut c past ≡ true
 broken_shut c [] e = e
 broken_shut c (m ∷ past) e = by m.what e (broken_shut c past)
   where
@@ -95,7 +98,7 @@ broken_shut c (m ∷ past) e = by m.what e (broken_shut c past)
     by Drain e h = h e
     by (Closing d) e h = ap (λ b. (d == c) || b) (h e) ∙ yes (d == c)
 
-after_break : (c : ℕ) (m : Mark) (past : Past) → is_broken c past ≡ true → Still c m past
+pub after_break : (c : ℕ) (m : Mark) (past : Past) → is_broken c past ≡ true → Still c m past
 after_break c m past e = record { none_comes = ap (λ b. coming_on c m.what b) e ∙ none m.what; no_event = λ k. rw (broken_shut c past e) refl }
   where
     none : (o : Occurrence) → coming_on c o true ≡ None
@@ -112,7 +115,7 @@ after_break c m past e = record { none_comes = ap (λ b. coming_on c m.what b) e
     none (Closing d) = refl
     none (Break d) = refl
 
-at_break : (c d : ℕ) (past : Past) → Still c (mark_of past (Break d)) past
+pub at_break : (c d : ℕ) (past : Past) → Still c (mark_of past (Break d)) past
 at_break c d past = record {
   none_comes = refl;
   no_event = λ k. by (λ a. event_by (call_id c k) a (Break d) (counts (Break d) past) past) (λ a. refl) (is_shut c past) (call (call_id c k) past)
@@ -221,3 +224,71 @@ prefix_started c (o ∷ os) = by_past (is_broken c (marked os)) refl (prefix_sta
         → IsPrefixOf (filter (is_of c) (jobs (marked (o ∷ os)))) (filter (is_of c) (jobs (marked (without_breaks (o ∷ os)))))
     by_past true broke before = no_more before (shut_jobs c o os ((after_break c (mark_of (marked os) o) (marked os) broke).none_comes, inl (broken_shut c (marked os) broke)))
     by_past false whole before = by_now (breaks c o) refl whole before
+
+-- ---- the calls
+
+-- what the events alone come to
+pub events_occur : (lived : List Placed) → occurrences (by_events lived) ≡ without_breaks (occurrences lived)
+events_occur [] = refl
+events_occur (o ∷ lived) = by (is_break o.1) (events_occur lived)
+  where
+    by : (b : Bool) → occurrences (by_events lived) ≡ without_breaks (occurrences lived)
+        → occurrences (if not b then o ∷ by_events lived else by_events lived) ≡ (if not b then o.1 ∷ without_breaks (occurrences lived) else without_breaks (occurrences lived))
+    by true h = h
+    by false h = ap (λ us. o.1 ∷ us) h
+
+-- a call that came where connections broke came also if none had
+pub call_within : (id : CallId) (a : ArrivedCall) (os : List Occurrence) → call id (marked os) ≡ Some a → call id (marked (without_breaks os)) ≡ Some a
+call_within id a [] e = e
+call_within id a (o ∷ os) e = by_past (is_broken id.conn (marked os)) refl (call_within id a os)
+  where
+    stays : (b : Bool) → call id (marked (without_breaks os)) ≡ Some a → call id (marked (if not b then o ∷ without_breaks os else without_breaks os)) ≡ Some a
+    stays true h = h
+    stays false h = call_stays id (mark_of (marked (without_breaks os)) o) (marked (without_breaks os)) a h
+
+    still : Still id.conn (mark_of (marked os) o) (marked os) → call id (marked os) ≡ Some a
+    still s = sym (call_same id (mark_of (marked os) o) (marked os) (none_if (arrivals id.conn (marked os) == id.request) (coming_on id.conn o (is_broken id.conn (marked os))) s.none_comes)) ∙ e
+
+    broke_now : (x : Occurrence) → breaks id.conn x ≡ true → Still id.conn (mark_of (marked os) x) (marked os)
+    broke_now (Break d) b = at_break id.conn d (marked os)
+    broke_now Opening b = absurd (cc)
+    broke_now (Comes d x) b = absurd (cc)
+    broke_now (HangUp d) b = absurd (cc)
+    broke_now (Moment t) b = absurd (cc)
+    broke_now (Result of i r) b = absurd (cc)
+    broke_now Drain b = absurd (cc)
+    broke_now (Closing d) b = absurd (cc)
+
+    whole : is_broken id.conn (marked (o ∷ os)) ≡ false → call id (marked (without_breaks (o ∷ os))) ≡ Some a
+    whole off = (own_alike id.conn (without_breaks (o ∷ os))).call_is id.request
+        ∙ ap (λ us. call id (marked us)) (own_without id.conn (o ∷ os) off) ∙ sym ((own_alike id.conn (o ∷ os)).call_is id.request) ∙ e
+
+    by_now : (b : Bool) → breaks id.conn o ≡ b → is_broken id.conn (marked os) ≡ false → (call id (marked os) ≡ Some a → call id (marked (without_breaks os)) ≡ Some a)
+        → call id (marked (without_breaks (o ∷ os))) ≡ Some a
+    by_now true b off h = stays (is_break o) (h (still (broke_now o b)))
+    by_now false b off h = whole (ap (λ x. x || is_broken id.conn (marked os)) b ∙ off)
+
+    by_past : (b : Bool) → is_broken id.conn (marked os) ≡ b → (call id (marked os) ≡ Some a → call id (marked (without_breaks os)) ≡ Some a) → call id (marked (without_breaks (o ∷ os))) ≡ Some a
+    by_past true broke h = stays (is_break o) (h (still (after_break id.conn (mark_of (marked os) o) (marked os) broke)))
+    by_past false off h = by_now (breaks id.conn o) refl off h
+
+-- ---- a connection that is shut by the events alone
+
+abbrev pub is_shut_in : ℕ → List Occurrence → Bool
+is_shut_in c os = is_shut c (marked os)
+
+pub without_shut : (c : ℕ) (os : List Occurrence) → is_shut_in c (without_breaks os) ≡ true → is_shut_in c os ≡ true
+without_shut c [] e = e
+without_shut c (o ∷ os) e = by (is_break o) e (without_shut c os)
+  where
+    yes : (b : Bool) → (b || true) ≡ true
+    yes true = refl
+    yes false = refl
+
+    or_so : (a b d : Bool) → (b ≡ true → d ≡ true) → (a || b) ≡ true → (a || d) ≡ true
+    or_so true b d f x = refl
+    or_so false b d f x = f x
+
+    by : (b : Bool) → is_shut_in c (if not b then o ∷ without_breaks os else without_breaks os) ≡ true → (is_shut_in c (without_breaks os) ≡ true → is_shut_in c os ≡ true) → is_shut_in c (o ∷ os) ≡ true
+    by true x h = ap (λ b. shuts c o || b) (h x) ∙ yes (shuts c o)
+    by false x h = or_so (shuts c o) (is_shut_in c (without_breaks os)) (is_shut_in c os) h x

@@ -11,7 +11,6 @@ use Rattle.gateway_model.specs.declared.id.CallId.{CallId}
 use Rattle.gateway_theory.specs.Breaks.{AfterBreaks, GivenUp, NoneLive}
 use Rattle.gateway_theory.specs.Conn.{ConnValue, state_of}
 use Rattle.gateway_theory.specs.Ends.{is_broken_in, MayBreak}
-use Rattle.gateway_theory.specs.Fate.{Fate, is_broken}
 use Rattle.gateway_theory.specs.Task.{TaskValue}
 use Rattle.gateway_theory.specs.Machine.{ConnState, MachineState, ConnAfter, After, slot_at, step_of}
 use Rattle.gateway_model.specs.Occurrence.{Result}
@@ -19,7 +18,7 @@ use Rattle.gateway_model.specs.Past.{call_id, is_call}
 use Rattle.gateway_theory.specs.Replies.{reply_with}
 use Rattle.gateway_theory.specs.Results.{result_at, stepped_kept, stepped_at, settled_by, ResultTaken}
 use Rattle.gateway_theory.specs.Step.{CallState, Live, Step, call_state, kept, has_out, result_on, first_of, next_out}
-use Rattle.gateway_theory.specs.Store.{MachineValue, machine, call_at, conn_of, conn_state, kept_at, broken_at, broken_if, filled_in, IsFound, HasFates}
+use Rattle.gateway_theory.specs.Store.{MachineValue, machine, call_at, conn_of, conn_state, kept_at, broken_at, broken_if, filled_in, IsFound, HasBroken}
 use Rattle.gateway_theory.specs.lemmas.Cases.{or_none}
 use Rattle.gateway_theory.specs.lemmas.EndLemmas.{open_number, MayFill, fills_in, break_one, broken_then, just_broken}
 use Rattle.gateway_theory.specs.lemmas.GivingUp.{given_up}
@@ -82,10 +81,10 @@ conn_taken m id i outcome reply c closed (Some k) (Some l) f its replies none = 
       ∙ ap (λ n. option_or (slot_at j k.slots) (step_of (call_id n (k.taken + j)) (Result id i outcome) m).reply) (its k refl);
 }
 
-pub taken_after : (v w : MachineValue) (closed : ℕ → ConnState) (fates : ℕ → Fate) (id : CallId) (branch : ℕ) (outcome : Outcome) (i : ℕ) → HasFates fates v → IsFound id v.calls (Some i)
+pub taken_after : (v w : MachineValue) (closed : ℕ → ConnState) (were_broken : ℕ → Bool) (id : CallId) (branch : ℕ) (outcome : Outcome) (i : ℕ) → HasBroken were_broken v → IsFound id v.calls (Some i)
     → has_out (kept_at i v.calls).call branch ≡ true
     → w ≡ settled_by (kept_at i v.calls).id (result_at i branch outcome v) (stepped_at i (result_at i branch outcome v) v) → After (Result id branch outcome) (machine closed v) (machine closed w)
-taken_after v w closed fates id branch outcome i h f out w_is = subst (λ x. After (Result id branch outcome) m (machine closed x)) (sym w_is) (record {
+taken_after v w closed were_broken id branch outcome i h f out w_is = subst (λ x. After (Result id branch outcome) m (machine closed x)) (sym w_is) (record {
   moment_is = omega arith;
   drained_is = refl;
   calls_are = λ other. call_set id other v.calls i (stepped_kept s (kept_at i v.calls)) f refl ∙ by_call other (is_call id other) refl;
@@ -130,17 +129,17 @@ pub eta_none : (c : CallState) → c.live ≡ None → c ≡ call_state c.out No
 eta_none c none = ap (λ (l : Option Live). call_state c.out l) none
 
 -- no call of a connection that is broken can be decided
-pub broken_not_live : (v : MachineValue) (fates : ℕ → Fate) (id : CallId) → HasFates fates v → is_broken_in id.conn v.conns ≡ true → (call_at id v.calls).live ≡ None
-broken_not_live v fates id h broken = by_conn (conn_of id.conn v.conns) refl
+pub broken_not_live : (v : MachineValue) (were_broken : ℕ → Bool) (id : CallId) → HasBroken were_broken v → is_broken_in id.conn v.conns ≡ true → (call_at id v.calls).live ≡ None
+broken_not_live v were_broken id h broken = by_conn (conn_of id.conn v.conns) refl
   where
     by_conn : (o : Option ConnValue) → conn_of id.conn v.conns ≡ o → (call_at id v.calls).live ≡ None
     by_conn None o_is = h.none_live id o_is
     by_conn (Some k) o_is =
         h.broken_none id (sym (h.open_are id.conn k o_is) ∙ ap (λ o. option_map_or (λ (x : ConnValue). x.broken) o false) (sym o_is) ∙ broken)
 
-stays_given : (v : MachineValue) (fates : ℕ → Fate) (closed : ℕ → ConnState) (breaks : ℕ → Bool) → HasFates fates v → ((c : ℕ) → breaks c ≡ is_broken_in c v.conns)
+stays_given : (v : MachineValue) (were_broken : ℕ → Bool) (closed : ℕ → ConnState) (breaks : ℕ → Bool) → HasBroken were_broken v → ((c : ℕ) → breaks c ≡ is_broken_in c v.conns)
     → GivenUp breaks (machine closed v) (machine closed v)
-stays_given v fates closed breaks h same = record {
+stays_given v were_broken closed breaks h same = record {
   moment_is = refl;
   drained_is = refl;
   jobs_are = refl;
@@ -149,11 +148,11 @@ stays_given v fates closed breaks h same = record {
 }
   where
     by_broken : (id : CallId) (b : Bool) → breaks id.conn ≡ b → call_at id v.calls ≡ (if breaks id.conn then call_state (call_at id v.calls).out None else call_at id v.calls)
-    by_broken id true b_is = rw b_is (eta_none (call_at id v.calls) (broken_not_live v fates id h (sym (same id.conn) ∙ b_is)))
+    by_broken id true b_is = rw b_is (eta_none (call_at id v.calls) (broken_not_live v were_broken id h (sym (same id.conn) ∙ b_is)))
     by_broken id false b_is = rw b_is refl
 
-pub none_broken : (v : MachineValue) (fates : ℕ → Fate) (closed : ℕ → ConnState) → HasFates fates v → NoneLive (λ c. is_broken (fates c)) (machine closed v)
-none_broken v fates closed h = λ id e. h.broken_none id e
+pub none_broken : (v : MachineValue) (were_broken : ℕ → Bool) (closed : ℕ → ConnState) → HasBroken were_broken v → NoneLive (λ c. were_broken c) (machine closed v)
+none_broken v were_broken closed h = λ id e. h.broken_none id e
 
 pub fills_broken : (id : CallId) (reply : Option ReplyEntry) (a b : Option ConnValue) → MayFill id reply a b
     → option_map_or (λ (k : ConnValue). k.broken) b false ≡ option_map_or (λ (k : ConnValue). k.broken) a false
@@ -199,11 +198,11 @@ conn_breaks u id i outcome c closed (Some k) (Some l) m none = record {
 abbrev pub given : (ℕ → Bool) → MachineState → MachineState
 given breaks m = record m { calls = λ id. if breaks id.conn then call_state (m.calls id).out None else m.calls id }
 
-broke_after : (v w : MachineValue) (closed : ℕ → ConnState) (fates : ℕ → Fate) (id : CallId) (branch : ℕ) (outcome : Outcome) (i : ℕ) → HasFates fates v → IsFound id v.calls (Some i)
+broke_after : (v w : MachineValue) (closed : ℕ → ConnState) (were_broken : ℕ → Bool) (id : CallId) (branch : ℕ) (outcome : Outcome) (i : ℕ) → HasBroken were_broken v → IsFound id v.calls (Some i)
     → has_out (kept_at i v.calls).call branch ≡ true → is_some (result_at i branch outcome v).reply ≡ true → (result_at i branch outcome v).jobs ≡ []
     → w ≡ broken_at (kept_at i v.calls).id.conn (stepped_at i (result_at i branch outcome v) v)
     → After (Result id branch outcome) (given (λ c. is_broken_in c w.conns) (machine closed v)) (machine closed w)
-broke_after v w closed fates id branch outcome i h f out some none w_is = record {
+broke_after v w closed were_broken id branch outcome i h f out some none w_is = record {
   moment_is = ap (λ (x : MachineValue). x.moment) w_is ∙ omega arith;
   drained_is = ap (λ (x : MachineValue). x.drained) w_is;
   calls_are = λ other. after_is other ∙ by_call other (is_call id other) refl;
@@ -291,27 +290,27 @@ broke_after v w closed fates id branch outcome i h f out some none w_is = record
             by_broken : (b : Bool) → is_broken_in other.conn w.conns ≡ b → call_at other v.calls ≡ u.calls other
             by_broken true b_is =
                 let before : is_broken_in other.conn v.conns ≡ true = sym (broken_then other.conn d v.conns e) ∙ ap (λ ks. is_broken_in other.conn ks) (sym conns_are) ∙ b_is in
-                eta_none (call_at other v.calls) (broken_not_live v fates other h before)
+                eta_none (call_at other v.calls) (broken_not_live v were_broken other h before)
                 ∙ sym (ap (λ b. if b then call_state (call_at other v.calls).out None else call_at other v.calls) b_is)
             by_broken false b_is = sym (ap (λ b. if b then call_state (call_at other v.calls).out None else call_at other v.calls) b_is)
 
 -- ---- each result
 
-pub result_breaks : (v w : MachineValue) (closed : ℕ → ConnState) (fates : ℕ → Fate) (id : CallId) (branch : ℕ) (outcome : Outcome) (took : Took) → HasFates fates v
-    → ResultTaken id branch outcome v w took → AfterBreaks (λ c. is_broken_in c w.conns) fates (Result id branch outcome) (machine closed v) (machine closed w)
-result_breaks v w closed fates id branch outcome took h (inl n) = by_same n.2
+pub result_breaks : (v w : MachineValue) (closed : ℕ → ConnState) (were_broken : ℕ → Bool) (id : CallId) (branch : ℕ) (outcome : Outcome) (took : Took) → HasBroken were_broken v
+    → ResultTaken id branch outcome v w took → AfterBreaks (λ c. is_broken_in c w.conns) were_broken (Result id branch outcome) (machine closed v) (machine closed w)
+result_breaks v w closed were_broken id branch outcome took h (inl n) = by_same n.2
   where
-    by_same : w ≡ v → AfterBreaks (λ c. is_broken_in c w.conns) fates (Result id branch outcome) (machine closed v) (machine closed w)
-    by_same e = subst (λ x. AfterBreaks (λ c. is_broken_in c x.conns) fates (Result id branch outcome) (machine closed v) (machine closed x)) (sym e)
-        (given_up (Result id branch outcome) (λ c. is_broken_in c v.conns) fates (machine closed v) (machine closed v) (machine closed v) refl (none_broken v fates closed h)
-        (stays_given v fates closed (λ c. is_broken_in c v.conns) h (λ c. refl)) (none_taken (machine closed v) id branch outcome n.0)).0
-result_breaks v w closed fates id branch outcome took h (inr (i, f, out, seen, its, inl taken)) =
-    (given_up (Result id branch outcome) (λ c. is_broken_in c w.conns) fates (machine closed v) (machine closed v) (machine closed w) refl (none_broken v fates closed h)
-    (stays_given v fates closed (λ c. is_broken_in c w.conns) h (λ c. ap (λ (x : MachineValue). is_broken_in c x.conns) taken.1
+    by_same : w ≡ v → AfterBreaks (λ c. is_broken_in c w.conns) were_broken (Result id branch outcome) (machine closed v) (machine closed w)
+    by_same e = subst (λ x. AfterBreaks (λ c. is_broken_in c x.conns) were_broken (Result id branch outcome) (machine closed v) (machine closed x)) (sym e)
+        (given_up (Result id branch outcome) (λ c. is_broken_in c v.conns) were_broken (machine closed v) (machine closed v) (machine closed v) refl (none_broken v were_broken closed h)
+        (stays_given v were_broken closed (λ c. is_broken_in c v.conns) h (λ c. refl)) (none_taken (machine closed v) id branch outcome n.0)).0
+result_breaks v w closed were_broken id branch outcome took h (inr (i, f, out, seen, its, inl taken)) =
+    (given_up (Result id branch outcome) (λ c. is_broken_in c w.conns) were_broken (machine closed v) (machine closed v) (machine closed w) refl (none_broken v were_broken closed h)
+    (stays_given v were_broken closed (λ c. is_broken_in c w.conns) h (λ c. ap (λ (x : MachineValue). is_broken_in c x.conns) taken.1
     ∙ fills_broken (kept_at i v.calls).id (result_at i branch outcome v).reply (conn_of c v.conns) _ (fills_in (kept_at i v.calls).id (result_at i branch outcome v).reply v.conns c)))
-    (taken_after v w closed fates id branch outcome i h f out taken.1)).0
-result_breaks v w closed fates id branch outcome took h (inr (i, f, out, seen, its, inr broke)) =
-    (given_up (Result id branch outcome) (λ c. is_broken_in c w.conns) fates (machine closed v) (given (λ c. is_broken_in c w.conns) (machine closed v)) (machine closed w) refl
-    (none_broken v fates closed h)
+    (taken_after v w closed were_broken id branch outcome i h f out taken.1)).0
+result_breaks v w closed were_broken id branch outcome took h (inr (i, f, out, seen, its, inr broke)) =
+    (given_up (Result id branch outcome) (λ c. is_broken_in c w.conns) were_broken (machine closed v) (given (λ c. is_broken_in c w.conns) (machine closed v)) (machine closed w) refl
+    (none_broken v were_broken closed h)
     (record { moment_is = refl; drained_is = refl; jobs_are = refl; conns_are = λ c. refl; calls_are = λ x. refl })
-    (broke_after v w closed fates id branch outcome i h f out broke.1 broke.2 broke.3)).0
+    (broke_after v w closed were_broken id branch outcome i h f out broke.1 broke.2 broke.3)).0

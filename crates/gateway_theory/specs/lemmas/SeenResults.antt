@@ -1,4 +1,4 @@
--- How a result is seen, by the events that the gateway stands for.
+-- How a result is seen, and whether a connection broke by it.
 use Rattle.std.proofs.Common.{◌≡◌, ℕ, Bool, true, false, List, Option, None, Some, map, length, ◌<◌, refl, sym, ap, ◌∙◌, inl, inr}
 use Rattle.std.specs.Prelude.{◌&&◌, ◌==◌, if◌then◌else◌, is_some, option_map, slice_set}
 use Rattle.std.specs.Option.{option_map_or}
@@ -14,33 +14,13 @@ use Rattle.gateway_theory.specs.Ends.{is_broken_in}
 use Rattle.gateway_theory.specs.Orderly.{IsOrderly}
 use Rattle.gateway_theory.specs.Replies.{reply_with}
 use Rattle.gateway_theory.specs.Serving.{Breaks}
-use Rattle.gateway_model.specs.Events.{Occurs, stream}
-use Rattle.gateway_theory.specs.Fate.{BrokenAt, Fate, Unbroken, is_broken}
-use Rattle.gateway_theory.specs.Fated.{CallFated}
-use Rattle.gateway_theory.specs.Gateway.{GatewayStands, GatewayValue}
-use Rattle.gateway_model.specs.Past.{how_seen, marked}
+use Rattle.gateway_theory.specs.Gateway.{GatewayValue}
 use Rattle.gateway_theory.specs.Results.{Forgets, ResultTaken, Starved, StepsAt, result_at}
-use Rattle.gateway_theory.specs.Served.{Served}
-use Rattle.gateway_model.specs.Starts.{Placed, occurrences}
-use Rattle.gateway_model.specs.History.{History}
 use Rattle.gateway_theory.specs.Step.{CallState, Live, has_out, result_on}
 use Rattle.gateway_theory.specs.Store.{MachineValue, broken_at, broken_if, call_at, conn_of, filled_in, kept_at, no_call}
 use Rattle.gateway_theory.specs.lemmas.EndLemmas.{fills_in, just_broken}
 use Rattle.gateway_theory.specs.lemmas.OrderSteps.{filled_back}
-use Rattle.gateway_theory.specs.lemmas.SeenLemmas.{seen_is}
 use Rattle.gateway_theory.specs.lemmas.StoreLemmas.{call_found}
-
-module _ (id : CallId) (branch : ℕ) (v : GatewayValue) (history : History) (occurred : List Placed) where
-  pub seen_stands : Served v history → Occurs v.plans history.opened history.events occurred → (k : ConnValue) → conn_of id.conn v.machine.conns ≡ Some k → k.broken ≡ false
-      → seen_by (call_at id v.machine.calls) branch ≡ how_seen id branch (marked (occurrences occurred))
-  seen_stands h o k k_is on = by_fate (stands.fates id.conn) (sym (stands.fates_are id.conn k k_is) ∙ on) (stands.fated.calls_stand id)
-    where
-      stands : GatewayStands v (λ d. stream history.opened d history.events) history.taken history.handed (occurrences occurred)
-      stands = h.stands occurred o
-
-      by_fate : (f : Fate) → is_broken f ≡ false → CallFated id (call_at id v.machine.calls) f (occurrences occurred) → seen_by (call_at id v.machine.calls) branch ≡ how_seen id branch (marked (occurrences occurred))
-      by_fate Unbroken e c = seen_is id branch (call_at id v.machine.calls).out (call_at id v.machine.calls).live Unbroken (occurrences occurred) c (λ x. absurd (cc))
-      by_fate (BrokenAt since at older) e c = absurd (cc)
 
 module _ (id : CallId) (branch : ℕ) (v u : MachineValue) (took : Took) where
   pub result_seen : (outcome : Outcome) → ResultTaken id branch outcome v u took → took.seen ≡ seen_by (call_at id v.calls) branch

@@ -1,41 +1,40 @@
 -- What the gateway stands for after each event.
 use Rattle.std.proofs.Common.{◌≡◌, ℕ, ◌+◌, ◌<◌, ◌≤◌, Bool, true, false, List, [], ◌∷◌, ◌++◌, length, Option, None, Some, refl, sym, ap, ◌∙◌, subst, arith, append-nil}
-use Rattle.std.specs.Prelude.{if◌then◌else◌, ◌&&◌, ◌||◌, not, ◌==◌, is_some, nat_lt, slice_index_or}
+use Rattle.std.specs.Prelude.{if◌then◌else◌, ◌&&◌, ◌||◌, not, ◌==◌, is_some, nat_lt}
 use Rattle.std.specs.List.{list_any}
 use Rattle.std.proofs.lemmas.Bool.{ltb-false}
-use Rattle.std.proofs.lemmas.List.Elements.{All-map}
 use Rattle.connect_codec.specs.declared.answer.Outcome.{Outcome}
 use Rattle.http_pieces.specs.Reader.{HasRead}
-use Rattle.gateway_model.specs.declared.entry.ReplyEntry.{ReplyEntry}
 use Rattle.gateway_theory.specs.declared.fault.Took.{Took}
 use Rattle.gateway_model.specs.declared.id.CallId.{CallId}
 use Rattle.gateway_theory.specs.declared.trigger.Trigger.{Trigger}
 use Rattle.gateway_theory.specs.declared.trigger.Trigger.TheVariants.{Reached, Drained}
 use Rattle.gateway_theory.specs.Conn.{ConnValue}
-use Rattle.gateway_theory.specs.Ends.{CallsEnd, EndsBy, MayEnd, ended_below, is_broken_in, without_reply}
-use Rattle.gateway_theory.specs.Kept.{KeptValue}
-use Rattle.gateway_model.specs.Events.{Before, Occurs, OccursAt, connections, hung_up, is_closing_of, is_hang_up_of, is_open, listens, onto, piece_of, stream}
+use Rattle.gateway_theory.specs.Ends.{EndsBy}
+use Rattle.gateway_model.specs.Concerns.{can_break, concerns}
+use Rattle.gateway_model.specs.Events.{Before, OccursAt, connections, hung_up, is_closing_of, is_hang_up_of, is_open, listens, piece_of, stream}
 use Rattle.gateway_model.specs.declared.event.Event.TheVariants.{BranchResult, Drain, Moment}
 use Rattle.gateway_model.specs.declared.event.Event.{Event}
-use Rattle.gateway_theory.specs.Gateway.{GatewayStands, GatewayValue, HasCome, stream_of}
-use Rattle.gateway_model.specs.Job.{JobValue}
+use Rattle.gateway_theory.specs.Gateway.{GatewayValue, StreamValue, stream_of}
+use Rattle.gateway_theory.specs.GatewayLived.{GatewayLives, newly_broken}
+use Rattle.gateway_theory.specs.Lived.{breaks_of}
 use Rattle.gateway_model.specs.Occurrence.{Occurrence}
 use Rattle.gateway_model.specs.Occurrence as occurs
+use Rattle.gateway_model.specs.Own.{is_break}
+use Rattle.gateway_model.specs.Past.{Past, breaks}
 use Rattle.gateway_theory.specs.Results.{Forgets, ResultTaken, Starved}
-use Rattle.gateway_theory.specs.Served.{HasConns, Served, StandsBy}
-use Rattle.gateway_theory.specs.Serving.{Ends, IsServing, NoCallOf}
-use Rattle.gateway_model.specs.Starts.{occurrences}
-use Rattle.gateway_model.specs.History.{History, after_event}
+use Rattle.gateway_theory.specs.Served.{Adds, HasConns}
+use Rattle.gateway_theory.specs.Serving.{Ends, IsServing}
+use Rattle.gateway_model.specs.History.{History}
 use Rattle.gateway_theory.specs.Step.{moment_after}
 use Rattle.gateway_theory.specs.Store.{MachineValue, conn_of, numbers}
+use Rattle.gateway_theory.specs.lemmas.Adding.{AreBreaks, MayBreak, adds_one}
 use Rattle.gateway_theory.specs.lemmas.Cases.{and_true, and_false, or_false}
 use Rattle.gateway_theory.specs.lemmas.CutLemmas.{open_known}
-use Rattle.gateway_theory.specs.lemmas.EndLemmas.{id_below}
-use Rattle.gateway_theory.specs.lemmas.EndingSteps.{drain_ends, moment_ends}
-use Rattle.gateway_theory.specs.lemmas.GatewayEnds.{ended_stands}
-use Rattle.gateway_theory.specs.lemmas.GatewaySteps.{Goes, WasBefore, goes_forgotten, goes_listens, goes_result, goes_starved, goes_then, result_stands, starved_stands}
-use Rattle.gateway_theory.specs.lemmas.OrderLemmas.{some_same}
-use Rattle.gateway_theory.specs.lemmas.ServingLemmas.{conn_by_number, keeps_result, keeps_starved, still_none}
+use Rattle.gateway_theory.specs.lemmas.EndingSteps.{drain_ends, goes_ended, goes_told, moment_ends}
+use Rattle.gateway_theory.specs.lemmas.GatewaySteps.{Goes, goes_forgotten, goes_listens, goes_result, goes_starved, goes_then}
+use Rattle.gateway_theory.specs.lemmas.LivedEvents.{ended_lives, ended_may, result_lives, result_may, starved_lives, starved_may}
+use Rattle.gateway_theory.specs.lemmas.ServingLemmas.{conn_by_number, keeps_result, keeps_starved}
 
 -- ---- what an event leaves alone
 
@@ -106,129 +105,98 @@ conns_plain v opened e es p h = record {
       let read = h.reads_are c k s k_is s_is going in (read.0, subst (λ text. HasRead s.reader text read.0) (sym (text_still opened c e es (p.brings_none c))) read.1);
 }
 
--- ---- what occurs at an event
-
-module _ (v : GatewayValue) (taken : ℕ → List ReplyEntry) (handed : List JobValue) where
-  -- the same texts
-  pub texts_same : (texts others : ℕ → List ℕ) (os : List Occurrence) → ((c : ℕ) → others c ≡ texts c) → GatewayStands v texts taken handed os → GatewayStands v others taken handed os
-  texts_same texts others os same h = record {
-    closed = h.closed;
-    fates = h.fates;
-    fated = h.fated;
-    fates_are = h.fates_are;
-    streams_stand = λ c k s k_is s_is going. subst (λ text. HasCome k s.reader text) (sym (same c)) (h.streams_stand c k s k_is s_is going);
-    unopened = h.unopened;
-    begun_is = h.begun_is;
-  }
-
-module _ (v w : GatewayValue) (e : Event) (history : History) (plans_are : w.plans ≡ v.plans) where
-  -- one occurrence comes of the event
-  pub stands_one : (o : Occurrence) → ((os : List Occurrence) → OccursAt v.plans history.opened e history.events os → os ≡ o ∷ []) → ((c : ℕ) → stream history.opened c (e ∷ history.events) ≡ stream history.opened c history.events)
-      → ((os : List Occurrence) → GatewayStands v (λ c. stream history.opened c history.events) history.taken history.handed os → GatewayStands w (λ c. stream history.opened c history.events) history.taken history.handed (o ∷ os))
-      → StandsBy v history → StandsBy w (after_event e history)
-  stands_one o one same step h occurred all = by_past (subst (λ plans. Occurs plans history.opened (e ∷ history.events) occurred) plans_are all)
-    where
-      by_past : Occurs v.plans history.opened (e ∷ history.events) occurred → GatewayStands w (λ c. stream history.opened c (e ∷ history.events)) history.taken history.handed (occurrences occurred)
-      by_past (past, before, (os, at, is)) =
-          subst (λ us. GatewayStands w (λ c. stream history.opened c (e ∷ history.events)) history.taken history.handed us) (sym (ap occurrences (is ∙ ap (λ us. onto (length history.events) us past) (one os at))))
-          (texts_same w history.taken history.handed (λ c. stream history.opened c history.events) (λ c. stream history.opened c (e ∷ history.events)) (o ∷ occurrences past) same (step (occurrences past) (h past before)))
-
-  -- none does
-  pub stands_none : ((os : List Occurrence) → OccursAt v.plans history.opened e history.events os → os ≡ []) → ((c : ℕ) → stream history.opened c (e ∷ history.events) ≡ stream history.opened c history.events)
-      → ((os : List Occurrence) → GatewayStands v (λ c. stream history.opened c history.events) history.taken history.handed os → GatewayStands w (λ c. stream history.opened c history.events) history.taken history.handed os)
-      → StandsBy v history → StandsBy w (after_event e history)
-  stands_none none same step h occurred all = by_past (subst (λ plans. Occurs plans history.opened (e ∷ history.events) occurred) plans_are all)
-    where
-      by_past : Occurs v.plans history.opened (e ∷ history.events) occurred → GatewayStands w (λ c. stream history.opened c (e ∷ history.events)) history.taken history.handed (occurrences occurred)
-      by_past (past, before, (os, at, is)) =
-          subst (λ us. GatewayStands w (λ c. stream history.opened c (e ∷ history.events)) history.taken history.handed us) (sym (ap occurrences (is ∙ ap (λ us. onto (length history.events) us past) (none os at))))
-          (texts_same w history.taken history.handed (λ c. stream history.opened c history.events) (λ c. stream history.opened c (e ∷ history.events)) (occurrences past) same (step (occurrences past) (h past before)))
-
 -- ---- calls end
 
-pub goes_ended : (trigger : Trigger) (v w : MachineValue) → CallsEnd trigger v w → Goes v w
-goes_ended trigger v w e = record {
-  back = λ c l l_is on. by_conn c (conn_of c v.conns) (conn_of c w.conns) l refl l_is on (e.conns_are c);
-  none = λ c none. still_none c w.conns v.conns e.numbers_are none;
-  no_call = λ c all. calls c all;
-}
-  where
-    by_conn : (c : ℕ) (a b : Option ConnValue) (l : ConnValue) → conn_of c v.conns ≡ a → b ≡ Some l → l.broken ≡ false → MayEnd trigger v.calls a b → WasBefore c v l
-    by_conn c None None l a_is b_is on m = absurd (cc)
-    by_conn c None (Some y) l a_is b_is on m = absurd m
-    by_conn c (Some x) None l a_is b_is on m = absurd m
-    by_conn c (Some x) (Some y) l a_is b_is on m =
-        let same : y ≡ l = some_same b_is in (
-          x,
-          a_is,
-          still_on x.broken refl (ap (λ (k : ConnValue). k.broken) same ∙ on) m.stays_broken,
-          ap (λ (k : ConnValue). k.taken + length k.slots) (sym same) ∙ (let a : y.taken ≡ x.taken = m.taken_is in let b : length y.slots ≡ length x.slots = m.size_is in omega (arith, a, b)),
-          ap (λ (k : ConnValue). k.hung_up) (sym same) ∙ m.hung_is,
-        )
-      where
-        still_on : (b : Bool) → x.broken ≡ b → y.broken ≡ false → (x.broken ≡ true → y.broken ≡ true) → x.broken ≡ false
-        still_on true z off stays = absurd (let clash : true ≡ false = sym (stays z) ∙ off in cc)
-        still_on false z off stays = z
-
-    calls : (c : ℕ) → NoCallOf c v.calls → NoCallOf c w.calls
-    calls c all = subst (NoCallOf c) (sym e.calls_are)
-        (All-map (λ (k : KeptValue). (k.id.conn == c) ≡ false) (λ k. without_reply (ended_below trigger (is_broken_in k.id.conn w.conns) true k)) v.calls
-        (λ j d lt. ap (λ (x : CallId). x.conn == c) (id_below trigger (is_broken_in (slice_index_or v.calls j d).id.conn w.conns) true (slice_index_or v.calls j d)) ∙ all j d lt))
-
-module _ (v w : GatewayValue) (history : History) (serving : IsServing v) (h : Served v history) where
+module _ (v w : GatewayValue) (history : History) (serving : IsServing v) where
   -- by a moment or by the drain
   ended_by : (e : Event) (o : Occurrence) (trigger : Trigger) (told : MachineValue) → IsPlain history.opened e history.events → ((os : List Occurrence) → OccursAt v.plans history.opened e history.events os → os ≡ o ∷ [])
-      → told.conns ≡ v.machine.conns → told.calls ≡ v.machine.calls
-      → EndsBy o trigger v.machine told → Ends trigger told v w → Served w (after_event e history)
-  ended_by e o trigger told plain one conns_are calls_are by x = record {
-    conns = conns_plain w history.opened e history.events plain (conns_go v w history.opened history.events (record {
-      opened_is = ap (λ (y : GatewayValue). y.opened) x.rest;
-      streams_are = ap (λ (y : GatewayValue). y.streams) x.rest;
-      numbers_are = x.ends.numbers_are ∙ ap numbers conns_are;
-      goes = from_told (goes_ended trigger told w.machine x.ends);
-    }) h.conns);
-    stands = stands_one v w e history (ap (λ (y : GatewayValue). y.plans) x.rest) o one (λ c. text_still history.opened c e history.events (plain.brings_none c))
-        (λ os stands. ended_stands v w (λ c. stream history.opened c history.events) history.taken history.handed os (λ c t t_is. ap (λ (y : GatewayValue). stream_of c y.streams) (sym x.rest) ∙ t_is)
-        (λ c none. ap (λ (y : GatewayValue). stream_of c y.streams) x.rest ∙ none) (ap (λ (y : GatewayValue). y.opened) x.rest) (ap (λ (y : GatewayValue). y.begun) x.rest) serving.orderly stands o trigger told by x.ends) h.stands;
-  }
+      → EndsBy o trigger v.machine told → ((c : ℕ) → breaks c o ≡ false) → is_break o ≡ false
+      → ((c : ℕ) (p : Past) → concerns c o p ≡ true → can_break c history.opened e history.events p ≡ true) → Ends trigger told v w → Adds history.opened e history v w
+  ended_by e o trigger told plain one by whole solid can x = adds_one e history v w (ap (λ (y : GatewayValue). y.plans) x.rest)
+      (λ h. conns_plain w history.opened e history.events plain (conns_go v w history.opened history.events (record {
+        opened_is = opened_is;
+        streams_are = streams_are;
+        numbers_are = x.ends.numbers_are ∙ ap (λ (m : MachineValue). numbers m.conns) by.machine_is;
+        goes = goes_told told v.machine w.machine (ap (λ (m : MachineValue). m.conns) by.machine_is) (ap (λ (m : MachineValue). m.calls) by.machine_is) (goes_ended trigger told w.machine x.ends);
+      }) h))
+      (λ c. text_still history.opened c e history.events (plain.brings_none c)) o (newly_broken v.machine.conns w.machine.conns) solid (λ h os at. one os at)
+      (λ os h l. (
+        ended_may v w texts history.taken history.handed os same none_more opened_is begun_is serving.orderly l o trigger told by whole x.ends history.opened e history.events can,
+        ended_lives v w texts history.taken history.handed os same none_more opened_is begun_is serving.orderly l o trigger told by whole x.ends,
+      ))
     where
-      from_told : Goes told w.machine → Goes v.machine w.machine
-      from_told g = record {
-        back = λ c l l_is on. let k = g.back c l l_is on in (k.0, ap (conn_of c) (sym conns_are) ∙ k.1, k.2, k.3, k.4);
-        none = λ c none. g.none c (ap (conn_of c) conns_are ∙ none);
-        no_call = λ c all. g.no_call c (subst (NoCallOf c) (sym calls_are) all);
-      }
+      texts : ℕ → List ℕ
+      texts c = stream history.opened c history.events
 
-  pub moment_served : (m : ℕ) → Ends (Reached (moment_after v.machine.moment m)) (record v.machine { moment = moment_after v.machine.moment m }) v w
-      → Served w (after_event (Moment m) history)
-  moment_served m x = ended_by (Moment m) (occurs.Moment m) (Reached (moment_after v.machine.moment m)) (record v.machine { moment = moment_after v.machine.moment m })
-      (record { opens_none = refl; closes_none = λ c. refl; hangs_none = λ c. refl; brings_none = λ c. refl }) (λ os at. at) refl refl (moment_ends m v.machine) x
+      opened_is : w.opened ≡ v.opened
+      opened_is = ap (λ (y : GatewayValue). y.opened) x.rest
 
-  pub drain_served : Ends Drained (record v.machine { drained = true }) v w → Served w (after_event Drain history)
-  drain_served x = ended_by Drain occurs.Drain Drained (record v.machine { drained = true })
-      (record { opens_none = refl; closes_none = λ c. refl; hangs_none = λ c. refl; brings_none = λ c. refl }) (λ os at. at) refl refl (drain_ends v.machine) x
+      begun_is : w.begun ≡ v.begun
+      begun_is = ap (λ (y : GatewayValue). y.begun) x.rest
+
+      streams_are : w.streams ≡ v.streams
+      streams_are = ap (λ (y : GatewayValue). y.streams) x.rest
+
+      same : (c : ℕ) (t : StreamValue) → stream_of c w.streams ≡ Some t → stream_of c v.streams ≡ Some t
+      same c t t_is = ap (stream_of c) (sym streams_are) ∙ t_is
+
+      none_more : (c : ℕ) → stream_of c v.streams ≡ None → stream_of c w.streams ≡ None
+      none_more c none = ap (stream_of c) streams_are ∙ none
+
+  pub moment_adds : (m : ℕ) → Ends (Reached (moment_after v.machine.moment m)) (record v.machine { moment = moment_after v.machine.moment m }) v w
+      → Adds history.opened (Moment m) history v w
+  moment_adds m x = ended_by (Moment m) (occurs.Moment m) (Reached (moment_after v.machine.moment m)) (record v.machine { moment = moment_after v.machine.moment m })
+      (record { opens_none = refl; closes_none = λ c. refl; hangs_none = λ c. refl; brings_none = λ c. refl }) (λ os at. at) (moment_ends m v.machine) (λ c. refl) refl (λ c p y. y) x
+
+  pub drain_adds : Ends Drained (record v.machine { drained = true }) v w → Adds history.opened Drain history v w
+  drain_adds x = ended_by Drain occurs.Drain Drained (record v.machine { drained = true })
+      (record { opens_none = refl; closes_none = λ c. refl; hangs_none = λ c. refl; brings_none = λ c. refl }) (λ os at. at) (drain_ends v.machine) (λ c. refl) refl (λ c p y. y) x
 
   -- a branch ends
   module _ (id : CallId) (branch : ℕ) (outcome : Outcome) (u : MachineValue) (took : Took) (rest : w ≡ record v { machine = w.machine; tally = w.tally }) (forgets : Forgets id u w.machine) where
+    abbrev texts : ℕ → List ℕ
+    texts c = stream history.opened c history.events
+
+    opened_is : w.opened ≡ v.opened
+    opened_is = ap (λ (y : GatewayValue). y.opened) rest
+
+    begun_is : w.begun ≡ v.begun
+    begun_is = ap (λ (y : GatewayValue). y.begun) rest
+
+    streams_are : w.streams ≡ v.streams
+    streams_are = ap (λ (y : GatewayValue). y.streams) rest
+
+    same : (c : ℕ) (t : StreamValue) → stream_of c w.streams ≡ Some t → stream_of c v.streams ≡ Some t
+    same c t t_is = ap (stream_of c) (sym streams_are) ∙ t_is
+
+    none_more : (c : ℕ) → stream_of c v.streams ≡ None → stream_of c w.streams ≡ None
+    none_more c none = ap (stream_of c) streams_are ∙ none
+
     came_back : Goes v.machine w.machine → numbers w.machine.conns ≡ numbers v.machine.conns
-        → ((os : List Occurrence) → GatewayStands v (λ c. stream history.opened c history.events) history.taken history.handed os
-        → GatewayStands w (λ c. stream history.opened c history.events) history.taken history.handed (occurs.Result id branch outcome ∷ os))
-        → Served w (after_event (BranchResult id.conn id.request branch outcome) history)
-    came_back goes same step = record {
-      conns = conns_plain w history.opened (BranchResult id.conn id.request branch outcome) history.events (record { opens_none = refl; closes_none = λ c. refl; hangs_none = λ c. refl; brings_none = λ c. refl })
-          (conns_go v w history.opened history.events (record { opened_is = ap (λ (y : GatewayValue). y.opened) rest; streams_are = ap (λ (y : GatewayValue). y.streams) rest; numbers_are = same; goes = goes }) h.conns);
-      stands = stands_one v w (BranchResult id.conn id.request branch outcome) history (ap (λ (y : GatewayValue). y.plans) rest) (occurs.Result id branch outcome) (λ os at. at)
-          (λ c. text_still history.opened c (BranchResult id.conn id.request branch outcome) history.events refl) step h.stands;
-    }
+        → ((os : List Occurrence) → GatewayLives v texts history.taken history.handed os
+        → AreBreaks (MayBreak history.opened (BranchResult id.conn id.request branch outcome) history.events) (breaks_of (newly_broken v.machine.conns u.conns)) os
+        × GatewayLives w texts history.taken history.handed (occurs.Result id branch outcome ∷ (breaks_of (newly_broken v.machine.conns u.conns) ++ os)))
+        → Adds history.opened (BranchResult id.conn id.request branch outcome) history v w
+    came_back goes numbers_are step = adds_one (BranchResult id.conn id.request branch outcome) history v w (ap (λ (y : GatewayValue). y.plans) rest)
+        (λ h. conns_plain w history.opened (BranchResult id.conn id.request branch outcome) history.events (record { opens_none = refl; closes_none = λ c. refl; hangs_none = λ c. refl; brings_none = λ c. refl })
+        (conns_go v w history.opened history.events (record { opened_is = opened_is; streams_are = streams_are; numbers_are = numbers_are; goes = goes }) h))
+        (λ c. text_still history.opened c (BranchResult id.conn id.request branch outcome) history.events refl) (occurs.Result id branch outcome) (newly_broken v.machine.conns u.conns) refl (λ h os at. at)
+        (λ os h l. step os l)
 
-    pub result_served : ResultTaken id branch outcome v.machine u took → Served w (after_event (BranchResult id.conn id.request branch outcome) history)
-    result_served r = came_back (goes_then v.machine u w.machine (goes_result id branch outcome v.machine u took r) (goes_forgotten id u w.machine forgets))
+    pub result_adds : ResultTaken id branch outcome v.machine u took → Adds history.opened (BranchResult id.conn id.request branch outcome) history v w
+    result_adds r = came_back (goes_then v.machine u w.machine (goes_result id branch outcome v.machine u took r) (goes_forgotten id u w.machine forgets))
         (keeps_result id branch outcome v.machine u w.machine took r forgets).numbers_are
-        (λ os stands. result_stands id branch outcome v w (λ c. stream history.opened c history.events) history.taken history.handed os (ap (λ (y : GatewayValue). y.streams) rest) (ap (λ (y : GatewayValue). y.opened) rest)
-        (ap (λ (y : GatewayValue). y.begun) rest) serving.orderly stands u took r forgets)
+        (λ os l. (
+          result_may v w texts history.taken history.handed os same none_more opened_is begun_is serving.orderly l id branch u forgets outcome
+              history.opened (BranchResult id.conn id.request branch outcome) history.events (λ c p y. y) took r,
+          result_lives v w texts history.taken history.handed os same none_more opened_is begun_is serving.orderly l id branch u forgets outcome took r,
+        ))
 
-    pub starved_served : Starved id branch v.machine u took → Served w (after_event (BranchResult id.conn id.request branch outcome) history)
-    starved_served r = came_back (goes_then v.machine u w.machine (goes_starved id branch v.machine u took r) (goes_forgotten id u w.machine forgets))
+    pub starved_adds : Starved id branch v.machine u took → Adds history.opened (BranchResult id.conn id.request branch outcome) history v w
+    starved_adds r = came_back (goes_then v.machine u w.machine (goes_starved id branch v.machine u took r) (goes_forgotten id u w.machine forgets))
         (keeps_starved id branch v.machine u w.machine took r forgets).numbers_are
-        (λ os stands. starved_stands id branch outcome v w (λ c. stream history.opened c history.events) history.taken history.handed os (ap (λ (y : GatewayValue). y.streams) rest) (ap (λ (y : GatewayValue). y.opened) rest)
-        (ap (λ (y : GatewayValue). y.begun) rest) serving.orderly stands u took r forgets)
+        (λ os l. (
+          starved_may v w texts history.taken history.handed os same none_more opened_is begun_is serving.orderly l id branch u forgets outcome
+              history.opened (BranchResult id.conn id.request branch outcome) history.events (λ c p y. y) took r,
+          starved_lives v w texts history.taken history.handed os same none_more opened_is begun_is serving.orderly l id branch u forgets outcome took r,
+        ))

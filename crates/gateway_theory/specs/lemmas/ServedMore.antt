@@ -9,25 +9,28 @@ use Rattle.gateway_model.specs.declared.id.CallId.{CallId}
 use Rattle.gateway_theory.specs.declared.trigger.Trigger.TheVariants.{HungUp}
 use Rattle.gateway_theory.specs.Conn.{ConnValue}
 use Rattle.gateway_theory.specs.Ends.{CallsEnd, MayEnd, ended_below, ended_call, is_broken_in, without_reply}
+use Rattle.gateway_model.specs.Concerns.{can_break, concerns}
 use Rattle.gateway_model.specs.Events.{Before, hung_up, is_hang_up_of, is_open, listens, once, stream}
 use Rattle.gateway_model.specs.declared.event.Event.TheVariants.{HangUp}
-use Rattle.gateway_theory.specs.Gateway.{GatewayValue, is_listening, stream_of}
+use Rattle.gateway_theory.specs.Gateway.{GatewayValue, StreamValue, is_listening, stream_of}
+use Rattle.gateway_theory.specs.GatewayLived.{newly_broken}
 use Rattle.gateway_theory.specs.Kept.{KeptValue}
 use Rattle.gateway_theory.specs.Machine.{slot_at}
 use Rattle.gateway_model.specs.Occurrence as occurs
 use Rattle.gateway_theory.specs.Orderly.{IsInOrder, IsOrderly}
-use Rattle.gateway_model.specs.Past.{call_id}
-use Rattle.gateway_model.specs.History.{History, after_event}
-use Rattle.gateway_theory.specs.Served.{HasConns, Served, StandsBy}
+use Rattle.gateway_model.specs.Past.{Past, call_id, is_shut}
+use Rattle.gateway_model.specs.History.{History}
+use Rattle.gateway_theory.specs.Served.{Adds, HasConns}
 use Rattle.gateway_theory.specs.Serving.{Ends, HangsUp, hung, unnoticed, NotListening, IsServing, ListensAt}
 use Rattle.gateway_theory.specs.Step.{CallState, Live, call_state}
 use Rattle.gateway_theory.specs.Store.{MachineValue, call_at, conn_at, conn_of, hung_at}
+use Rattle.gateway_theory.specs.lemmas.Adding.{adds_none, adds_one}
 use Rattle.gateway_theory.specs.lemmas.Cases.{or_none, sym_eqb}
-use Rattle.gateway_theory.specs.lemmas.EndingSteps.{hang_up_ends}
-use Rattle.gateway_theory.specs.lemmas.GatewayEnds.{ended_stands}
-use Rattle.gateway_theory.specs.lemmas.GatewaySteps.{hung_listens, hung_stands}
+use Rattle.gateway_theory.specs.lemmas.EndingSteps.{goes_ended, hang_up_ends}
+use Rattle.gateway_theory.specs.lemmas.GatewaySteps.{hung_listens}
+use Rattle.gateway_theory.specs.lemmas.LivedEvents.{ended_lives, ended_may, hung_lives}
 use Rattle.gateway_theory.specs.lemmas.OrderLemmas.{some_same}
-use Rattle.gateway_theory.specs.lemmas.ServedLemmas.{conns_go, goes_ended, hung_still, open_same, open_still, stands_none, stands_one, text_still}
+use Rattle.gateway_theory.specs.lemmas.ServedLemmas.{conns_go, hung_still, open_same, open_still, text_still}
 use Rattle.gateway_theory.specs.lemmas.ServingLemmas.{keeps_hung}
 use Rattle.gateway_theory.specs.lemmas.StoreMore.{conn_found, hung_before, numbers_hung}
 
@@ -131,66 +134,74 @@ not_listening_broken n v opened es h not_listening on = by_conn (conn_of n v.mac
             let going : is_listening k ≡ true = rw (x, h.hung_are n k k_is x, both.1) refl in
             let clash : true ≡ false = sym going ∙ not_listening k k_is in cc)
 
-module _ (n : ℕ) (v : GatewayValue) (history : History) (serving : IsServing v) (h : Served v history) where
-  -- the gateway does nothing
-  pub unnoticed_served : NotListening n v → Served v (after_event (HangUp n) history)
-  unnoticed_served not_listening = record {
-    conns = record {
-      below = λ place its. let lt = h.conns.below place its in omega (arith, lt);
-      count_is = h.conns.count_is;
-      open_are = λ c. open_still history.opened c (HangUp n) history.events refl refl ∙ h.conns.open_are c;
-      hung_are = λ c k k_is on. by_number c k k_is on (n == c) refl;
-      reads_are = λ c k s k_is s_is going.
-          let read = h.conns.reads_are c k s k_is s_is going in (read.0, subst (λ text. HasRead s.reader text read.0) (sym (text_still history.opened c (HangUp n) history.events refl)) read.1);
-    };
-    stands = by_listens (listens history.opened n history.events) refl;
-  }
-    where
-      by_number : (c : ℕ) (k : ConnValue) → conn_of c v.machine.conns ≡ Some k → k.broken ≡ false → (b : Bool) → (n == c) ≡ b → k.hung_up ≡ hung_up history.opened c (HangUp n ∷ history.events)
-      by_number c k k_is on false x = h.conns.hung_are c k k_is on ∙ sym (hung_still history.opened c (HangUp n) history.events x)
-      by_number c k k_is on true x =
-          let off : is_listening k ≡ false = not_listening k (ap (λ m. conn_of m v.machine.conns) (eqb-true n c x) ∙ k_is) in
-          let hung : k.hung_up ≡ true = by_it k.hung_up (sym (ap (λ b. not b && not k.hung_up) on) ∙ off) in
-          hung ∙ sym (ap (λ b. b || (is_open history.opened c history.events && is_hang_up_of c (HangUp n))) (sym (h.conns.hung_are c k k_is on) ∙ hung))
-        where
-          by_it : (b : Bool) → not b ≡ false → b ≡ true
-          by_it true e = refl
-          by_it false e = absurd (cc)
+module _ (n : ℕ) (v : GatewayValue) (history : History) (serving : IsServing v) where
+  abbrev texts : ℕ → List ℕ
+  texts c = stream history.opened c history.events
 
-      by_listens : (b : Bool) → listens history.opened n history.events ≡ b → StandsBy v (after_event (HangUp n) history)
-      by_listens false x = stands_none v v (HangUp n) history refl (λ os at. at ∙ ap (λ b. once b (occurs.HangUp n)) x) (λ c. text_still history.opened c (HangUp n) history.events refl)
-          (λ os stands. stands) h.stands
-      by_listens true x = stands_one v v (HangUp n) history refl (occurs.HangUp n) (λ os at. at ∙ ap (λ b. once b (occurs.HangUp n)) x) (λ c. text_still history.opened c (HangUp n) history.events refl)
-          (λ os stands. ended_stands v v (λ c. stream history.opened c history.events) history.taken history.handed os (λ c t t_is. t_is) (λ c none. none) refl refl serving.orderly stands (occurs.HangUp n) (HungUp n) v.machine
-          (hang_up_ends n v.machine) (quiet_hang_up n v.machine serving.orderly (not_listening_broken n v history.opened history.events h.conns not_listening x))) h.stands
+  -- the connection of a hang-up can break by it, if it listens
+  can_hang : listens history.opened n history.events ≡ true → (c : ℕ) (p : Past) → concerns c (occurs.HangUp n) p ≡ true → can_break c history.opened (HangUp n) history.events p ≡ true
+  can_hang on c p it = ap (λ b. (c == n) && b) on ∙ ap (λ b. b && true) (sym_eqb c n ∙ first (n == c) (not (is_shut c p)) it)
+    where
+      first : (a b : Bool) → (a && b) ≡ true → a ≡ true
+      first true b e = refl
+      first false b e = absurd (cc)
+
+  -- the gateway does nothing
+  pub unnoticed_adds : NotListening n v → Adds history.opened (HangUp n) history v v
+  unnoticed_adds not_listening = by_listens (listens history.opened n history.events) refl
+    where
+      conns : HasConns v history.opened history.events → HasConns v history.opened (HangUp n ∷ history.events)
+      conns h = record {
+        below = λ place its. let lt = h.below place its in omega (arith, lt);
+        count_is = h.count_is;
+        open_are = λ c. open_still history.opened c (HangUp n) history.events refl refl ∙ h.open_are c;
+        hung_are = λ c k k_is on. by_number c k k_is on (n == c) refl;
+        reads_are = λ c k s k_is s_is going.
+            let read = h.reads_are c k s k_is s_is going in (read.0, subst (λ text. HasRead s.reader text read.0) (sym (text_still history.opened c (HangUp n) history.events refl)) read.1);
+      }
+        where
+          by_number : (c : ℕ) (k : ConnValue) → conn_of c v.machine.conns ≡ Some k → k.broken ≡ false → (b : Bool) → (n == c) ≡ b → k.hung_up ≡ hung_up history.opened c (HangUp n ∷ history.events)
+          by_number c k k_is on false x = h.hung_are c k k_is on ∙ sym (hung_still history.opened c (HangUp n) history.events x)
+          by_number c k k_is on true x =
+              let off : is_listening k ≡ false = not_listening k (ap (λ m. conn_of m v.machine.conns) (eqb-true n c x) ∙ k_is) in
+              let hung : k.hung_up ≡ true = by_it k.hung_up (sym (ap (λ b. not b && not k.hung_up) on) ∙ off) in
+              hung ∙ sym (ap (λ b. b || (is_open history.opened c history.events && is_hang_up_of c (HangUp n))) (sym (h.hung_are c k k_is on) ∙ hung))
+            where
+              by_it : (b : Bool) → not b ≡ false → b ≡ true
+              by_it true e = refl
+              by_it false e = absurd (cc)
+
+      by_listens : (b : Bool) → listens history.opened n history.events ≡ b → Adds history.opened (HangUp n) history v v
+      by_listens false x = adds_none (HangUp n) history v v refl conns (λ c. text_still history.opened c (HangUp n) history.events refl)
+          (λ h os at. at ∙ ap (λ b. once b (occurs.HangUp n)) x) (λ os h l. l)
+      by_listens true x = adds_one (HangUp n) history v v refl conns (λ c. text_still history.opened c (HangUp n) history.events refl)
+          (occurs.HangUp n) (newly_broken v.machine.conns v.machine.conns) refl (λ h os at. at ∙ ap (λ b. once b (occurs.HangUp n)) x)
+          (λ os h l. let quiet = quiet_hang_up n v.machine serving.orderly (not_listening_broken n v history.opened history.events h not_listening x) in (
+            ended_may v v texts history.taken history.handed os (λ c t t_is. t_is) (λ c none. none) refl refl serving.orderly l (occurs.HangUp n) (HungUp n) v.machine (hang_up_ends n v.machine) (λ c. refl) quiet
+                history.opened (HangUp n) history.events (can_hang x),
+            ended_lives v v texts history.taken history.handed os (λ c t t_is. t_is) (λ c none. none) refl refl serving.orderly l (occurs.HangUp n) (HungUp n) v.machine (hang_up_ends n v.machine) (λ c. refl) quiet,
+          ))
 
   -- its peer has hung up
-  hung_conns : HasConns (record v { machine = hung_at n v.machine }) history.opened (HangUp n ∷ history.events)
-  hung_conns = record {
-    below = λ place its. let lt = h.conns.below place its in omega (arith, lt);
-    count_is = h.conns.count_is;
-    open_are = λ c. open_still history.opened c (HangUp n) history.events refl refl ∙ h.conns.open_are c ∙ sym (open_same c (hung_at n v.machine).conns v.machine.conns (numbers_hung n v.machine.conns));
+  hung_conns : HasConns v history.opened history.events → HasConns (record v { machine = hung_at n v.machine }) history.opened (HangUp n ∷ history.events)
+  hung_conns h = record {
+    below = λ place its. let lt = h.below place its in omega (arith, lt);
+    count_is = h.count_is;
+    open_are = λ c. open_still history.opened c (HangUp n) history.events refl refl ∙ h.open_are c ∙ sym (open_same c (hung_at n v.machine).conns v.machine.conns (numbers_hung n v.machine.conns));
     hung_are = λ c l l_is on.
         let k = hung_before n c v.machine.conns l l_is in
-        let was : k.0.hung_up ≡ hung_up history.opened c history.events = h.conns.hung_are c k.0 k.1 (sym (ap (λ (x : ConnValue). x.broken) k.2) ∙ on) in
+        let was : k.0.hung_up ≡ hung_up history.opened c history.events = h.hung_are c k.0 k.1 (sym (ap (λ (x : ConnValue). x.broken) k.2) ∙ on) in
         let its : (k.0.number == n) ≡ (n == c) = ap (λ m. m == n) (number_of c v.machine.conns k.0 k.1) ∙ sym_eqb c n in
-        let there : is_open history.opened c history.events ≡ true = h.conns.open_are c ∙ ap (λ o. is_some o) k.1 in
+        let there : is_open history.opened c history.events ≡ true = h.open_are c ∙ ap (λ o. is_some o) k.1 in
         ap (λ (x : ConnValue). x.hung_up) k.2 ∙ ap (λ b. b || (k.0.number == n)) was ∙ ap (λ b. hung_up history.opened c history.events || b) its ∙ sym (ap (λ b. hung_up history.opened c history.events || (b && (n == c))) there);
     reads_are = λ c l s l_is s_is going.
         let k = hung_listens n v.machine c l l_is going in
-        let read = h.conns.reads_are c k.0 s k.1 s_is k.2 in (read.0, subst (λ text. HasRead s.reader text read.0) (sym (text_still history.opened c (HangUp n) history.events refl)) read.1);
+        let read = h.reads_are c k.0 s k.1 s_is k.2 in (read.0, subst (λ text. HasRead s.reader text read.0) (sym (text_still history.opened c (HangUp n) history.events refl)) read.1);
   }
 
   -- its calls end, or it breaks
-  pub hung_served : (i : ℕ) (w : GatewayValue) → ListensAt n v i → Ends (HungUp n) (hung_at n v.machine) v w → Served w (after_event (HangUp n) history)
-  hung_served i w l x = record {
-    conns = conns_go u w history.opened (HangUp n ∷ history.events) (record { opened_is = opened_is; streams_are = streams_are; numbers_are = x.ends.numbers_are; goes = goes_ended (HungUp n) u.machine w.machine x.ends }) hung_conns;
-    stands = stands_one v w (HangUp n) history (ap (λ (y : GatewayValue). y.plans) x.rest) (occurs.HangUp n) (λ os at. at ∙ ap (λ b. once b (occurs.HangUp n)) listening)
-        (λ c. text_still history.opened c (HangUp n) history.events refl)
-        (λ os stands. ended_stands u w (λ c. stream history.opened c history.events) history.taken history.handed os (λ c t t_is. ap (stream_of c) (sym streams_are) ∙ t_is) (λ c none. ap (stream_of c) streams_are ∙ none) opened_is
-        (ap (λ (y : GatewayValue). y.begun) x.rest) ((keeps_hung n v.machine).orderly serving.orderly) (hung_stands n v (λ c. stream history.opened c history.events) history.taken history.handed os stands) (occurs.HangUp n) (HungUp n) u.machine
-        (hang_up_ends n u.machine) x.ends) h.stands;
-  }
+  pub hung_adds : (i : ℕ) (w : GatewayValue) → ListensAt n v i → Ends (HungUp n) (hung_at n v.machine) v w → Adds history.opened (HangUp n) history v w
+  hung_adds i w l x = by_listens (listens history.opened n history.events) refl
     where
       u : GatewayValue
       u = record v { machine = hung_at n v.machine }
@@ -198,17 +209,45 @@ module _ (n : ℕ) (v : GatewayValue) (history : History) (serving : IsServing v
       opened_is : w.opened ≡ v.opened
       opened_is = ap (λ (y : GatewayValue). y.opened) x.rest
 
+      begun_is : w.begun ≡ v.begun
+      begun_is = ap (λ (y : GatewayValue). y.begun) x.rest
+
       streams_are : w.streams ≡ v.streams
       streams_are = ap (λ (y : GatewayValue). y.streams) x.rest
+
+      same : (c : ℕ) (t : StreamValue) → stream_of c w.streams ≡ Some t → stream_of c u.streams ≡ Some t
+      same c t t_is = ap (stream_of c) (sym streams_are) ∙ t_is
+
+      none_more : (c : ℕ) → stream_of c u.streams ≡ None → stream_of c w.streams ≡ None
+      none_more c none = ap (stream_of c) streams_are ∙ none
+
+      order : IsOrderly u.machine
+      order = (keeps_hung n v.machine).orderly serving.orderly
+
+      conns : HasConns v history.opened history.events → HasConns w history.opened (HangUp n ∷ history.events)
+      conns h = conns_go u w history.opened (HangUp n ∷ history.events)
+          (record { opened_is = opened_is; streams_are = streams_are; numbers_are = x.ends.numbers_are; goes = goes_ended (HungUp n) u.machine w.machine x.ends }) (hung_conns h)
 
       here : conn_of n v.machine.conns ≡ Some (conn_at i v.machine.conns)
       here = ap (λ m. conn_of m v.machine.conns) (sym l.conn_is) ∙ conn_found i v.machine.conns l.conn_there serving.orderly.conns_apart
 
-      listening : listens history.opened n history.events ≡ true
-      listening = rw (h.conns.open_are n ∙ ap (λ o. is_some o) here, sym (h.conns.hung_are n (conn_at i v.machine.conns) here l.unbroken) ∙ l.on) refl
+      listening : HasConns v history.opened history.events → listens history.opened n history.events ≡ true
+      listening h = rw (h.open_are n ∙ ap (λ o. is_some o) here, sym (h.hung_are n (conn_at i v.machine.conns) here l.unbroken) ∙ l.on) refl
 
-pub hang_up_served : (n : ℕ) (v w : GatewayValue) (result : Result ⊤ StepFault) (history : History)
-    → IsServing v → Served v history → HangsUp n v w result → Served w (after_event (HangUp n) history)
-hang_up_served n v w result history serving h (unnoticed not_listening r w_is) =
-    subst (λ x. Served x (after_event (HangUp n) history)) (sym w_is) (unnoticed_served n v history serving h not_listening)
-hang_up_served n v w result history serving h (hung i l x r) = hung_served n v history serving h i w l x
+      was_broken : List ℕ
+      was_broken = newly_broken (hung_at n v.machine).conns w.machine.conns
+
+      by_listens : (b : Bool) → listens history.opened n history.events ≡ b → Adds history.opened (HangUp n) history v w
+      by_listens false off = adds_none (HangUp n) history v w (ap (λ (y : GatewayValue). y.plans) x.rest) conns (λ c. text_still history.opened c (HangUp n) history.events refl)
+          (λ h os at. absurd (let clash : true ≡ false = sym (listening h) ∙ off in cc)) (λ os h l. absurd (let clash : true ≡ false = sym (listening h) ∙ off in cc))
+      by_listens true on = adds_one (HangUp n) history v w (ap (λ (y : GatewayValue). y.plans) x.rest) conns (λ c. text_still history.opened c (HangUp n) history.events refl)
+          (occurs.HangUp n) was_broken refl (λ h os at. at ∙ ap (λ b. once b (occurs.HangUp n)) on)
+          (λ os h l. let noted = hung_lives n v texts history.taken history.handed os l in (
+            ended_may u w texts history.taken history.handed os same none_more opened_is begun_is order noted (occurs.HangUp n) (HungUp n) u.machine (hang_up_ends n u.machine) (λ c. refl) x.ends
+                history.opened (HangUp n) history.events (can_hang on),
+            ended_lives u w texts history.taken history.handed os same none_more opened_is begun_is order noted (occurs.HangUp n) (HungUp n) u.machine (hang_up_ends n u.machine) (λ c. refl) x.ends,
+          ))
+
+  pub hang_up_adds : (w : GatewayValue) (result : Result ⊤ StepFault) → HangsUp n v w result → Adds history.opened (HangUp n) history v w
+  hang_up_adds w result (unnoticed not_listening r w_is) = subst (λ x. Adds history.opened (HangUp n) history v x) (sym w_is) (unnoticed_adds not_listening)
+  hang_up_adds w result (hung i l x r) = hung_adds i w l x

@@ -1,48 +1,52 @@
 -- What the gateway stands for after a piece of a stream.
-use Rattle.std.proofs.Common.{◌≡◌, ℕ, ◌+◌, ◌<◌, ◌*◌, ◌≤◌, Bool, true, false, List, [], ◌∷◌, ◌++◌, map, take, length, Some, refl, sym, ap, ◌∙◌, subst, arith, append-nil, ⊎_elim, inl, inr}
-use Rattle.std.specs.Prelude.{◌⊎◌, if◌then◌else◌, ◌||◌, ◌==◌, is_some, MatchBool}
+use Rattle.std.proofs.Common.{◌≡◌, ℕ, ◌+◌, ◌<◌, ◌*◌, ◌≤◌, Bool, true, false, List, [], ◌∷◌, ◌++◌, map, take, length, Option, None, Some, refl, sym, ap, ◌∙◌, subst, arith, append-nil, append_assoc, ⊎_elim, inl, inr}
+use Rattle.std.specs.Prelude.{◌⊎◌, if◌then◌else◌, ◌&&◌, ◌||◌, ◌==◌, is_some, reverse, MatchBool}
 use Rattle.std.specs.Option.{option_map_or}
 use Rattle.std.proofs.lemmas.Bool.{eq-eqb, eqb-true, ne_eqb}
-use Rattle.std.proofs.lemmas.List.{length-append}
+use Rattle.std.proofs.lemmas.List.{length-append, reverse-append}
 use Rattle.call_plan.specs.Plan.{PlanRecord}
 use Rattle.http_pieces.specs.Reader.{ReaderValue, Reading, Partial, Waiting, Stopped, Done, HasRead, HasReadTo, is_over, left_of}
 use Rattle.http_pieces.specs.Request.{HttpRequest}
 use Rattle.http_pieces.specs.Requests.{RefusedBy, Closed, Requests}
 use Rattle.gateway_model.specs.declared.entry.ReplyEntry.{ReplyEntry}
 use Rattle.gateway_model.specs.declared.id.CallId.{CallId}
+use Rattle.gateway_theory.specs.Arrivals.{calls_in}
 use Rattle.gateway_theory.specs.Breaks.{CallAfter, ConnBy, ComingBreaks, is_broken_after}
 use Rattle.gateway_theory.specs.Conn.{ConnValue, added}
 use Rattle.gateway_theory.specs.Ends.{is_broken_in}
 use Rattle.gateway_theory.specs.Enters.{Enters, arriving_at}
-use Rattle.gateway_model.specs.Events.{Before, Gains, Occurs, listens, stream}
+use Rattle.gateway_model.specs.Events.{Before, Gains, listens, stream}
+use Rattle.gateway_model.specs.declared.event.Event.{Event}
 use Rattle.gateway_model.specs.declared.event.Event.TheVariants.{Piece}
-use Rattle.gateway_theory.specs.Fate.{fates_after, is_broken}
-use Rattle.gateway_theory.specs.Gateway.{Brings, Feeds, GatewayStands, GatewayValue, HasCome, StreamValue, is_listening, stream_at, stream_of, with_bytes}
+use Rattle.gateway_theory.specs.Gateway.{Brings, Feeds, GatewayValue, HasCome, StreamValue, calls_brought, is_listening, stream_at, stream_of, with_bytes}
+use Rattle.gateway_theory.specs.GatewayLived.{GatewayLives, newly_broken}
 use Rattle.gateway_model.specs.Job.{JobValue}
+use Rattle.gateway_theory.specs.Lived.{breaks_of}
 use Rattle.gateway_theory.specs.Machine.{arriving, next_id, with_slot}
-use Rattle.gateway_model.specs.Occurrence.{Coming, Comes, Occurrence, Refused, Request}
+use Rattle.gateway_model.specs.Occurrence.{Break, Coming, Comes, Occurrence, Refused, Request}
+use Rattle.gateway_model.specs.Own.{without_breaks}
 use Rattle.gateway_model.specs.Arrival.{arrival_of}
-use Rattle.gateway_model.specs.Past.{is_call}
+use Rattle.gateway_model.specs.Past.{is_broken, is_call, marked}
 use Rattle.gateway_theory.specs.RequestLaws.{RequestLaws}
-use Rattle.gateway_theory.specs.Served.{HasConns, Served, StandsBy}
+use Rattle.gateway_theory.specs.Served.{Adds, HasConns, Lives}
 use Rattle.gateway_theory.specs.Orderly.{IsOrderly}
 use Rattle.gateway_theory.specs.Serving.{NotListening, IsServing, ListensAt}
-use Rattle.gateway_model.specs.Starts.{occurrences}
-use Rattle.gateway_model.specs.History.{History, after_event}
+use Rattle.gateway_model.specs.Starts.{Placed, occurrences}
+use Rattle.gateway_model.specs.History.{History}
 use Rattle.gateway_theory.specs.Store.{MachineValue, broken_at, conn_at, conn_of, machine, numbers}
+use Rattle.gateway_theory.specs.lemmas.Adding.{AreBreaks, MayBreak, Newer, StandsThen, adds_event, adds_none, breaks_join, texts_same, without_both, without_these}
 use Rattle.gateway_theory.specs.lemmas.Cases.{and_true}
-use Rattle.gateway_theory.specs.lemmas.Concerned.{not_broken}
-use Rattle.gateway_theory.specs.lemmas.CutLemmas.{back, occurrences_onto}
+use Rattle.gateway_theory.specs.lemmas.GoingOn.{flipped}
 use Rattle.gateway_theory.specs.lemmas.EndLemmas.{numbers_broken, just_broken}
-use Rattle.gateway_theory.specs.lemmas.ComingFates.{fated_coming}
 use Rattle.gateway_theory.specs.lemmas.EventLemmas.{gains_unique}
 use Rattle.gateway_theory.specs.lemmas.FeedLemmas.{other_conn, this_conn, stream_found, stream_set}
-use Rattle.gateway_theory.specs.lemmas.FeedSteps.{fed_stands}
-use Rattle.gateway_theory.specs.lemmas.GatewayOpens.{refused_stands}
-use Rattle.gateway_theory.specs.lemmas.GatewaySteps.{goes_broken, still_off, going_parts}
-use Rattle.gateway_theory.specs.lemmas.OrderLemmas.{some_same}
-use Rattle.gateway_theory.specs.lemmas.OrderSteps.{fates_next}
-use Rattle.gateway_theory.specs.lemmas.ServedLemmas.{hung_still, open_same, open_still, stands_none}
+use Rattle.gateway_theory.specs.lemmas.FeedSteps.{Brought, come, fed_lives, fed_may, still_lives, what}
+use Rattle.gateway_theory.specs.lemmas.GatewaySteps.{goes_broken, going_parts}
+use Rattle.gateway_theory.specs.lemmas.LivedEnds.{broken_are_in, broken_in, in_conns}
+use Rattle.gateway_theory.specs.lemmas.LivedEvents.{broken_lives}
+use Rattle.gateway_theory.specs.lemmas.LivedSteps.{lived_coming}
+use Rattle.gateway_theory.specs.lemmas.OrderLemmas.{broken_order, some_same}
+use Rattle.gateway_theory.specs.lemmas.ServedLemmas.{hung_still, open_same, open_still}
 use Rattle.gateway_theory.specs.lemmas.ServedMore.{not_listening_broken}
 use Rattle.gateway_theory.specs.lemmas.ServingLemmas.{keeps_entered, streams_apart}
 use Rattle.gateway_theory.specs.lemmas.StoreMore.{conn_found}
@@ -50,58 +54,65 @@ use Rattle.gateway_theory.specs.lemmas.StoreMore.{conn_found}
 -- ---- what comes on a broken connection does nothing
 
 module _ (c : ℕ) (x : Coming) (v : GatewayValue) (texts : ℕ → List ℕ) (taken : ℕ → List ReplyEntry) (handed : List JobValue) (os : List Occurrence)
-    (broken : is_broken_in c v.machine.conns ≡ true) (h : GatewayStands v texts taken handed os) where
+    (orderly : IsOrderly v.machine) (broken : is_broken_in c v.machine.conns ≡ true) (h : GatewayLives v texts taken handed os) where
   abbrev breaks : ℕ → Bool
   breaks = λ d. is_broken_in d v.machine.conns
 
-  broken_fate : is_broken (h.fates c) ≡ true
-  broken_fate = by_fate (is_broken (h.fates c)) refl
+  abbrev were_broken : ℕ → Bool
+  were_broken = broken_in v.machine.conns
+
+  broken_is : (d : ℕ) → is_broken_after breaks were_broken d ≡ is_broken_in d v.machine.conns
+  broken_is d = twice (breaks d)
     where
-      by_fate : (b : Bool) → is_broken (h.fates c) ≡ b → is_broken (h.fates c) ≡ true
-      by_fate true e = e
-      by_fate false e = absurd (let clash : true ≡ false = sym broken ∙ not_broken c v.machine.conns h.fates h.fates_are e in cc)
+      twice : (b : Bool) → (b || b) ≡ b
+      twice true = refl
+      twice false = refl
 
-  other : (d : ℕ) → is_broken_after breaks h.fates d ≡ false → (d == c) ≡ false
-  other d on = ne_eqb d c (λ same. let clash : true ≡ false = sym (ap (λ m. is_broken_after breaks h.fates m) same ∙ ap (λ b. b || breaks c) broken_fate) ∙ on in absurd (cc))
+  other : (d : ℕ) → is_broken_after breaks were_broken d ≡ false → (d == c) ≡ false
+  other d on = ne_eqb d c (λ same. let clash : true ≡ false = sym (ap (λ m. is_broken_in m v.machine.conns) same ∙ broken) ∙ sym (broken_is d) ∙ on in absurd (cc))
 
-  quiet_coming : ComingBreaks breaks h.fates c x (machine h.closed v.machine) (machine h.closed v.machine)
+  was_broken : (d : ℕ) → is_broken_after breaks were_broken d ≡ true → is_broken d (marked os) ≡ true
+  was_broken d e = by_conn (conn_of d v.machine.conns) refl
+    where
+      by_conn : (k : Option ConnValue) → conn_of d v.machine.conns ≡ k → is_broken d (marked os) ≡ true
+      by_conn None k_is = absurd (let clash : false ≡ true = sym (ap (λ o. option_map_or (λ (y : ConnValue). y.broken) o false) k_is) ∙ sym (broken_is d) ∙ e in cc)
+      by_conn (Some k) k_is = sym (h.conns_live.broken_are d k k_is) ∙ sym (in_conns d v.machine.conns k k_is) ∙ sym (broken_is d) ∙ e
+
+  quiet_coming : ComingBreaks breaks were_broken c x (machine h.closed v.machine) (machine h.closed v.machine)
   quiet_coming = record {
     moment_is = refl;
     drained_is = refl;
-    calls_are = λ id. by_call id (is_broken_after breaks h.fates id.conn) refl;
-    conns_are = λ d. by_conn d (is_broken_after breaks h.fates d) refl;
-    jobs_are = sym (ap (λ b. v.machine.jobs ++ (if b || breaks c then [] else (arriving c x (machine h.closed v.machine)).jobs)) broken_fate ∙ append-nil v.machine.jobs);
+    calls_are = λ id. by_call id (is_broken_after breaks were_broken id.conn) refl;
+    conns_are = λ d. by_conn d (is_broken_after breaks were_broken d) refl;
+    jobs_are = sym (ap (λ b. v.machine.jobs ++ (if b then [] else (arriving c x (machine h.closed v.machine)).jobs)) (broken_is c ∙ broken) ∙ append-nil v.machine.jobs);
   }
     where
-      by_call : (id : CallId) (b : Bool) → is_broken_after breaks h.fates id.conn ≡ b
+      by_call : (id : CallId) (b : Bool) → is_broken_after breaks were_broken id.conn ≡ b
           → CallAfter b id (Comes c x) ((machine h.closed v.machine).calls id) ((machine h.closed v.machine).calls id)
           (if is_call (next_id c (machine h.closed v.machine)) id then (arriving c x (machine h.closed v.machine)).call else (machine h.closed v.machine).calls id)
       by_call id true e = record { outs_are = λ i. sym (and_true _) }
       by_call id false e = sym (ap (λ b. if b then (arriving c x (machine h.closed v.machine)).call else (machine h.closed v.machine).calls id) not_its)
         where
-          turned : (c == id.conn) ≡ false
-          turned = ne_eqb c id.conn (λ same. let clash : true ≡ false = sym (eq-eqb id.conn c (sym same)) ∙ other id.conn e in absurd (cc))
-
           not_its : is_call (next_id c (machine h.closed v.machine)) id ≡ false
-          not_its = rw turned refl
+          not_its = rw (flipped c id.conn (other id.conn e)) refl
 
-      by_conn : (d : ℕ) (b : Bool) → is_broken_after breaks h.fates d ≡ b
+      by_conn : (d : ℕ) (b : Bool) → is_broken_after breaks were_broken d ≡ b
           → ConnBy b (d == c) (arriving c x (machine h.closed v.machine)).reply ((machine h.closed v.machine).conns d) ((machine h.closed v.machine).conns d)
       by_conn d true e = record { taken_is = refl; slots_are = refl }
       by_conn d false e = sym (ap (λ b. if b then with_slot (arriving c x (machine h.closed v.machine)).reply ((machine h.closed v.machine).conns d) else (machine h.closed v.machine).conns d) (other d e))
 
-  coming_quiet : GatewayStands v texts taken handed (Comes c x ∷ os)
+  coming_quiet : GatewayLives v texts taken handed (Comes c x ∷ os)
   coming_quiet = record {
     closed = h.closed;
-    fates = fates_after breaks (Comes c x) os h.fates;
-    fated = fated_coming c x breaks (machine h.closed v.machine) (machine h.closed v.machine) h.fates taken handed os
-        (λ on. absurd (let clash : true ≡ false = sym (ap (λ b. b || breaks c) broken_fate) ∙ on in cc)) h.fated
-        (λ d on breaks. absurd (let clash : true ≡ false = sym breaks ∙ not_broken d v.machine.conns h.fates h.fates_are on in cc)) quiet_coming;
-    fates_are = fates_next (Comes c x) os h.fates v.machine (λ d l l_is on. sym (h.fates_are d l l_is) ∙ on);
+    lives = lived_coming taken handed c x breaks were_broken (machine h.closed v.machine) (machine h.closed v.machine) os [] h.lives quiet_coming was_broken (λ d e. refl)
+        (λ id e. (broken_are_in v.machine orderly).broken_none id (sym (broken_is id.conn) ∙ e))
+        (λ on. absurd (let clash : true ≡ false = sym broken ∙ sym (broken_is c) ∙ on in cc))
+        (λ on. absurd (let clash : true ≡ false = sym broken ∙ sym (broken_is c) ∙ on in cc));
+    conns_live = record { broken_are = h.conns_live.broken_are; open_are = h.conns_live.open_are };
     streams_stand = h.streams_stand;
     unopened = λ d le. let u = h.unopened d le in record {
       state_is = u.state_is;
-      unbroken = still_off v.machine (Comes c x) os h.fates d u.no_conn u.unbroken;
+      unshut = u.unshut;
       no_conn = u.no_conn;
       no_stream_is = u.no_stream_is;
       no_call = u.no_call;
@@ -110,20 +121,35 @@ module _ (c : ℕ) (x : Coming) (v : GatewayValue) (texts : ℕ → List ℕ) (t
   }
 
 comings_quiet : (c : ℕ) (xs : List Coming) (v : GatewayValue) (texts : ℕ → List ℕ) (taken : ℕ → List ReplyEntry) (handed : List JobValue) (os : List Occurrence)
-    → is_broken_in c v.machine.conns ≡ true → GatewayStands v texts taken handed os → GatewayStands v texts taken handed (back (map (Comes c) xs) os)
-comings_quiet c [] v texts taken handed os broken h = h
-comings_quiet c (x ∷ xs) v texts taken handed os broken h = comings_quiet c xs v texts taken handed (Comes c x ∷ os) broken (coming_quiet c x v texts taken handed os broken h)
+    → IsOrderly v.machine → is_broken_in c v.machine.conns ≡ true → GatewayLives v texts taken handed os → GatewayLives v texts taken handed (reverse (map (Comes c) xs) ++ os)
+comings_quiet c [] v texts taken handed os orderly broken h = h
+comings_quiet c (x ∷ xs) v texts taken handed os orderly broken h =
+    subst (λ us. GatewayLives v texts taken handed us)
+    (sym (append_assoc (reverse (map (Comes c) xs)) (Comes c x ∷ []) os) ∙ ap (λ us. us ++ os) (sym (reverse-append (Comes c x ∷ []) (map (Comes c) xs))))
+    (comings_quiet c xs v texts taken handed (Comes c x ∷ os) orderly broken (coming_quiet c x v texts taken handed os orderly broken h))
+
+-- what comes is no break
+without_comings : (c : ℕ) (xs : List Coming) → without_breaks (reverse (map (Comes c) xs)) ≡ reverse (map (Comes c) xs)
+without_comings c [] = refl
+without_comings c (x ∷ xs) =
+    ap (λ us. without_breaks us) (reverse-append (Comes c x ∷ []) (map (Comes c) xs))
+    ∙ without_both (reverse (map (Comes c) xs)) (Comes c x ∷ [])
+    ∙ ap (λ us. us ++ Comes c x ∷ []) (without_comings c xs) ∙ sym (reverse-append (Comes c x ∷ []) (map (Comes c) xs))
+
+no_comings : (P : ℕ → List Occurrence → Type 0) (c : ℕ) (xs : List Coming) (os : List Occurrence) → AreBreaks P (reverse (map (Comes c) xs)) os
+no_comings P c [] os = tt
+no_comings P c (x ∷ xs) os = subst (λ us. AreBreaks P us os) (sym (reverse-append (Comes c x ∷ []) (map (Comes c) xs)))
+    (breaks_join P (reverse (map (Comes c) xs)) (Comes c x ∷ []) os (no_comings P c xs (Comes c x ∷ os)) (tt, tt))
 
 -- ---- texts
 
 -- the same texts, but of streams that are broken
 texts_else : (v : GatewayValue) (texts others : ℕ → List ℕ) (taken : ℕ → List ReplyEntry) (handed : List JobValue) (os : List Occurrence)
-    → ((c : ℕ) → (others c ≡ texts c) ⊎ (is_broken_in c v.machine.conns ≡ true)) → GatewayStands v texts taken handed os → GatewayStands v others taken handed os
+    → ((c : ℕ) → (others c ≡ texts c) ⊎ (is_broken_in c v.machine.conns ≡ true)) → GatewayLives v texts taken handed os → GatewayLives v others taken handed os
 texts_else v texts others taken handed os same h = record {
   closed = h.closed;
-  fates = h.fates;
-  fated = h.fated;
-  fates_are = h.fates_are;
+  lives = h.lives;
+  conns_live = h.conns_live;
   streams_stand = λ c k s k_is s_is going. by_text c k s k_is s_is going (same c);
   unopened = h.unopened;
   begun_is = h.begun_is;
@@ -162,31 +188,38 @@ text_on opened c n bytes es on = by_number (n == c) refl
         ap (λ b. if b then stream opened c es ++ (if n == c then bytes else []) else stream opened c es) (ap (λ m. listens opened m es) (sym (eqb-true n c e)) ∙ on)
         ∙ ap (λ b. stream opened c es ++ (if b then bytes else [])) e ∙ sym (ap (λ b. if b then stream opened c es ++ bytes else stream opened c es) (turned true e))
 
--- ---- what the definitions bring, and the gateway has not taken
+-- ---- what the definitions bring
 
-module _ (n : ℕ) (bytes : List ℕ) (v w : GatewayValue) (history : History) (plans_are : w.plans ≡ v.plans) where
-  abbrev Piecewise : List Occurrence → Type 0
-  Piecewise os = MatchBool (listens history.opened n history.events)
-      ((gained : List Coming) × Gains v.plans (stream history.opened n history.events) (stream history.opened n history.events ++ bytes) gained × (os ≡ map (Comes n) gained)) (os ≡ [])
+module _ (n : ℕ) (bytes : List ℕ) (v w : GatewayValue) (history : History) (plans_are : w.plans ≡ v.plans)
+    (conns : HasConns v history.opened history.events → HasConns w history.opened (Piece n bytes ∷ history.events)) where
+  abbrev before_texts : ℕ → List ℕ
+  before_texts d = stream history.opened d history.events
 
-  -- by what the stream gains
-  stands_gained : listens history.opened n history.events ≡ true
-      → ((gained : List Coming) (os : List Occurrence) → Gains v.plans (stream history.opened n history.events) (stream history.opened n history.events ++ bytes) gained → GatewayStands v (λ c. stream history.opened c history.events) history.taken history.handed os
-      → GatewayStands w (with_bytes n bytes (λ d. stream history.opened d history.events)) history.taken history.handed (back (map (Comes n) gained) os))
-      → StandsBy v history → StandsBy w (after_event (Piece n bytes) history)
-  stands_gained on step h occurred all = by_past (subst (λ plans. Occurs plans history.opened (Piece n bytes ∷ history.events) occurred) plans_are all)
+  abbrev StandsWith : List Occurrence → Type 0
+  StandsWith os = GatewayLives w (with_bytes n bytes (λ d. stream history.opened d history.events)) history.taken history.handed os
+
+  -- by what the stream gains, with these breaks before it
+  adds_gained : listens history.opened n history.events ≡ true
+      → ((gained : List Coming) (os : List Occurrence) → HasConns v history.opened history.events → Gains v.plans (stream history.opened n history.events) (stream history.opened n history.events ++ bytes) gained
+      → GatewayLives v before_texts history.taken history.handed os
+      → (cs : List ℕ) × AreBreaks (MayBreak history.opened (Piece n bytes) history.events) (breaks_of cs) os × StandsWith (reverse (map (Comes n) gained) ++ (breaks_of cs ++ os)))
+      → Adds history.opened (Piece n bytes) history v w
+  adds_gained on step = adds_event (Piece n bytes) history v w plans_are conns (λ lived l os at. by_gains lived l os (subst (λ b. MatchBool b
+      ((gained : List Coming) × Gains v.plans (stream history.opened n history.events) (stream history.opened n history.events ++ bytes) gained × (os ≡ map (Comes n) gained)) (os ≡ [])) on at))
     where
-      by_past : Occurs v.plans history.opened (Piece n bytes ∷ history.events) occurred → GatewayStands w (λ c. stream history.opened c (Piece n bytes ∷ history.events)) history.taken history.handed (occurrences occurred)
-      by_past (past, before, (os, at, is)) = by_gains (subst (λ b. MatchBool b
-          ((gained : List Coming) × Gains v.plans (stream history.opened n history.events) (stream history.opened n history.events ++ bytes) gained × (os ≡ map (Comes n) gained)) (os ≡ [])) on at)
-        where
-          by_gains : ((gained : List Coming) × Gains v.plans (stream history.opened n history.events) (stream history.opened n history.events ++ bytes) gained × (os ≡ map (Comes n) gained))
-              → GatewayStands w (λ c. stream history.opened c (Piece n bytes ∷ history.events)) history.taken history.handed (occurrences occurred)
-          by_gains (gained, gains, os_are) =
-              subst (λ us. GatewayStands w (λ c. stream history.opened c (Piece n bytes ∷ history.events)) history.taken history.handed us)
-              (sym (ap occurrences is ∙ occurrences_onto (length history.events) os past ∙ ap (λ us. back us (occurrences past)) os_are))
-              (texts_else w (with_bytes n bytes (λ d. stream history.opened d history.events)) (λ c. stream history.opened c (Piece n bytes ∷ history.events)) history.taken history.handed (back (map (Comes n) gained) (occurrences past))
-              (λ c. inl (text_on history.opened c n bytes history.events on)) (step gained (occurrences past) gains (h past before)))
+      by_gains : (lived : List Placed) → Lives v history lived → (os : List Occurrence)
+          → ((gained : List Coming) × Gains v.plans (stream history.opened n history.events) (stream history.opened n history.events ++ bytes) gained × (os ≡ map (Comes n) gained))
+          → Newer (MayBreak history.opened (Piece n bytes) history.events) (StandsThen history.opened (Piece n bytes) history v w plans_are) os (occurrences lived)
+      by_gains lived l os (gained, gains, os_are) = let x = step gained (occurrences lived) l.conns gains l.stands in record {
+        newer = reverse (map (Comes n) gained) ++ breaks_of x.0;
+        same = without_both (reverse (map (Comes n) gained)) (breaks_of x.0) ∙ ap (λ us. without_breaks (reverse (map (Comes n) gained)) ++ us) (without_these x.0)
+            ∙ append-nil (without_breaks (reverse (map (Comes n) gained))) ∙ without_comings n gained ∙ ap (λ us. reverse us) (sym os_are);
+        may = breaks_join (MayBreak history.opened (Piece n bytes) history.events) (reverse (map (Comes n) gained)) (breaks_of x.0) (occurrences lived)
+            (no_comings (MayBreak history.opened (Piece n bytes) history.events) n gained (breaks_of x.0 ++ occurrences lived)) x.1;
+        stands = subst (StandsThen history.opened (Piece n bytes) history v w plans_are) (sym (append_assoc (reverse (map (Comes n) gained)) (breaks_of x.0) (occurrences lived)))
+            (texts_same w history.taken history.handed (with_bytes n bytes (λ d. stream history.opened d history.events)) (λ c. stream history.opened c (Piece n bytes ∷ history.events))
+            (reverse (map (Comes n) gained) ++ (breaks_of x.0 ++ occurrences lived)) (λ c. text_on history.opened c n bytes history.events on) x.2);
+      }
 
 -- the connections after a piece
 conns_piece : (n : ℕ) (bytes : List ℕ) (v w : GatewayValue) (opened : List ℕ) (es : Before) → w.opened ≡ v.opened → numbers w.machine.conns ≡ numbers v.machine.conns
@@ -299,41 +332,56 @@ fed_back i n bytes v w lt orderly unbroken f c k k_is on = by_machine (feeds_mac
 
 -- ---- a piece
 
-module _ (n : ℕ) (v w : GatewayValue) (history : History) (serving : IsServing v) (h : Served v history) where
-  same_conns : (bytes : List ℕ) → ((c : ℕ) (k : ConnValue) (s : StreamValue) → conn_of c v.machine.conns ≡ Some k → stream_of c v.streams ≡ Some s → k.broken ≡ false
+-- where the events are not those of its connections
+never : (e : Event) (history : History) (v w : GatewayValue) → w.plans ≡ v.plans → (HasConns v history.opened history.events → ⊥) → Adds history.opened e history v w
+never e history v w plans_are no_conns = record {
+  plans_are = plans_are;
+  conns = λ h. absurd (no_conns h);
+  lives = λ lived l os at. absurd (no_conns l.conns);
+}
+
+module _ (n : ℕ) (v w : GatewayValue) (history : History) (serving : IsServing v) where
+  abbrev texts : ℕ → List ℕ
+  texts d = stream history.opened d history.events
+
+  same_conns : (bytes : List ℕ) (h : HasConns v history.opened history.events) → ((c : ℕ) (k : ConnValue) (s : StreamValue) → conn_of c v.machine.conns ≡ Some k → stream_of c v.streams ≡ Some s → k.broken ≡ false
       → (given : List HttpRequest) → HasRead s.reader (stream history.opened c history.events) given → (now : List HttpRequest) × HasRead s.reader (stream history.opened c (Piece n bytes ∷ history.events)) now)
       → HasConns v history.opened (Piece n bytes ∷ history.events)
-  same_conns bytes read = conns_piece n bytes v v history.opened history.events refl refl (λ c k k_is on. (k, k_is, on, refl)) (λ c k s k_is on s_is. (s, s_is, read c k s k_is s_is on)) h.conns
+  same_conns bytes h read = conns_piece n bytes v v history.opened history.events refl refl (λ c k k_is on. (k, k_is, on, refl)) (λ c k s k_is on s_is. (s, s_is, read c k s k_is s_is on)) h
+
+  -- the texts, but of a stream whose connection is broken
+  broken_text : (u : GatewayValue) (bytes : List ℕ) → is_broken_in n u.machine.conns ≡ true → (c : ℕ) (b : Bool) → (c == n) ≡ b
+      → (with_bytes n bytes (λ d. stream history.opened d history.events) c ≡ stream history.opened c history.events) ⊎ (is_broken_in c u.machine.conns ≡ true)
+  broken_text u bytes broken c true e = inr (ap (λ m. is_broken_in m u.machine.conns) (eqb-true c n e) ∙ broken)
+  broken_text u bytes broken c false e = inl (ap (λ b. if b then stream history.opened c history.events ++ bytes else stream history.opened c history.events) e)
+
+  -- one that is not broken is another
+  another : (u : GatewayValue) → is_broken_in n u.machine.conns ≡ true → (c : ℕ) (k : ConnValue) → conn_of c u.machine.conns ≡ Some k → k.broken ≡ false → (n == c) ≡ false
+  another u broken c k k_is unbroken = ne_eqb n c (λ same. let clash : true ≡ false = sym broken ∙ ap (λ m. is_broken_in m u.machine.conns) same
+      ∙ ap (λ o. option_map_or (λ (y : ConnValue). y.broken) o false) k_is ∙ unbroken in absurd (cc))
 
   -- none of it is taken
-  pub not_fed_served : (bytes : List ℕ) → NotListening n v → Served v (after_event (Piece n bytes) history)
-  not_fed_served bytes not_listening = by_listens (listens history.opened n history.events) refl
+  pub not_fed_adds : (bytes : List ℕ) → NotListening n v → Adds history.opened (Piece n bytes) history v v
+  not_fed_adds bytes not_listening = by_listens (listens history.opened n history.events) refl
     where
-      by_listens : (b : Bool) → listens history.opened n history.events ≡ b → Served v (after_event (Piece n bytes) history)
-      by_listens false off = record {
-        conns = same_conns bytes (λ c k s k_is s_is on given read. (given, subst (λ text. HasRead s.reader text given) (sym (text_off history.opened c n bytes history.events off)) read));
-        stands = stands_none v v (Piece n bytes) history refl
-            (λ os at. subst (λ b. MatchBool b ((gained : List Coming) × Gains v.plans (stream history.opened n history.events) (stream history.opened n history.events ++ bytes) gained × (os ≡ map (Comes n) gained)) (os ≡ [])) off at)
-            (λ c. text_off history.opened c n bytes history.events off) (λ os stands. stands) h.stands;
-      }
-      by_listens true on = record {
-        conns = same_conns bytes (λ c k s k_is s_is unbroken given read.
-            (given, subst (λ text. HasRead s.reader text given) (sym (text_other history.opened c n bytes history.events (other c k k_is unbroken))) read));
-        stands = stands_gained n bytes v v history refl on (λ gained os gains stands.
-            comings_quiet n gained v (with_bytes n bytes (λ d. stream history.opened d history.events)) history.taken history.handed os broken
-            (texts_else v (λ c. stream history.opened c history.events) (with_bytes n bytes (λ d. stream history.opened d history.events)) history.taken history.handed os (λ c. broken_text c (c == n) refl) stands)) h.stands;
-      }
+      by_listens : (b : Bool) → listens history.opened n history.events ≡ b → Adds history.opened (Piece n bytes) history v v
+      by_listens false off = adds_none (Piece n bytes) history v v refl
+          (λ h. same_conns bytes h (λ c k s k_is s_is on given read. (given, subst (λ text. HasRead s.reader text given) (sym (text_off history.opened c n bytes history.events off)) read)))
+          (λ c. text_off history.opened c n bytes history.events off)
+          (λ h os at. subst (λ b. MatchBool b ((gained : List Coming) × Gains v.plans (stream history.opened n history.events) (stream history.opened n history.events ++ bytes) gained × (os ≡ map (Comes n) gained)) (os ≡ [])) off at)
+          (λ os h l. l)
+      by_listens true on = adds_gained n bytes v v history refl
+          (λ h. same_conns bytes h (λ c k s k_is s_is unbroken given read.
+          (given, subst (λ text. HasRead s.reader text given) (sym (text_other history.opened c n bytes history.events (another v (broken h) c k k_is unbroken))) read))) on
+          (λ gained os h gains l. (
+            [],
+            tt,
+            comings_quiet n gained v (with_bytes n bytes (λ d. stream history.opened d history.events)) history.taken history.handed os serving.orderly (broken h)
+                (texts_else v texts (with_bytes n bytes (λ d. stream history.opened d history.events)) history.taken history.handed os (λ c. broken_text v bytes (broken h) c (c == n) refl) l),
+          ))
         where
-          broken : is_broken_in n v.machine.conns ≡ true
-          broken = not_listening_broken n v history.opened history.events h.conns not_listening on
-
-          other : (c : ℕ) (k : ConnValue) → conn_of c v.machine.conns ≡ Some k → k.broken ≡ false → (n == c) ≡ false
-          other c k k_is unbroken = ne_eqb n c (λ same. let clash : true ≡ false = sym broken ∙ ap (λ m. is_broken_in m v.machine.conns) same
-              ∙ ap (λ o. option_map_or (λ (y : ConnValue). y.broken) o false) k_is ∙ unbroken in absurd (cc))
-
-          broken_text : (c : ℕ) (b : Bool) → (c == n) ≡ b → (with_bytes n bytes (λ d. stream history.opened d history.events) c ≡ stream history.opened c history.events) ⊎ (is_broken_in c v.machine.conns ≡ true)
-          broken_text c true e = inr (ap (λ m. is_broken_in m v.machine.conns) (eqb-true c n e) ∙ broken)
-          broken_text c false e = inl (ap (λ b. if b then stream history.opened c history.events ++ bytes else stream history.opened c history.events) e)
+          broken : HasConns v history.opened history.events → is_broken_in n v.machine.conns ≡ true
+          broken h = not_listening_broken n v history.opened history.events h not_listening on
 
   module _ (i : ℕ) (l : ListensAt n v i) where
     pub here : conn_of n v.machine.conns ≡ Some (conn_at i v.machine.conns)
@@ -342,43 +390,52 @@ module _ (n : ℕ) (v w : GatewayValue) (history : History) (serving : IsServing
     stream_here : stream_of n v.streams ≡ Some (stream_at i v.streams)
     stream_here = ap (λ m. stream_of m v.streams) (sym l.stream_is) ∙ stream_found i v.streams l.stream_there (streams_apart v serving)
 
-    pub listening : listens history.opened n history.events ≡ true
-    listening = rw (h.conns.open_are n ∙ ap (λ o. is_some o) here, sym (h.conns.hung_are n (conn_at i v.machine.conns) here l.unbroken) ∙ l.on) refl
+    pub listening : HasConns v history.opened history.events → listens history.opened n history.events ≡ true
+    listening h = rw (h.open_are n ∙ ap (λ o. is_some o) here, sym (h.hung_are n (conn_at i v.machine.conns) here l.unbroken) ∙ l.on) refl
 
-    pub read_here : (given : List HttpRequest) × HasRead (stream_at i v.streams).reader (stream history.opened n history.events) given
-    read_here = h.conns.reads_are n (conn_at i v.machine.conns) (stream_at i v.streams) here stream_here (rw (l.unbroken, l.on) refl)
+    pub read_here : HasConns v history.opened history.events → (given : List HttpRequest) × HasRead (stream_at i v.streams).reader (stream history.opened n history.events) given
+    read_here h = h.reads_are n (conn_at i v.machine.conns) (stream_at i v.streams) here stream_here (rw (l.unbroken, l.on) refl)
+
+    -- it can break by a piece of its stream
+    can_break_now : (bytes : List ℕ) → listens history.opened n history.events ≡ true → (us : List Occurrence) → is_broken n (marked us) ≡ false → MayBreak history.opened (Piece n bytes) history.events n us
+    can_break_now bytes on us whole = (whole, ap (λ b. b && listens history.opened n history.events) (eq-eqb n n refl) ∙ on)
+
+    if_listening : (u : GatewayValue) (bytes : List ℕ) → u.plans ≡ v.plans → (listens history.opened n history.events ≡ true → Adds history.opened (Piece n bytes) history v u) → Adds history.opened (Piece n bytes) history v u
+    if_listening u bytes plans_are f = by_listens (listens history.opened n history.events) refl
+      where
+        by_listens : (b : Bool) → listens history.opened n history.events ≡ b → Adds history.opened (Piece n bytes) history v u
+        by_listens true on = f on
+        by_listens false off = never (Piece n bytes) history v u plans_are (λ h. let clash : true ≡ false = sym (listening h) ∙ off in cc)
 
     -- the stream is over
-    pub dropped_served : RequestLaws → (bytes : List ℕ) → is_over (stream_at i v.streams).reader.reading ≡ true → Served v (after_event (Piece n bytes) history)
-    dropped_served laws bytes over = record {
-      conns = same_conns bytes (λ c k s k_is s_is on given read. by_number c s s_is given read (n == c) refl);
-      stands = stands_gained n bytes v v history refl listening (λ gained os gains stands.
-          subst (λ xs. GatewayStands v (with_bytes n bytes (λ d. stream history.opened d history.events)) history.taken history.handed (back (map (Comes n) xs) os))
-          (gains_unique laws v.plans (stream history.opened n history.events) (stream history.opened n history.events ++ bytes) [] gained (over_gains laws v.plans (stream_at i v.streams).reader (stream history.opened n history.events) bytes read_here.0 over read_here.1) gains)
-          (none_back os (texts_over os stands))) h.stands;
-    }
+    pub dropped_adds : RequestLaws → (bytes : List ℕ) → is_over (stream_at i v.streams).reader.reading ≡ true → Adds history.opened (Piece n bytes) history v v
+    dropped_adds laws bytes over = if_listening v bytes refl (λ on. adds_gained n bytes v v history refl
+        (λ h. same_conns bytes h (λ c k s k_is s_is unbroken given read. by_number on c s s_is given read (n == c) refl)) on
+        (λ gained os h gains lives. (
+          [],
+          tt,
+          subst (λ xs. GatewayLives v (with_bytes n bytes (λ d. stream history.opened d history.events)) history.taken history.handed (reverse (map (Comes n) xs) ++ os))
+              (gains_unique laws v.plans (stream history.opened n history.events) (stream history.opened n history.events ++ bytes) [] gained
+              (over_gains laws v.plans (stream_at i v.streams).reader (stream history.opened n history.events) bytes (read_here h).0 over (read_here h).1) gains)
+              (texts_over os lives),
+        )))
       where
-        by_number : (c : ℕ) (s : StreamValue) → stream_of c v.streams ≡ Some s → (given : List HttpRequest) → HasRead s.reader (stream history.opened c history.events) given → (b : Bool) → (n == c) ≡ b
+        by_number : listens history.opened n history.events ≡ true → (c : ℕ) (s : StreamValue) → stream_of c v.streams ≡ Some s → (given : List HttpRequest) → HasRead s.reader (stream history.opened c history.events) given → (b : Bool) → (n == c) ≡ b
             → (now : List HttpRequest) × HasRead s.reader (stream history.opened c (Piece n bytes ∷ history.events)) now
-        by_number c s s_is given read false e = (given, subst (λ text. HasRead s.reader text given) (sym (text_other history.opened c n bytes history.events e)) read)
-        by_number c s s_is given read true e =
+        by_number on c s s_is given read false e = (given, subst (λ text. HasRead s.reader text given) (sym (text_other history.opened c n bytes history.events e)) read)
+        by_number on c s s_is given read true e =
             let at : n ≡ c = eqb-true n c e in
             let its : stream_at i v.streams ≡ s = some_same (sym stream_here ∙ ap (λ m. stream_of m v.streams) at ∙ s_is) in (
               given,
-              subst (λ text. HasRead s.reader text given) (sym (text_on history.opened c n bytes history.events listening ∙ ap (λ b. if b then stream history.opened c history.events ++ bytes else stream history.opened c history.events) (eq-eqb c n (sym at))))
+              subst (λ text. HasRead s.reader text given) (sym (text_on history.opened c n bytes history.events on ∙ ap (λ b. if b then stream history.opened c history.events ++ bytes else stream history.opened c history.events) (eq-eqb c n (sym at))))
                   (over_more laws s.reader (stream history.opened c history.events) bytes given (ap (λ (x : StreamValue). is_over x.reader.reading) (sym its) ∙ over) read),
             )
 
-        none_back : (os : List Occurrence) → GatewayStands v (with_bytes n bytes (λ d. stream history.opened d history.events)) history.taken history.handed os
-            → GatewayStands v (with_bytes n bytes (λ d. stream history.opened d history.events)) history.taken history.handed (back (map (Comes n) []) os)
-        none_back os x = x
-
-        texts_over : (os : List Occurrence) → GatewayStands v (λ c. stream history.opened c history.events) history.taken history.handed os → GatewayStands v (with_bytes n bytes (λ d. stream history.opened d history.events)) history.taken history.handed os
+        texts_over : (os : List Occurrence) → GatewayLives v (λ c. stream history.opened c history.events) history.taken history.handed os → GatewayLives v (with_bytes n bytes (λ d. stream history.opened d history.events)) history.taken history.handed os
         texts_over os stands = record {
           closed = stands.closed;
-          fates = stands.fates;
-          fated = stands.fated;
-          fates_are = stands.fates_are;
+          lives = stands.lives;
+          conns_live = stands.conns_live;
           streams_stand = λ c k s k_is s_is going. by_text c k s s_is (stands.streams_stand c k s k_is s_is going) (c == n) refl;
           unopened = stands.unopened;
           begun_is = stands.begun_is;
@@ -397,15 +454,17 @@ module _ (n : ℕ) (v w : GatewayValue) (history : History) (serving : IsServing
                 })
 
     -- the reader found no memory
-    pub unread_served : (bytes : List ℕ) → w ≡ record v { machine = broken_at n v.machine } → Served w (after_event (Piece n bytes) history)
-    unread_served bytes w_is = subst (λ x. Served x (after_event (Piece n bytes) history)) (sym w_is) (record {
-      conns = conns_piece n bytes v u history.opened history.events refl (numbers_broken n v.machine.conns) (λ c k k_is on. let was = (goes_broken n v.machine).back c k k_is on in (was.0, was.1, was.2, was.4))
-          (λ c k s k_is on s_is. (s, s_is, λ given read. (given, subst (λ text. HasRead s.reader text given) (sym (text_other history.opened c n bytes history.events (other c k k_is on))) read))) h.conns;
-      stands = stands_gained n bytes v u history refl listening (λ gained os gains stands.
-          comings_quiet n gained u (with_bytes n bytes (λ d. stream history.opened d history.events)) history.taken history.handed os broken
-          (texts_else u (λ c. stream history.opened c history.events) (with_bytes n bytes (λ d. stream history.opened d history.events)) history.taken history.handed os (λ c. broken_text c (c == n) refl)
-          (refused_stands v u (λ c. stream history.opened c history.events) history.taken history.handed os serving.orderly stands n (conn_at i v.machine.conns) here l.unbroken refl refl refl refl))) h.stands;
-    })
+    pub unread_adds : (bytes : List ℕ) → w ≡ record v { machine = broken_at n v.machine } → Adds history.opened (Piece n bytes) history v w
+    unread_adds bytes w_is = subst (λ x. Adds history.opened (Piece n bytes) history v x) (sym w_is) (if_listening u bytes refl (λ on. adds_gained n bytes v u history refl
+        (λ h. conns_piece n bytes v u history.opened history.events refl (numbers_broken n v.machine.conns) (λ c k k_is unbroken. let was = (goes_broken n v.machine).back c k k_is unbroken in (was.0, was.1, was.2, was.4))
+        (λ c k s k_is unbroken s_is. (s, s_is, λ given read. (given, subst (λ text. HasRead s.reader text given) (sym (text_other history.opened c n bytes history.events (another u broken c k k_is unbroken))) read))) h) on
+        (λ gained os h gains lives. (
+          n ∷ [],
+          (can_break_now bytes on os (sym (lives.conns_live.broken_are n (conn_at i v.machine.conns) here) ∙ l.unbroken), tt),
+          comings_quiet n gained u (with_bytes n bytes (λ d. stream history.opened d history.events)) history.taken history.handed (Break n ∷ os) (broken_order n v.machine (broken_at n v.machine) refl serving.orderly) broken
+              (texts_else u texts (with_bytes n bytes (λ d. stream history.opened d history.events)) history.taken history.handed (Break n ∷ os) (λ c. broken_text u bytes broken c (c == n) refl)
+              (broken_lives n (conn_at i v.machine.conns) v texts history.taken history.handed os here lives)),
+        ))))
       where
         u : GatewayValue
         u = record v { machine = broken_at n v.machine }
@@ -413,21 +472,12 @@ module _ (n : ℕ) (v w : GatewayValue) (history : History) (serving : IsServing
         broken : is_broken_in n u.machine.conns ≡ true
         broken = just_broken n n v.machine.conns (eq-eqb n n refl) (ap (λ o. is_some o) here)
 
-        other : (c : ℕ) (k : ConnValue) → conn_of c u.machine.conns ≡ Some k → k.broken ≡ false → (n == c) ≡ false
-        other c k k_is unbroken = ne_eqb n c (λ same. let clash : true ≡ false = sym broken ∙ ap (λ m. is_broken_in m u.machine.conns) same
-            ∙ ap (λ o. option_map_or (λ (y : ConnValue). y.broken) o false) k_is ∙ unbroken in absurd (cc))
-
-        broken_text : (c : ℕ) (b : Bool) → (c == n) ≡ b → (with_bytes n bytes (λ d. stream history.opened d history.events) c ≡ stream history.opened c history.events) ⊎ (is_broken_in c u.machine.conns ≡ true)
-        broken_text c true e = inr (ap (λ m. is_broken_in m u.machine.conns) (eqb-true c n e) ∙ broken)
-        broken_text c false e = inl (ap (λ b. if b then stream history.opened c history.events ++ bytes else stream history.opened c history.events) e)
-
     -- so many bytes were read, and what they brought came
-    pub came_served : RequestLaws → (m : ℕ) (bytes : List ℕ) → is_over (stream_at i v.streams).reader.reading ≡ false → Feeds i m bytes v w → Served w (after_event (Piece n (take m bytes)) history)
-    came_served laws m bytes going f = record {
-      conns = conns_piece n (take m bytes) v w history.opened history.events f.opened_is same_numbers (fed_back i m bytes v w l.conn_there serving.orderly l.unbroken f) (λ c k s k_is on s_is. by_number c s s_is (n == c) refl) h.conns;
-      stands = stands_gained n (take m bytes) v w history f.plans_are listening (λ gained os gains stands. by_gain gained os gains
-          (fed_stands i m bytes v w (λ c. stream history.opened c history.events) history.taken history.handed os l.conn_there l.stream_there serving.orderly (streams_apart v serving) (l.stream_is ∙ sym l.conn_is) l.unbroken l.on going f stands)) h.stands;
-    }
+    pub came_adds : RequestLaws → (m : ℕ) (bytes : List ℕ) → is_over (stream_at i v.streams).reader.reading ≡ false → Feeds i m bytes v w → Adds history.opened (Piece n (take m bytes)) history v w
+    came_adds laws m bytes going f = if_listening w (take m bytes) f.plans_are (λ on. adds_gained n (take m bytes) v w history f.plans_are
+        (λ h. conns_piece n (take m bytes) v w history.opened history.events f.opened_is same_numbers (fed_back i m bytes v w l.conn_there serving.orderly l.unbroken f) (λ c k s k_is unbroken s_is. by_number on c s s_is (n == c) refl) h) on
+        (λ gained os h gains lives. by_what on gained os gains lives
+        (what i m bytes v w texts history.taken history.handed os l.conn_there l.stream_there serving.orderly (streams_apart v serving) (l.stream_is ∙ sym l.conn_is) l.unbroken l.on going f lives)))
       where
         more : List ℕ
         more = take m bytes
@@ -445,16 +495,16 @@ module _ (n : ℕ) (v w : GatewayValue) (history : History) (serving : IsServing
         stream_is : (c : ℕ) → stream_of c w.streams ≡ (if c == (stream_at i v.streams).number then Some new else stream_of c v.streams)
         stream_is c = ap (stream_of c) f.streams_are ∙ stream_set c i new v.streams l.stream_there (streams_apart v serving) refl
 
-        by_number : (c : ℕ) (s : StreamValue) → stream_of c w.streams ≡ Some s → (b : Bool) → (n == c) ≡ b → (y : StreamValue) × (stream_of c v.streams ≡ Some y)
+        by_number : listens history.opened n history.events ≡ true → (c : ℕ) (s : StreamValue) → stream_of c w.streams ≡ Some s → (b : Bool) → (n == c) ≡ b → (y : StreamValue) × (stream_of c v.streams ≡ Some y)
             × ((given : List HttpRequest) → HasRead y.reader (stream history.opened c history.events) given → (now : List HttpRequest) × HasRead s.reader (stream history.opened c (Piece n more ∷ history.events)) now)
-        by_number c s s_is false e =
+        by_number on c s s_is false e =
             let ne : (c == (stream_at i v.streams).number) ≡ false = ne_eqb c (stream_at i v.streams).number
             (λ same. let clash : true ≡ false = sym (eq-eqb n c (sym (same ∙ l.stream_is))) ∙ e in absurd (cc)) in (
               s,
               sym (stream_is c ∙ ap (λ b. if b then Some new else stream_of c v.streams) ne) ∙ s_is,
               λ given read. (given, subst (λ text. HasRead s.reader text given) (sym (text_other history.opened c n more history.events e)) read),
             )
-        by_number c s s_is true e =
+        by_number on c s s_is true e =
             let at : n ≡ c = eqb-true n c e in
             let its : (c == (stream_at i v.streams).number) ≡ true = eq-eqb c (stream_at i v.streams).number (sym at ∙ sym l.stream_is) in
             let same : new ≡ s = some_same (sym (stream_is c ∙ ap (λ b. if b then Some new else stream_of c v.streams) its) ∙ s_is) in (
@@ -463,25 +513,42 @@ module _ (n : ℕ) (v w : GatewayValue) (history : History) (serving : IsServing
               λ given read.
                   let now = feeds_read i m bytes v w (stream history.opened c history.events) given f read in (
                     now.0,
-                    subst (λ text. HasRead s.reader text now.0) (sym (text_on history.opened c n more history.events listening ∙ ap (λ b. if b then stream history.opened c history.events ++ more else stream history.opened c history.events) (eq-eqb c n (sym at))))
+                    subst (λ text. HasRead s.reader text now.0) (sym (text_on history.opened c n more history.events on ∙ ap (λ b. if b then stream history.opened c history.events ++ more else stream history.opened c history.events) (eq-eqb c n (sym at))))
                         (subst (λ (y : StreamValue). HasRead y.reader (stream history.opened c history.events ++ more) now.0) same now.1),
                   ),
             )
 
-        Fed : List Occurrence → Type 0
-        Fed os = (gained : List Coming) × Gains v.plans (stream history.opened (conn_at i v.machine.conns).number history.events) (stream history.opened (conn_at i v.machine.conns).number history.events ++ more) gained
-            × (((gained ≡ []) × GatewayStands w (with_bytes (conn_at i v.machine.conns).number more (λ c. stream history.opened c history.events)) history.taken history.handed os)
-            ⊎ ((x : Coming) × (gained ≡ x ∷ []) × GatewayStands w (with_bytes (conn_at i v.machine.conns).number more (λ c. stream history.opened c history.events)) history.taken history.handed (Comes (conn_at i v.machine.conns).number x ∷ os)))
+        num : ℕ
+        num = (conn_at i v.machine.conns).number
 
-        by_gain : (gained : List Coming) (os : List Occurrence) → Gains v.plans (stream history.opened n history.events) (stream history.opened n history.events ++ more) gained
-            → Fed os → GatewayStands w (with_bytes n more (λ d. stream history.opened d history.events)) history.taken history.handed (back (map (Comes n) gained) os)
-        by_gain gained os gains (real, also, inl (none, stands)) =
-            let same : gained ≡ real = gains_unique laws v.plans (stream history.opened n history.events) (stream history.opened n history.events ++ more) gained real gains
-            (subst (λ m. Gains v.plans (stream history.opened m history.events) (stream history.opened m history.events ++ more) real) l.conn_is also) in
-            subst (λ xs. GatewayStands w (with_bytes n more (λ d. stream history.opened d history.events)) history.taken history.handed (back (map (Comes n) xs) os)) (sym (same ∙ none))
-            (subst (λ m. GatewayStands w (with_bytes m more (λ d. stream history.opened d history.events)) history.taken history.handed os) l.conn_is stands)
-        by_gain gained os gains (real, also, inr (x, one, stands)) =
-            let same : gained ≡ real = gains_unique laws v.plans (stream history.opened n history.events) (stream history.opened n history.events ++ more) gained real gains
-            (subst (λ m. Gains v.plans (stream history.opened m history.events) (stream history.opened m history.events ++ more) real) l.conn_is also) in
-            subst (λ xs. GatewayStands w (with_bytes n more (λ d. stream history.opened d history.events)) history.taken history.handed (back (map (Comes n) xs) os)) (sym (same ∙ one))
-            (subst (λ m. GatewayStands w (with_bytes m more (λ d. stream history.opened d history.events)) history.taken history.handed (Comes m x ∷ os)) l.conn_is stands)
+        gains_are : (gained real : List Coming) → Gains v.plans (stream history.opened n history.events) (stream history.opened n history.events ++ more) gained
+            → Gains v.plans (stream history.opened num history.events) (stream history.opened num history.events ++ more) real → real ≡ gained
+        gains_are gained real gains also = sym (gains_unique laws v.plans (stream history.opened n history.events) (stream history.opened n history.events ++ more) gained real gains
+            (subst (λ k. Gains v.plans (stream history.opened k history.events) (stream history.opened k history.events ++ more) real) l.conn_is also))
+
+        come_of : (os : List Occurrence) (lives : GatewayLives v texts history.taken history.handed os) → HasCome (conn_at i v.machine.conns) (stream_at i v.streams).reader (texts num)
+        come_of os lives = come i m bytes v w texts history.taken history.handed os l.conn_there l.stream_there serving.orderly (streams_apart v serving) (l.stream_is ∙ sym l.conn_is) l.unbroken l.on going f lives
+
+        by_what : listens history.opened n history.events ≡ true → (gained : List Coming) (os : List Occurrence) → Gains v.plans (stream history.opened n history.events) (stream history.opened n history.events ++ more) gained
+            → (lives : GatewayLives v texts history.taken history.handed os)
+            → ((w.machine ≡ v.machine) × (calls_brought v.plans f.pushed.reading ≡ 0) × Brought v.plans (texts num) (texts num ++ more) (come_of os lives).given f.new [])
+            ⊎ ((x : Coming) × Enters i x v.machine w.machine × (calls_brought v.plans f.pushed.reading ≡ calls_in x) × Brought v.plans (texts num) (texts num ++ more) (come_of os lives).given f.new (x ∷ []))
+            → (cs : List ℕ) × AreBreaks (MayBreak history.opened (Piece n more) history.events) (breaks_of cs) os
+            × GatewayLives w (with_bytes n more (λ d. stream history.opened d history.events)) history.taken history.handed (reverse (map (Comes n) gained) ++ (breaks_of cs ++ os))
+        by_what on gained os gains lives (inl (m_is, calls, b)) = (
+          [],
+          tt,
+          subst (λ xs. GatewayLives w (with_bytes n more (λ d. stream history.opened d history.events)) history.taken history.handed (reverse (map (Comes n) xs) ++ os)) (gains_are gained [] gains b.gains)
+              (subst (λ k. GatewayLives w (with_bytes k more (λ d. stream history.opened d history.events)) history.taken history.handed os) l.conn_is
+              (still_lives i m bytes v w texts history.taken history.handed os l.conn_there l.stream_there serving.orderly (streams_apart v serving) (l.stream_is ∙ sym l.conn_is) l.unbroken l.on going f lives m_is calls b)),
+        )
+        by_what on gained os gains lives (inr (x, enters, calls, b)) = (
+          newly_broken v.machine.conns w.machine.conns,
+          fed_may i m bytes v w texts history.taken history.handed os l.conn_there l.stream_there serving.orderly (streams_apart v serving) (l.stream_is ∙ sym l.conn_is) l.unbroken l.on going f lives x enters
+              (MayBreak history.opened (Piece n more) history.events)
+              (λ us whole. subst (λ k. MayBreak history.opened (Piece n more) history.events k us) (sym l.conn_is) (can_break_now more on us (ap (λ k. is_broken k (marked us)) (sym l.conn_is) ∙ whole))),
+          subst (λ xs. GatewayLives w (with_bytes n more (λ d. stream history.opened d history.events)) history.taken history.handed (reverse (map (Comes n) xs) ++ (breaks_of (newly_broken v.machine.conns w.machine.conns) ++ os)))
+              (gains_are gained (x ∷ []) gains b.gains)
+              (subst (λ k. GatewayLives w (with_bytes k more (λ d. stream history.opened d history.events)) history.taken history.handed (Comes k x ∷ (breaks_of (newly_broken v.machine.conns w.machine.conns) ++ os))) l.conn_is
+              (fed_lives i m bytes v w texts history.taken history.handed os l.conn_there l.stream_there serving.orderly (streams_apart v serving) (l.stream_is ∙ sym l.conn_is) l.unbroken l.on going f lives x enters calls b)),
+        )

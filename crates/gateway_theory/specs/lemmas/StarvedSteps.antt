@@ -15,17 +15,15 @@ use Rattle.gateway_model.specs.declared.id.CallId.{CallId}
 use Rattle.gateway_theory.specs.Breaks.{AfterBreaks, CallAfter, CallStays, ConnOn, is_broken_after, seen_by}
 use Rattle.gateway_theory.specs.Ends.{is_broken_in}
 use Rattle.gateway_theory.specs.Conn.{ConnValue}
-use Rattle.gateway_theory.specs.Fate.{Fate, Unbroken, BrokenAt}
-use Rattle.gateway_theory.specs.Fated.{CallFated, FatedStands}
 use Rattle.gateway_model.specs.Job.{JobValue}
 use Rattle.gateway_theory.specs.Kept.{KeptValue}
-use Rattle.gateway_theory.specs.LiveStands.{MayLive}
+use Rattle.gateway_theory.specs.LiveStands.{CallStands, MayLive}
 use Rattle.gateway_theory.specs.Machine.{ConnState, MachineState, ConnAfter, slot_at, step_of}
 use Rattle.gateway_model.specs.Occurrence.{Occurrence, Result}
-use Rattle.gateway_model.specs.Past.{call_id, is_call, marked}
+use Rattle.gateway_model.specs.Past.{Past, call_id, is_call, marked}
 use Rattle.gateway_theory.specs.Results.{back_at, back_kept, Forgets, is_spent, result_at, settled_by, Starved, stepped_at, stepped_kept}
 use Rattle.gateway_theory.specs.Step.{CallState, Live, Step, call_state, gone, has_out, kept, result_on}
-use Rattle.gateway_theory.specs.Store.{MachineValue, machine_value, machine, call_at, conn_of, kept_at, no_call, given_up, given_up_if, broken_at, broken_if, IsFound, HasFates}
+use Rattle.gateway_theory.specs.Store.{MachineValue, machine_value, machine, call_at, conn_of, kept_at, no_call, given_up, given_up_if, broken_at, broken_if, IsFound, HasBroken}
 use Rattle.gateway_theory.specs.lemmas.LimitLemmas.{same_call}
 use Rattle.gateway_theory.specs.lemmas.EndLemmas.{just_broken}
 use Rattle.gateway_theory.specs.lemmas.ResultSteps.{result_breaks, step_other}
@@ -45,34 +43,14 @@ both_true None true e = absurd (cc)
 both_true None false e = (refl, refl)
 both_true (Some l) b e = absurd (cc)
 
-gone_fated : (id : CallId) (c : CallState) (fate : Fate) (os : List Occurrence) → is_spent c ≡ true → CallFated id c fate os → CallFated id gone fate os
-gone_fated id c fate os spent h = by_fate fate h
+pub spent_gone : (id : CallId) (c : CallState) (past : Past) → is_spent c ≡ true → CallStands id c past → CallStands id gone past
+spent_gone id c past spent s = record {
+  out_is = λ i. sym (spent_out c.out i nothing.1) ∙ s.out_is i;
+  live_is = subst (λ l. MayLive id l c.out past) nothing.0 s.live_is;
+}
   where
     nothing : (c.live ≡ None) × (list_any (λ b. b) c.out ≡ false)
     nothing = both_true c.live (list_any (λ b. b) c.out) spent
-
-    by_fate : (f : Fate) → CallFated id c f os → CallFated id gone f os
-    by_fate Unbroken s = record {
-      out_is = λ i. sym (spent_out c.out i nothing.1) ∙ s.out_is i;
-      live_is = subst (λ l. MayLive id l c.out (marked os)) nothing.0 s.live_is;
-    }
-    by_fate (BrokenAt since at older) s = record { out_is = λ i. sym (spent_out c.out i nothing.1) ∙ s.out_is i }
-
-pub forgotten_stands : (id : CallId) (v w : MachineValue) (closed : ℕ → ConnState) (fates : ℕ → Fate) (taken : ℕ → List ReplyEntry) (handed : List JobValue) (os : List Occurrence)
-    → Forgets id v w → FatedStands (machine closed v) fates taken handed os → FatedStands (machine closed w) fates taken handed os
-forgotten_stands id v w closed fates taken handed os (inl same) h = subst (λ x. FatedStands (machine closed x) fates taken handed os) (sym same) h
-forgotten_stands id v w closed fates taken handed os (inr spent) h = subst (λ x. FatedStands (machine closed x) fates taken handed os) (sym spent.1) (record {
-  fates_are = h.fates_are;
-  moment_is = h.moment_is;
-  drained_is = h.drained_is;
-  calls_stand = λ other. subst (λ c. CallFated other c (fates other.conn) os) (sym (call_without id other v.calls)) (by_it other (is_call id other) refl);
-  conns_stand = h.conns_stand;
-  jobs_are = h.jobs_are;
-})
-  where
-    by_it : (other : CallId) (b : Bool) → is_call id other ≡ b → CallFated other (if is_call id other then gone else call_at other v.calls) (fates other.conn) os
-    by_it other true e = rw e (gone_fated other (call_at other v.calls) (fates other.conn) os (ap (λ x. is_spent (call_at x v.calls)) (sym (same_call id other e)) ∙ spent.0) (h.calls_stand other))
-    by_it other false e = rw e (h.calls_stand other)
 
 -- ---- what the code does
 
@@ -109,30 +87,30 @@ back_ready s u i n branch id k b f k_is b_is n_is u_is out = by_live (is_some k.
 -- ---- a result of which no more is known
 
 -- where the connection broke it makes no difference how the branch ended
-other_outcome : (breaks : ℕ → Bool) (fates : ℕ → Fate) (id : CallId) (i : ℕ) (a b : Outcome) (s t : MachineState) → is_broken_after breaks fates id.conn ≡ true
-    → AfterBreaks breaks fates (Result id i a) s t → AfterBreaks breaks fates (Result id i b) s t
-other_outcome breaks fates id i a b s t broken h = record {
+other_outcome : (breaks : ℕ → Bool) (were_broken : ℕ → Bool) (id : CallId) (i : ℕ) (a b : Outcome) (s t : MachineState) → is_broken_after breaks were_broken id.conn ≡ true
+    → AfterBreaks breaks were_broken (Result id i a) s t → AfterBreaks breaks were_broken (Result id i b) s t
+other_outcome breaks were_broken id i a b s t broken h = record {
   moment_is = h.moment_is;
   drained_is = h.drained_is;
-  calls_are = λ other. by_call other (is_broken_after breaks fates other.conn) refl (h.calls_are other);
-  conns_are = λ c. by_conn c (is_broken_after breaks fates c) refl (h.conns_are c);
+  calls_are = λ other. by_call other (is_broken_after breaks were_broken other.conn) refl (h.calls_are other);
+  conns_are = λ c. by_conn c (is_broken_after breaks were_broken c) refl (h.conns_are c);
   jobs_are = h.jobs_are
       ∙ ap (λ (x : Bool). s.jobs ++ (if x then [] else (step_of id (Result id i a) s).jobs)) broken
       ∙ sym (ap (λ (x : Bool). s.jobs ++ (if x then [] else (step_of id (Result id i b) s).jobs)) broken);
 }
   where
-    apart : (other : CallId) → is_broken_after breaks fates other.conn ≡ false → is_call id other ≡ false
+    apart : (other : CallId) → is_broken_after breaks were_broken other.conn ≡ false → is_call id other ≡ false
     apart other on = ⊎_elim
         (λ (its : is_call id other ≡ true).
-        let clash : true ≡ false = sym broken ∙ ap (λ (x : CallId). is_broken_after breaks fates x.conn) (same_call id other its) ∙ on in absurd (cc))
+        let clash : true ≡ false = sym broken ∙ ap (λ (x : CallId). is_broken_after breaks were_broken x.conn) (same_call id other its) ∙ on in absurd (cc))
         (λ (ne : is_call id other ≡ false). ne) (cases_Bool (is_call id other))
 
-    same : (other : CallId) → is_broken_after breaks fates other.conn ≡ false → step_of other (Result id i a) s ≡ step_of other (Result id i b) s
+    same : (other : CallId) → is_broken_after breaks were_broken other.conn ≡ false → step_of other (Result id i a) s ≡ step_of other (Result id i b) s
     same other on = step_other id other i a s (rw (apart other on) refl) ∙ sym (step_other id other i b s (rw (apart other on) refl))
 
-    by_call : (other : CallId) (x : Bool) → is_broken_after breaks fates other.conn ≡ x
-        → CallAfter (is_broken_after breaks fates other.conn) other (Result id i a) (s.calls other) (t.calls other) (step_of other (Result id i a) s).call
-        → CallAfter (is_broken_after breaks fates other.conn) other (Result id i b) (s.calls other) (t.calls other) (step_of other (Result id i b) s).call
+    by_call : (other : CallId) (x : Bool) → is_broken_after breaks were_broken other.conn ≡ x
+        → CallAfter (is_broken_after breaks were_broken other.conn) other (Result id i a) (s.calls other) (t.calls other) (step_of other (Result id i a) s).call
+        → CallAfter (is_broken_after breaks were_broken other.conn) other (Result id i b) (s.calls other) (t.calls other) (step_of other (Result id i b) s).call
     by_call other true x_is k =
         let stays : CallStays other (Result id i a) (s.calls other) (t.calls other) =
         subst (λ x. CallAfter x other (Result id i a) (s.calls other) (t.calls other) (step_of other (Result id i a) s).call) x_is k in
@@ -143,8 +121,8 @@ other_outcome breaks fates id i a b s t broken h = record {
         subst (λ x. CallAfter x other (Result id i b) (s.calls other) (t.calls other) (step_of other (Result id i b) s).call) (sym x_is)
         (now ∙ ap (λ (y : Step). y.call) (same other x_is))
 
-    by_conn : (c : ℕ) (x : Bool) → is_broken_after breaks fates c ≡ x
-        → ConnOn (is_broken_after breaks fates c) (Result id i a) s c (s.conns c) (t.conns c) → ConnOn (is_broken_after breaks fates c) (Result id i b) s c (s.conns c) (t.conns c)
+    by_conn : (c : ℕ) (x : Bool) → is_broken_after breaks were_broken c ≡ x
+        → ConnOn (is_broken_after breaks were_broken c) (Result id i a) s c (s.conns c) (t.conns c) → ConnOn (is_broken_after breaks were_broken c) (Result id i b) s c (s.conns c) (t.conns c)
     by_conn c true x_is k = subst (λ x. ConnOn x (Result id i b) s c (s.conns c) (t.conns c)) (sym x_is) (subst (λ x. ConnOn x (Result id i a) s c (s.conns c) (t.conns c)) x_is k)
     by_conn c false x_is k =
         let on : ConnAfter (Result id i a) s c (s.conns c) (t.conns c) = subst (λ x. ConnOn x (Result id i a) s c (s.conns c) (t.conns c)) x_is k in
@@ -155,7 +133,7 @@ other_outcome breaks fates id i a b s t broken h = record {
           each = λ j lt. on.each j lt ∙ ap (λ (y : Step). option_or (slot_at j (s.conns c).slots) y.reply) (same (call_id c ((s.conns c).taken + j)) x_is);
         })
 
-module _ (id : CallId) (branch i : ℕ) (v w : MachineValue) (closed : ℕ → ConnState) (fates : ℕ → Fate) (h : HasFates fates v) (f : IsFound id v.calls (Some i))
+module _ (id : CallId) (branch i : ℕ) (v w : MachineValue) (closed : ℕ → ConnState) (were_broken : ℕ → Bool) (h : HasBroken were_broken v) (f : IsFound id v.calls (Some i))
     (out : has_out (kept_at i v.calls).call branch ≡ true) where
   abbrev k : KeptValue
   k = kept_at i v.calls
@@ -169,8 +147,8 @@ module _ (id : CallId) (branch i : ℕ) (v w : MachineValue) (closed : ℕ → C
 
   -- it is late: its branch comes back, and that is all
   late : (outcome : Outcome) → k.call.live ≡ None → w ≡ back_at i branch v
-      → AfterBreaks (λ c. is_broken_in c w.conns) fates (Result id branch outcome) (machine closed v) (machine closed w)
-  late outcome none w_is = result_breaks v w closed fates id branch outcome (record { seen = seen_by k.call branch; broke = false }) h
+      → AfterBreaks (λ c. is_broken_in c w.conns) were_broken (Result id branch outcome) (machine closed v) (machine closed w)
+  late outcome none w_is = result_breaks v w closed were_broken id branch outcome (record { seen = seen_by k.call branch; broke = false }) h
       (inr (i, f, out, refl, of_none (result_at i branch outcome v).jobs (ap (λ (s : Step). s.jobs) step_is), inl (refl, w_is ∙ ap (λ js. record (back_at i branch v) { jobs = js }) (sym (append-nil v.jobs)) ∙ ap (λ s. settled_by k.id s (stepped_at i s v)) (sym step_is))))
     where
       step_is : result_at i branch outcome v ≡ kept (call_state (slice_set k.call.out branch false) None)
@@ -178,9 +156,9 @@ module _ (id : CallId) (branch i : ℕ) (v w : MachineValue) (closed : ℕ → C
 
   -- it counts: its connection breaks
   counted : (outcome : Outcome) (l : Live) → k.call.live ≡ Some l → w ≡ back_at i branch (broken_at id.conn v)
-      → AfterBreaks (λ c. is_broken_in c w.conns) fates (Result id branch outcome) (machine closed v) (machine closed w)
-  counted outcome l live w_is = other_outcome (λ c. is_broken_in c w.conns) fates id branch failure outcome (machine closed v) (machine closed w) broken
-      (result_breaks v w closed fates id branch failure (record { seen = seen_by k.call branch; broke = true }) h
+      → AfterBreaks (λ c. is_broken_in c w.conns) were_broken (Result id branch outcome) (machine closed v) (machine closed w)
+  counted outcome l live w_is = other_outcome (λ c. is_broken_in c w.conns) were_broken id branch failure outcome (machine closed v) (machine closed w) broken
+      (result_breaks v w closed were_broken id branch failure (record { seen = seen_by k.call branch; broke = true }) h
       (inr (i, f, out, refl, of_none (result_at i branch failure v).jobs (ap (λ (s : Step). s.jobs) step_is), inr (refl, ap (λ (s : Step). is_some s.reply) step_is, ap (λ (s : Step). s.jobs) step_is, w_is ∙ same))))
     where
       failure : Outcome
@@ -207,7 +185,7 @@ module _ (id : CallId) (branch i : ℕ) (v w : MachineValue) (closed : ℕ → C
       or_yes true y e = refl
       or_yes false y e = e
 
-      broken : is_broken_after (λ c. is_broken_in c w.conns) fates id.conn ≡ true
+      broken : is_broken_after (λ c. is_broken_in c w.conns) were_broken id.conn ≡ true
       broken = or_yes _ (is_broken_in id.conn w.conns) (ap (λ (x : MachineValue). is_broken_in id.conn x.conns) w_is
           ∙ just_broken id.conn id.conn v.conns (eq-eqb id.conn id.conn refl) (by_conn (conn_of id.conn v.conns) refl))
         where
@@ -215,12 +193,12 @@ module _ (id : CallId) (branch i : ℕ) (v w : MachineValue) (closed : ℕ → C
           by_conn (Some c) e = ap is_some e
           by_conn None e = absurd (let clash : Some l ≡ None = sym live ∙ ap (λ (c : CallState). c.live) (sym (call_found id v.calls i f)) ∙ h.none_live id e in cc)
 
-pub starved_breaks : (id : CallId) (branch : ℕ) (outcome : Outcome) (v w : MachineValue) (closed : ℕ → ConnState) (fates : ℕ → Fate) (took : Took) → HasFates fates v
-    → Starved id branch v w took → AfterBreaks (λ c. is_broken_in c w.conns) fates (Result id branch outcome) (machine closed v) (machine closed w)
-starved_breaks id branch outcome v w closed fates took h (inl n) = result_breaks v w closed fates id branch outcome took h (inl n)
-starved_breaks id branch outcome v w closed fates took h (inr (i, f, out, seen, broke, w_is)) = by_live (kept_at i v.calls).call.live refl
+pub starved_breaks : (id : CallId) (branch : ℕ) (outcome : Outcome) (v w : MachineValue) (closed : ℕ → ConnState) (were_broken : ℕ → Bool) (took : Took) → HasBroken were_broken v
+    → Starved id branch v w took → AfterBreaks (λ c. is_broken_in c w.conns) were_broken (Result id branch outcome) (machine closed v) (machine closed w)
+starved_breaks id branch outcome v w closed were_broken took h (inl n) = result_breaks v w closed were_broken id branch outcome took h (inl n)
+starved_breaks id branch outcome v w closed were_broken took h (inr (i, f, out, seen, broke, w_is)) = by_live (kept_at i v.calls).call.live refl
   where
     by_live : (l : Option Live) → (kept_at i v.calls).call.live ≡ l
-        → AfterBreaks (λ c. is_broken_in c w.conns) fates (Result id branch outcome) (machine closed v) (machine closed w)
-    by_live None e = late id branch i v w closed fates h f out outcome e (w_is ∙ ap (λ l. back_at i branch (if is_some l then broken_at id.conn v else v)) e)
-    by_live (Some l) e = counted id branch i v w closed fates h f out outcome l e (w_is ∙ ap (λ x. back_at i branch (if is_some x then broken_at id.conn v else v)) e)
+        → AfterBreaks (λ c. is_broken_in c w.conns) were_broken (Result id branch outcome) (machine closed v) (machine closed w)
+    by_live None e = late id branch i v w closed were_broken h f out outcome e (w_is ∙ ap (λ l. back_at i branch (if is_some l then broken_at id.conn v else v)) e)
+    by_live (Some l) e = counted id branch i v w closed were_broken h f out outcome l e (w_is ∙ ap (λ x. back_at i branch (if is_some x then broken_at id.conn v else v)) e)

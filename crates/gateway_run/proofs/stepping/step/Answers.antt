@@ -1,16 +1,14 @@
-use Rattle.std.specs.Prelude.{◌==◌, ◌&&◌}
-use Rattle.std.proofs.Common.{◌∙◌, ◌≡◌, true, false, refl, [], ◌∷◌, length, ◌<◌, sym, subst}
-use Rattle.gateway_model.specs.Events.{is_closing_of, listens, most_open, open_connections}
+use Rattle.std.specs.Prelude.{◌==◌}
+use Rattle.std.proofs.Common.{◌∙◌, true, false, refl, [], ◌∷◌, length, ◌<◌, sym, subst}
+use Rattle.gateway_model.specs.Events.{is_closing_of, most_open, open_connections}
 use Rattle.gateway_model.specs.declared.event.Event.TheVariants.{BranchResult, Closing, Drain, HangUp, Moment, Opening, Piece}
-use Rattle.gateway_theory.specs.Served.{Served}
+use Rattle.gateway_theory.specs.Served.{Adds, Served}
 use Rattle.gateway_theory.specs.Told.{TellsTook}
-use Rattle.gateway_theory.specs.Serving.{BreaksBy, KeepsBut, TellsStep}
-use Rattle.gateway_model.specs.Occurrence as occurs
+use Rattle.gateway_theory.specs.Serving.{KeepsBut, TellsStep}
 use Rattle.gateway_model.specs.Past.{call_id}
-use Rattle.gateway_model.specs.History.{after_event}
-use Rattle.gateway_run.specs.Stepping.{BreaksAt, Tells, TellsBreaks, TellsConn, TellsOpening, after_step, seen_in}
+use Rattle.gateway_model.specs.History.{History, after_event}
+use Rattle.gateway_run.specs.Stepping.{AddsStep, Tells, TellsBreaks, TellsConn, TellsOpening, after_step, seen_in}
 use Rattle.gateway_run.specs.declared.stepping.Stepped.TheVariants.{Done, Saw}
-use Rattle.gateway_run.proofs.Listening.{has_effect}
 use Rattle.gateway_run.proofs.Starting.{breaks_told, by_done, by_opening, by_taken, conn_told, few_told, keeps_closing, keeps_for, none_begins, none_done, none_opening, none_taken, opening_told}
 use Rattle.gateway_run.proofs.stepping.step.Goals as goal
 
@@ -62,6 +60,37 @@ returns-in-Closing-clause-stands g c = λ history h.
     subst (λ e. Served c.close.new.self (after_event e history)) (sym c.in-Closing.is)
     (subst (λ n. Served c.close.new.self (after_event (Closing n) history)) c.of-in-Closing.ensures (c.close.ensures.stands history h))
 
+pub returns-in-Some-clause-adds : goal.returns-in-Some-clause-adds
+returns-in-Some-clause-adds g c = subst (λ e. AddsStep c.opened.result e c.args.core.now c.open_conn.new.self) (sym c.in-Opening.is)
+    (λ history. by_opening (λ o. Adds o Opening history c.args.core.now c.open_conn.new.self) c.open_conn.result c.opened.result (length history.events) history.opened c.opened.ensures (c.open_conn.ensures.adds history))
+
+pub returns-in-Piece-clause-adds : goal.returns-in-Piece-clause-adds
+returns-in-Piece-clause-adds g c = subst (λ e. AddsStep c.done.result e c.args.core.now c.deliver.new.core) (sym c.in-Piece.is)
+    (λ history. subst (λ o. Adds o (Piece c.in-Piece.conn c.in-Piece.bytes) history c.args.core.now c.deliver.new.core) (sym (by_done c.deliver.result c.done.result (length history.events) history.opened c.done.ensures))
+    (subst (λ n. Adds history.opened (Piece n c.in-Piece.bytes) history c.args.core.now c.deliver.new.core) c.of.ensures
+    (subst (λ bytes. Adds history.opened (Piece c.of.result bytes) history c.args.core.now c.deliver.new.core) c.as_slice.ensures (c.deliver.ensures.adds history))))
+
+pub returns-in-HangUp-clause-adds : goal.returns-in-HangUp-clause-adds
+returns-in-HangUp-clause-adds g c = subst (λ e. AddsStep c.done-in-HangUp.result e c.args.core.now c.hang_up.new.self) (sym c.in-HangUp.is)
+    (λ history. subst (λ o. Adds o (HangUp c.in-HangUp.conn) history c.args.core.now c.hang_up.new.self) (sym (by_done c.hang_up.result c.done-in-HangUp.result (length history.events) history.opened c.done-in-HangUp.ensures))
+    (subst (λ n. Adds history.opened (HangUp n) history c.args.core.now c.hang_up.new.self) c.of-in-HangUp.ensures (c.hang_up.ensures.adds history)))
+
+pub returns-in-Moment-clause-adds : goal.returns-in-Moment-clause-adds
+returns-in-Moment-clause-adds g c = subst (λ e. AddsStep c.taken.result e c.args.core.now c.moment.new.self) (sym c.in-Moment.is)
+    (λ history. subst (λ o. Adds o (Moment c.in-Moment.moment) history c.args.core.now c.moment.new.self) (sym (by_taken c.moment.result c.taken.result (length history.events) history.opened c.taken.ensures)) (c.moment.ensures.adds history))
+
+pub returns-in-BranchResult-clause-adds : goal.returns-in-BranchResult-clause-adds
+returns-in-BranchResult-clause-adds g c = subst (λ e. (history : History) → Adds history.opened e history c.args.core.now c.result.new.self) (sym c.in-BranchResult.is)
+    (λ history. subst (λ n. Adds history.opened (BranchResult n c.in-BranchResult.request c.in-BranchResult.branch c.in-BranchResult.outcome) history c.args.core.now c.result.new.self) c.of-in-BranchResult.ensures (c.result.ensures.adds history))
+
+pub returns-in-Drain-clause-adds : goal.returns-in-Drain-clause-adds
+returns-in-Drain-clause-adds g c = subst (λ e. AddsStep c.taken-in-Drain.result e c.args.core.now c.drain.new.self) (sym c.in-Drain.is)
+    (λ history. subst (λ o. Adds o Drain history c.args.core.now c.drain.new.self) (sym (by_taken c.drain.result c.taken-in-Drain.result (length history.events) history.opened c.taken-in-Drain.ensures)) (c.drain.ensures.adds history))
+
+pub returns-in-Closing-clause-adds : goal.returns-in-Closing-clause-adds
+returns-in-Closing-clause-adds g c = subst (λ e. (history : History) → Adds history.opened e history c.args.core.now c.close.new.self) (sym c.in-Closing.is)
+    (λ history. subst (λ n. Adds history.opened (Closing n) history c.args.core.now c.close.new.self) c.of-in-Closing.ensures (c.close.ensures.adds history))
+
 pub returns-in-Piece-clause-tells : goal.returns-in-Piece-clause-tells
 returns-in-Piece-clause-tells g c = subst (λ e. Tells e c.done.result c.args.core.now c.deliver.new.core) (sym c.in-Piece.is)
     (subst (λ s. TellsConn c.in-Piece.conn s c.args.core.now c.deliver.new.core) (sym c.done.ensures) (conn_told _ c.in-Piece.conn c.deliver.result c.deliver.new.core c.args.core.now (subst (λ n. TellsStep n c.args.core.now c.deliver.new.core c.deliver.result) c.of.ensures c.deliver.ensures.tells)))
@@ -78,7 +107,7 @@ returns-in-Moment-clause-tells g c = subst (λ e. Tells e c.taken.result c.args.
 
 pub returns-in-BranchResult-clause-tells : goal.returns-in-BranchResult-clause-tells
 returns-in-BranchResult-clause-tells g c = subst (λ e. Tells e (Saw c.result.result) c.args.core.now c.result.new.self) (sym c.in-BranchResult.is)
-    (subst (λ m. TellsTook (call_id m c.in-BranchResult.request) c.in-BranchResult.branch c.in-BranchResult.outcome c.result.result c.args.core.now c.result.new.self) c.of-in-BranchResult.ensures c.result.ensures.tells)
+    (subst (λ m. TellsTook (call_id m c.in-BranchResult.request) c.in-BranchResult.branch c.result.result c.args.core.now c.result.new.self) c.of-in-BranchResult.ensures c.result.ensures.tells)
 
 pub returns-in-Drain-clause-tells : goal.returns-in-Drain-clause-tells
 returns-in-Drain-clause-tells g c = subst (λ e. Tells e c.taken-in-Drain.result c.args.core.now c.drain.new.self) (sym c.in-Drain.is)
@@ -88,64 +117,34 @@ pub returns-in-Closing-clause-tells : goal.returns-in-Closing-clause-tells
 returns-in-Closing-clause-tells g c = subst (λ e. Tells e Done c.args.core.now c.close.new.self) (sym c.in-Closing.is)
     (refl)
 
-pub returns-in-Some-clause-concerned : goal.returns-in-Some-clause-concerned
-returns-in-Some-clause-concerned g c = subst (λ e. BreaksAt e c.args.core.now c.open_conn.new.self) (sym c.in-Opening.is)
-    (λ history occurred h o n now before. c.open_conn.ensures.keeps.broken_are n now before)
-
 pub returns-in-Some-clause-keeps : goal.returns-in-Some-clause-keeps
 returns-in-Some-clause-keeps g c = subst (λ e. KeepsBut (λ n. is_closing_of n e) (λ n. true) (seen_in c.opened.result) c.args.core.now c.open_conn.new.self) (sym c.in-Opening.is)
     (subst (λ seen. KeepsBut (λ n. is_closing_of n (Opening)) (λ n. true) seen c.args.core.now c.open_conn.new.self) (sym (none_opening c.open_conn.result c.opened.result c.opened.ensures))
     (keeps_for (λ n. is_closing_of n (Opening)) (λ n. false) [] c.args.core.now c.open_conn.new.self c.open_conn.ensures.keeps))
-
-pub returns-in-Piece-clause-concerned : goal.returns-in-Piece-clause-concerned
-returns-in-Piece-clause-concerned g c = subst (λ e. BreaksAt e c.args.core.now c.deliver.new.core) (sym c.in-Piece.is)
-    (λ history occurred h o n now before. subst (λ m. ((n == m) && listens history.opened m history.events) ≡ true) c.of.ensures
-    (has_effect c.of.result n c.args.core.now c.deliver.new.core c.deliver.result history.opened history.events h.conns c.deliver.ensures.tells (c.deliver.ensures.keeps.broken_are n now before) now before))
 
 pub returns-in-Piece-clause-keeps : goal.returns-in-Piece-clause-keeps
 returns-in-Piece-clause-keeps g c = subst (λ e. KeepsBut (λ n. is_closing_of n e) (λ n. true) (seen_in c.done.result) c.args.core.now c.deliver.new.core) (sym c.in-Piece.is)
     (subst (λ seen. KeepsBut (λ n. is_closing_of n (Piece c.in-Piece.conn c.in-Piece.bytes)) (λ n. true) seen c.args.core.now c.deliver.new.core) (sym (none_done c.deliver.result c.done.result c.done.ensures))
     (keeps_for (λ n. is_closing_of n (Piece c.in-Piece.conn c.in-Piece.bytes)) (λ n. n == c.of.result) [] c.args.core.now c.deliver.new.core c.deliver.ensures.keeps))
 
-pub returns-in-HangUp-clause-concerned : goal.returns-in-HangUp-clause-concerned
-returns-in-HangUp-clause-concerned g c = subst (λ e. BreaksAt e c.args.core.now c.hang_up.new.self) (sym c.in-HangUp.is)
-    (λ history occurred h o n now before. subst (λ m. ((n == m) && listens history.opened m history.events) ≡ true) c.of-in-HangUp.ensures
-    (has_effect c.of-in-HangUp.result n c.args.core.now c.hang_up.new.self c.hang_up.result history.opened history.events h.conns c.hang_up.ensures.tells (c.hang_up.ensures.keeps.broken_are n now before) now before))
-
 pub returns-in-HangUp-clause-keeps : goal.returns-in-HangUp-clause-keeps
 returns-in-HangUp-clause-keeps g c = subst (λ e. KeepsBut (λ n. is_closing_of n e) (λ n. true) (seen_in c.done-in-HangUp.result) c.args.core.now c.hang_up.new.self) (sym c.in-HangUp.is)
     (subst (λ seen. KeepsBut (λ n. is_closing_of n (HangUp c.in-HangUp.conn)) (λ n. true) seen c.args.core.now c.hang_up.new.self) (sym (none_done c.hang_up.result c.done-in-HangUp.result c.done-in-HangUp.ensures))
     (keeps_for (λ n. is_closing_of n (HangUp c.in-HangUp.conn)) (λ n. n == c.of-in-HangUp.result) [] c.args.core.now c.hang_up.new.self c.hang_up.ensures.keeps))
-
-pub returns-in-Moment-clause-concerned : goal.returns-in-Moment-clause-concerned
-returns-in-Moment-clause-concerned g c = subst (λ e. BreaksAt e c.args.core.now c.moment.new.self) (sym c.in-Moment.is)
-    (c.moment.ensures.concerned)
 
 pub returns-in-Moment-clause-keeps : goal.returns-in-Moment-clause-keeps
 returns-in-Moment-clause-keeps g c = subst (λ e. KeepsBut (λ n. is_closing_of n e) (λ n. true) (seen_in c.taken.result) c.args.core.now c.moment.new.self) (sym c.in-Moment.is)
     (subst (λ seen. KeepsBut (λ n. is_closing_of n (Moment c.in-Moment.moment)) (λ n. true) seen c.args.core.now c.moment.new.self) (sym (none_taken c.moment.result c.taken.result c.taken.ensures))
     (keeps_for (λ n. is_closing_of n (Moment c.in-Moment.moment)) (λ n. true) [] c.args.core.now c.moment.new.self c.moment.ensures.keeps))
 
-pub returns-in-BranchResult-clause-concerned : goal.returns-in-BranchResult-clause-concerned
-returns-in-BranchResult-clause-concerned g c = subst (λ e. BreaksAt e c.args.core.now c.result.new.self) (sym c.in-BranchResult.is)
-    (subst (λ m. BreaksBy (occurs.Result (call_id m c.in-BranchResult.request) c.in-BranchResult.branch c.in-BranchResult.outcome) c.args.core.now c.result.new.self) c.of-in-BranchResult.ensures c.result.ensures.tells.concerned)
-
 pub returns-in-BranchResult-clause-keeps : goal.returns-in-BranchResult-clause-keeps
 returns-in-BranchResult-clause-keeps g c = subst (λ e. KeepsBut (λ n. is_closing_of n e) (λ n. true) (c.result.result.seen ∷ []) c.args.core.now c.result.new.self) (sym c.in-BranchResult.is)
     (keeps_for (λ n. is_closing_of n (BranchResult c.in-BranchResult.conn c.in-BranchResult.request c.in-BranchResult.branch c.in-BranchResult.outcome)) (λ n. n == c.of-in-BranchResult.result) (c.result.result.seen ∷ []) c.args.core.now c.result.new.self c.result.ensures.keeps)
-
-pub returns-in-Drain-clause-concerned : goal.returns-in-Drain-clause-concerned
-returns-in-Drain-clause-concerned g c = subst (λ e. BreaksAt e c.args.core.now c.drain.new.self) (sym c.in-Drain.is)
-    (c.drain.ensures.concerned)
 
 pub returns-in-Drain-clause-keeps : goal.returns-in-Drain-clause-keeps
 returns-in-Drain-clause-keeps g c = subst (λ e. KeepsBut (λ n. is_closing_of n e) (λ n. true) (seen_in c.taken-in-Drain.result) c.args.core.now c.drain.new.self) (sym c.in-Drain.is)
     (subst (λ seen. KeepsBut (λ n. is_closing_of n (Drain)) (λ n. true) seen c.args.core.now c.drain.new.self) (sym (none_taken c.drain.result c.taken-in-Drain.result c.taken-in-Drain.ensures))
     (keeps_for (λ n. is_closing_of n (Drain)) (λ n. true) [] c.args.core.now c.drain.new.self c.drain.ensures.keeps))
-
-pub returns-in-Closing-clause-concerned : goal.returns-in-Closing-clause-concerned
-returns-in-Closing-clause-concerned g c = subst (λ e. BreaksAt e c.args.core.now c.close.new.self) (sym c.in-Closing.is)
-    (λ history occurred h o n now before. c.close.ensures.keeps.broken_are n now before)
 
 pub returns-in-Closing-clause-keeps : goal.returns-in-Closing-clause-keeps
 returns-in-Closing-clause-keeps g c = subst (λ e. KeepsBut (λ n. is_closing_of n e) (λ n. true) [] c.args.core.now c.close.new.self) (sym c.in-Closing.is)

@@ -11,5 +11,5 @@ loop-number-preserved g c = record {
   plans_are = collects_plans c.loop-number.number c.loop-number.core c.collect.new.core c.loop-number.log c.collect.new.self c.in_ok-collect.ensures ∙ c.loop-number.invariant.plans_are;
   ran = λ es h. same_gathered (λ n. nat_lt n c.loop-number.number || n == c.loop-number.number) (λ n. nat_lt n (c.loop-number.number + 1)) c.collect.new.core c.collect.new.self es
       (λ n. below_next n c.loop-number.number)
-      (collected_run (record { queue = c.standing_law.ensures.queue; jobs = c.standing_law.ensures.jobs }) (λ n. nat_lt n c.loop-number.number) c.loop-number.number c.loop-number.core c.collect.new.core c.loop-number.log c.collect.new.self es (c.loop-number.invariant.ran es h) c.in_ok-collect.ensures);
+      (collected_run (λ n. nat_lt n c.loop-number.number) c.loop-number.number c.loop-number.core c.collect.new.core c.loop-number.log c.collect.new.self es (c.loop-number.invariant.ran es h) c.in_ok-collect.ensures);
 }

@@ -1,21 +1,29 @@
 use Rattle.std.specs.Prelude.{◌==◌}
 use Rattle.std.proofs.Common.{drop}
 use Rattle.whole_pieces.proofs.PieceParts.{all_rest, begun, counts_then, empty_rest, fault_tells, fed_fault, fed_on, fed_whole, from_err, listening_ok, keeps_then, whole_tells}
+use Rattle.gateway_model.specs.declared.event.Event.TheVariants.{Piece}
+use Rattle.gateway_theory.specs.lemmas.Adding.{served_event}
 use Rattle.whole_pieces.proofs.delivery.deliver.Goals as goal
 
 pub loop-taken-init : goal.loop-taken-init
 loop-taken-init g c = begun c.parts_law.ensures.begins c.args.conn c.args.piece.now c.args.core.now
 
-pub returns-in_err-taken-clause-stands : goal.returns-in_err-taken-clause-stands
-returns-in_err-taken-clause-stands g c =
-    fed_fault c.args.conn c.args.piece.now c.loop-taken.rest.now c.args.core.now c.loop-taken.core c.feed.new.self c.loop-taken.invariant c.in_err-taken.ensures.stands
+pub returns-in_err-taken-clause-adds : goal.returns-in_err-taken-clause-adds
+returns-in_err-taken-clause-adds g c =
+    fed_fault c.args.conn c.args.piece.now c.loop-taken.rest.now c.args.core.now c.loop-taken.core c.feed.new.self c.loop-taken.invariant c.in_err-taken.ensures.stands c.feed.ensures.keeps c.feed.ensures.counts
 
-pub returns-then-is_empty-clause-stands : goal.returns-then-is_empty-clause-stands
-returns-then-is_empty-clause-stands g c =
+pub returns-in_err-taken-clause-stands : goal.returns-in_err-taken-clause-stands
+returns-in_err-taken-clause-stands g c = λ history h. let a = returns-in_err-taken-clause-adds g c history in served_event (Piece c.args.conn c.args.piece.now) history c.args.core.now c.feed.new.self a.plans_are a h
+
+pub returns-then-is_empty-clause-adds : goal.returns-then-is_empty-clause-adds
+returns-then-is_empty-clause-adds g c =
     fed_whole c.args.conn c.args.piece.now (drop c.in_ok-taken.taken c.loop-taken.rest.now) c.args.core.now c.feed.new.self
     (fed_on c.args.conn c.in_ok-taken.taken c.args.piece.now c.loop-taken.rest.now c.args.core.now c.loop-taken.core c.feed.new.self c.loop-taken.invariant c.in_ok-taken.ensures.stands c.feed.ensures.keeps c.feed.ensures.counts
     (listening_ok c.args.conn c.loop-taken.core c.feed.result c.in_ok-taken.taken c.in_ok-taken.was c.feed.ensures.tells.gone) c.in_ok-taken.ensures.listens)
     (empty_rest c.in_ok-taken.taken c.loop-taken.rest.now c.if-is_empty.ensures)
+
+pub returns-then-is_empty-clause-stands : goal.returns-then-is_empty-clause-stands
+returns-then-is_empty-clause-stands g c = λ history h. let a = returns-then-is_empty-clause-adds g c history in served_event (Piece c.args.conn c.args.piece.now) history c.args.core.now c.feed.new.self a.plans_are a h
 
 pub loop-taken-preserved : goal.loop-taken-preserved
 loop-taken-preserved g c =

@@ -1,8 +1,5 @@
-use Rattle.std.proofs.Common.{[], refl, arith, subst, false, true, ◌∷◌}
+use Rattle.std.proofs.Common.{[], refl, arith, false, true, ◌∷◌}
 use Rattle.gateway_model.specs.declared.event.Event.TheVariants.{Moment}
-use Rattle.gateway_model.specs.Occurrence as concerning
-use Rattle.gateway_theory.specs.Serving.{BreaksBy}
-use Rattle.backend_pool.specs.Book.{BookValue}
 use Rattle.backend_pool.proofs.BookLemmas.{reached_by, takes_event, core_keeps}
 use Rattle.backend_pool.proofs.book.Book.moment.Goals as goal
 
@@ -16,9 +13,6 @@ returns-clause-stands g c =
     let book = c.self.inside in
     takes_event (Moment c.args.moment) c.args.self.now book.core c.moment.new.self book.bytes book.jobs book.results book.bytes book.results c.self.view_is c.moment.ensures.stands ([], refl, c.moment.ensures.keeps.tally_is) (omega arith)
     (omega arith)
-
-pub returns-clause-concerned : goal.returns-clause-concerned
-returns-clause-concerned g c = subst (λ (x : BookValue). BreaksBy (concerning.Moment c.args.moment) x.core c.moment.new.self) c.self.view_is c.moment.ensures.concerned
 
 pub returns-clause-keeps : goal.returns-clause-keeps
 returns-clause-keeps g c =

@@ -20,7 +20,7 @@ returns-clause-stands g c =
 
 pub returns-clause-tells : goal.returns-clause-tells
 returns-clause-tells g c =
-    subst (λ (x : BookValue). TellsTook c.args.call.now c.args.branch c.args.outcome c.result.result x.core c.result.new.self) c.self.view_is c.result.ensures.tells
+    subst (λ (x : BookValue). TellsTook c.args.call.now c.args.branch c.result.result x.core c.result.new.self) c.self.view_is c.result.ensures.tells
 
 pub returns-clause-keeps : goal.returns-clause-keeps
 returns-clause-keeps g c =

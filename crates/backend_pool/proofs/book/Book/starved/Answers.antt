@@ -20,8 +20,8 @@ returns-clause-stands g c = λ outcome.
     c.self.view_is (c.starved.ensures.stands outcome) (c.starved.result.seen ∷ [], refl, c.starved.ensures.keeps.tally_is) (omega arith) (omega arith)
 
 pub returns-clause-tells : goal.returns-clause-tells
-returns-clause-tells g c = λ outcome.
-    subst (λ (x : BookValue). TellsTook c.args.call.now c.args.branch outcome c.starved.result x.core c.starved.new.self) c.self.view_is (c.starved.ensures.tells outcome)
+returns-clause-tells g c =
+    subst (λ (x : BookValue). TellsTook c.args.call.now c.args.branch c.starved.result x.core c.starved.new.self) c.self.view_is c.starved.ensures.tells
 
 pub returns-clause-keeps : goal.returns-clause-keeps
 returns-clause-keeps g c =

@@ -2,7 +2,7 @@ use Rattle.std.specs.Prelude.{◌==◌}
 use Rattle.std.proofs.Common.{◌≡◌, Err, sym, subst}
 use Rattle.gateway_theory.specs.declared.fault.StepFault.TheVariants.{Exhausted}
 use Rattle.gateway_theory.specs.Gateway.{GatewayValue}
-use Rattle.gateway_theory.specs.Served.{ServedUpTo}
+use Rattle.gateway_theory.specs.Served.{FedUpTo}
 use Rattle.gateway_theory.specs.Serving.{CountsCalls, Keeps, FedTo, TellsStep, WouldBegin}
 use Rattle.gateway_theory.specs.Told.{TakesOneOf}
 use Rattle.gateway_theory.specs.lemmas.OneAtATime.{fed_one}
@@ -12,13 +12,13 @@ use Rattle.gateway_core.proofs.gateway.Core.feed.Goals as goal
 
 pub returns : goal.returns
 returns g c = record {
-  stands = λ fed history h.
-      fed_stands c.request_laws.ensures c.args.conn fed c.args.bytes.now c.self.inside.streams c.feed-fed.new.self c.feed-fed.result history c.serving_law.ensures c.serving_law-2.ensures
-      (subst (λ (x : GatewayValue). ServedUpTo c.args.conn fed x history) (sym c.self.view_is) h)
+  stands = λ fed history first h.
+      fed_stands c.request_laws.ensures c.args.conn fed c.args.bytes.now first c.self.inside.streams c.feed-fed.new.self c.feed-fed.result history c.serving_law.ensures c.serving_law-2.ensures
+      (subst (λ (x : GatewayValue). FedUpTo c.args.conn fed history first x) (sym c.self.view_is) h)
       (subst (λ n. FedTo n c.args.bytes.now c.self.inside.streams c.feed-fed.new.self c.feed-fed.result) c.number.ensures c.feed-fed.ensures);
   takes = fed_takes c.args.conn c.args.bytes.now c.self.inside.streams c.feed-fed.new.self c.serving_law.ensures c.feed-fed.result (subst (λ n. FedTo n c.args.bytes.now c.self.inside.streams c.feed-fed.new.self c.feed-fed.result) c.number.ensures c.feed-fed.ensures);
   one = subst (λ (x : GatewayValue). TakesOneOf c.args.conn c.args.bytes.now c.feed-fed.result x) c.self.view_is (λ history h.
-      fed_one c.request_laws.ensures c.args.conn c.args.bytes.now c.self.inside.streams c.feed-fed.new.self history c.serving_law.ensures h c.feed-fed.result
+      fed_one c.request_laws.ensures c.args.conn c.args.bytes.now c.self.inside.streams c.feed-fed.new.self history c.serving_law.ensures h.conns c.feed-fed.result
       (subst (λ n. FedTo n c.args.bytes.now c.self.inside.streams c.feed-fed.new.self c.feed-fed.result) c.number.ensures c.feed-fed.ensures));
   tells = subst (λ (x : GatewayValue). TellsStep c.args.conn x c.feed-fed.new.self c.feed-fed.result) c.self.view_is (fed_tells c.args.conn c.args.bytes.now c.self.inside.streams c.feed-fed.new.self c.serving_law.ensures c.feed-fed.result (subst (λ n. FedTo n c.args.bytes.now c.self.inside.streams c.feed-fed.new.self c.feed-fed.result) c.number.ensures c.feed-fed.ensures));
   begins = subst (λ (x : GatewayValue). c.feed-fed.result ≡ Err Exhausted → WouldBegin c.args.conn c.args.bytes.now x) c.self.view_is

@@ -1,5 +1,5 @@
 use Rattle.gateway_machine.proofs.StockLemmas.{stocked_before, stocked_noted}
-use Rattle.gateway_theory.specs.lemmas.ServedLemmas.{goes_ended}
+use Rattle.gateway_theory.specs.lemmas.EndingSteps.{goes_ended}
 use Rattle.std.proofs.Common.{ap, sym, ◌∙◌, subst}
 use Rattle.gateway_theory.specs.Ends.{AreApart, CallsEnd, IsSettled, noted}
 use Rattle.gateway_theory.specs.Store.{MachineValue}

@@ -7,7 +7,7 @@ use Rattle.gateway_run.proofs.log.Log.start.Goals as goal
 
 pub loop-job-preserved : goal.loop-job-preserved
 loop-job-preserved g c = record {
-  started = one_started c.args.core.now c.loop-job.core c.take_job.new.self c.take_job.result c.loop-job.invariant.started c.take_job.ensures.stands c.take_job.ensures.first c.take_job.ensures.rest;
+  started = one_started c.args.core.now c.loop-job.core c.take_job.new.self c.take_job.result c.loop-job.invariant.started c.take_job.ensures.stands c.take_job.ensures.lives c.take_job.ensures.first c.take_job.ensures.rest;
   opened_is = c.loop-job.invariant.opened_is;
   queued_is = c.loop-job.invariant.queued_is;
   broke_is = c.loop-job.invariant.broke_is;
@@ -25,10 +25,11 @@ pub returns : goal.returns
 returns g c =
     let none : c.take_job.new.self.machine.jobs ≡ [] = sym c.in_default.ensures.first ∙ c.take_job.ensures.none c.in_default.is in
     let all = all_started c.args.core.now c.take_job.new.self
-    (one_started c.args.core.now c.loop-job.core c.take_job.new.self c.take_job.result c.loop-job.invariant.started c.take_job.ensures.stands c.take_job.ensures.first c.take_job.ensures.rest) none in
+    (one_started c.args.core.now c.loop-job.core c.take_job.new.self c.take_job.result c.loop-job.invariant.started c.take_job.ensures.stands c.take_job.ensures.lives c.take_job.ensures.first c.take_job.ensures.rest) none in
     record {
       rest = all.0;
       served = all.1;
+      lives = all.2;
       log_is =
           log_same (ap (λ v. v.items) c.loop-job.invariant.opened_is) (ap (λ v. v.items) c.loop-job.invariant.queued_is) (ap (λ v. v.items) c.loop-job.invariant.broke_is)
           (sym (append-nil c.loop-job.self-inside.starts.items)
