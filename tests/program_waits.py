@@ -114,6 +114,24 @@ def case_unreachable(room):
                 sees_end("the stream", stream)
 
 
+def case_late_connection(room):
+    """a backend that takes its connection late is asked then"""
+    with full_listener() as full, contextlib.ExitStack() as opened:
+        run, port = room.serve(plan([full.getsockname()[1]], 1), streams=1)
+        full.settimeout(WAIT)
+        with client(port) as stream:
+            call(stream)
+            expect("whether it waits", is_quiet(stream), True)
+            asked = opened.enter_context(full.accept()[0])
+            while is_quiet(asked):
+                # one of those that kept it full
+                asked = opened.enter_context(full.accept()[0])
+            expect("what it is asked", read_message(asked)[1], b"{}")
+            asked.sendall(reply("1"))
+            expect("the reply", read_reply(stream), ("200", b'{"b0":1}'))
+    room.ends("the program", run, DONE)
+
+
 def case_branch_deadline_beside_unreachable(room):
     """a branch's deadline ends its call on time, though another backend of the call takes no connection"""
     with full_listener() as full, listener() as silent:
@@ -249,6 +267,30 @@ def case_stopped(room):
                 time.sleep(0.1)
                 run.send_signal(signal.SIGCONT)
                 expect("the reply", read_reply(stream), ("200", b'{"b0":1}'))
+    room.ends("the program", run, DONE)
+
+
+def case_end_with_what_came(room):
+    """an end that comes with the last bytes is seen: a client's behind its call, and a backend's behind half a reply"""
+    with listener() as backend:
+        run, port = room.serve(plan([backend.getsockname()[1]], 1), streams=2)
+        with client(port) as stream:
+            call(stream)
+            with backend.accept()[0] as asked:
+                read_message(asked)
+                stop_now(run)
+                asked.sendall(reply("1")[:40])
+                asked.shutdown(socket.SHUT_WR)
+                run.send_signal(signal.SIGCONT)
+                expect("the call", read_reply(stream)[0], "503")
+        with client(port) as stream:
+            answers("before", stream)
+            stop_now(run)
+            call(stream)
+            stream.shutdown(socket.SHUT_WR)
+            run.send_signal(signal.SIGCONT)
+            expect("the call of a client that has ended", read_reply(stream)[0], "499")
+            sees_end("its stream", stream)
     room.ends("the program", run, DONE)
 
 
