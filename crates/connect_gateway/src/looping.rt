@@ -1,3 +1,5 @@
+ghost use Rattle.std.specs.Prelude.{⊤};
+
 use crate::clock::SinceStart;
 use crate::host::Host;
 use crate::loop_log::{LogLines, LoopLog};
@@ -11,6 +13,7 @@ use gateway_loop::{Comings, EventLoop};
 use mio::{Poll, Waker};
 use script_replay::{Fault, PlainHook};
 use std::alloc::{AllocError, Global};
+use std::marker::Model;
 use std::net::{Net, TcpListener, TcpStream};
 use std::sync::Arc;
 use std::thread;
@@ -41,6 +44,13 @@ pub(crate) struct Common<M> {
     pub(crate) main: Arc<Waker>,
 }
 
+// Clauses see nothing of it, which keeps proofs small.
+impl<M> Model for Common<M> {
+    ghost Value = { ⊤ };
+
+    ghost view = { λ _. tt };
+}
+
 impl<M: Host> Common<M> {
     fn log(&self, worker: u32) -> Result<Option<LoopLog>, AllocError> {
         Ok(match &self.lines {
@@ -60,6 +70,13 @@ pub(crate) struct Looping<M> {
     mail: Receiver<Mail>,
     side: Arc<LoopSide>,
     main: Arc<Waker>,
+}
+
+// Clauses see nothing of it, which keeps proofs small.
+impl<M> Model for Looping<M> {
+    ghost Value = { ⊤ };
+
+    ghost view = { λ _. tt };
 }
 
 impl<M: Host + Net<Listener = TcpListener, Stream = TcpStream>> Looping<M> {

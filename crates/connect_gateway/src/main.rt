@@ -3,7 +3,6 @@
 //! `connect_gateway check` says of a plan file or a script whether it is fine, or what is wrong with it and where.
 #![tactic(auto)]
 
-mod check;
 mod clock;
 mod crew;
 mod dealer;
@@ -13,13 +12,13 @@ mod loop_log;
 mod loop_side;
 mod looping;
 mod mio_network;
-mod plan_file;
 mod resolver;
 mod serve;
 mod socket;
 
 use command_line::{Task, read_words, task_of};
 use host::Host;
+use input_files::check;
 use script_replay::{Fault, replay};
 use std::fs::Files;
 use std::io::{self, Eprint, Write};
@@ -63,7 +62,7 @@ fn run_words<
             Ok(())
         }
         Task::Serve(service) => serve::serve(rt, &service),
-        Task::Check(checked) => check::check(&rt, &checked),
+        Task::Check(checked) => check(&rt, &checked),
         Task::Version => {
             io::writer(&rt).write_all(VERSION.as_bytes())?;
             Ok(())

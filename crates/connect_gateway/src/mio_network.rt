@@ -1,4 +1,4 @@
-ghost use Rattle.std.specs.Prelude.{◌≡◌, ◌∷◌, []};
+ghost use Rattle.std.specs.Prelude.{◌≡◌, ℕ, List, ◌∷◌, []};
 
 use crate::clock::SinceStart;
 use crate::host::Host;
@@ -15,6 +15,7 @@ use mio::unix::SourceFd;
 use mio::{Events, Interest, Poll, Token};
 use std::alloc::{AllocError, Global};
 use std::io;
+use std::marker::Model;
 use std::net::{Net, SocketAddr, TcpListener, TcpStream};
 use std::sync::Arc;
 use std::time::Duration;
@@ -38,6 +39,14 @@ pub(crate) struct MioNetwork<M> {
     names: Sender<Name>,
     log: Option<LoopLog>,
     told: Log<u64, ()>,
+}
+
+impl<M> Model for MioNetwork<M> {
+    ghost use Rattle.connect_gateway.specs.Moments.{moments_told};
+
+    ghost Value = { List ℕ };
+
+    ghost view = { λ n. moments_told n.told.items };
 }
 
 impl<M: Host> MioNetwork<M> {
@@ -89,9 +98,7 @@ impl<M: Host> MioNetwork<M> {
 
 impl<M: Host + Net<Listener = TcpListener, Stream = TcpStream>> Network<Told<Socket>>
     for MioNetwork<M> {
-    ghost use Rattle.connect_gateway.specs.Moments.{moments_told};
-
-    ghost told = { λ n. moments_told n.told.items };
+    ghost told = { λ n. n };
 
     fn moment(&mut self) -> u64 {
         let moment = self.clock.now(&self.rt);

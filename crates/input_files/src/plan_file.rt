@@ -1,4 +1,4 @@
-ghost use Rattle.std.specs.Prelude.{◌≡◌, Err, IfErr, IfOk, List, Ok};
+ghost use Rattle.std.specs.Prelude.{◌≡◌, Err, IfErr, IfOk, ℕ, List, Ok};
 ghost use Rattle.call_plan.specs.Plan.{PlanRecord};
 ghost use Rattle.call_plan.specs.PlanFile.{plans_in};
 ghost use Rattle.script_replay.specs.Fault.{IsOfPlanInput};
@@ -10,19 +10,26 @@ use script_replay::{Fault, read_text};
 use serde_json::Value;
 use std::alloc::{AllocError, Global};
 use std::io::Read;
+use std::marker::Model;
 use std::net::SocketAddr;
 
 /// The text of a plan file, from which each loop has plans of its own.
 #[derive(Drop)]
-pub(crate) struct PlanFile {
+pub struct PlanFile {
     text: Vec<u8>,
+}
+
+impl Model for PlanFile {
+    ghost Value = { List ℕ };
+
+    ghost view = { λ f. f.text.items };
 }
 
 impl PlanFile {
     /// Reads a text to its end. `Plans` where it is too long, `Io` where a read failed, `Memory` for want of memory.
-    pub(crate) fn read<R: Read>(alloc: Global, reader: &mut R) -> Result<PlanFile, Fault>
+    pub fn read<R: Read>(alloc: Global, reader: &mut R) -> Result<PlanFile, Fault>
         ensures faults { IfErr result IsOfPlanInput }
-        ensures read { IfOk result (λ file. ReadsWhole (R.remaining reader.old) (R.remaining reader.new) file.text.items) }
+        ensures read { IfOk result (λ file. ReadsWhole (R.remaining reader.old) (R.remaining reader.new) file) }
         ensures plans { result ≡ Err Fault.Plans → ReadsTooMuch (R.remaining reader.old) (R.remaining reader.new) }
     {
         match read_text(alloc, reader)? {
@@ -32,10 +39,10 @@ impl PlanFile {
     }
 
     /// Its plans. `Plans` where it is refused, `Memory` for want of memory.
-    pub(crate) fn plans(&self, alloc: Global) -> Result<Plans, Fault>
+    pub fn plans(&self, alloc: Global) -> Result<Plans, Fault>
         ensures faults { IfErr result IsOfPlanInput }
-        ensures taken { IfOk result (λ plans. plans_in self.now.text.items ≡ Ok plans) }
-        ensures refused { result ≡ Err Fault.Plans → (plans : List PlanRecord) → plans_in self.now.text.items ≡ Ok plans → ⊥ }
+        ensures taken { IfOk result (λ plans. plans_in self.now ≡ Ok plans) }
+        ensures refused { result ≡ Err Fault.Plans → (plans : List PlanRecord) → plans_in self.now ≡ Ok plans → ⊥ }
     {
         match read_plans(alloc, self.text.as_slice()) {
             Ok(plans) => Ok(plans),
@@ -45,7 +52,7 @@ impl PlanFile {
     }
 
     /// Whether the address of a backend is a name, which must be looked up.
-    pub(crate) fn has_names(&self, alloc: Global) -> Result<bool, AllocError> {
+    pub fn has_names(&self, alloc: Global) -> Result<bool, AllocError> {
         match json_value(alloc, self.text.as_slice())? {
             Some(plans) => Ok(elements_of(&plans).iter().any(has_name)),
             None => Ok(false),

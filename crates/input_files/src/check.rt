@@ -2,7 +2,7 @@ ghost use Rattle.std.specs.Prelude.{◌≡◌, Err, IfErr, OnOk, string_bytes};
 ghost use Rattle.std.specs.Io.KnownBytes.{Appends};
 ghost use Rattle.script_replay.specs.Fault.{IsOfInput, IsOfPlanInput, IsOfReading};
 ghost use Rattle.script_replay.specs.Input.{ReadsNoPlans, ReadsNoScript};
-ghost use Rattle.connect_gateway.specs.Check.{FindsPlans, FindsScript, WritesApproval, WritesRefusal};
+ghost use Rattle.input_files.specs.Check.{FindsPlans, FindsScript, WritesApproval, WritesRefusal};
 
 use command_line::{Checked, CheckedFile};
 use input_check::{plan_report, script_report, too_long};
@@ -13,10 +13,7 @@ use std::io::{self, Read, Write};
 
 /// Checks the file that is named, and prints what is to be said of it. With `--strict` a file with warnings ends as a refused
 /// one does.
-pub(crate) fn check<R: Print + AllocGlobal + Files>(
-    rt: &R,
-    checked: &Checked,
-) -> Result<(), Fault> {
+pub fn check<R: Print + AllocGlobal + Files>(rt: &R, checked: &Checked) -> Result<(), Fault> {
     let alloc = rt.alloc();
     let mut writer = io::writer(rt);
     let (warned, fault) = match &checked.file {
@@ -37,7 +34,7 @@ pub(crate) fn check<R: Print + AllocGlobal + Files>(
 
 /// Reads a plan file and writes what is to be said of it: that it is fine and what it serves, or why it is refused.
 /// `Plans` where it is refused, `Io` where a read or a write failed, `Memory` for want of memory. Answers whether it warned.
-pub(crate) fn check_plans<R: Read, W: Write>(
+pub fn check_plans<R: Read, W: Write>(
     alloc: Global,
     reader: &mut R,
     writer: &mut W,
@@ -62,7 +59,7 @@ pub(crate) fn check_plans<R: Read, W: Write>(
 
 /// Reads a script and writes what is to be said of it, as `check_plans` does. `Script` where it is refused. Answers whether
 /// it warned.
-pub(crate) fn check_script<R: Read, W: Write>(
+pub fn check_script<R: Read, W: Write>(
     alloc: Global,
     reader: &mut R,
     writer: &mut W,
