@@ -2,8 +2,8 @@
 //! file or a script.
 #![tactic(auto)]
 
-mod check;
+mod checking;
 mod plan_file;
 
-pub use check::{check, check_plans, check_script};
+pub use checking::{check, check_plans, check_script};
 pub use plan_file::PlanFile;
