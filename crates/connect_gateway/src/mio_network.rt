@@ -1,4 +1,4 @@
-ghost use Rattle.std.specs.Prelude.{◌≡◌, ℕ, List, ◌∷◌, []};
+ghost use Rattle.std.specs.Prelude.{◌≡◌, ◌∷◌, []};
 
 use crate::clock::SinceStart;
 use crate::host::Host;
@@ -42,6 +42,7 @@ pub(crate) struct MioNetwork<M> {
 }
 
 impl<M> Model for MioNetwork<M> {
+    ghost use Rattle.std.specs.Prelude.{ℕ, List};
     ghost use Rattle.connect_gateway.specs.Moments.{moments_told};
 
     ghost Value = { List ℕ };
