@@ -2,6 +2,7 @@ ghost use Rattle.std.specs.Prelude.{⊤};
 
 use crate::socket::Socket;
 use crossbeam_channel::{Receiver, Sender, unbounded};
+use gateway_core::Tally;
 use gateway_loop::{Dealt, LookedUp, LoopStanding};
 use mio::Waker;
 use script_replay::PlainHook;
@@ -45,14 +46,13 @@ impl LoopSide {
     pub(crate) fn new(
         alloc: Global,
         waker: Waker,
-        standing: LoopStanding,
     ) -> Result<(LoopSide, Receiver<Mail>), AllocError> {
         let (mail, taken) = unbounded(alloc)?;
         let side = LoopSide {
             mail,
             waker,
             open: Arc::new(alloc, AtomicU64::new(0))?,
-            standing: Mutex::new(standing),
+            standing: Mutex::new(of_no_turn()),
             is_closed: AtomicBool::new(false),
             is_over: AtomicBool::new(false),
         };
@@ -102,5 +102,20 @@ impl LoopSide {
     fn wake(&self) {
         // it can fail only for a counter of the system's that is no more
         let _ = self.waker.wake();
+    }
+}
+
+/// How a loop stands before its first turn.
+fn of_no_turn() -> LoopStanding {
+    LoopStanding {
+        open: 0,
+        lingering: 0,
+        asking: 0,
+        waiting: 0,
+        tally: Tally {
+            counted: 0,
+            late: 0,
+            unknown: 0,
+        },
     }
 }

@@ -52,6 +52,19 @@ impl<M> Model for Common<M> {
 }
 
 impl<M: Host> Common<M> {
+    /// The sockets of the loop with that number, which are waited for by that poll.
+    fn network(
+        &self,
+        worker: u32,
+        poll: Poll,
+        side: &Arc<LoopSide>,
+    ) -> Result<MioNetwork<M>, AllocError> {
+        let side = Arc::try_clone(side)?;
+        let names = self.names.clone()?;
+        let log = self.log(worker)?;
+        MioNetwork::new(self.rt, self.alloc, poll, self.clock, side, names, log)
+    }
+
     fn log(&self, worker: u32) -> Result<Option<LoopLog>, AllocError> {
         Ok(match &self.lines {
             Some(lines) => Some(lines.of_loop(self.alloc, worker)?),
@@ -82,28 +95,21 @@ impl<M> Model for Looping<M> {
 impl<M: Host + Net<Listener = TcpListener, Stream = TcpStream>> Looping<M> {
     /// The loop with that number, which serves these plans. `Io` where the system offers it no sockets to wait for.
     pub(crate) fn new(common: &Common<M>, worker: u32, plans: Plans) -> Result<Looping<M>, Fault> {
-        let event_loop = EventLoop::new(common.alloc, plans)?;
         let poll = Poll::new(&common.rt)?;
         let waker = Waker::new(poll.registry(), WAKER)?;
-        let (side, mail) = LoopSide::new(common.alloc, waker, event_loop.standing())?;
+        let (side, mail) = LoopSide::new(common.alloc, waker)?;
         let side = Arc::new(common.alloc, side)?;
-        let network = MioNetwork::new(
-            common.rt,
-            common.alloc,
-            poll,
-            common.clock,
-            Arc::try_clone(&side)?,
-            common.names.clone()?,
-            common.log(worker)?,
-        )?;
+        let network = common.network(worker, poll, &side)?;
+        let comings = room_for_mail(common.alloc)?;
+        let main = Arc::try_clone(&common.main)?;
         Ok(Looping {
             rt: common.rt,
-            event_loop,
+            event_loop: EventLoop::new(common.alloc, plans)?,
             network,
-            comings: room_for_mail(common.alloc)?,
+            comings,
             mail,
             side,
-            main: Arc::try_clone(&common.main)?,
+            main,
         })
     }
 
