@@ -15,7 +15,7 @@ import time
 import program
 from program_room import (
     DONE, IO, MEMORY, WAIT, Wrong, at_once, call, client, end_of, expect, free_ports, listener, plan, read_to, reply,
-    serve_words,
+    request, serve_words,
 )
 
 HERE = os.path.dirname(os.path.abspath(__file__))
@@ -71,6 +71,12 @@ def long_script():
     return json.dumps({"plans": [], "events": events, "filler": "x" * 20_000}).encode()
 
 
+def wide_script():
+    """A script whose connections get more bytes than a buffer keeps, so that they are written as they are."""
+    plans = [{"path": "/call", "limit": 1, "branches": [{"name": "a", "address": "127.0.0.1:1", "path": "/"}]}]
+    return json.dumps({"plans": plans, "events": [["open"], ["piece", 0, request(body="x").decode() * 100]]}).encode()
+
+
 def replayed(room, script, **how):
     with tempfile.TemporaryFile(dir=room.folder) as given:
         given.write(script)
@@ -84,8 +90,8 @@ def goes_on(name, _met, found, printed, whole):
     expect(f"{name}: its output", printed, whole)
 
 
-def replay_each(room, what, how, judge):
-    script = long_script()
+def replay_each(room, what, how, judge, script=None):
+    script = script or long_script()
     found, whole = replayed(room, script)
     expect("without a fault", found, DONE)
     each(what, how, lambda env, files: (*replayed(room, script, variables=env, pass_fds=files), whole), judge)
@@ -365,6 +371,9 @@ def case_interrupted(room):
     """a read and a write of a text, an accept and a wait that a signal interrupts are made again"""
     for what in ("read", "write"):
         replay_each(room, what, "interrupted", goes_on)
+    # a text that goes past the buffer of what is written
+    expect("whether it does", len(replayed(room, wide_script())[1]) > 10_000, True)
+    replay_each(room, "write", "interrupted", goes_on, wide_script())
     for what in ("accept", "wait"):
         serve_each(room, what, "interrupted", all_answered)
 

@@ -8,7 +8,9 @@ import shutil
 import signal
 import sys
 import tempfile
+import traceback
 
+import program_admin
 import program_ends
 import program_log
 import program_loops
@@ -16,11 +18,17 @@ import program_serve
 import program_waits
 from program_room import CASE_TIME, Room, Untried, Wrong
 
-MODULES = [program_ends, program_serve, program_loops, program_waits, program_log]
+MODULES = [program_admin, program_ends, program_serve, program_loops, program_waits, program_log]
 
 
 def late(_signal, _frame):
     raise Wrong(f"it takes longer than {CASE_TIME} seconds")
+
+
+def way_to(why):
+    """The lines of the cases by which it came to that."""
+    frames = traceback.extract_tb(why.__traceback__)[1:]
+    return " < ".join(f"{os.path.basename(frame.filename)}:{frame.lineno}" for frame in reversed(frames))
 
 
 def try_case(case, program):
@@ -36,7 +44,7 @@ def try_case(case, program):
         print(f"not tried: {name}: {why}")
         return None
     except Exception as why:  # as where it ended before it was looked at
-        print(f"FAILED {name}: {why!r}")
+        print(f"FAILED {name}: {why!r}, {way_to(why)}")
         return False
     finally:
         signal.alarm(0)

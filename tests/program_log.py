@@ -1,11 +1,13 @@
 """Cases of tests/program.py: the log."""
 import json
 import os
+import resource
 import threading
 import time
 
 from program_room import (
-    Backend, NOT_FOUND, STRAY, WAIT, answers, call, client, expect, listener, plan, read_reply, read_to, reply,
+    Backend, IO, NOT_FOUND, PLANS, STRAY, WAIT, answers, call, client, end_of, expect, free_port, listener, listens, plan,
+    read_reply, read_to, reply, serve_words,
 )
 
 
@@ -45,6 +47,7 @@ def case_log_of_each_end(room):
             call(stream)
             silent = backend.accept()[0]
         with silent:
+            listens(run.stderr)
             said = b"".join(run.stderr.readline() for _ in range(6))
         said += run.communicate(timeout=WAIT)[1]
     replies, _ = told(said)
@@ -128,6 +131,7 @@ def case_log_of_standing(room):
             call(third)
             asked = [backend.accept()[0] for _ in range(4)]
             with open(run.stderr.fileno(), "rb", closefd=False) as lines:
+                listens(lines)
                 lines.readline()
                 standing = json.loads(lines.readline())
             for one in asked:
@@ -156,6 +160,7 @@ def case_log_that_stalls(room):
     ask_all(port, 150)
     count = 0
     with open(run.stderr.fileno(), "rb", closefd=False) as lines:
+        listens(lines)
         while True:
             line = json.loads(lines.readline())
             if "asking" in line:
@@ -177,3 +182,62 @@ def case_log_of_the_end(room):
     replies, _ = told(run.communicate(timeout=WAIT)[1])
     expect("how many lines there are", len(replies), 2_900)
     expect("the status", run.returncode, 0)
+
+
+def remarks(lines):
+    """What the lines of a log say beside replies: each fault, warning and address, by its kind."""
+    return [(kind, line[kind]) for line in lines for kind in ("fault", "warning", "listen") if kind in line]
+
+
+def case_log_of_the_start(room):
+    """the log tells first where the gateway listens, its plans and workers, and what check warns of"""
+    plans = json.loads(plan([1], 1)) * 2
+    plans[1] = {**plans[1], "path": "/other", "timeout_ms": 5, "retries": 1}
+    run, port = room.serve(json.dumps(plans).encode(), workers=3, streams=1, log=True)
+    told = listens(run.stderr)
+    path = f"{room.folder}/plans"
+    checked = room.start(["check", "--plans", path]).communicate(timeout=WAIT)[0].decode()
+    warnings = [line[9:] for line in checked.splitlines() if line.startswith("warning: ")]
+    expect("how many warnings there are", len(warnings), 2)
+    expect("what is told", remarks(told), [*(("warning", text) for text in warnings), ("listen", f"127.0.0.1:{port}")])
+    expect("the last line", {key: told[-1][key] for key in ("admin", "plans", "workers")}, {"admin": None, "plans": 2, "workers": 3})
+    client(port).close()
+    expect("the status", (run.communicate(timeout=WAIT), run.returncode)[1], 0)
+
+
+def case_log_of_few_descriptors(room):
+    """the log warns where fewer descriptors are allowed than the workers may need"""
+    run, port = room.serve(b"[]", workers=2, streams=1, log=True,
+                           limit=lambda: resource.setrlimit(resource.RLIMIT_NOFILE, (2_359, 2_359)))
+    warned = [text for kind, text in remarks(listens(run.stderr)) if kind == "warning"]
+    expect("what is told", warned, [
+        "descriptors: 2359 are allowed, and 2360 are always enough: ulimit -n, or LimitNOFILE in a unit"])
+    client(port).close()
+    expect("the status", (run.communicate(timeout=WAIT), run.returncode)[1], 0)
+    run, port = room.serve(b"[]", workers=2, streams=1, log=True,
+                           limit=lambda: resource.setrlimit(resource.RLIMIT_NOFILE, (2_360, 2_360)))
+    expect("with enough", remarks(listens(run.stderr)), [("listen", f"127.0.0.1:{port}")])
+    client(port).close()
+    expect("the status", (run.communicate(timeout=WAIT), run.returncode)[1], 0)
+
+
+def case_log_of_faults(room):
+    """with --log a fault at the start is told in full before its line, and without it by the line alone"""
+    good, bad = room.file("good", b"[]"), room.file("bad", b'[{"path":"/a"}]')
+    with listener() as taken:
+        port = taken.getsockname()[1]
+        where = f"127.0.0.1:{port}"
+        cases = [
+            (serve_words(port, good), IO, f"{where}: Address already in use (os error 98)"),
+            (serve_words(free_port(), "/none"), IO, "/none: No such file or directory (os error 2)"),
+            (serve_words(free_port(), bad), PLANS, f"{bad}: plan 1 (/a): limit: the key is missing"),
+            (serve_words(free_port(), good) + ["--admin", where], IO, f"{where}: Address already in use (os error 98)"),
+        ]
+        for words, (status, line), wanted in cases:
+            (found, said), _ = end_of(room.start(words + ["--log"]))
+            lines = said.splitlines()
+            expect(f"the status of {words}", found, status)
+            expect(f"the last line of {words}", lines[-1] + "\n", line)
+            told = [text for kind, text in remarks(map(json.loads, lines[:-1])) if kind == "fault"]
+            expect(f"what is told of {words}", told, [wanted])
+            expect(f"without a log, {words}", end_of(room.start(words))[0], (status, line))

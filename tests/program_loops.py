@@ -11,7 +11,7 @@ import time
 
 from program_room import (
     Backend, DONE, Echo, LONG_BODY, NOT_FOUND, STRAY, Trickle, Untried, WAIT, Wrong, answers, at_once, call, client,
-    expect, is_quiet, listener, mount, plan, read_message, read_reply, read_to, reply, request, sees_end,
+    expect, is_quiet, listener, listens, mount, plan, read_message, read_reply, read_to, reply, request, sees_end,
 )
 
 # so many backends may be asked at the same time by one loop
@@ -232,6 +232,7 @@ def case_fewest(room):
 
     run, port = room.serve(b"[]", workers=3, log=True)
     with contextlib.ExitStack() as opened, open(run.stderr.fileno(), "rb", closefd=False) as lines:
+        listens(lines)
         streams, workers = [], []
         for _ in range(9):
             streams.append(opened.enter_context(client(port)))

@@ -189,6 +189,9 @@ def is_refused(port):
         socket.create_connection(("127.0.0.1", port), timeout=WAIT).close()
     except ConnectionRefusedError:
         return True
+    except ConnectionResetError:
+        # the listener was closed while it connected: the next one is refused
+        return False
     return False
 
 
@@ -238,6 +241,16 @@ def read_reply(stream):
     """The status and the body of the next reply on a stream."""
     head, body = read_message(stream)
     return head[9:12].decode(), body
+
+
+def listens(lines):
+    """Reads the lines of a log up to the one that tells that the gateway listens. Returns what all of them tell."""
+    told = []
+    for line in iter(lines.readline, b""):
+        told.append(json.loads(line))
+        if "listen" in told[-1]:
+            return told
+    raise Wrong(f"it does not listen, after {told}")
 
 
 def is_quiet(stream):

@@ -17,6 +17,8 @@ use Rattle.gateway_model.specs.declared.id.CallId.{CallId}
 use Rattle.gateway_model.specs.Branch.{branch_at}
 use Rattle.gateway_model.specs.CallRecord.{CallRecord, last_event}
 use Rattle.gateway_model.specs.Errors.{error_of}
+use Rattle.access_log.specs.declared.ending.Ended.{Ended}
+use Rattle.access_log.specs.declared.ending.Ended.TheVariants as ended
 
 -- ---- what ended a call
 
@@ -38,6 +40,18 @@ branch_of e = None
 -- the name of the branch that ended the call
 abbrev pub branch_in : CallRecord → Option (List ℕ)
 branch_in r = option_map (λ i. (branch_at r.plan i).name) (option_and_then branch_of (last_event r.events))
+
+-- the name of each ending
+abbrev pub ended_name : Ended → List ℕ
+ended_name ended.Answers = codes "answers"
+ended_name ended.Branch = codes "branch"
+ended_name ended.BranchDeadline = codes "branch deadline"
+ended_name ended.Deadline = codes "deadline"
+ended_name ended.HangUp = codes "hang-up"
+ended_name ended.Drain = codes "drain"
+ended_name ended.NoCall = codes "no call"
+ended_name ended.OneTooMany = codes "one too many"
+ended_name ended.Refusal = codes "refusal"
 
 -- the code of the error that the call ended with
 abbrev pub code_in : CallRecord → Option Code

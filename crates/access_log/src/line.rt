@@ -43,7 +43,7 @@ fn document(
         "branch": branch,
         "code": code,
         "connection": id.conn.number(),
-        "ended": told::ended(entry),
+        "ended": told::ended(entry).name(),
         "ms": ms,
         "path": path,
         "request": id.request,
@@ -53,7 +53,7 @@ fn document(
     })
 }
 
-fn text_or_null(alloc: Global, text: Option<&str>) -> Result<Value, AllocError>
+pub(crate) fn text_or_null(alloc: Global, text: Option<&str>) -> Result<Value, AllocError>
     ensures { IfOk result (λ value. view value ≡ text_or_null (option_map (λ t. t.now) text.entry)) }
 {
     match text {

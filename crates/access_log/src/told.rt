@@ -3,8 +3,9 @@ ghost use Rattle.std.specs.Prelude.{◌≡◌, option_map};
 ghost use Rattle.error_document.specs.Codes.{code_name};
 ghost use Rattle.gateway_model.specs.Branch.{branch_at};
 ghost use Rattle.gateway_model.specs.CallRecord.{last_event};
-ghost use Rattle.access_log.specs.Line.{bare_status, branch_in, branch_told, code_in, code_told, ended_told, path_told, refusal_status, status_told, taken_told};
+ghost use Rattle.access_log.specs.Line.{bare_status, branch_in, branch_told, code_in, code_told, ended_name, ended_told, path_told, refusal_status, status_told, taken_told};
 
+use crate::ending::Ended;
 use call_plan::Plan;
 use connect_codec::Verdict;
 use error_document::Code;
@@ -12,20 +13,20 @@ use gateway_model::{CallEvent, CallRecord, ReplyEntry};
 use http_pieces::Refusal;
 
 /// What ended the call, or why there was none.
-pub(crate) fn ended(entry: &ReplyEntry) -> &'static str
-    ensures { result.now ≡ ended_told entry.now }
+pub fn ended(entry: &ReplyEntry) -> Ended
+    ensures { ended_name result ≡ ended_told entry.now }
 {
     match entry {
-        ReplyEntry::Refused(_) => "refusal",
-        ReplyEntry::Judged(..) => "no call",
-        ReplyEntry::Crowded(_) => "one too many",
+        ReplyEntry::Refused(_) => Ended::Refusal,
+        ReplyEntry::Judged(..) => Ended::NoCall,
+        ReplyEntry::Crowded(_) => Ended::OneTooMany,
         ReplyEntry::Call(call) => match deciding(call) {
-            Some(CallEvent::Answer(..)) | None => "answers",
-            Some(CallEvent::Failed(..)) => "branch",
-            Some(CallEvent::Expired(_)) => "deadline",
-            Some(CallEvent::BranchExpired(..)) => "branch deadline",
-            Some(CallEvent::HungUp) => "hang-up",
-            Some(CallEvent::Drained) => "drain",
+            Some(CallEvent::Answer(..)) | None => Ended::Answers,
+            Some(CallEvent::Failed(..)) => Ended::Branch,
+            Some(CallEvent::Expired(_)) => Ended::Deadline,
+            Some(CallEvent::BranchExpired(..)) => Ended::BranchDeadline,
+            Some(CallEvent::HungUp) => Ended::HangUp,
+            Some(CallEvent::Drained) => Ended::Drain,
         },
     }
 }
@@ -67,7 +68,7 @@ fn name_of(plan: &Plan, branch: u32) -> &str
 }
 
 /// The path of the call's plan.
-pub(crate) fn path(entry: &ReplyEntry) -> Option<&str>
+pub fn path(entry: &ReplyEntry) -> Option<&str>
     ensures { option_map (λ path. path.now) result ≡ path_told entry.now }
 {
     match entry {
@@ -77,7 +78,7 @@ pub(crate) fn path(entry: &ReplyEntry) -> Option<&str>
 }
 
 /// The milliseconds from the call's arrival to that moment.
-pub(crate) fn taken(moment: u64, entry: &ReplyEntry) -> Option<u64>
+pub fn taken(moment: u64, entry: &ReplyEntry) -> Option<u64>
     ensures { result ≡ taken_told moment entry.now }
 {
     match entry {

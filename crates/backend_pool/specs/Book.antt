@@ -1,21 +1,20 @@
 -- The core with its three totals, and the events that it stands for.
-use Rattle.std.specs.Prelude.{◌≡◌, ℕ, ◌+◌, ◌^◌, ◌<◌, IfOk, MatchResult, Result, true, List, [], ◌∷◌, ◌++◌, length, Option, Some, None, is_some, option_map, option_to_list}
+use Rattle.std.specs.Prelude.{◌≡◌, ⊤, ℕ, ◌+◌, ◌^◌, ◌<◌, IfOk, MatchResult, Result, Err, List, [], ◌∷◌, ◌++◌, length, Option, Some, None, option_map, option_to_list}
 use Rattle.connect_codec.specs.declared.answer.Outcome.{Outcome}
-use Rattle.gateway_model.specs.declared.entry.ReplyEntry.{ReplyEntry}
 use Rattle.gateway_model.specs.declared.seen.Seen.{Seen}
-use Rattle.gateway_model.specs.declared.seen.Seen.TheVariants.{Counted, Unknown}
-use Rattle.gateway_theory.specs.declared.fault.Took.{Took}
 use Rattle.gateway_model.specs.Events.{Before, most_open, open_connections}
 use Rattle.gateway_model.specs.declared.event.Event.TheVariants.{BranchResult, Opening, Piece}
 use Rattle.gateway_model.specs.declared.event.Event.{Event}
 use Rattle.gateway_theory.specs.Gateway.{GatewayValue, jobs_of}
 use Rattle.gateway_theory.specs.Task.{HandedJob}
 use Rattle.gateway_model.specs.Job.{JobValue}
-use Rattle.gateway_model.specs.Occurrence.{Occurrence}
 use Rattle.gateway_model.specs.History.{History, after_event, after_opening, after_jobs}
 use Rattle.gateway_theory.specs.Replies.{ReplyValue}
 use Rattle.gateway_theory.specs.Served.{Served, after_reply}
-use Rattle.gateway_theory.specs.Told.{IsWanted}
+use Rattle.gateway_theory.specs.Serving.{TellsStep}
+use Rattle.gateway_theory.specs.Told.{BeginsWithin, IsWanted}
+use Rattle.gateway_theory.specs.declared.fault.StepFault.{StepFault}
+use Rattle.gateway_theory.specs.declared.fault.StepFault.TheVariants.{Exhausted}
 use Rattle.gateway_theory.specs.Tally.{tally_of}
 use Rattle.backend_pool.specs.declared.shares.Totals.{Totals}
 use Rattle.backend_pool.specs.declared.next_reply.NextReply.{NextReply}
@@ -100,6 +99,11 @@ abbrev pub IsReached : BookValue → Type 0
 IsReached b = (h : History) × BookStands b h
 
 -- ---- what a call tells
+
+-- what the step of a piece tells of its connection; the numbers of calls are used up only where one would begin
+pub record TellsPiece (conn : ℕ) (piece : List ℕ) (v w : GatewayValue) (result : Result ⊤ StepFault) : Type 0 where
+  pub step : TellsStep conn v w result
+  pub begins : result ≡ Err Exhausted → BeginsWithin conn piece v
 
 abbrev pub job_list : Option HandedJob → List JobValue
 job_list job = option_to_list (option_map (λ j. j.job) job)

@@ -16,7 +16,7 @@ ghost use Rattle.gateway_theory.specs.Serving.{Breaks, HasFewCalls, TakesOnly, T
 ghost use Rattle.gateway_model.specs.Starts.{Placed, occurrences};
 ghost use Rattle.gateway_model.specs.History.{History, no_history};
 ghost use Rattle.backend_pool.specs.declared.next_reply.NextReply.{NextReply};
-ghost use Rattle.backend_pool.specs.Book.{book_value, BookStands, GivesJob, HandsJobs, HandsReply, job_list, most_total, OpensFew, reply_given, TakesEvent, TakesOpening, totals_of};
+ghost use Rattle.backend_pool.specs.Book.{book_value, BookStands, GivesJob, HandsJobs, HandsReply, job_list, most_total, OpensFew, reply_given, TakesEvent, TakesOpening, TellsPiece, totals_of};
 
 use crate::counter::Counter;
 use crate::ledger_full::LedgerFull;
@@ -121,7 +121,7 @@ impl<H: ReplyHook + Drop, L: Ledger, J: Ledger, K: Ledger> Book<H, L, J, K> {
     ) -> Result<Result<(), StepFault>, LedgerFull>
         requires { 0 < mine.old.parts }
         ensures stands { OnOk result (TakesEvent (Piece conn bytes.now) self.old self.new) }
-        ensures tells { IfOk result (λ step. TellsStep conn self.old.core self.new.core step) }
+        ensures tells { IfOk result (λ step. TellsPiece conn bytes.now self.old.core self.new.core step) }
         ensures counts { OnOk result
             (self.new ≡ record self.old { core = self.new.core; bytes = self.old.bytes + length bytes.now }) }
         ensures full { MatchResult result (λ _. self.old.bytes + length bytes.now ≤ most_total)

@@ -171,9 +171,6 @@ module _ {C V : Type 0} (past : List (Op C V)) (root base : Id) (root_is : held 
       other_kind : kind_of (unwrap_or m.holder m.conn) m.deadline ≡ twig → ⊥
       other_kind e = parent_call o o_is m.conn m_is.conn_is m.holder m_is.holder_is (kind_parent C V (unwrap_or m.holder m.conn) t.call m.deadline (ap parent_of e) ∙ sym of)
 
-      pub call_twig : m.ctx ≡ t.ctx → ⊥
-      call_twig = differ m.ctx t.ctx (kind_of (unwrap_or m.holder m.conn) m.deadline) (Deadline t.call t.at None) past m_is.call_is t_is other_kind
-
       pub call_far_twig : same m.ctx t.ctx ≡ false
       call_far_twig = apart_kinds m.ctx t.ctx (kind_of (unwrap_or m.holder m.conn) m.deadline) (Deadline t.call t.at None) past m_is.call_is t_is other_kind
 

@@ -1,7 +1,6 @@
 -- The branch of the least deadline, and of equal ones the first.
-use Rattle.std.proofs.Common.{◌≡◌, refl, sym, ap, ◌∙◌, arith, ℕ, List, [], ◌∷◌, Option, Some, None, true, false, ⊎_elim, subst}
+use Rattle.std.proofs.Common.{◌≡◌, refl, sym, ap, ◌∙◌, ℕ, List, [], ◌∷◌, Option, Some, None, true, false, ⊎_elim, subst}
 use Rattle.std.specs.Prelude.{All, if◌then◌else◌, is_some, nat_le, map, option_map, option_and_then}
-use Rattle.std.specs.Option.{option_map_or}
 use Rattle.std.proofs.lemmas.Bool.{cases_Bool}
 use Rattle.std.proofs.lemmas.List.Elements.{All-head, All-tail}
 use Rattle.std.proofs.lemmas.Option.{same_Some}
@@ -19,38 +18,6 @@ use Rattle.call_contexts.proofs.Trees.{same_true, shown}
 abbrev pub merged : Option Twig → Option Twig → Option Twig
 merged None rest = rest
 merged (Some t) rest = Some (sooner_twig t rest)
-
-le_through : (a b c : ℕ) → nat_le a b ≡ true → nat_le b c ≡ true → nat_le a c ≡ true
-le_through a b c ab bc = grind (arith, ab, bc)
-
-not_through : (a b c : ℕ) → nat_le a b ≡ false → nat_le b c ≡ false → nat_le a c ≡ false
-not_through a b c ab bc = grind (arith, ab, bc)
-
-not_le : (a b c : ℕ) → nat_le a b ≡ false → nat_le a c ≡ true → nat_le b c ≡ true
-not_le a b c ab ac = grind (arith, ab, ac)
-
--- the first of three
-three : (x y z : Twig) → sooner_twig x (Some (sooner_twig y (Some z))) ≡ sooner_twig (sooner_twig x (Some y)) (Some z)
-three x y z = ⊎_elim
-    (λ (xy : nat_le x.at y.at ≡ true). ⊎_elim
-    (λ (yz : nat_le y.at z.at ≡ true). rw (xy, yz, xy, le_through x.at y.at z.at xy yz) refl)
-    (λ (zy : nat_le y.at z.at ≡ false). rw (zy, xy) refl)
-    (cases_Bool (nat_le y.at z.at)))
-    (λ (yx : nat_le x.at y.at ≡ false). ⊎_elim
-    (λ (yz : nat_le y.at z.at ≡ true). rw (yz, yx, yz) refl)
-    (λ (zy : nat_le y.at z.at ≡ false). rw (zy, yx, zy, not_through x.at y.at z.at yx zy) refl)
-    (cases_Bool (nat_le y.at z.at)))
-    (cases_Bool (nat_le x.at y.at))
-
-step : (acc : Option Twig) (t : Twig) (rest : Option Twig) → merged acc (Some (sooner_twig t rest)) ≡ merged (Some (option_map_or (λ u. sooner_twig u (Some t)) acc t)) rest
-step None t rest = refl
-step (Some x) t None = refl
-step (Some x) t (Some z) = ap (λ u. Some u) (three x t z)
-
--- the loop passes a branch of the call
-pub taken : (call : Id) (acc : Option Twig) (t : Twig) (ts : List Twig) → same t.call call ≡ true
-    → merged acc (soonest_of call (t ∷ ts)) ≡ merged (Some (option_map_or (λ u. sooner_twig u (Some t)) acc t)) (soonest_of call ts)
-taken call acc t ts is = rw is (step acc t (soonest_of call ts))
 
 -- ---- what is seen
 

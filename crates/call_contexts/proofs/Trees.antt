@@ -30,10 +30,6 @@ same_true x y is = grind (arith, rules)
 pub same_turned : (x y : Id) → same x y ≡ same y x
 same_turned x y = grind (arith, rules)
 
-pub option_cases : {A : Type 0} (x : Option A) → (x ≡ None) ⊎ ((a : A) × (x ≡ Some a))
-option_cases None = inl refl
-option_cases (Some a) = inr (a, refl)
-
 pub not_both : (b : Bool) → b ≡ true → b ≡ false → ⊥
 not_both true y n = cc
 not_both false y n = cc

@@ -193,20 +193,6 @@ impl<C: Copy, V: Drop, H: Drop> CallContexts<C, V, H> {
         self.tree.next_deadline()
     }
 
-    /// Whether a connection of that context stands.
-    pub fn has_conn(&self, conn: CtxId) -> bool
-        ensures { result ≡ is_conn conn self.now.standing.conns }
-    {
-        self.conns.contains(&conn)
-    }
-
-    /// Whether a call of that connection stands.
-    pub fn has_calls(&self, conn: CtxId) -> bool
-        ensures { result ≡ list_any (λ c. same c.conn conn) self.now.standing.calls }
-    {
-        calls::has_of(&self.calls, conn)
-    }
-
     /// A branch of a call that has a timeout starts, with a context that ends at this moment or with its call's.
     pub fn branch(&mut self, call: CtxId, branch: u32, at: u64, now: u64) -> Result<(), AllocError>
         requires { is_call call self.old.standing.calls ≡ true }

@@ -1,23 +1,10 @@
 //! A list of calls, looked up by their contexts.
 ghost use Rattle.std.specs.Prelude.{◌≡◌, not, filter};
-ghost use Rattle.std.specs.List.{list_any};
 ghost use Rattle.context_tree.specs.Context.{same};
 ghost use Rattle.call_contexts.specs.Sound.{life_at};
 
 use crate::life::Life;
 use context_tree::CtxId;
-
-/// Whether a call is of that connection.
-pub(crate) fn has_of(calls: &[Life], conn: CtxId) -> bool
-    ensures { result ≡ list_any (λ l. same l.conn conn) calls.now }
-{
-    for life in calls {
-        if life.conn == conn {
-            return true;
-        }
-    }
-    false
-}
 
 /// The first call of that context.
 pub(crate) fn find(calls: &[Life], ctx: CtxId) -> Option<Life>

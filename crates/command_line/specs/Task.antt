@@ -1,9 +1,14 @@
 -- What the words of the command line ask for.
 use Rattle.std.specs.Prelude.{◌≤◌, ⊤, IfSome}
+use Rattle.command_line.specs.declared.task.Admin.{Admin}
 use Rattle.command_line.specs.declared.task.Task.{Task}
 use Rattle.command_line.specs.declared.task.Task.TheVariants.{Replay, Serve, Check, Version}
 use Rattle.script_replay.specs.declared.fault.Fault.{Fault}
 use Rattle.script_replay.specs.declared.fault.Fault.TheVariants.{Memory, Words}
+
+-- the seconds of its drain are in their ranges
+abbrev pub AreShort : Admin → Type 0
+AreShort admin = (admin.drain_after ≤ 3600) × (admin.grace ≤ 3600)
 
 -- its numbers are in their ranges
 abbrev pub IsInRange : Task → Type 0
@@ -12,6 +17,7 @@ IsInRange (Check _) = ⊤
 IsInRange Version = ⊤
 IsInRange (Serve service) =
     ((1 ≤ service.workers) × (service.workers ≤ 64)) × IfSome service.connections (λ count. (1 ≤ count) × (count ≤ 1000000))
+    × IfSome service.admin AreShort
 
 -- the faults that reading the words may give
 abbrev pub IsOfWords : Fault → Type 0

@@ -1,6 +1,6 @@
-ghost use Rattle.std.specs.Prelude.{◌≡◌, ◌≢◌, IfErr, IfOk};
+ghost use Rattle.std.specs.Prelude.{◌≡◌, ◌≢◌, ◌≤◌, IfErr, IfOk, IfSome};
 ghost use Rattle.clap.specs.Values.{kind_of};
-ghost use Rattle.command_line.specs.Task.{IsInRange, IsOfWords};
+ghost use Rattle.command_line.specs.Task.{AreShort, IsInRange, IsOfWords};
 
 use clap::error::ErrorKind;
 use clap::{Arg, ArgAction, ArgMatches, Command, Error, value_parser};
@@ -13,6 +13,12 @@ const MOST_WORKERS: u32 = 64;
 
 /// So many accepted streams are the most that can be asked for.
 const MOST_CONNECTIONS: u64 = 1_000_000;
+
+/// So many seconds are the most that a stage of a drain may last.
+const MOST_SECONDS: u64 = 3_600;
+
+/// For so many seconds calls go on in a drain, if it is not said.
+const USUAL_GRACE: u64 = 10;
 
 /// What the words ask for.
 #[derive(Drop, PartialEq, Eq, Debug)]
@@ -57,6 +63,19 @@ pub struct Service {
     pub connections: Option<u64>,
     /// Whether it is told on standard error what becomes of calls.
     pub log: bool,
+    /// The address for operators, if there is to be one.
+    pub admin: Option<Admin>,
+}
+
+/// An address for operators, and how a gateway that is drained there ends.
+#[derive(Drop, PartialEq, Eq, Debug)]
+pub struct Admin {
+    /// The address to listen at, as it was given: a host and a port.
+    pub address: Text,
+    /// For how many seconds streams are still accepted: 0 to 3,600.
+    pub drain_after: u64,
+    /// For how many seconds calls go on then: 0 to 3,600.
+    pub grace: u64,
 }
 
 /// Reads the machine's words, the program's name first. All but a task are `Fault::Words`, a request for help too;
@@ -90,7 +109,10 @@ fn serve_command<'a>(alloc: Global) -> Result<Command<'a>, AllocError> {
         .arg(option(alloc, "plans").required(true))?
         .arg(number(alloc, "workers").required(true))?
         .arg(number(alloc, "connections"))?
-        .arg(option(alloc, "log").action(ArgAction::SetTrue))
+        .arg(option(alloc, "log").action(ArgAction::SetTrue))?
+        .arg(option(alloc, "admin"))?
+        .arg(number(alloc, "drain-after"))?
+        .arg(number(alloc, "grace"))
 }
 
 fn check_command<'a>(alloc: Global) -> Result<Command<'a>, AllocError> {
@@ -141,7 +163,39 @@ fn service_of(alloc: Global, options: &ArgMatches<'_>) -> Result<Task, Fault>
         workers,
         connections,
         log: options.get_flag("log"),
+        admin: admin_of(alloc, options)?,
     }))
+}
+
+/// The address for operators. How a drain goes is said only with it.
+fn admin_of(alloc: Global, options: &ArgMatches<'_>) -> Result<Option<Admin>, Fault>
+    ensures faults { IfErr result IsOfWords }
+    ensures in_range { IfOk result (λ admin. IfSome admin AreShort) }
+{
+    let drain_after = seconds_of(options, "drain-after")?;
+    let grace = seconds_of(options, "grace")?;
+    let Some(address) = options.get_str("admin") else {
+        return match (drain_after, grace) {
+            (None, None) => Ok(None),
+            _ => Err(Fault::Words),
+        };
+    };
+    Ok(Some(Admin {
+        address: Text::from_str(alloc, address)?,
+        drain_after: drain_after.unwrap_or(0),
+        grace: grace.unwrap_or(USUAL_GRACE),
+    }))
+}
+
+/// The seconds that an option says, if it is given.
+fn seconds_of(options: &ArgMatches<'_>, name: &str) -> Result<Option<u64>, Fault>
+    ensures faults { IfErr result IsOfWords }
+    ensures in_range { IfOk result (λ seconds. IfSome seconds (λ count. count ≤ 3600)) }
+{
+    match options.get_one::<u64>(name) {
+        Some(seconds) if MOST_SECONDS < seconds => Err(Fault::Words),
+        seconds => Ok(seconds),
+    }
 }
 
 /// One of the two files is named, and not both.

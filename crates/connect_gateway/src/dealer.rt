@@ -1,8 +1,11 @@
 ghost use Rattle.std.specs.Prelude.{⊤};
 
+use crate::admin_door::{AdminDoor, Now};
+use crate::clock::SinceStart;
 use crate::host::Host;
 use crate::loop_side::{LoopSide, Mail};
 use crate::socket::{Seat, Socket};
+use admin::{Readiness, Stage};
 use gateway_loop::Dealt;
 use mio::net::{TcpListener, TcpStream};
 use mio::{Events, Interest, Poll, Token, Waker};
@@ -26,20 +29,31 @@ const PAUSE: u64 = 10;
 /// So often it is tried again while no backend is asked.
 const MOST_TRIES: u32 = 300;
 
+/// Behind so many streams that were accepted without a wait it is looked at who else came.
+const MANY: u64 = 64;
+
 const LISTENER: Token = Token(0);
 
 const WAKER: Token = Token(1);
 
-/// Accepts streams and deals them to the loops.
+/// As many sockets may be told of at once as there may be.
+const EVENTS: usize = 32;
+
+/// Accepts streams and deals them to the loops, and attends to the address for operators, if there is one.
 #[derive(Drop)]
 pub(crate) struct Dealer<M> {
     rt: M,
     alloc: Global,
-    listener: TcpListener,
+    clock: SinceStart,
+    // none once nobody listens any more
+    listener: Option<TcpListener>,
     poll: Poll,
     events: Events,
     waker: Arc<Waker>,
     sides: Vec<Arc<LoopSide>>,
+    admin: Option<AdminDoor>,
+    // the stage of a drain that the loops know
+    stage: Stage,
 }
 
 // Clauses see nothing of it, which keeps proofs small.
@@ -51,20 +65,28 @@ impl<M> Model for Dealer<M> {
 
 impl<M: Host + Net> Dealer<M> {
     /// With no loops yet.
-    pub(crate) fn new(rt: M, alloc: Global, listener: TcpListener) -> Result<Dealer<M>, Fault> {
-        let poll = Poll::new(&rt)?;
-        let waker = Arc::new(alloc, Waker::new(poll.registry(), WAKER)?)?;
+    pub(crate) fn new(
+        rt: M,
+        alloc: Global,
+        clock: SinceStart,
+        listener: TcpListener,
+        admin: Option<AdminDoor>,
+    ) -> Result<Dealer<M>, Fault> {
         let mut listener = listener;
-        poll.registry()
-            .register(&mut listener, LISTENER, Interest::READABLE)?;
+        let mut admin = admin;
+        let poll = watch(&rt, &mut listener, &mut admin)?;
+        let waker = Waker::new(poll.registry(), WAKER)?;
         Ok(Dealer {
             rt,
             alloc,
-            listener,
+            clock,
+            listener: Some(listener),
+            events: Events::with_capacity(alloc, EVENTS)?,
+            waker: Arc::new(alloc, waker)?,
             poll,
-            events: Events::with_capacity(alloc, 2)?,
-            waker,
             sides: Vec::new(alloc),
+            admin,
+            stage: Stage::Serves,
         })
     }
 
@@ -80,19 +102,34 @@ impl<M: Host + Net> Dealer<M> {
     }
 
     /// Listens no more, and deals no more.
-    pub(crate) fn end(self) {
-        let Dealer {
-            listener,
-            sides,
-            ..
-        } = self;
-        drop(listener);
-        for side in &sides {
+    pub(crate) fn close(&mut self) {
+        drop(self.listener.take());
+        for side in &self.sides {
             side.close();
         }
+        let moment = self.clock.now(&self.rt);
+        if let Some(door) = &mut self.admin {
+            door.drain.close(moment);
+        }
+        self.follow_drain();
     }
 
-    /// Accepts so many streams, and deals each to a loop. `Io` where accepting fails for too long, and where no loop is left.
+    /// Attends to the address for operators, if there is one, until all loops are over.
+    pub(crate) fn attend_to_the_end(&mut self) {
+        let rt = self.rt;
+        for _ in rt.forever() {
+            if self.admin.is_none() || self.are_over() {
+                return;
+            }
+            if self.wait(None).is_err() {
+                thread::sleep(&rt, Duration::from_millis(PAUSE));
+            }
+        }
+        unreachable!()
+    }
+
+    /// Accepts so many streams, or until a drain ends that, and deals each to a loop. `Io` where accepting fails for too long, and
+    /// where no loop is left.
     pub(crate) fn deal_streams(&mut self, most: u64) -> Result<(), Fault> {
         let rt = self.rt;
         let mut dealt: u64 = 0;
@@ -101,20 +138,27 @@ impl<M: Host + Net> Dealer<M> {
             if dealt >= most {
                 return Ok(());
             }
-            if self.sides.iter().all(|side| side.is_over()) {
+            if self.are_over() {
                 return Err(Fault::Io);
             }
             match self.accept() {
-                Ok(Some(stream)) => {
+                Ok(Accepted::Stream(stream)) => {
                     // one for which there is no room or no memory is closed
                     let _ = self.deal(stream);
                     dealt += 1;
                     tries = 0;
+                    if dealt % MANY == 0 {
+                        self.look();
+                    }
                 }
-                Ok(None) => tries = 0,
+                Ok(Accepted::Nothing) => tries = 0,
+                Ok(Accepted::NoMore) => return Ok(()),
+                // in a drain nobody is waited for
+                Err(_) if self.stage == Stage::Closes => return Ok(()),
                 Err(_) if tries >= MOST_TRIES => return Err(Fault::Io),
                 Err(_) => {
                     thread::sleep(&rt, Duration::from_millis(PAUSE));
+                    self.look();
                     if !self.is_asking() {
                         tries = tries.saturating_add(1);
                     }
@@ -124,16 +168,83 @@ impl<M: Host + Net> Dealer<M> {
         unreachable!()
     }
 
-    /// The next stream. None where none waited, behind a wait for one or for the end of a loop.
-    fn accept(&mut self) -> io::Result<Option<TcpStream>> {
-        match self.listener.accept() {
-            Ok((stream, _peer)) => Ok(Some(stream)),
+    /// The next stream. Where none waits it is waited for one, for the end of a loop or for an operator, unless nobody is to listen any
+    /// more.
+    fn accept(&mut self) -> io::Result<Accepted> {
+        let Some(listener) = &self.listener else {
+            return Ok(Accepted::NoMore);
+        };
+        match listener.accept() {
+            Ok((stream, _peer)) => Ok(Accepted::Stream(stream)),
             Err(error) if error.kind() == ErrorKind::WouldBlock => {
-                self.poll.poll(&mut self.events, None)?;
-                Ok(None)
+                if self.stage == Stage::Closes {
+                    return Ok(Accepted::NoMore);
+                }
+                self.wait(None)?;
+                Ok(Accepted::Nothing)
             }
             Err(error) => Err(error),
         }
+    }
+
+    /// Attends to operators, if there are some, without a wait.
+    fn look(&mut self) {
+        if self.admin.is_some() {
+            let _ = self.wait(Some(0));
+        }
+    }
+
+    /// Waits for so many milliseconds at most, attends to operators, and tells the loops how far a drain is.
+    fn wait(&mut self, most: Option<u64>) -> io::Result<()> {
+        let moment = self.clock.now(&self.rt);
+        let mut timeout = most;
+        if let Some(door) = &self.admin {
+            timeout = sooner(timeout, door.time_left(moment));
+        }
+        self.poll
+            .poll(&mut self.events, timeout.map(Duration::from_millis))?;
+        let now = Now {
+            moment: self.clock.now(&self.rt),
+            readiness: self.readiness(),
+        };
+        if let Some(door) = &mut self.admin {
+            door.attend(&self.rt, &self.poll, &self.events, &self.sides, &now);
+        }
+        self.follow_drain();
+        Ok(())
+    }
+
+    /// Tells the loops of the stage that a drain has come to. Connections are closed only once nobody listens.
+    fn follow_drain(&mut self) {
+        let moment = self.clock.now(&self.rt);
+        let Some(door) = &self.admin else {
+            return;
+        };
+        let stage = door.drain.stage(moment);
+        if self.listener.is_none() && stage != Stage::Serves {
+            for side in &self.sides {
+                side.follow(stage);
+            }
+        }
+        self.stage = stage;
+    }
+
+    /// Whether a stream would be accepted.
+    fn readiness(&self) -> Readiness {
+        if self.listener.is_none() {
+            Readiness::Closed
+        } else if self.stage != Stage::Serves {
+            Readiness::Draining
+        } else if self.emptiest().is_none() {
+            Readiness::Full
+        } else {
+            Readiness::Ready
+        }
+    }
+
+    /// Whether no loop is left.
+    fn are_over(&self) -> bool {
+        self.sides.iter().all(|side| side.is_over())
     }
 
     /// Hands a stream to the loop with the fewest connections. None where it is closed instead.
@@ -141,10 +252,7 @@ impl<M: Host + Net> Dealer<M> {
         let side = self.emptiest()?;
         let seat = Seat::among(&side.open).ok()?;
         let socket = Socket::of_client(stream, seat).ok()?;
-        let dealt = Dealt {
-            wire: Told::new(socket),
-            stock: stock(self.alloc).ok()?,
-        };
+        let dealt = Dealt::new(Told::new(socket), stock(self.alloc).ok()?);
         side.hand_in(&self.rt, Mail::Stream(dealt)).ok()
     }
 
@@ -167,5 +275,39 @@ impl<M: Host + Net> Dealer<M> {
         self.sides
             .iter()
             .any(|side| side.standing(&self.rt).asking > 0)
+    }
+}
+
+/// What waits for streams, and for operators if there is an address for them.
+fn watch<R: Net>(
+    rt: &R,
+    listener: &mut TcpListener,
+    admin: &mut Option<AdminDoor>,
+) -> io::Result<Poll> {
+    let poll = Poll::new(rt)?;
+    poll.registry()
+        .register(listener, LISTENER, Interest::READABLE)?;
+    if let Some(door) = admin {
+        door.watch(&poll)?;
+    }
+    Ok(poll)
+}
+
+/// What accepting came to.
+#[derive(Drop)]
+enum Accepted {
+    Stream(TcpStream),
+    /// None waited, and a wait is over.
+    Nothing,
+    /// None waits, and no more are to be accepted.
+    NoMore,
+}
+
+/// The shorter of two times, of which either may be absent.
+pub(crate) fn sooner(one: Option<u64>, other: Option<u64>) -> Option<u64> {
+    match (one, other) {
+        (Some(one), Some(other)) => Some(one.min(other)),
+        (Some(time), None) | (None, Some(time)) => Some(time),
+        (None, None) => None,
     }
 }

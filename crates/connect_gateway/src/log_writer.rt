@@ -10,13 +10,24 @@ use std::io::Eprint;
 use std::marker::Model;
 use std::sync::atomic::{AtomicU64, Ordering};
 use std::sync::{Arc, Wait};
+use std::thread;
 use std::time::{Clock, Duration, Instant, SystemTime};
 
 /// How often it is told how the gateway stands, in milliseconds.
 const PAUSE: u64 = 10_000;
 
-/// Writes the lines of the log to standard error, one write for each, and every ten seconds how the gateway stands. Where a write
-/// fails the line is left out.
+/// So many lines are written at once at most.
+const TOGETHER: u32 = 64;
+
+/// Behind so many bytes no further line is written with them: a pipe takes 4,096 at once, so that the lines of two
+/// programs stay whole.
+const MOST_BYTES: usize = 3_500;
+
+/// So long it lets lines gather once none waits, in milliseconds: whoever hands one in then need not wake it.
+const GATHERS: u64 = 5;
+
+/// Writes the lines of the log to standard error, those that wait by one write, and every ten seconds how the gateway
+/// stands. Where a write fails its lines are left out.
 #[derive(Drop)]
 pub(crate) struct LogWriter {
     alloc: Global,
@@ -63,7 +74,11 @@ impl LogWriter {
         let mut told = Instant::now(rt).ok();
         for _ in rt.forever() {
             match self.lines.recv_timeout(rt, time_left(rt, told)) {
-                Ok(line) => self.write(rt, line.as_str()),
+                Ok(line) => {
+                    if self.write(rt, line) {
+                        thread::sleep(rt, Duration::from_millis(GATHERS));
+                    }
+                }
                 Err(RecvTimeoutError::Disconnected) => break,
                 Err(RecvTimeoutError::Timeout) => {}
             }
@@ -75,10 +90,29 @@ impl LogWriter {
         drop(done);
     }
 
-    fn write<R: Eprint>(&self, rt: &R, line: &str) {
-        if rt.eprintln(line).is_err() {
-            self.dropped.fetch_add(1, Ordering::SeqCst);
+    /// Writes the line, and those that wait behind it. Answers whether none waits any more.
+    fn write<R: Wait + Eprint>(&self, rt: &R, line: String) -> bool {
+        let mut lines = line;
+        let mut count: u64 = 1;
+        let mut is_all = false;
+        for _line in 1..TOGETHER {
+            if lines.len() >= MOST_BYTES {
+                break;
+            }
+            let Ok(next) = self.lines.try_recv(rt) else {
+                is_all = true;
+                break;
+            };
+            if add_line(&mut lines, next.as_str()).is_err() {
+                self.dropped.fetch_add(1, Ordering::SeqCst);
+                break;
+            }
+            count = count.saturating_add(1);
         }
+        if rt.eprintln(lines.as_str()).is_err() {
+            self.dropped.fetch_add(count, Ordering::SeqCst);
+        }
+        is_all
     }
 
     /// Tells how the gateway stands.
@@ -103,6 +137,13 @@ impl LogWriter {
             let _ = rt.eprintln(line.as_str());
         }
     }
+}
+
+/// Adds a line behind those before.
+fn add_line(lines: &mut String, next: &str) -> Result<(), AllocError> {
+    lines.reserve(next.len().saturating_add(1))?;
+    lines.push_str("\n")?;
+    lines.push_str(next)
 }
 
 /// Adds how a loop stands.

@@ -1,6 +1,7 @@
 ghost use Rattle.std.specs.Prelude.{⊤};
 
 use crate::socket::Socket;
+use admin::{LoopCounts, Stage};
 use crossbeam_channel::{Receiver, Sender, unbounded};
 use gateway_core::Tally;
 use gateway_loop::{Dealt, LookedUp, LoopStanding};
@@ -28,9 +29,15 @@ pub(crate) struct LoopSide {
     waker: Waker,
     /// How many of its connections are open, with those that it has not taken yet: each has a seat among them.
     pub(crate) open: Arc<AtomicU64>,
+    /// How its replies came out, where that is asked for.
+    pub(crate) counts: Option<LoopCounts>,
     // how it stood after its last turn
     standing: Mutex<LoopStanding>,
     is_closed: AtomicBool,
+    // how far a drain is
+    closes_idle: AtomicBool,
+    ends_calls: AtomicBool,
+    is_cut: AtomicBool,
     is_over: AtomicBool,
 }
 
@@ -42,18 +49,23 @@ impl Model for LoopSide {
 }
 
 impl LoopSide {
-    /// Of a loop that stands so, and that this waker wakes; and what the loop takes its mail from.
+    /// Of a loop that this waker wakes, with counts if there are to be some; and what the loop takes its mail from.
     pub(crate) fn new(
         alloc: Global,
         waker: Waker,
+        counts: Option<LoopCounts>,
     ) -> Result<(LoopSide, Receiver<Mail>), AllocError> {
         let (mail, taken) = unbounded(alloc)?;
         let side = LoopSide {
             mail,
             waker,
             open: Arc::new(alloc, AtomicU64::new(0))?,
+            counts,
             standing: Mutex::new(of_no_turn()),
             is_closed: AtomicBool::new(false),
+            closes_idle: AtomicBool::new(false),
+            ends_calls: AtomicBool::new(false),
+            is_cut: AtomicBool::new(false),
             is_over: AtomicBool::new(false),
         };
         Ok((side, taken))
@@ -78,6 +90,37 @@ impl LoopSide {
 
     pub(crate) fn is_closed(&self) -> bool {
         self.is_closed.load(Ordering::SeqCst)
+    }
+
+    /// The gateway is drained: this stage of it has come. Streams come no more by then.
+    pub(crate) fn follow(&self, stage: Stage) {
+        let is_known = match stage {
+            Stage::Serves | Stage::Accepts => true,
+            Stage::Closes => self.closes_idle.swap(true, Ordering::SeqCst),
+            Stage::Ends => {
+                self.closes_idle.store(true, Ordering::SeqCst);
+                self.ends_calls.swap(true, Ordering::SeqCst)
+            }
+            Stage::Cuts => self.is_cut.swap(true, Ordering::SeqCst),
+        };
+        if !is_known {
+            self.wake();
+        }
+    }
+
+    /// Connections are to be closed as soon as nothing is owed to them.
+    pub(crate) fn closes_idle(&self) -> bool {
+        self.closes_idle.load(Ordering::SeqCst)
+    }
+
+    /// Calls that are left are to be ended.
+    pub(crate) fn ends_calls(&self) -> bool {
+        self.ends_calls.load(Ordering::SeqCst)
+    }
+
+    /// Streams that are left are to be cut.
+    pub(crate) fn is_cut(&self) -> bool {
+        self.is_cut.load(Ordering::SeqCst)
     }
 
     /// It serves nobody any more.

@@ -7,9 +7,11 @@ use crate::loop_side::{LoopSide, Mail};
 use crate::mio_network::{MioNetwork, WAKER};
 use crate::resolver::Name;
 use crate::socket::Socket;
+use admin::LoopCounts;
 use call_plan::Plans;
 use crossbeam_channel::{Receiver, Sender};
 use gateway_loop::{Comings, EventLoop};
+use http_pieces::Text;
 use mio::{Poll, Waker};
 use script_replay::{Fault, PlainHook};
 use std::alloc::{AllocError, Global};
@@ -40,6 +42,8 @@ pub(crate) struct Common<M> {
     pub(crate) names: Sender<Name>,
     /// None where nothing is told.
     pub(crate) lines: Option<LogLines>,
+    /// The paths of the plans by which replies are counted; None where they are not.
+    pub(crate) paths: Option<Arc<Vec<Text>>>,
     /// Wakes main.
     pub(crate) main: Arc<Waker>,
 }
@@ -71,6 +75,13 @@ impl<M: Host> Common<M> {
             None => None,
         })
     }
+
+    fn counts(&self) -> Result<Option<LoopCounts>, AllocError> {
+        Ok(match &self.paths {
+            Some(paths) => Some(LoopCounts::new(self.alloc, paths)?),
+            None => None,
+        })
+    }
 }
 
 /// A loop, and what its thread needs to run it.
@@ -83,6 +94,8 @@ pub(crate) struct Looping<M> {
     mail: Receiver<Mail>,
     side: Arc<LoopSide>,
     main: Arc<Waker>,
+    // whether the drain has ended the calls that were left
+    has_ended_calls: bool,
 }
 
 // Clauses see nothing of it, which keeps proofs small.
@@ -97,7 +110,7 @@ impl<M: Host + Net<Listener = TcpListener, Stream = TcpStream>> Looping<M> {
     pub(crate) fn new(common: &Common<M>, worker: u32, plans: Plans) -> Result<Looping<M>, Fault> {
         let poll = Poll::new(&common.rt)?;
         let waker = Waker::new(poll.registry(), WAKER)?;
-        let (side, mail) = LoopSide::new(common.alloc, waker)?;
+        let (side, mail) = LoopSide::new(common.alloc, waker, common.counts()?)?;
         let side = Arc::new(common.alloc, side)?;
         let network = common.network(worker, poll, &side)?;
         let comings = room_for_mail(common.alloc)?;
@@ -110,6 +123,7 @@ impl<M: Host + Net<Listener = TcpListener, Stream = TcpStream>> Looping<M> {
             mail,
             side,
             main,
+            has_ended_calls: false,
         })
     }
 
@@ -118,8 +132,8 @@ impl<M: Host + Net<Listener = TcpListener, Stream = TcpStream>> Looping<M> {
         &self.side
     }
 
-    /// Serves clients until main deals no more and all have gone, or until it can't wait for them any more. Answers whether all
-    /// have gone; those that are left are closed.
+    /// Serves clients until main deals no more and all have gone, until a drain cuts them, or until it can't wait for them any more.
+    /// Those that are left are closed. Answers whether it did not give up.
     pub(crate) fn run(self) -> bool {
         let mut looping = self;
         let are_gone = looping.serve();
@@ -155,19 +169,42 @@ impl<M: Host + Net<Listener = TcpListener, Stream = TcpStream>> Looping<M> {
             }
             // what was handed in before main closed it is there by then
             let is_closed = self.side.is_closed();
+            let closes_idle = self.side.closes_idle();
             self.take_mail();
             self.event_loop.turn(&mut self.network, &mut self.comings);
+            if closes_idle {
+                self.close_idle();
+            }
             self.side.tell(&rt, self.event_loop.standing());
-            if is_closed && self.mail.is_empty() && self.event_loop.is_empty() {
+            let are_gone = is_closed && self.mail.is_empty() && self.event_loop.is_empty();
+            if are_gone || self.side.is_cut() {
                 return true;
             }
         }
         unreachable!()
     }
 
+    /// Closes connections to which nothing is owed, of which nothing is unread; and ends the calls that are left, once, if they are
+    /// to end.
+    fn close_idle(&mut self) {
+        if self.side.ends_calls() && !self.has_ended_calls {
+            self.has_ended_calls = true;
+            self.event_loop.drain();
+        }
+        // what came meanwhile is read first
+        if self.network.wait(Some(0), &mut self.comings.ready).is_ok() {
+            self.event_loop.turn(&mut self.network, &mut self.comings);
+            if self.event_loop.next_turn() != Some(0) {
+                self.event_loop.close_idle();
+            }
+        }
+    }
+
     /// The moment at which a turn is due though the loop is not woken.
     fn next_turn(&self) -> Option<u64> {
-        if self.mail.is_empty() {
+        // a wake-up may have come while it was looked at what came meanwhile
+        let is_to_end = self.side.ends_calls() && !self.has_ended_calls;
+        if self.mail.is_empty() && !is_to_end && !self.side.is_cut() {
             self.event_loop.next_turn()
         } else {
             Some(0)

@@ -3,6 +3,7 @@
 //! `connect_gateway check` says of a plan file or a script whether it is fine, or what is wrong with it and where.
 #![tactic(auto)]
 
+mod admin_door;
 mod clock;
 mod crew;
 mod dealer;
@@ -15,6 +16,8 @@ mod mio_network;
 mod resolver;
 mod serve;
 mod socket;
+mod start_log;
+mod visitor;
 
 use command_line::{Task, read_words, task_of};
 use host::Host;

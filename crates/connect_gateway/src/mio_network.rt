@@ -137,6 +137,9 @@ impl<M: Host + Net<Listener = TcpListener, Stream = TcpStream>> Network<Told<Soc
 
     fn tell_reply(&mut self, id: CallId, entry: &ReplyEntry) {
         let moment = self.clock.now(&self.rt);
+        if let Some(counts) = &self.side.counts {
+            counts.count(moment, entry);
+        }
         if let Some(log) = &self.log {
             log.tell_reply(&self.rt, moment, id, entry);
         }

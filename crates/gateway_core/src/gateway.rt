@@ -1,6 +1,6 @@
 ghost use Rattle.std.specs.Prelude.{◌≡◌, ◌==◌, ◌∷◌, ◌++◌, ◌<◌, ◌≤◌, [], Err, IfOk, IfErr, IfSome, None, OnErr, OnOk, Some, false, not, ℕ, List, length, option_map, option_to_list, true, slice_get};
 ghost use Rattle.connect_codec.specs.declared.answer.Outcome.{Outcome as Outcomes};
-ghost use Rattle.gateway_theory.specs.Gateway.{conn_count, deadline_ahead, ends_calls, is_broken_conn, is_ended, is_idle_conn, is_open_conn, jobs_of, next_reply, open_count, outs_of, shown, untaken_of, with_jobs};
+ghost use Rattle.gateway_theory.specs.Gateway.{conn_count, deadline_ahead, ends_calls, is_ended, is_idle_conn, jobs_of, next_reply, open_count, shown, untaken_of, with_jobs};
 ghost use Rattle.gateway_theory.specs.Serving.{TakesSome, WouldBegin, Breaks, CountsCalls, HasFewCalls, NotListening, Keeps, KeepsBut, TakesOnly, TellsStep};
 ghost use Rattle.gateway_theory.specs.Refused.{RefusesOpening};
 ghost use Rattle.gateway_theory.specs.Tally.{tally_of};
@@ -126,7 +126,7 @@ impl<H: ReplyHook + Drop> Core<H> {
     pub fn close(&mut self, conn: ConnId) -> bool
         ensures stands { TakesEvent (Closing conn) self.old self.new }
         ensures adds { AddsEvent (Closing conn) self.old self.new }
-        ensures closed { result ≡ is_open_conn conn self.old }
+        ensures closed { result ≡ (shown self.old).is_open conn }
         ensures keeps { KeepsBut (λ c. c == conn) (λ c. false) [] self.old self.new }
     {
         self.streams.serving_law();
@@ -202,14 +202,14 @@ impl<H: ReplyHook + Drop> Core<H> {
 
     /// How many jobs wait to be taken.
     pub fn waiting_jobs(&self) -> usize
-        ensures { result ≡ length (jobs_of self.now) }
+        ensures { result ≡ length (shown self.now).waiting }
     {
         self.streams.waiting_jobs()
     }
 
     /// The job that is to be taken next, if one waits.
     pub fn next_job(&self) -> Option<&Job>
-        ensures { option_map (λ job. job.now.job) result ≡ slice_get (jobs_of self.now) 0 }
+        ensures { option_map (λ job. job.now.job) result ≡ slice_get (shown self.now).waiting 0 }
     {
         self.streams.next_job()
     }
@@ -240,7 +240,7 @@ impl<H: ReplyHook + Drop> Core<H> {
 
     /// How many replies of the connection can be taken.
     pub fn untaken(&self, conn: ConnId) -> usize
-        ensures { result ≡ length (untaken_of conn self.now) }
+        ensures { result ≡ length ((shown self.now).untaken conn) }
     {
         self.streams.untaken(conn.number())
     }
@@ -255,7 +255,7 @@ impl<H: ReplyHook + Drop> Core<H> {
 
     /// Whether the connection is open and broken: memory was refused in a step of it.
     pub fn is_broken(&self, conn: ConnId) -> bool
-        ensures { result ≡ is_broken_conn conn self.now }
+        ensures { result ≡ (shown self.now).is_broken conn }
     {
         self.streams.is_broken(conn.number())
     }
@@ -270,7 +270,7 @@ impl<H: ReplyHook + Drop> Core<H> {
 
     /// How many branches of the call are out.
     pub fn branches_out(&self, call: &CallId) -> u32
-        ensures { result ≡ outs_of call.now self.now }
+        ensures { result ≡ (shown self.now).outs call.now }
     {
         self.streams.branches_out(call)
     }

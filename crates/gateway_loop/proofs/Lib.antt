@@ -1,0 +1,7 @@
+pub mod LeadLemmas
+pub mod StepLemmas
+pub mod LoopLemmas
+pub mod ServingLemmas
+pub mod GrowLemmas
+pub mod AskLemmas
+pub mod BegunLemmas

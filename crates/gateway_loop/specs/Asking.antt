@@ -1,5 +1,5 @@
 -- A job that is asked for: what was written and read for it, and how that ends.
-use Rattle.std.specs.Prelude.{◌≡◌, ℕ, List, [], ◌++◌, Option, Some, None}
+use Rattle.std.specs.Prelude.{◌≡◌, ℕ, Bool, All, List, [], ◌++◌, map, Option, Some, None}
 use Rattle.http_pieces.specs.ReplyReader.{HasReadReply}
 use Rattle.http_pieces.specs.declared.reply.HttpReply.{HttpReply}
 use Rattle.branch_exchange.specs.Exchange.{BeginsWithReply, ExchangeValue}
@@ -7,42 +7,71 @@ use Rattle.branch_exchange.specs.declared.exchange_end.ExchangeEnd.{ExchangeEnd}
 use Rattle.branch_exchange.specs.declared.exchange_end.ExchangeEnd.TheVariants as ends
 use Rattle.gateway_model.specs.Queue.{IsPrefixOf}
 use Rattle.gateway_theory.specs.Task.{HandedJob}
-use Rattle.gateway_loop.specs.declared.asking.Step.{Step}
-use Rattle.gateway_loop.specs.declared.asking.Step.TheVariants.{Waits, More, Refused, Ended}
+use Rattle.loop_model.specs.Asking.{AskingValue, IsUntouched, StreamValue, request_of, stream_value}
+use Rattle.gateway_loop.specs.declared.attempt.Step.{Step}
+use Rattle.gateway_loop.specs.declared.attempt.Step.TheVariants.{Waits, More, Refused, Ended}
 
--- what contracts see of it: the job, what is left to be written of its request and the reader of its reply, and all that was read from
--- its stream and written to it; nothing, while it has none
-pub record AskingValue : Type 0 where
-  pub job : HandedJob
+-- ---- an exchange over a stream
+
+-- what is left to be written of its request and the reader of its reply, and all that was read from its stream and written to it; nothing,
+-- while it has none
+pub record AttemptValue : Type 0 where
   pub exchange : ExchangeValue
   pub given : List ℕ
   pub got : List ℕ
 
-abbrev pub asking_value : HandedJob → ExchangeValue → List ℕ → List ℕ → AskingValue
-asking_value job exchange given got = record { job = job; exchange = exchange; given = given; got = got }
+abbrev pub attempt_value : ExchangeValue → List ℕ → List ℕ → AttemptValue
+attempt_value exchange given got = record { exchange = exchange; given = given; got = got }
 
 -- this request is being written, or its reply is being read and is not whole yet
-pub record Asks (request : List ℕ) (x : AskingValue) : Type 0 where
+pub record Asks (request : List ℕ) (x : AttemptValue) : Type 0 where
   pub sends : x.got ++ x.exchange.left ≡ request
   pub reads : HasReadReply x.exchange.replies x.given None
 
 -- It has ended so: with a reply only if the request was written whole, and what was read begins with that. In any case the first bytes of
 -- the request were written, and no others.
-pub record HasEnded (request : List ℕ) (end : ExchangeEnd) (x : AskingValue) : Type 0 where
+pub record HasEnded (request : List ℕ) (end : ExchangeEnd) (x : AttemptValue) : Type 0 where
   pub prefix : IsPrefixOf x.got request
   pub whole : (reply : HttpReply) → end ≡ ends.Reply reply → (x.got ≡ request) × BeginsWithReply x.given reply
 
 -- nothing was written or read
-abbrev pub IsUntouched : AskingValue → Type 0
-IsUntouched x = (x.got ≡ []) × (x.given ≡ [])
+abbrev pub IsUntouchedAttempt : AttemptValue → Type 0
+IsUntouchedAttempt x = (x.got ≡ []) × (x.given ≡ [])
+
+-- it was this that was read from its stream, and written to it
+abbrev pub HadRead : List ℕ → List ℕ → AttemptValue → Type 0
+HadRead given got x = (given ≡ x.given) × (got ≡ x.got)
 
 -- it goes on; or its address accepts no connection; or it has ended so
-abbrev pub StepsTo : List ℕ → Step → AskingValue → Type 0
+abbrev pub StepsTo : List ℕ → Step → AttemptValue → Type 0
 StepsTo request Waits x = Asks request x
 StepsTo request More x = Asks request x
-StepsTo request (Refused kind) x = Asks request x × IsUntouched x
+StepsTo request (Refused kind) x = Asks request x × IsUntouchedAttempt x
 StepsTo request (Ended end) x = HasEnded request end x
 
 -- whatever its request is, a step of it is such a one
-abbrev pub Steps : AskingValue → Step → AskingValue → Type 0
-Steps x step y = (y.job ≡ x.job) × ((request : List ℕ) → Asks request x → StepsTo request step y)
+abbrev pub Steps : AttemptValue → Step → AttemptValue → Type 0
+Steps x step y = (request : List ℕ) → Asks request x → StepsTo request step y
+
+-- ---- the job that it asks for
+
+-- the job, its attempt, how it ended, if it did, and the streams that were given up before
+pub record AskingState : Type 0 where
+  pub job : HandedJob
+  pub attempt : AttemptValue
+  pub end : Option ExchangeEnd
+  pub tried : List StreamValue
+
+abbrev pub asking_state : {W : Type 0} → (W → List ℕ) → (W → List ℕ) → HandedJob → AttemptValue → Option ExchangeEnd → List (W × Bool) → AskingState
+asking_state given got job attempt end tried =
+    record { job = job; attempt = attempt; end = end; tried = map (λ t. stream_value (given t.0) (got t.0)) tried }
+
+-- what the loop shows of it
+abbrev pub asked_for : AskingState → AskingValue
+asked_for x = record { job = x.job.job; tried = x.tried; given = x.attempt.given; got = x.attempt.got }
+
+-- nothing was read from the streams that were given up, or written to them; and it asks for its job, or ended so
+pub record HasBegun (x : AskingState) : Type 0 where
+  pub untouched : All IsUntouched x.tried
+  pub asks : x.end ≡ None → Asks (request_of x.job.job) x.attempt
+  pub ended : (end : ExchangeEnd) → x.end ≡ Some end → HasEnded (request_of x.job.job) end x.attempt

@@ -1,2 +1,4 @@
+pub mod Laws
 pub mod Asking
+pub mod Clients
 pub mod Loop

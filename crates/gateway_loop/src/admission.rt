@@ -1,8 +1,10 @@
+ghost use Rattle.gateway_loop.specs.Loop.{Goes, TellsLoop};
+ghost use Rattle.loop_model.specs.Whole.{ContinuesLoop};
 ghost use Rattle.std.specs.Prelude.{◌≡◌};
 
-use crate::client::Client;
 use crate::comings::Dealt;
 use crate::event_loop::EventLoop;
+use crate::hints::Hints;
 use crate::network::Network;
 use crate::tokens::client_token;
 use gateway_core::ReplyHook;
@@ -16,7 +18,8 @@ impl<H: ReplyHook + Drop, W: Wire + Drop> EventLoop<H, W> {
         net: &mut N,
         streams: &mut VecDeque<Dealt<H, W>>,
     )
-        ensures { self.new.core.plans ≡ self.old.core.plans }
+        ensures continues { ContinuesLoop self.old self.new }
+        ensures told { TellsLoop (N.told net.old) (N.told net.new) self.old self.new }
     {
         for _stream in 0..streams.len() {
             if let Some(dealt) = streams.pop_front() {
@@ -27,23 +30,27 @@ impl<H: ReplyHook + Drop, W: Wire + Drop> EventLoop<H, W> {
 
     /// Opens a connection for the stream. Where none can be opened, or the stream not be watched, it is closed without a byte.
     fn admit<N: Network<W>>(&mut self, net: &mut N, dealt: Dealt<H, W>)
-        ensures { self.new.core.plans ≡ self.old.core.plans }
+        ensures goes { Goes self.old self.new }
+        ensures told { TellsLoop (N.told net.old) (N.told net.new) self.old self.new }
     {
-        let Dealt { wire, stock } = dealt;
-        let Ok(conn) = self.core.open_conn(stock) else {
+        let Some((conn, place)) = self.exchanges.open(dealt) else {
             return;
         };
-        let place = self.clients.vacant_key();
-        if !net.watch(&wire, client_token(place), true) || self.open.push((conn, place)).is_err() {
-            self.core.close(conn);
-            return;
+        let is_seated = self.open.push((conn, place)).is_ok()
+            && self.hints.insert(Hints::new(self.alloc)).is_ok()
+            && self.watch_client(net, place);
+        if !is_seated {
+            self.drop_client(place);
         }
-        if self
-            .clients
-            .insert(Client::new(self.alloc, wire, conn))
-            .is_err()
-        {
-            self.close_conn(conn);
+    }
+
+    /// Watches the stream of the client in that place. False where it can't be.
+    fn watch_client<N: Network<W>>(&self, net: &mut N, place: usize) -> bool
+        ensures { N.told net.new ≡ N.told net.old }
+    {
+        match self.clients().wire(place) {
+            Some(wire) => net.watch(wire, client_token(place), true),
+            None => false,
         }
     }
 }

@@ -1,58 +1,44 @@
-ghost use Rattle.std.specs.Prelude.{◌≡◌, ℕ, List, [], None};
-ghost use Rattle.gateway_loop.specs.Asking.{Asks, IsUntouched, Steps, asking_value};
-ghost use Rattle.branch_exchange.specs.Exchange.{exchange_value};
+ghost use Rattle.std.specs.Prelude.{◌≡◌, [], Some, IfOk};
+ghost use Rattle.gateway_loop.specs.Asking.{asked_for};
+ghost use Rattle.loop_model.specs.Asking.{IsFair, ended_value, request_of};
 
+use crate::attempt::{Attempt, Step};
 use crate::edges::Edges;
-use crate::limits::MOST_STEPS;
-use branch_exchange::{Exchange, ExchangeEnd, Loss};
+use branch_exchange::{ExchangeEnd, Loss, outcome_of};
+use connect_codec::{BranchAsk, Outcome, branch_request};
 use gateway_core::Job;
 use http_pieces::Bytes;
-use std::alloc::Global;
-use std::collections::VecDeque;
+use http_server::Log;
+use std::alloc::{AllocError, Global};
 use std::io::ErrorKind;
 use std::marker::Model;
-use std::net::SocketAddr;
-use wires::{Got, PIECE, Sent, Wire};
+use std::mem;
+use wires::Wire;
 
-/// A job that is asked for: its exchange, and the stream that it goes over.
+/// A job that is asked for.
 #[derive(Drop)]
 pub(crate) struct Asking<W: Wire> {
     job: Job,
-    // the place of its client
-    client: usize,
-    exchange: Exchange,
-    // none while its name is looked up
-    wire: Option<W>,
-    // whether its stream took a byte
-    is_connected: bool,
-    // the addresses that are to be tried, where this one, if there is one, accepts no connection
-    first: Option<SocketAddr>,
-    others: VecDeque<SocketAddr>,
-    // whether its time limit is that of its address
-    pub(crate) is_timed: bool,
-    // its number among those that wait for its name
-    pub(crate) waits: Option<usize>,
-    pub(crate) edges: Edges,
-    // whether it is in the line of those that are to be served
-    pub(crate) is_in_line: bool,
+    attempt: Attempt<W>,
+    // how it ended, until that is recorded
+    end: Option<ExchangeEnd>,
+    // for proofs: the streams that were given up before
+    tried: Log<W, bool>,
 }
 
 impl<W: Wire> Model for Asking<W> {
-    ghost use Rattle.std.specs.Prelude.{◌≡◌, [], false, Option};
-    ghost use Rattle.std.specs.Option.{option_map_or};
-    ghost use Rattle.gateway_loop.specs.Asking.{AskingValue, IsUntouched, asking_value};
+    ghost use Rattle.gateway_loop.specs.Asking.{AskingState, HasBegun, asking_state};
 
-    ghost Value = { AskingValue };
+    ghost Value = { AskingState };
 
-    ghost view = { λ a. asking_value a.job a.exchange (option_map_or W.given a.wire []) (option_map_or W.got a.wire []) };
+    ghost view = { λ a. asking_state W.given W.got a.job a.attempt a.end a.tried.items };
 
-    ghost invariant = { λ a. a.is_connected ≡ false
-        → IsUntouched (asking_value a.job a.exchange (option_map_or W.given a.wire []) (option_map_or W.got a.wire [])) };
+    ghost invariant = { λ a. HasBegun (asking_state W.given W.got a.job a.attempt a.end a.tried.items) };
 }
 
-/// What a step of an exchange came to.
-#[derive(Drop)]
-pub(crate) enum Step {
+/// What a step of a job that is asked for came to.
+#[derive(Clone, Copy, PartialEq, Eq, Debug)]
+pub(crate) enum Progress {
     /// It would have to wait.
     Waits,
     /// There may be more to do.
@@ -60,28 +46,27 @@ pub(crate) enum Step {
     /// Its address accepts no connection: nothing was written.
     Refused(ErrorKind),
     /// It is over.
-    Ended(ExchangeEnd),
+    Ended,
 }
 
 impl<W: Wire> Asking<W> {
-    /// The job of the client in that place, before anything was done for it.
-    pub(crate) fn new(alloc: Global, job: Job, client: usize, request: Bytes) -> Asking<W>
-        ensures job { result.job ≡ job }
-        ensures asks { Asks request result }
-        ensures untouched { IsUntouched result }
+    /// The job, before anything was done for it. One for whose request there is no memory is over.
+    pub(crate) fn new(alloc: Global, job: Job) -> Asking<W>
+        ensures { result.job ≡ job }
     {
-        Asking {
-            job,
-            client,
-            exchange: Exchange::new(alloc, request),
-            wire: None,
-            is_connected: false,
-            first: None,
-            others: VecDeque::new(alloc),
-            is_timed: false,
-            waits: None,
-            edges: Edges::new(),
-            is_in_line: false,
+        match request_of(alloc, &job) {
+            Ok(request) => Asking {
+                job,
+                attempt: Attempt::new(alloc, request),
+                end: None,
+                tried: Log::new(),
+            },
+            Err(_) => Asking {
+                job,
+                attempt: Attempt::new(alloc, Bytes::new(alloc)),
+                end: Some(ExchangeEnd::NoMemory),
+                tried: Log::new(),
+            },
         }
     }
 
@@ -91,159 +76,108 @@ impl<W: Wire> Asking<W> {
         &self.job
     }
 
-    /// The place of its client.
-    pub(crate) fn client(&self) -> usize {
-        self.client
+    /// Whether it ended.
+    pub(crate) fn is_over(&self) -> bool {
+        self.end.is_some()
     }
 
-    /// Its stream, once its address is known.
-    pub(crate) fn wire(&self) -> Option<&W> {
-        self.wire.as_ref()
-    }
-
-    /// Whether its stream took a byte.
-    pub(crate) fn is_connected(&self) -> bool {
-        self.is_connected
-    }
-
-    /// Whether its request was written whole.
-    pub(crate) fn is_sent(&self) -> bool {
-        self.exchange.is_sent()
-    }
-
-    /// How many bytes of its request are left to be written.
-    pub(crate) fn left(&self) -> usize {
-        self.exchange.request().waiting().len()
-    }
-
-    /// Whether there is an address that is to be tried.
-    pub(crate) fn has_others(&self) -> bool {
-        self.first.is_some() || !self.others.is_empty()
-    }
-
-    /// The next address that is to be tried.
-    pub(crate) fn next_address(&mut self) -> Option<SocketAddr>
-        ensures { self.new ≡ self.old }
-    {
-        match self.first.take() {
-            Some(address) => Some(address),
-            None => self.others.pop_front(),
-        }
-    }
-
-    /// This address is to be tried.
-    pub(crate) fn set_address(&mut self, address: SocketAddr)
-        ensures { self.new ≡ self.old }
-    {
-        self.first = Some(address);
-    }
-
-    /// These addresses are to be tried, in order.
-    pub(crate) fn set_addresses(&mut self, addresses: VecDeque<SocketAddr>)
-        ensures { self.new ≡ self.old }
-    {
-        self.waits = None;
-        self.others = addresses;
+    /// Its exchange, and the stream that it goes over.
+    pub(crate) fn attempt(&self) -> &Attempt<W> {
+        &self.attempt
     }
 
     /// Writes what can be written of the request, and then reads what can be read of the reply.
-    pub(crate) fn step(&mut self) -> Step
-        ensures { Steps self.old result self.new }
+    pub(crate) fn step(&mut self, edges: &mut Edges) -> Progress
+        ensures { self.new.job ≡ self.old.job }
     {
-        for _step in 0..MOST_STEPS {
-            match self.step_once() {
-                Step::More => {}
-                step => return step,
-            }
+        if self.end.is_some() {
+            return Progress::Ended;
         }
-        Step::More
-    }
-
-    /// Writes once while some of the request is left, and else reads once.
-    fn step_once(&mut self) -> Step
-        ensures { Steps self.old result self.new }
-    {
-        if self.exchange.is_sent() {
-            self.receive()
-        } else {
-            self.send()
+        match self.attempt.step(edges) {
+            Step::Waits => Progress::Waits,
+            Step::More => Progress::More,
+            Step::Refused(kind) => Progress::Refused(kind),
+            Step::Ended(end) => {
+                set_end(&mut self.end, end);
+                Progress::Ended
+            }
         }
     }
 
-    /// Writes once of what is left of the request.
-    fn send(&mut self) -> Step
-        ensures { Steps self.old result self.new }
+    /// It is over: it is lost by this, whatever was read.
+    pub(crate) fn lose(&mut self, loss: Loss)
+        ensures { self.new.job ≡ self.old.job }
     {
-        if !self.edges.may_write {
-            return Step::Waits;
-        }
-        let Some(wire) = &mut self.wire else {
-            return Step::Waits;
-        };
-        match wire.write(self.exchange.request()) {
-            Sent::Bytes(count) => {
-                self.exchange.sent(count);
-                self.is_connected = true;
-                Step::More
-            }
-            Sent::Nothing => {
-                self.edges.may_write = false;
-                Step::Waits
-            }
-            Sent::Interrupted => Step::More,
-            Sent::Failed(kind) if self.is_connected => {
-                Step::Ended(ExchangeEnd::Lost(Loss::Write(kind)))
-            }
-            Sent::Failed(kind) => Step::Refused(kind),
-        }
+        set_end(&mut self.end, ExchangeEnd::Lost(loss));
     }
 
-    /// Reads once of the reply.
-    fn receive(&mut self) -> Step
-        ensures { Steps self.old result self.new }
+    /// It is over: there is no memory for it.
+    pub(crate) fn starve(&mut self)
+        ensures { self.new.job ≡ self.old.job }
     {
-        if !self.edges.may_read {
-            return Step::Waits;
-        }
-        let Some(wire) = &mut self.wire else {
-            return Step::Waits;
-        };
-        let mut piece = [0u8; PIECE];
-        match wire.read(&mut piece) {
-            Got::Bytes(count) => {
-                self.is_connected = true;
-                self.edges.has_read(count);
-                match self.exchange.received(&piece[..count]) {
-                    Some(end) => Step::Ended(end),
-                    None => Step::More,
-                }
-            }
-            Got::Nothing => {
-                self.edges.may_read = false;
-                Step::Waits
-            }
-            Got::Interrupted => Step::More,
-            Got::End(Some(kind)) => Step::Ended(ExchangeEnd::Lost(Loss::Read(kind))),
-            Got::End(None) => Step::Ended(ExchangeEnd::Lost(Loss::End)),
+        set_end(&mut self.end, ExchangeEnd::NoMemory);
+    }
+
+    /// The outcome that is to be recorded; None for want of memory. One that has not ended is lost.
+    pub(crate) fn conclude(&mut self, alloc: Global) -> Option<Outcome>
+        ensures job { self.new.job ≡ self.old.job }
+        ensures fair { IsFair (ended_value (asked_for self.new) result) }
+    {
+        match take_end(&mut self.end) {
+            Some(end) => outcome_of(alloc, end.asked()),
+            None => outcome_of(alloc, branch_exchange::Asked::Lost),
         }
     }
 }
 
 impl<W: Wire + Drop> Asking<W> {
+    /// It goes over this stream from now on, of which nothing was read or written; unless its stream took a byte.
+    pub(crate) fn connect(&mut self, wire: W)
+        requires given { W.given wire ≡ [] }
+        requires got { W.got wire ≡ [] }
+        ensures { self.new.job ≡ self.old.job }
+    {
+        if self.attempt.is_connected() || self.end.is_some() {
+            return;
+        }
+        if let Some(before) = self.attempt.connect(wire) {
+            self.tried = self.tried.and(&before, &true);
+        }
+    }
+
     /// The job. Its stream is closed.
     pub(crate) fn into_job(self) -> Job
         ensures { result ≡ self.job }
     {
         self.job
     }
+}
 
-    /// It goes over this stream from now on, of which nothing was read or written.
-    pub(crate) fn connect(&mut self, wire: W)
-        requires given { W.given wire ≡ [] }
-        requires got { W.got wire ≡ [] }
-        ensures { self.new ≡ asking_value self.old.job self.old.exchange [] [] }
-    {
-        self.wire = Some(wire);
-        self.edges = Edges::new();
-    }
+/// It ended so.
+fn set_end(end: &mut Option<ExchangeEnd>, now: ExchangeEnd)
+    ensures { end.new ≡ Some now }
+{
+    *end = Some(now);
+}
+
+/// How it ended. It is over.
+fn take_end(end: &mut Option<ExchangeEnd>) -> Option<ExchangeEnd>
+    ensures taken { result ≡ end.old }
+    ensures over { end.new ≡ Some ExchangeEnd.NoMemory }
+{
+    mem::replace(end, Some(ExchangeEnd::NoMemory))
+}
+
+/// The request that asks for the job.
+fn request_of(alloc: Global, job: &Job) -> Result<Bytes, AllocError>
+    ensures { IfOk result (λ bytes. bytes ≡ request_of job.now.job) }
+{
+    let ask = BranchAsk {
+        address: job.address(),
+        path: job.path(),
+        remaining: job.remaining(),
+        request_id: job.request_id(),
+        body: job.body(),
+    };
+    branch_request(alloc, &ask)
 }

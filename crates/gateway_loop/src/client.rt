@@ -1,13 +1,16 @@
-ghost use Rattle.std.specs.Prelude.{◌≡◌, ◌≤◌, length};
+ghost use Rattle.std.specs.Prelude.{◌≡◌, false, [], ℕ, List};
+ghost use Rattle.loop_model.specs.Clients.{client_value};
+ghost use Rattle.loop_model.specs.Growing.{Grows};
+ghost use Rattle.gateway_loop.specs.Clients.{FitsOn, MakesSteps, lingering};
 
 use crate::edges::Edges;
 use crate::limits::MOST_WRITES;
 use crate::network::Network;
 use crate::phase::Phase;
+use crate::taking::{hang_up, take_in};
 use gateway_core::{CallId, ConnId, Core, ReplyEntry, ReplyHook};
-use std::alloc::{AllocError, Global};
-use std::mem;
-use whole_pieces::deliver;
+use std::alloc::Global;
+use std::marker::Model;
 use wires::{Got, Outbox, PIECE, Sent, Wire};
 
 /// A client: its stream, and its connection.
@@ -19,13 +22,20 @@ pub(crate) struct Client<W: Wire> {
     outbox: Outbox,
     // the request whose reply waits in the outbox, and what answers it
     writing: Option<(CallId, ReplyEntry)>,
-    pub(crate) edges: Edges,
-    // the places of the exchanges for its calls
-    exchanges: Vec<usize>,
-    // whether it is in the line of those that are to be served
-    pub(crate) is_in_line: bool,
-    // whether it is among those that may have news
-    pub(crate) is_noted: bool,
+}
+
+impl<W: Wire> Model for Client<W> {
+    ghost use Rattle.std.specs.Prelude.{◌≡◌, false};
+    ghost use Rattle.loop_model.specs.Clients.{ClientValue, client_value};
+    ghost use Rattle.gateway_loop.specs.Clients.{lingers_in};
+    ghost use Rattle.gateway_loop.specs.declared.phase.Phase.TheVariants.{Reads};
+
+    ghost Value = { ClientValue };
+
+    ghost view = { λ c. client_value c.conn (lingers_in c.phase) (W.given c.wire) (W.got c.wire) (W.ended c.wire) c.outbox };
+
+    // one that is read has not ended
+    ghost invariant = { λ c. c.phase ≡ Reads → W.ended c.wire ≡ false };
 }
 
 /// What reading a client's stream came to.
@@ -56,17 +66,16 @@ pub(crate) enum Written {
 
 impl<W: Wire> Client<W> {
     /// The client of a new connection.
-    pub(crate) fn new(alloc: Global, wire: W, conn: ConnId) -> Client<W> {
+    pub(crate) fn new(alloc: Global, wire: W, conn: ConnId) -> Client<W>
+        requires { W.ended wire ≡ false }
+        ensures { result ≡ client_value conn false (W.given wire) (W.got wire) (W.ended wire) [] }
+    {
         Client {
             wire,
             conn,
             phase: Phase::Reads,
             outbox: Outbox::new(alloc),
             writing: None,
-            edges: Edges::new(),
-            exchanges: Vec::new(alloc),
-            is_in_line: false,
-            is_noted: false,
         }
     }
 
@@ -76,7 +85,9 @@ impl<W: Wire> Client<W> {
     }
 
     /// Its connection.
-    pub(crate) fn conn(&self) -> ConnId {
+    pub(crate) fn conn(&self) -> ConnId
+        ensures { result ≡ self.now.conn }
+    {
         self.conn
     }
 
@@ -84,14 +95,23 @@ impl<W: Wire> Client<W> {
         self.phase
     }
 
-    /// Whether it is to be read: its stream may have bytes, and nothing waits to be written to it.
+    /// Whether its connection was closed.
+    pub(crate) fn lingers(&self) -> bool
+        ensures { result ≡ self.now.lingers }
+    {
+        match self.phase {
+            Phase::Reads | Phase::Deaf => false,
+            Phase::Lingers => true,
+        }
+    }
+
+    /// Whether it is to be read, where its stream may have bytes: nothing waits to be written to it.
     pub(crate) fn is_to_be_read<H: ReplyHook + Drop>(&self, core: &Core<H>) -> bool {
-        self.edges.may_read
-            && match self.phase {
-                Phase::Reads => self.outbox.is_empty() && core.untaken(self.conn) == 0,
-                Phase::Deaf => false,
-                Phase::Lingers => true,
-            }
+        match self.phase {
+            Phase::Reads => self.outbox.is_empty() && core.untaken(self.conn) == 0,
+            Phase::Deaf => false,
+            Phase::Lingers => true,
+        }
     }
 
     /// Whether it is owed nothing, and brings nothing more.
@@ -99,49 +119,78 @@ impl<W: Wire> Client<W> {
         self.outbox.is_empty() && core.untaken(self.conn) == 0 && core.ended(self.conn)
     }
 
-    /// Reads once, and hands on what came; of a connection that is closed it is dropped.
-    pub(crate) fn read<H: ReplyHook + Drop>(&mut self, core: &mut Core<H>) -> Heard
-        ensures { core.new.plans ≡ core.old.plans }
+    /// Whether nothing waits to be written.
+    pub(crate) fn has_written_all(&self) -> bool {
+        self.outbox.is_empty()
+    }
+
+    /// Reads once, and hands on what came; if its connection was closed, it is dropped.
+    pub(crate) fn read<H: ReplyHook + Drop>(
+        &mut self,
+        core: &mut Core<H>,
+        edges: &mut Edges,
+    ) -> Heard
+        ensures steps { MakesSteps core.old core.new self.old self.new }
+        ensures grows { Grows self.old self.new }
     {
+        if self.lingers() {
+            self.drop_input(edges)
+        } else {
+            self.hear(core, edges)
+        }
+    }
+
+    /// Reads once, if it is read, and hands on what came.
+    fn hear<H: ReplyHook + Drop>(&mut self, core: &mut Core<H>, edges: &mut Edges) -> Heard
+        ensures steps { MakesSteps core.old core.new self.old self.new }
+        ensures grows { Grows self.old self.new }
+    {
+        let Phase::Reads = self.phase else {
+            return Heard::Nothing;
+        };
         let mut piece = [0u8; PIECE];
         match self.wire.read(&mut piece) {
             Got::Bytes(count) => {
-                self.edges.has_read(count);
-                self.take_in(core, &piece[..count])
+                edges.has_read(count);
+                take_in(core, self.conn, &piece[..count])
             }
             Got::Nothing => {
-                self.edges.may_read = false;
+                edges.may_read = false;
                 Heard::Nothing
             }
             Got::Interrupted => Heard::Nothing,
             Got::End(_) => {
-                self.edges.may_read = false;
-                self.end(core);
+                edges.may_read = false;
+                hang_up(core, self.conn);
+                self.phase = Phase::Deaf;
                 Heard::End
             }
         }
     }
 
-    /// Hands on a piece that came.
-    fn take_in<H: ReplyHook + Drop>(&self, core: &mut Core<H>, piece: &[u8]) -> Heard
-        ensures { core.new.plans ≡ core.old.plans }
+    /// Reads once, if its connection was closed, and drops what came.
+    fn drop_input(&mut self, edges: &mut Edges) -> Heard
+        ensures fits { FitsOn self.old self.new }
+        ensures grows { Grows self.old self.new }
     {
-        if self.phase != Phase::Reads {
+        let Phase::Lingers = self.phase else {
             return Heard::Nothing;
-        }
-        match deliver(core, self.conn, piece) {
-            Ok(()) => Heard::Piece,
-            Err(_) => Heard::Broke,
-        }
-    }
-
-    /// Tells that the peer has hung up.
-    fn end<H: ReplyHook + Drop>(&mut self, core: &mut Core<H>)
-        ensures { core.new.plans ≡ core.old.plans }
-    {
-        if self.phase == Phase::Reads {
-            let _ = core.hang_up(self.conn);
-            self.phase = Phase::Deaf;
+        };
+        let mut piece = [0u8; PIECE];
+        match self.wire.read(&mut piece) {
+            Got::Bytes(count) => {
+                edges.has_read(count);
+                Heard::Nothing
+            }
+            Got::Nothing => {
+                edges.may_read = false;
+                Heard::Nothing
+            }
+            Got::Interrupted => Heard::Nothing,
+            Got::End(_) => {
+                edges.may_read = false;
+                Heard::End
+            }
         }
     }
 
@@ -150,25 +199,17 @@ impl<W: Wire> Client<W> {
         &mut self,
         core: &mut Core<H>,
         net: &mut N,
+        edges: &mut Edges,
     ) -> Written
-        ensures { core.new.plans ≡ core.old.plans }
+        ensures steps { MakesSteps core.old core.new self.old self.new }
+        ensures grows { Grows self.old self.new }
+        ensures told { N.told net.new ≡ N.told net.old }
     {
         for _write in 0..MOST_WRITES {
             self.fill(core);
-            if self.outbox.is_empty() {
-                return Written::All;
-            }
-            if !self.edges.may_write {
-                return Written::Waits;
-            }
-            match self.wire.write(&self.outbox) {
-                Sent::Bytes(count) => self.sent(net, count),
-                Sent::Nothing => self.edges.may_write = false,
-                Sent::Interrupted => return Written::More,
-                Sent::Failed(_) => {
-                    self.tell(net);
-                    return Written::Failed;
-                }
+            match self.send(net, edges) {
+                Some(written) => return written,
+                None => {}
             }
         }
         Written::More
@@ -176,66 +217,74 @@ impl<W: Wire> Client<W> {
 
     /// Takes the next reply, if nothing waits.
     fn fill<H: ReplyHook + Drop>(&mut self, core: &mut Core<H>)
-        ensures { core.new.plans ≡ core.old.plans }
+        ensures steps { MakesSteps core.old core.new self.old self.new }
+        ensures grows { Grows self.old self.new }
     {
+        if self.lingers() {
+            return;
+        }
         if !self.outbox.is_empty() {
             return;
         }
-        if let Some(reply) = core.take_reply(self.conn) {
-            let (id, entry, bytes) = reply.into_parts();
-            self.outbox = Outbox::of(bytes);
-            self.writing = Some((id, entry));
-        }
+        let Some(reply) = core.take_reply(self.conn) else {
+            return;
+        };
+        let (id, entry, bytes) = reply.into_parts();
+        self.outbox = Outbox::of(bytes);
+        begin(&mut self.writing, id, entry);
     }
 
-    /// So many bytes of what waits were written.
-    fn sent<N: Network<W>>(&mut self, net: &mut N, count: usize)
-        requires { count ≤ length self.old.outbox }
+    /// Writes once of what waits. Answers what writing came to, if it goes on no more.
+    fn send<N: Network<W>>(&mut self, net: &mut N, edges: &mut Edges) -> Option<Written>
+        ensures fits { FitsOn self.old self.new }
+        ensures grows { Grows self.old self.new }
+        ensures told { N.told net.new ≡ N.told net.old }
     {
-        self.outbox.sent(count);
         if self.outbox.is_empty() {
-            self.tell(net);
+            return Some(Written::All);
         }
-    }
-
-    /// Tells the reply that was being written.
-    fn tell<N: Network<W>>(&mut self, net: &mut N) {
-        if let Some((id, entry)) = self.writing.take() {
-            net.tell_reply(id, &entry);
+        if !edges.may_write {
+            return Some(Written::Waits);
+        }
+        match self.wire.write(&self.outbox) {
+            Sent::Bytes(count) => {
+                self.outbox.sent(count);
+                if self.outbox.is_empty() {
+                    tell(net, &mut self.writing);
+                }
+                None
+            }
+            Sent::Nothing => {
+                edges.may_write = false;
+                None
+            }
+            Sent::Interrupted => Some(Written::More),
+            Sent::Failed(_) => {
+                tell(net, &mut self.writing);
+                Some(Written::Failed)
+            }
         }
     }
 
     /// Ends its sending side. What still comes is dropped.
-    pub(crate) fn linger(&mut self) {
+    pub(crate) fn linger(&mut self)
+        ensures { self.new ≡ lingering self.old }
+    {
         self.wire.shut();
         self.phase = Phase::Lingers;
     }
+}
 
-    /// An exchange for a call of it is in that place.
-    pub(crate) fn add_exchange(&mut self, place: usize) -> Result<(), AllocError> {
-        self.exchanges.push(place)?;
-        Ok(())
-    }
+/// The reply to this request is being written.
+fn begin(writing: &mut Option<(CallId, ReplyEntry)>, id: CallId, entry: ReplyEntry) {
+    *writing = Some((id, entry));
+}
 
-    /// The exchange in that place is over.
-    pub(crate) fn forget_exchange(&mut self, place: usize) {
-        if let Some(index) = self.exchanges.iter().position(|other| *other == place) {
-            self.exchanges.swap_remove(index);
-        }
-    }
-
-    /// The place of its exchange of that number, in no order.
-    pub(crate) fn exchange(&self, number: usize) -> Option<usize> {
-        self.exchanges.get(number).copied()
-    }
-
-    /// The places of its exchanges. It has none then.
-    pub(crate) fn take_exchanges(&mut self, alloc: Global) -> Vec<usize> {
-        mem::replace(&mut self.exchanges, Vec::new(alloc))
-    }
-
-    /// Whether nothing waits to be written.
-    pub(crate) fn has_written_all(&self) -> bool {
-        self.outbox.is_empty()
+/// Tells the reply that was being written.
+fn tell<W: Wire, N: Network<W>>(net: &mut N, writing: &mut Option<(CallId, ReplyEntry)>)
+    ensures { N.told net.new ≡ N.told net.old }
+{
+    if let Some((id, entry)) = writing.take() {
+        net.tell_reply(id, &entry);
     }
 }

@@ -1,7 +1,11 @@
+ghost use Rattle.std.specs.Prelude.{◌≡◌, [], false};
+
 use gateway_core::Stock;
 use std::alloc::Global;
 use std::collections::VecDeque;
+use std::marker::Model;
 use std::net::SocketAddr;
+use wires::Wire;
 
 /// That something may be done without waiting at the stream of this token. It may be stale, or name nobody.
 #[derive(Clone, Copy, PartialEq, Eq, Debug)]
@@ -13,11 +17,41 @@ pub struct Ready {
     pub read_closed: bool,
 }
 
-/// A client's stream, and the hooks of its connection.
+/// A client's stream, of which nothing was read or written yet, and the hooks of its connection.
 #[derive(Drop)]
-pub struct Dealt<H, W> {
-    pub wire: W,
-    pub stock: Stock<H>,
+pub struct Dealt<H, W: Wire> {
+    wire: W,
+    stock: Stock<H>,
+}
+
+impl<H, W: Wire> Model for Dealt<H, W> {
+    ghost use Rattle.std.specs.Prelude.{◌≡◌, [], false};
+    ghost use Rattle.gateway_loop.specs.Clients.{IsFresh};
+
+    ghost Value = { Unit {0} };
+
+    ghost view = { λ d. tt };
+
+    ghost invariant = { λ d. IsFresh (W.given d.wire) (W.got d.wire) (W.ended d.wire) };
+}
+
+impl<H, W: Wire> Dealt<H, W> {
+    ghost use Rattle.gateway_loop.specs.Clients.{IsFresh};
+
+    pub fn new(wire: W, stock: Stock<H>) -> Dealt<H, W>
+        requires given { W.given wire ≡ [] }
+        requires got { W.got wire ≡ [] }
+        requires ended { W.ended wire ≡ false }
+    {
+        Dealt { wire, stock }
+    }
+
+    pub(crate) fn into_parts(self) -> (W, Stock<H>)
+        ensures { IsFresh (W.given result.0) (W.got result.0) (W.ended result.0) }
+    {
+        let Dealt { wire, stock } = self;
+        (wire, stock)
+    }
 }
 
 /// The addresses of a name that was looked up, in order. None where there is no such name.
@@ -29,13 +63,13 @@ pub struct LookedUp {
 
 /// What a wait brought. A turn takes all of it.
 #[derive(Drop)]
-pub struct Comings<H, W> {
+pub struct Comings<H, W: Wire> {
     pub ready: Vec<Ready>,
     pub streams: VecDeque<Dealt<H, W>>,
     pub found: VecDeque<LookedUp>,
 }
 
-impl<H, W> Comings<H, W> {
+impl<H, W: Wire> Comings<H, W> {
     /// Nothing. Later ones are kept on this allocator.
     pub fn new(alloc: Global) -> Comings<H, W> {
         Comings {

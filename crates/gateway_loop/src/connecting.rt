@@ -1,120 +1,190 @@
-ghost use Rattle.std.specs.Prelude.{◌≡◌};
+ghost use Rattle.std.specs.Prelude.{◌≡◌, []};
+ghost use Rattle.gateway_loop.specs.Loop.{Goes, TellsLoop};
 
-use crate::asking::{Asking, Step};
+use crate::asking::Progress;
+use crate::edges::Edges;
 use crate::event_loop::EventLoop;
 use crate::limits::{ATTEMPT, MOST_ADDRESSES};
 use crate::moments::is_due;
 use crate::network::Network;
 use crate::tokens::{exchange_token, timer_id};
-use branch_exchange::{ExchangeEnd, Loss};
+use branch_exchange::Loss;
 use gateway_core::ReplyHook;
 use std::io::ErrorKind;
+use std::net::SocketAddr;
 use wires::Wire;
 
 impl<H: ReplyHook + Drop, W: Wire + Drop> EventLoop<H, W> {
-    /// Connects the exchange, which was taken out of its place, to the next of its addresses that does not refuse at once, and writes its
-    /// request. Where there is none, it is lost by what is told.
-    pub(crate) fn try_next<N: Network<W>>(
-        &mut self,
-        net: &mut N,
-        asking: Asking<W>,
-        place: usize,
-        loss: Loss,
-    )
-        ensures { self.new.core.plans ≡ self.old.core.plans }
+    /// Connects the exchange in that place to the next of its addresses that does not refuse at once, and writes its request. Where there
+    /// is none, it is lost by what is told.
+    pub(crate) fn try_next<N: Network<W>>(&mut self, net: &mut N, place: usize, loss: Loss)
+        ensures goes { Goes self.old self.new }
+        ensures told { TellsLoop (N.told net.old) (N.told net.new) self.old self.new }
     {
-        let mut asking = asking;
         let mut loss = loss;
         for _address in 0..MOST_ADDRESSES {
-            let Some(address) = asking.next_address() else {
+            let Some(address) = self.next_address(place) else {
                 break;
             };
-            let wire = net.connect(address, asking.left());
-            asking.connect(wire);
-            let step = asking.step();
-            match step {
-                Step::Refused(kind) => loss = Loss::Write(kind),
-                Step::Ended(end) => return self.end(net, asking, place, end),
-                Step::Waits => return self.watch(net, asking, place, false),
-                Step::More => return self.watch(net, asking, place, true),
+            let wire = net.connect(address, self.left_at(place));
+            match self.go_over(place, wire) {
+                Progress::Refused(kind) => loss = Loss::Write(kind),
+                Progress::Ended => return self.end(net, place),
+                Progress::Waits => return self.watch(net, place, false),
+                Progress::More => return self.watch(net, place, true),
             }
         }
-        self.end(net, asking, place, ExchangeEnd::Lost(loss));
+        self.lose(net, place, loss);
     }
 
-    /// Watches the new stream of the exchange, which was taken out of its place, and sets its time.
-    fn watch<N: Network<W>>(&mut self, net: &mut N, asking: Asking<W>, place: usize, more: bool)
-        ensures { self.new.core.plans ≡ self.old.core.plans }
+    /// The next address that is to be tried for the exchange in that place.
+    fn next_address(&mut self, place: usize) -> Option<SocketAddr>
+        ensures goes { Goes self.old self.new }
+        ensures told { self.new.side.told ≡ self.old.side.told }
     {
-        let mut asking = asking;
-        let is_watched = match asking.wire() {
-            Some(wire) => net.watch(wire, exchange_token(place), !asking.is_sent()),
-            None => false,
+        match self.errands.get_mut(place) {
+            Some(errand) => errand.next_address(),
+            None => None,
+        }
+    }
+
+    /// How many bytes are left to be written of the request of the exchange in that place.
+    fn left_at(&self, place: usize) -> usize {
+        match self.exchanges.asking(place) {
+            Some(asking) => asking.attempt().left(),
+            None => 0,
+        }
+    }
+
+    /// The exchange in that place goes over this stream from now on, and writes its request.
+    fn go_over(&mut self, place: usize, wire: W) -> Progress
+        requires given { W.given wire ≡ [] }
+        requires got { W.got wire ≡ [] }
+        ensures goes { Goes self.old self.new }
+        ensures told { self.new.side.told ≡ self.old.side.told }
+    {
+        self.exchanges.connect(place, wire);
+        let Some(errand) = self.errands.get_mut(place) else {
+            return Progress::Waits;
         };
-        if !is_watched {
-            return self.end(net, asking, place, ExchangeEnd::Lost(Loss::NotWatched));
+        errand.edges = Edges::new();
+        self.exchanges.step(place, &mut errand.edges)
+    }
+
+    /// Watches the new stream of the exchange in that place, and sets its time.
+    fn watch<N: Network<W>>(&mut self, net: &mut N, place: usize, more: bool)
+        ensures goes { Goes self.old self.new }
+        ensures told { TellsLoop (N.told net.old) (N.told net.new) self.old self.new }
+    {
+        if !self.watch_exchange(net, place) {
+            return self.lose(net, place, Loss::NotWatched);
         }
-        if !self.begin_until(&mut asking, place) {
-            return self.end(net, asking, place, ExchangeEnd::NoMemory);
+        if !self.begin_until(place) {
+            return self.starve(net, place);
         }
-        self.put_back_exchange(asking);
         if more {
             self.line_up_exchange(place);
         }
     }
 
+    /// Watches the stream of the exchange in that place. False where it can't be.
+    fn watch_exchange<N: Network<W>>(&self, net: &mut N, place: usize) -> bool
+        ensures { N.told net.new ≡ N.told net.old }
+    {
+        let Some(asking) = self.exchanges.asking(place) else {
+            return false;
+        };
+        match asking.attempt().wire() {
+            Some(wire) => net.watch(wire, exchange_token(place), !asking.attempt().is_sent()),
+            None => false,
+        }
+    }
+
     /// The time of the exchange in that place is over: it is the next address's turn, or it is lost.
     pub(crate) fn time_out<N: Network<W>>(&mut self, net: &mut N, place: usize)
-        ensures { self.new.core.plans ≡ self.old.core.plans }
+        ensures goes { Goes self.old self.new }
+        ensures told { TellsLoop (N.told net.old) (N.told net.new) self.old self.new }
     {
-        let Some(asking) = self.asking.try_remove(place) else {
-            return;
-        };
-        if is_due(asking.job().deadline(), self.moment) {
-            self.end(net, asking, place, ExchangeEnd::Lost(Loss::Deadline));
+        if self.is_connected(place) || is_due(self.deadline_of(place), self.clients().moment()) {
+            self.lose(net, place, Loss::Deadline);
         } else {
-            self.try_next(net, asking, place, Loss::Write(ErrorKind::TimedOut));
+            self.try_next(net, place, Loss::Write(ErrorKind::TimedOut));
+        }
+    }
+
+    /// Whether the stream of the exchange in that place took a byte.
+    fn is_connected(&self, place: usize) -> bool {
+        match self.exchanges.asking(place) {
+            Some(asking) => asking.attempt().is_connected(),
+            None => false,
         }
     }
 
     /// Sets how long the new stream of an exchange has: where another address follows, half of the time that is left, or a second. False
     /// for want of memory.
-    fn begin_until(&mut self, asking: &mut Asking<W>, place: usize) -> bool
-        ensures { self.new.core.plans ≡ self.old.core.plans }
+    fn begin_until(&mut self, place: usize) -> bool
+        ensures goes { Goes self.old self.new }
+        ensures told { self.new.side.told ≡ self.old.side.told }
     {
-        let deadline = asking.job().deadline();
-        if asking.is_connected() || !asking.has_others() {
-            return self.end_attempt(asking, place);
+        if self.is_connected(place) || !self.has_others(place) {
+            return self.end_attempt(place);
         }
-        asking.is_timed = true;
-        let until = match deadline {
-            Some(deadline) => half_way(self.moment, deadline),
-            None => self.moment.saturating_add(ATTEMPT),
+        self.set_timed(place, true);
+        let moment = self.clients().moment();
+        let until = match self.deadline_of(place) {
+            Some(deadline) => half_way(moment, deadline),
+            None => moment.saturating_add(ATTEMPT),
         };
         self.set_until(place, Some(until))
     }
 
-    /// Once its stream took a byte, an exchange has all the time that its job has. False for want of memory.
-    pub(crate) fn renew_until(&mut self, asking: &mut Asking<W>, place: usize) -> bool
-        ensures { self.new.core.plans ≡ self.old.core.plans }
-    {
-        !asking.is_connected() || self.end_attempt(asking, place)
+    /// Whether there is another address for the exchange in that place.
+    fn has_others(&self, place: usize) -> bool {
+        match self.errands.get(place) {
+            Some(errand) => errand.has_others(),
+            None => false,
+        }
     }
 
-    /// The exchange has all the time that its job has.
-    fn end_attempt(&mut self, asking: &mut Asking<W>, place: usize) -> bool
-        ensures { self.new.core.plans ≡ self.old.core.plans }
+    /// Whether the time limit of the exchange in that place is that of its address.
+    fn set_timed(&mut self, place: usize, is_timed: bool)
+        ensures goes { Goes self.old self.new }
+        ensures told { self.new.side.told ≡ self.old.side.told }
     {
-        if !asking.is_timed {
+        if let Some(errand) = self.errands.get_mut(place) {
+            errand.is_timed = is_timed;
+        }
+    }
+
+    /// Once its stream took a byte, an exchange has all the time that its job has. False for want of memory.
+    pub(crate) fn renew_until(&mut self, place: usize) -> bool
+        ensures goes { Goes self.old self.new }
+        ensures told { self.new.side.told ≡ self.old.side.told }
+    {
+        !self.is_connected(place) || self.end_attempt(place)
+    }
+
+    /// The exchange in that place has all the time that its job has.
+    fn end_attempt(&mut self, place: usize) -> bool
+        ensures goes { Goes self.old self.new }
+        ensures told { self.new.side.told ≡ self.old.side.told }
+    {
+        let is_timed = match self.errands.get(place) {
+            Some(errand) => errand.is_timed,
+            None => false,
+        };
+        if !is_timed {
             return true;
         }
-        asking.is_timed = false;
-        self.set_until(place, asking.job().deadline())
+        self.set_timed(place, false);
+        let deadline = self.deadline_of(place);
+        self.set_until(place, deadline)
     }
 
     /// Until when the exchange in that place goes on; None: as long as its backend lets it. False for want of memory.
     pub(crate) fn set_until(&mut self, place: usize, until: Option<u64>) -> bool
-        ensures { self.new.core.plans ≡ self.old.core.plans }
+        ensures goes { Goes self.old self.new }
+        ensures told { self.new.side.told ≡ self.old.side.told }
     {
         let id = timer_id(exchange_token(place));
         let _stopped = self.untils.stop(id);

@@ -1,15 +1,20 @@
-ghost use Rattle.std.specs.Prelude.{◌≡◌, length, IfOk};
+ghost use Rattle.std.specs.Prelude.{◌≡◌, ◌-◌, ◌==◌, length, IfOk};
 ghost use Rattle.gateway_model.specs.History.{no_history};
 ghost use Rattle.gateway_theory.specs.Gateway.{jobs_of};
 ghost use Rattle.gateway_theory.specs.Served.{Served};
+ghost use Rattle.loop_model.specs.Standing.{count_clients, count_lingering};
+ghost use Rattle.loop_model.specs.Whole.{IsExplainedLoop};
+ghost use Rattle.gateway_loop.specs.Loop.{StartsLoop};
 
-use crate::asking::Asking;
-use crate::client::Client;
+use crate::clients::Clients;
+use crate::errand::Errand;
+use crate::exchanges::Exchanges;
+use crate::hints::Hints;
 use crate::limits::{MOST_CLIENTS, MOST_EXCHANGES, MOST_TIMERS};
 use crate::names::Names;
 use crate::standing::LoopStanding;
 use call_plan::Plans;
-use gateway_core::{ConnId, Core, ReplyHook};
+use gateway_core::{ConnId, ReplyHook};
 use slab::Slab;
 use std::alloc::{AllocError, Global};
 use std::collections::VecDeque;
@@ -21,11 +26,13 @@ use wires::Wire;
 #[derive(Drop)]
 pub struct EventLoop<H, W: Wire> {
     pub(crate) alloc: Global,
-    pub(crate) core: Core<H>,
-    pub(crate) clients: Slab<Client<W>>,
+    pub(crate) exchanges: Exchanges<H, W>,
+    // what else is known of the clients, by their places
+    pub(crate) hints: Slab<Hints>,
     // the connections that are open, with the places of their clients
     pub(crate) open: Vec<(ConnId, usize)>,
-    pub(crate) asking: Slab<Asking<W>>,
+    // what else is known of the exchanges, by their places
+    pub(crate) errands: Slab<Errand>,
     pub(crate) names: Names,
     // by their tokens, until when an exchange goes on, and a client lingers
     pub(crate) untils: Timers,
@@ -33,38 +40,36 @@ pub struct EventLoop<H, W: Wire> {
     pub(crate) line: VecDeque<usize>,
     // the places of clients for whom something may be there
     pub(crate) noted: VecDeque<usize>,
-    // the last moment that was handed in
-    pub(crate) moment: u64,
     // something is left to be done at once
     pub(crate) again: bool,
 }
 
 impl<H, W: Wire> Model for EventLoop<H, W> {
-    ghost use Rattle.gateway_loop.specs.Loop.{LoopValue, loop_value};
+    ghost use Rattle.loop_model.specs.Whole.{WholeLoop};
 
-    ghost Value = { LoopValue };
+    ghost Value = { WholeLoop };
 
-    ghost view = { λ l. loop_value l.core };
+    ghost view = { λ l. l.exchanges };
 }
 
 impl<H: ReplyHook + Drop, W: Wire + Drop> EventLoop<H, W> {
     /// A loop that serves these plans, with no client.
     pub fn new(alloc: Global, plans: Plans) -> Result<EventLoop<H, W>, AllocError>
-        ensures plans { IfOk result (λ l. l.core.plans ≡ plans) }
-        ensures serves { IfOk result (λ l. Served l.core no_history) }
+        ensures plans { IfOk result (λ l. l.side.core.plans ≡ plans) }
+        ensures starts { IfOk result StartsLoop }
+        ensures serves { IfOk result (λ l. Served l.side.core no_history) }
     {
         Ok(EventLoop {
             alloc,
-            core: Core::new(alloc, plans)?,
-            clients: Slab::with_capacity(alloc, MOST_CLIENTS)?,
+            exchanges: Exchanges::new(alloc, plans)?,
+            hints: Slab::with_capacity(alloc, MOST_CLIENTS)?,
             open: Vec::with_capacity(alloc, MOST_CLIENTS)?,
-            asking: Slab::with_capacity(alloc, MOST_EXCHANGES)?,
+            errands: Slab::with_capacity(alloc, MOST_EXCHANGES)?,
             names: Names::new(alloc),
             untils: Timers::new(alloc),
             // a token may be left behind whose place changed hands
             line: VecDeque::with_capacity(alloc, 2 * MOST_TIMERS)?,
             noted: VecDeque::with_capacity(alloc, 2 * MOST_CLIENTS)?,
-            moment: 0,
             again: false,
         })
     }
@@ -74,31 +79,45 @@ impl<H: ReplyHook + Drop, W: Wire + Drop> EventLoop<H, W> {
         if self.again {
             return Some(0);
         }
-        sooner(self.core.next_deadline(), self.untils.next())
+        sooner(self.clients().next_deadline(), self.untils.next())
     }
 
     /// How the loop stands.
     pub fn standing(&self) -> LoopStanding
-        ensures waiting { result.waiting ≡ length (jobs_of self.now.core) }
-        ensures tally { result.tally ≡ self.now.core.tally }
+        ensures open { result.open ≡ count_clients self.now.side.clients - count_lingering self.now.side.clients }
+        ensures lingering { result.lingering ≡ count_lingering self.now.side.clients }
+        ensures waiting { result.waiting ≡ length (jobs_of self.now.side.core) }
+        ensures tally { result.tally ≡ self.now.side.core.tally }
     {
+        let lingering = self.clients().lingering();
         LoopStanding {
-            open: self.open.len(),
-            lingering: self.lingering(),
-            asking: self.asking.len(),
-            waiting: self.core.waiting_jobs(),
-            tally: self.core.tally(),
+            open: self.clients().len().saturating_sub(lingering),
+            lingering,
+            asking: self.exchanges.len(),
+            waiting: self.clients().waiting_jobs(),
+            tally: self.clients().tally(),
         }
     }
 
     /// Whether no connection is open, and none lingers.
-    pub fn is_empty(&self) -> bool {
-        self.clients.is_empty()
+    pub fn is_empty(&self) -> bool
+        ensures { result ≡ (count_clients self.now.side.clients == 0) }
+    {
+        self.clients().len() == 0
     }
 
-    /// How many clients linger.
-    pub(crate) fn lingering(&self) -> usize {
-        self.clients.len().saturating_sub(self.open.len())
+    /// One history explains all that this loop's clients brought and got, and each result is that of an exchange. It does nothing.
+    pub fn explained_law(&self)
+        ensures { IsExplainedLoop self.now }
+    {
+        self.exchanges.explained_law();
+    }
+
+    /// The core and its clients.
+    pub(crate) fn clients(&self) -> &Clients<H, W>
+        ensures { result.now ≡ self.now.side }
+    {
+        self.exchanges.clients()
     }
 
     /// The place of the client of that connection, if it is open.

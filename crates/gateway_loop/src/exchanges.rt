@@ -1,176 +1,233 @@
-ghost use Rattle.std.specs.Prelude.{◌≡◌};
+ghost use Rattle.std.specs.Prelude.{◌≡◌, [], IfOk};
+ghost use Rattle.gateway_loop.specs.Clients.{Starts};
+ghost use Rattle.gateway_loop.specs.Loop.{Goes, StartsLoop, TellsLoop};
+ghost use Rattle.gateway_model.specs.History.{no_history};
+ghost use Rattle.gateway_theory.specs.Served.{Served};
+ghost use Rattle.loop_model.specs.Growing.{HasTicked};
+ghost use Rattle.loop_model.specs.Whole.{IsExplainedLoop};
 
-use crate::asking::{Asking, Step};
-use crate::event_loop::EventLoop;
+use crate::asking::{Asking, Progress};
+use crate::client::{Heard, Written};
+use crate::clients::Clients;
+use crate::comings::Dealt;
+use crate::edges::Edges;
 use crate::limits::MOST_EXCHANGES;
 use crate::network::Network;
-use crate::tokens::{exchange_token, timer_id};
-use branch_exchange::{ExchangeEnd, Loss, outcome_of};
-use gateway_core::{Job, ReplyHook};
+use branch_exchange::Loss;
+use call_plan::Plans;
+use connect_codec::Outcome;
+use gateway_core::{ConnId, Job, ReplyHook};
+use http_server::Log;
+use slab::Slab;
+use std::alloc::{AllocError, Global};
+use std::marker::Model;
 use wires::Wire;
 
-impl<H: ReplyHook + Drop, W: Wire + Drop> EventLoop<H, W> {
-    /// Writes and reads the stream of the exchange in that place.
-    pub(crate) fn serve_exchange<N: Network<W>>(&mut self, net: &mut N, place: usize)
-        ensures { self.new.core.plans ≡ self.old.core.plans }
+/// A core with its clients, and the jobs that are asked for, by their places. Whatever is done by its functions, each job that was taken
+/// is asked for, or has one result, which is that of its exchange (`explained_law`).
+#[derive(Drop)]
+pub(crate) struct Exchanges<H, W: Wire> {
+    alloc: Global,
+    clients: Clients<H, W>,
+    asking: Slab<Asking<W>>,
+    // for proofs: those that ended, each with the outcome that was recorded
+    ended: Log<Asking<W>, Option<Outcome>>,
+}
+
+impl<H, W: Wire> Model for Exchanges<H, W> {
+    ghost use Rattle.loop_model.specs.Whole.{AsksFairly, WholeLoop};
+    ghost use Rattle.gateway_loop.specs.Loop.{whole_loop};
+
+    ghost Value = { WholeLoop };
+
+    ghost view = { λ l. whole_loop l.clients l.asking.slots l.ended.items };
+
+    ghost invariant = { λ l. AsksFairly (whole_loop l.clients l.asking.slots l.ended.items) };
+}
+
+impl<H: ReplyHook + Drop, W: Wire + Drop> Exchanges<H, W> {
+    /// A core that serves these plans, with no client and no job.
+    pub(crate) fn new(alloc: Global, plans: Plans) -> Result<Exchanges<H, W>, AllocError>
+        ensures plans { IfOk result (λ l. l.side.core.plans ≡ plans) }
+        ensures starts { IfOk result StartsLoop }
+        ensures serves { IfOk result (λ l. Served l.side.core no_history) }
+    {
+        Ok(Exchanges {
+            alloc,
+            clients: Clients::new(alloc, plans)?,
+            asking: Slab::with_capacity(alloc, MOST_EXCHANGES)?,
+            ended: Log::new(),
+        })
+    }
+
+    /// The core and its clients.
+    pub(crate) fn clients(&self) -> &Clients<H, W>
+        ensures { result.now ≡ self.now.side }
+    {
+        &self.clients
+    }
+
+    /// Opens a connection for the stream: its number, and the place of its client. Where none can be opened, the stream is closed without
+    /// a byte.
+    pub(crate) fn open(&mut self, dealt: Dealt<H, W>) -> Option<(ConnId, usize)>
+        ensures goes { Goes self.old self.new }
+        ensures told { self.new.side.told ≡ self.old.side.told }
+    {
+        self.clients.open(dealt)
+    }
+
+    /// Reads the stream of the client in that place once, and hands on what came; of one that lingers it is dropped.
+    pub(crate) fn read(&mut self, place: usize, edges: &mut Edges) -> Heard
+        ensures goes { Goes self.old self.new }
+        ensures told { self.new.side.told ≡ self.old.side.told }
+    {
+        self.clients.read(place, edges)
+    }
+
+    /// Writes what can be written of the replies that are there to the client in that place.
+    pub(crate) fn write<N: Network<W>>(
+        &mut self,
+        net: &mut N,
+        place: usize,
+        edges: &mut Edges,
+    ) -> Written
+        ensures goes { Goes self.old self.new }
+        ensures told { self.new.side.told ≡ self.old.side.told }
+        ensures same { N.told net.new ≡ N.told net.old }
+    {
+        self.clients.write(net, place, edges)
+    }
+
+    /// Closes the connection of the client in that place, which lingers from then on: what still comes is dropped.
+    pub(crate) fn leave(&mut self, place: usize)
+        ensures goes { Goes self.old self.new }
+        ensures told { self.new.side.told ≡ self.old.side.told }
+    {
+        self.clients.leave(place);
+    }
+
+    /// Closes the stream of the client in that place, and its connection.
+    pub(crate) fn let_go(&mut self, place: usize)
+        ensures goes { Goes self.old self.new }
+        ensures told { self.new.side.told ≡ self.old.side.told }
+    {
+        self.clients.let_go(place);
+    }
+
+    /// Hands in the present moment, unless that would change nothing. Answers whether something may have come of it for any client.
+    pub(crate) fn tick<N: Network<W>>(&mut self, net: &mut N) -> bool
+        ensures goes { Goes self.old self.new }
+        ensures ticks { HasTicked self.old.side self.new.side }
+        ensures told { TellsLoop (N.told net.old) (N.told net.new) self.old self.new }
+    {
+        self.clients.tick(net)
+    }
+
+    /// The drain begins: calls that are undecided end, and those that come are refused.
+    pub(crate) fn drain(&mut self)
+        ensures goes { Goes self.old self.new }
+        ensures told { self.new.side.told ≡ self.old.side.told }
+    {
+        self.clients.drain();
+    }
+
+    /// One history explains all that the clients brought and got, and its results are those of the exchanges. It does nothing.
+    pub(crate) fn explained_law(&self)
+        ensures { IsExplainedLoop self.now }
+    {
+        self.clients.explained_law();
+    }
+}
+
+impl<H: ReplyHook + Drop, W: Wire + Drop> Exchanges<H, W> {
+    /// How many jobs are asked for.
+    pub(crate) fn len(&self) -> usize {
+        self.asking.len()
+    }
+
+    /// The job that is asked for in that place.
+    pub(crate) fn asking(&self, place: usize) -> Option<&Asking<W>> {
+        self.asking.get(place)
+    }
+
+    /// Takes the next job, which is asked for from now on: its place. None if none waits.
+    pub(crate) fn begin(&mut self) -> Option<usize>
+        ensures goes { Goes self.old self.new }
+        ensures told { self.new.side.told ≡ self.old.side.told }
+    {
+        if self.asking.reserve(1).is_err() {
+            return None;
+        }
+        let Some(job) = self.clients.take_job() else {
+            return None;
+        };
+        let asking = Asking::new(self.alloc, job);
+        Some(self.asking.insert_reserved(asking))
+    }
+
+    /// The exchange in that place writes what it can, and then reads what it can.
+    pub(crate) fn step(&mut self, place: usize, edges: &mut Edges) -> Progress
+        ensures goes { Goes self.old self.new }
+        ensures told { self.new.side.told ≡ self.old.side.told }
+    {
+        let Some(mut asking) = self.asking.try_remove(place) else {
+            return Progress::Waits;
+        };
+        let progress = asking.step(edges);
+        let _place = self.asking.insert_reserved(asking);
+        progress
+    }
+
+    /// The exchange in that place goes over this stream from now on, of which nothing was read or written.
+    pub(crate) fn connect(&mut self, place: usize, wire: W)
+        requires given { W.given wire ≡ [] }
+        requires got { W.got wire ≡ [] }
+        ensures goes { Goes self.old self.new }
+        ensures told { self.new.side.told ≡ self.old.side.told }
     {
         let Some(mut asking) = self.asking.try_remove(place) else {
             return;
         };
-        asking.is_in_line = false;
-        let step = asking.step();
-        self.take_step(net, asking, place, step);
+        asking.connect(wire);
+        let _place = self.asking.insert_reserved(asking);
     }
 
-    /// The exchange, which was taken out of its place, made this step.
-    fn take_step<N: Network<W>>(&mut self, net: &mut N, asking: Asking<W>, place: usize, step: Step)
-        ensures { self.new.core.plans ≡ self.old.core.plans }
+    /// The exchange in that place is over: it is lost by this, whatever was read.
+    pub(crate) fn lose(&mut self, place: usize, loss: Loss)
+        ensures goes { Goes self.old self.new }
+        ensures told { self.new.side.told ≡ self.old.side.told }
     {
-        let mut asking = asking;
-        if !self.renew_until(&mut asking, place) {
-            return self.end(net, asking, place, ExchangeEnd::NoMemory);
-        }
-        match step {
-            Step::Waits => self.put_back_exchange(asking),
-            Step::More => {
-                self.put_back_exchange(asking);
-                self.line_up_exchange(place);
-            }
-            Step::Refused(kind) => self.try_next(net, asking, place, Loss::Write(kind)),
-            Step::Ended(end) => self.end(net, asking, place, end),
-        }
+        let Some(mut asking) = self.asking.try_remove(place) else {
+            return;
+        };
+        asking.lose(loss);
+        let _place = self.asking.insert_reserved(asking);
     }
 
-    /// The exchange, which was taken out of its place, is over: what came of it is recorded.
-    pub(crate) fn end<N: Network<W>>(
-        &mut self,
-        net: &mut N,
-        asking: Asking<W>,
-        place: usize,
-        end: ExchangeEnd,
-    )
-        ensures { self.new.core.plans ≡ self.old.core.plans }
+    /// The exchange in that place is over: there is no memory for it.
+    pub(crate) fn starve(&mut self, place: usize)
+        ensures goes { Goes self.old self.new }
+        ensures told { self.new.side.told ≡ self.old.side.told }
     {
-        let client = asking.client();
-        let job = self.let_go(asking, place);
-        self.record_for(net, client, &job, end);
+        let Some(mut asking) = self.asking.try_remove(place) else {
+            return;
+        };
+        asking.starve();
+        let _place = self.asking.insert_reserved(asking);
     }
 
-    /// Records what came of the job of the client in that place. What that decides is seen to.
-    pub(crate) fn record_for<N: Network<W>>(
-        &mut self,
-        net: &mut N,
-        client: usize,
-        job: &Job,
-        end: ExchangeEnd,
-    )
-        ensures { self.new.core.plans ≡ self.old.core.plans }
+    /// Records what came of the exchange in that place, which leaves it: its job.
+    pub(crate) fn finish(&mut self, place: usize) -> Option<Job>
+        ensures goes { Goes self.old self.new }
+        ensures told { self.new.side.told ≡ self.old.side.told }
     {
-        // a later moment comes first
-        self.tick(net);
-        self.record(job, end);
-        self.note(client);
-        if !self.core.is_wanted(&job.call()) {
-            self.give_up_unwanted(client);
-        }
-    }
-
-    /// Frees all that an exchange has besides its place. Its stream is closed.
-    fn let_go(&mut self, asking: Asking<W>, place: usize) -> Job
-        ensures { self.new.core.plans ≡ self.old.core.plans }
-    {
-        if let Some(client) = self.clients.get_mut(asking.client()) {
-            client.forget_exchange(place);
-        }
-        let _stopped = self.untils.stop(timer_id(exchange_token(place)));
-        if let Some(number) = asking.waits {
-            self.names.leave(asking.job().address(), number);
-        }
-        asking.into_job()
-    }
-
-    /// Records what came of the job.
-    pub(crate) fn record(&mut self, job: &Job, end: ExchangeEnd)
-        ensures { self.new.core.plans ≡ self.old.core.plans }
-    {
-        let call = job.call();
-        match outcome_of(self.alloc, end.asked()) {
-            Some(outcome) => {
-                let _took = self.core.result(&call, job.branch(), outcome);
-            }
-            None => {
-                let _took = self.core.starved(&call, job.branch());
-            }
-        }
-    }
-
-    /// Gives up the exchanges of the client in that place for which nobody waits any more.
-    pub(crate) fn give_up_unwanted(&mut self, client: usize)
-        ensures { self.new.core.plans ≡ self.old.core.plans }
-    {
-        let mut number = 0usize;
-        for _exchange in 0..MOST_EXCHANGES {
-            let Some(place) = self.exchange_of(client, number) else {
-                return;
-            };
-            if self.is_wanted_at(place) {
-                number = number.saturating_add(1);
-            } else {
-                self.give_up(place);
-            }
-        }
-    }
-
-    /// The place of the client's exchange of that number.
-    fn exchange_of(&self, client: usize, number: usize) -> Option<usize> {
-        self.clients.get(client)?.exchange(number)
-    }
-
-    fn is_wanted_at(&self, place: usize) -> bool {
-        match self.asking.get(place) {
-            Some(asking) => self.core.is_wanted(&asking.job().call()),
-            None => false,
-        }
-    }
-
-    /// Gives up the exchange in that place: nobody waits for it any more.
-    fn give_up(&mut self, place: usize)
-        ensures { self.new.core.plans ≡ self.old.core.plans }
-    {
-        if let Some(asking) = self.asking.try_remove(place) {
-            let job = self.let_go(asking, place);
-            self.record(&job, ExchangeEnd::Lost(Loss::NotWanted));
-        }
-    }
-
-    /// Gives up the exchanges in these places.
-    pub(crate) fn give_up_all(&mut self, places: Vec<usize>)
-        ensures { self.new.core.plans ≡ self.old.core.plans }
-    {
-        for place in places {
-            self.give_up(place);
-        }
-    }
-
-    /// There is no memory to serve the exchange in that place: it is over, since else it would hang.
-    pub(crate) fn starve_exchange(&mut self, place: usize)
-        ensures { self.new.core.plans ≡ self.old.core.plans }
-    {
-        if let Some(asking) = self.asking.try_remove(place) {
-            let client = asking.client();
-            let job = self.let_go(asking, place);
-            self.record(&job, ExchangeEnd::NoMemory);
-            self.note(client);
-        }
-    }
-
-    /// An exchange that was taken out comes back to its place: none came or went meanwhile, and the last that was freed is taken first.
-    pub(crate) fn put_back_exchange(&mut self, asking: Asking<W>)
-        ensures { self.new.core.plans ≡ self.old.core.plans }
-    {
-        if let Err(failed) = self.asking.insert(asking) {
-            let job = failed.value.into_job();
-            self.record(&job, ExchangeEnd::NoMemory);
-        }
+        let Some(mut asking) = self.asking.try_remove(place) else {
+            return None;
+        };
+        let outcome = asking.conclude(self.alloc);
+        self.ended = self.ended.and(&asking, &outcome);
+        let job = asking.into_job();
+        self.clients.record(&job, outcome);
+        Some(job)
     }
 }

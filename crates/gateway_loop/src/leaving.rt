@@ -1,106 +1,134 @@
 ghost use Rattle.std.specs.Prelude.{◌≡◌};
+ghost use Rattle.gateway_loop.specs.Loop.{Goes, TellsLoop};
+ghost use Rattle.loop_model.specs.Whole.{ContinuesLoop};
 
-use crate::client::Client;
 use crate::event_loop::EventLoop;
 use crate::limits::{LINGER, MOST_LINGERING, MOST_TIMERS};
 use crate::network::Network;
 use crate::phase::Phase;
 use crate::tokens::{Owner, client_token, owner_of, timer_id};
-use gateway_core::{ConnId, ReplyHook};
+use gateway_core::ReplyHook;
 use wires::Wire;
 
 impl<H: ReplyHook + Drop, W: Wire + Drop> EventLoop<H, W> {
-    /// Closes the connections to which nothing is owed: each of its requests has its reply, and that was written.
+    /// Closes the connections to which nothing is owed: each of its requests has its reply, and that was written. One whose last bytes
+    /// made no request stays: its request may be half read.
     pub fn close_idle(&mut self)
-        ensures { self.new.core.plans ≡ self.old.core.plans }
+        ensures continues { ContinuesLoop self.old self.new }
+        ensures told { self.new.side.told ≡ self.old.side.told }
     {
         for _open in 0..self.open.len() {
-            let Some((client, place)) = self.take_idle() else {
+            let Some(place) = self.idle_place() else {
                 return;
             };
-            self.leave(client, place);
+            self.leave(place);
         }
     }
 
-    /// Takes out the first client to whom nothing is owed.
-    fn take_idle(&mut self) -> Option<(Client<W>, usize)>
-        ensures { self.new.core.plans ≡ self.old.core.plans }
-    {
-        for index in 0..self.open.len() {
-            let (conn, place) = *self.open.get(index)?;
-            let is_idle = self.core.is_idle(conn) && self.core.untaken(conn) == 0;
-            if is_idle && self.clients.get(place)?.has_written_all() {
-                let client = self.clients.try_remove(place)?;
-                return Some((client, place));
+    /// The place of the first client to whom nothing is owed.
+    fn idle_place(&self) -> Option<usize> {
+        for open in self.open.iter() {
+            if self.clients().is_idle(open.1) && !self.is_half_read(open.1) {
+                return Some(open.1);
             }
         }
         None
     }
 
-    /// The connection of this client, which was taken out of its place, is closed. Its stream lingers, so that what was written is not
-    /// lost with what still comes; or it is closed at once, where it has brought its end, or too many linger.
-    pub(crate) fn leave(&mut self, client: Client<W>, place: usize)
-        ensures { self.new.core.plans ≡ self.old.core.plans }
+    /// Whether a request of the client in that place may be half read.
+    fn is_half_read(&self, place: usize) -> bool {
+        match self.hints.get(place) {
+            Some(hints) => hints.is_half_read,
+            None => false,
+        }
+    }
+
+    /// The connection of the client in that place is closed. Its stream lingers, so that what was written is not lost with what still
+    /// comes; or it is closed at once, where it has brought its end, or too many linger.
+    pub(crate) fn leave(&mut self, place: usize)
+        ensures goes { Goes self.old self.new }
+        ensures told { self.new.side.told ≡ self.old.side.told }
     {
-        let mut client = client;
-        self.close_conn(client.conn());
-        let exchanges = client.take_exchanges(self.alloc);
-        self.give_up_all(exchanges);
-        let lingers = client.phase() != Phase::Deaf && self.lingering() < MOST_LINGERING;
-        let until = self.moment.saturating_add(LINGER);
-        client.linger();
+        let lingers = self.clients().phase(place) == Some(Phase::Reads)
+            && self.clients().lingering() < MOST_LINGERING;
+        self.exchanges.leave(place);
+        self.close(place);
+        let until = self.clients().moment().saturating_add(LINGER);
         if !lingers
             || self
                 .untils
                 .set(until, timer_id(client_token(place)))
                 .is_err()
         {
+            self.forget_client(place);
             return;
         }
-        let goes_on = client.edges.may_read;
-        self.put_back_client(client);
-        if goes_on {
+        if self.may_read(place) {
             self.line_up_client(place);
         }
     }
 
-    /// The stream of this client, which was taken out of its place, is closed, and its connection.
-    pub(crate) fn drop_client(&mut self, client: Client<W>)
-        ensures { self.new.core.plans ≡ self.old.core.plans }
+    /// The stream of the client in that place is closed, and its connection.
+    pub(crate) fn drop_client(&mut self, place: usize)
+        ensures goes { Goes self.old self.new }
+        ensures told { self.new.side.told ≡ self.old.side.told }
     {
-        let mut client = client;
-        self.close_conn(client.conn());
-        let exchanges = client.take_exchanges(self.alloc);
+        self.exchanges.let_go(place);
+        self.close(place);
+        let _hints = self.hints.try_remove(place);
+    }
+
+    /// The connection of the client in that place was closed: its exchanges are given up.
+    fn close(&mut self, place: usize)
+        ensures goes { Goes self.old self.new }
+        ensures told { self.new.side.told ≡ self.old.side.told }
+    {
+        self.open.retain(|open| open.1 != place);
+        let exchanges = match self.hints.get_mut(place) {
+            Some(hints) => hints.take_exchanges(self.alloc),
+            None => return,
+        };
         self.give_up_all(exchanges);
     }
 
-    /// Closes the connection.
-    pub(crate) fn close_conn(&mut self, conn: ConnId)
-        ensures { self.new.core.plans ≡ self.old.core.plans }
+    /// The client in that place goes, and its stream is closed.
+    fn forget_client(&mut self, place: usize)
+        ensures goes { Goes self.old self.new }
+        ensures told { self.new.side.told ≡ self.old.side.told }
     {
-        self.core.close(conn);
-        self.open.retain(|open| open.0 != conn);
+        self.exchanges.let_go(place);
+        let _hints = self.hints.try_remove(place);
     }
 
-    /// The client that was in that place lingers no more.
+    /// Whether the stream of the client in that place may have bytes.
+    pub(crate) fn may_read(&self, place: usize) -> bool {
+        match self.hints.get(place) {
+            Some(hints) => hints.edges.may_read,
+            None => false,
+        }
+    }
+
+    /// The client in that place lingers no more.
     pub(crate) fn stop_lingering(&mut self, place: usize)
-        ensures { self.new.core.plans ≡ self.old.core.plans }
+        ensures goes { Goes self.old self.new }
+        ensures told { self.new.side.told ≡ self.old.side.told }
     {
         let _stopped = self.untils.stop(timer_id(client_token(place)));
+        self.forget_client(place);
     }
 
     /// Ends the exchanges whose time is over, and lets go of those that lingered long enough.
     pub(crate) fn expire<N: Network<W>>(&mut self, net: &mut N)
-        ensures { self.new.core.plans ≡ self.old.core.plans }
+        ensures goes { Goes self.old self.new }
+        ensures told { TellsLoop (N.told net.old) (N.told net.new) self.old self.new }
     {
         for _timer in 0..MOST_TIMERS {
-            let Some((_until, id)) = self.untils.pop_due(self.moment) else {
+            let moment = self.clients().moment();
+            let Some((_until, id)) = self.untils.pop_due(moment) else {
                 return;
             };
             match owner_of(usize::try_from(id).unwrap_or(usize::MAX)) {
-                Owner::Client(place) => {
-                    let _gone = self.clients.try_remove(place);
-                }
+                Owner::Client(place) => self.forget_client(place),
                 Owner::Exchange(place) => self.time_out(net, place),
             }
         }

@@ -4,12 +4,18 @@
 
 mod admission;
 mod asking;
+mod attempt;
 mod client;
+mod clients;
 mod comings;
 mod connecting;
 mod edges;
+mod ending;
+mod errand;
 mod event_loop;
 mod exchanges;
+mod hints;
+mod laws;
 mod leaving;
 mod limits;
 mod looking_up;
@@ -20,6 +26,7 @@ mod phase;
 mod serving;
 mod standing;
 mod starting;
+mod taking;
 mod tokens;
 mod turn;
 

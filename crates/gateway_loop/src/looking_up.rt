@@ -1,12 +1,12 @@
 ghost use Rattle.std.specs.Prelude.{◌≡◌};
+ghost use Rattle.gateway_loop.specs.Loop.{Goes, TellsLoop};
 
-use crate::asking::Asking;
 use crate::comings::LookedUp;
 use crate::event_loop::EventLoop;
 use crate::limits::MOST_ADDRESSES;
 use crate::names::Waiting;
 use crate::network::Network;
-use branch_exchange::{ExchangeEnd, Loss};
+use branch_exchange::Loss;
 use gateway_core::ReplyHook;
 use std::alloc::{AllocError, Global};
 use std::collections::VecDeque;
@@ -14,24 +14,48 @@ use std::net::SocketAddr;
 use wires::Wire;
 
 impl<H: ReplyHook + Drop, W: Wire + Drop> EventLoop<H, W> {
-    /// Has the address of the exchange, which was taken out of its place, looked up.
-    pub(crate) fn look_up<N: Network<W>>(&mut self, net: &mut N, asking: Asking<W>, place: usize)
-        ensures { self.new.core.plans ≡ self.old.core.plans }
+    /// Has the address of the exchange in that place looked up.
+    pub(crate) fn look_up<N: Network<W>>(&mut self, net: &mut N, place: usize)
+        ensures goes { Goes self.old self.new }
+        ensures told { TellsLoop (N.told net.old) (N.told net.new) self.old self.new }
     {
-        let mut asking = asking;
-        match self.names.wait(net, asking.job().address(), place) {
-            Ok(Waiting::Under(number)) => {
-                asking.waits = Some(number);
-                self.put_back_exchange(asking);
-            }
-            Ok(Waiting::Never) => self.end(net, asking, place, ExchangeEnd::Lost(Loss::NoAddress)),
-            Err(_) => self.end(net, asking, place, ExchangeEnd::NoMemory),
+        match self.wait_for_name(net, place) {
+            Ok(Waiting::Under(number)) => self.set_waiting(place, number),
+            Ok(Waiting::Never) => self.lose(net, place, Loss::NoAddress),
+            Err(_) => self.starve(net, place),
+        }
+    }
+
+    /// The exchange in that place waits for its name.
+    fn wait_for_name<N: Network<W>>(
+        &mut self,
+        net: &mut N,
+        place: usize,
+    ) -> Result<Waiting, AllocError>
+        ensures goes { Goes self.old self.new }
+        ensures told { self.new.side.told ≡ self.old.side.told }
+        ensures same { N.told net.new ≡ N.told net.old }
+    {
+        match self.exchanges.asking(place) {
+            Some(asking) => self.names.wait(net, asking.job().address(), place),
+            None => Ok(Waiting::Never),
+        }
+    }
+
+    /// The exchange in that place waits under that number.
+    fn set_waiting(&mut self, place: usize, number: usize)
+        ensures goes { Goes self.old self.new }
+        ensures told { self.new.side.told ≡ self.old.side.told }
+    {
+        if let Some(errand) = self.errands.get_mut(place) {
+            errand.waits = Some(number);
         }
     }
 
     /// Takes the names that were looked up.
     pub(crate) fn take_found<N: Network<W>>(&mut self, net: &mut N, found: &mut VecDeque<LookedUp>)
-        ensures { self.new.core.plans ≡ self.old.core.plans }
+        ensures goes { Goes self.old self.new }
+        ensures told { TellsLoop (N.told net.old) (N.told net.new) self.old self.new }
     {
         for _name in 0..found.len() {
             let Some(looked_up) = found.pop_front() else {
@@ -48,17 +72,25 @@ impl<H: ReplyHook + Drop, W: Wire + Drop> EventLoop<H, W> {
 
     /// The exchange in that place has its addresses.
     fn go_to<N: Network<W>>(&mut self, net: &mut N, place: usize, addresses: &[SocketAddr])
-        ensures { self.new.core.plans ≡ self.old.core.plans }
+        ensures goes { Goes self.old self.new }
+        ensures told { TellsLoop (N.told net.old) (N.told net.new) self.old self.new }
     {
-        let Some(mut asking) = self.asking.try_remove(place) else {
-            return;
-        };
         match first_of(self.alloc, addresses) {
             Ok(addresses) => {
-                asking.set_addresses(addresses);
-                self.try_next(net, asking, place, Loss::NoAddress);
+                self.set_addresses(place, addresses);
+                self.try_next(net, place, Loss::NoAddress);
             }
-            Err(_) => self.end(net, asking, place, ExchangeEnd::NoMemory),
+            Err(_) => self.starve(net, place),
+        }
+    }
+
+    /// These addresses are to be tried for the exchange in that place.
+    fn set_addresses(&mut self, place: usize, addresses: VecDeque<SocketAddr>)
+        ensures goes { Goes self.old self.new }
+        ensures told { self.new.side.told ≡ self.old.side.told }
+    {
+        if let Some(errand) = self.errands.get_mut(place) {
+            errand.set_addresses(addresses);
         }
     }
 }

@@ -1,4 +1,7 @@
 ghost use Rattle.std.specs.Prelude.{◌≡◌};
+ghost use Rattle.gateway_loop.specs.Loop.{Goes, TellsLoop};
+ghost use Rattle.loop_model.specs.Growing.{HasTicked};
+ghost use Rattle.loop_model.specs.Whole.{ContinuesLoop};
 
 use crate::event_loop::EventLoop;
 use crate::network::Network;
@@ -8,25 +11,21 @@ use wires::Wire;
 impl<H: ReplyHook + Drop, W: Wire + Drop> EventLoop<H, W> {
     /// Hands in the present moment, unless that would change nothing: so calls that are due end before anything that is seen later.
     pub(crate) fn tick<N: Network<W>>(&mut self, net: &mut N)
-        ensures { self.new.core.plans ≡ self.old.core.plans }
+        ensures goes { Goes self.old self.new }
+        ensures ticks { HasTicked self.old.side self.new.side }
+        ensures told { TellsLoop (N.told net.old) (N.told net.new) self.old self.new }
     {
-        let moment = net.moment().max(self.moment);
-        let is_due = is_due(self.core.next_deadline(), moment);
-        if moment == self.moment && !is_due {
-            return;
-        }
-        self.moment = moment;
-        let broke = self.core.moment(moment);
-        if is_due || broke {
+        if self.exchanges.tick(net) {
             self.look_at_all();
         }
     }
 
     /// The drain begins: calls that are undecided end, and those that come are refused.
     pub fn drain(&mut self)
-        ensures { self.new.core.plans ≡ self.old.core.plans }
+        ensures continues { ContinuesLoop self.old self.new }
+        ensures told { self.new.side.told ≡ self.old.side.told }
     {
-        let _broke = self.core.drain();
+        self.exchanges.drain();
         self.look_at_all();
         for index in 0..self.open.len() {
             let Some(open) = self.open.get(index) else {
@@ -40,16 +39,17 @@ impl<H: ReplyHook + Drop, W: Wire + Drop> EventLoop<H, W> {
 
     /// Something may be there for any client.
     fn look_at_all(&mut self)
-        ensures { self.new.core.plans ≡ self.old.core.plans }
+        ensures goes { Goes self.old self.new }
+        ensures told { self.new.side.told ≡ self.old.side.told }
     {
         // a call that ended behind an undecided one shows by its exchanges' time limits; but a branch that waits for a place has none
-        let has_waiting = self.core.waiting_jobs() > 0;
+        let has_waiting = self.clients().waiting_jobs() > 0;
         for index in 0..self.open.len() {
             let Some(open) = self.open.get(index) else {
                 return;
             };
             let (conn, place) = *open;
-            let has_news = self.core.untaken(conn) > 0 || self.core.ended(conn);
+            let has_news = self.clients().may_have_news(conn);
             if has_news {
                 self.note(place);
             }

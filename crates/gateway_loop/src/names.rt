@@ -1,4 +1,4 @@
-ghost use Rattle.std.specs.Prelude.{◌<◌, length, IfSome};
+ghost use Rattle.std.specs.Prelude.{◌≡◌, ◌<◌, length, IfSome};
 
 use crate::network::Network;
 use slab::Slab;
@@ -41,7 +41,9 @@ impl Names {
         net: &mut N,
         name: &str,
         place: usize,
-    ) -> Result<Waiting, AllocError> {
+    ) -> Result<Waiting, AllocError>
+        ensures { N.told net.new ≡ N.told net.old }
+    {
         if let Some(index) = self.index(name) {
             if let Some(known) = self.names.get_mut(index) {
                 return Ok(Waiting::Under(known.places.insert(place)?));

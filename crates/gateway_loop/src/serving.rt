@@ -1,6 +1,7 @@
 ghost use Rattle.std.specs.Prelude.{◌≡◌};
+ghost use Rattle.gateway_loop.specs.Loop.{Goes, TellsLoop};
 
-use crate::client::{Client, Heard, Written};
+use crate::client::{Heard, Written};
 use crate::comings::Ready;
 use crate::event_loop::EventLoop;
 use crate::network::Network;
@@ -12,18 +13,19 @@ use wires::Wire;
 impl<H: ReplyHook + Drop, W: Wire + Drop> EventLoop<H, W> {
     /// Notes what became possible, and puts those whom it concerns into the line. A token that names nobody changes nothing.
     pub(crate) fn note_ready(&mut self, ready: Ready)
-        ensures { self.new.core.plans ≡ self.old.core.plans }
+        ensures goes { Goes self.old self.new }
+        ensures told { self.new.side.told ≡ self.old.side.told }
     {
         match owner_of(ready.token) {
             Owner::Client(place) => {
-                if let Some(client) = self.clients.get_mut(place) {
-                    client.edges.note(ready);
+                if let Some(hints) = self.hints.get_mut(place) {
+                    hints.edges.note(ready);
                     self.line_up_client(place);
                 }
             }
             Owner::Exchange(place) => {
-                if let Some(asking) = self.asking.get_mut(place) {
-                    asking.edges.note(ready);
+                if let Some(errand) = self.errands.get_mut(place) {
+                    errand.edges.note(ready);
                     self.line_up_exchange(place);
                 }
             }
@@ -32,31 +34,34 @@ impl<H: ReplyHook + Drop, W: Wire + Drop> EventLoop<H, W> {
 
     /// The client in that place is to be served.
     pub(crate) fn line_up_client(&mut self, place: usize)
-        ensures { self.new.core.plans ≡ self.old.core.plans }
+        ensures goes { Goes self.old self.new }
+        ensures told { self.new.side.told ≡ self.old.side.told }
     {
-        let Some(client) = self.clients.get_mut(place) else {
+        let Some(hints) = self.hints.get_mut(place) else {
             return;
         };
-        if client.is_in_line {
+        if hints.is_in_line {
             return;
         }
-        client.is_in_line = true;
+        hints.is_in_line = true;
         if self.line.push_back(client_token(place)).is_err() {
-            self.starve_client(place);
+            // there is no memory to serve it: it would hang
+            self.drop_client(place);
         }
     }
 
     /// The exchange in that place is to be served.
     pub(crate) fn line_up_exchange(&mut self, place: usize)
-        ensures { self.new.core.plans ≡ self.old.core.plans }
+        ensures goes { Goes self.old self.new }
+        ensures told { self.new.side.told ≡ self.old.side.told }
     {
-        let Some(asking) = self.asking.get_mut(place) else {
+        let Some(errand) = self.errands.get_mut(place) else {
             return;
         };
-        if asking.is_in_line {
+        if errand.is_in_line {
             return;
         }
-        asking.is_in_line = true;
+        errand.is_in_line = true;
         if self.line.push_back(exchange_token(place)).is_err() {
             self.starve_exchange(place);
         }
@@ -64,32 +69,25 @@ impl<H: ReplyHook + Drop, W: Wire + Drop> EventLoop<H, W> {
 
     /// Something may be there for the client in that place.
     pub(crate) fn note(&mut self, place: usize)
-        ensures { self.new.core.plans ≡ self.old.core.plans }
+        ensures goes { Goes self.old self.new }
+        ensures told { self.new.side.told ≡ self.old.side.told }
     {
-        let Some(client) = self.clients.get_mut(place) else {
+        let Some(hints) = self.hints.get_mut(place) else {
             return;
         };
-        if client.is_noted {
+        if hints.is_noted {
             return;
         }
-        client.is_noted = true;
+        hints.is_noted = true;
         if self.noted.push_back(place).is_err() {
-            self.starve_client(place);
-        }
-    }
-
-    /// There is no memory to serve the client in that place: it is let go, since else it would hang.
-    fn starve_client(&mut self, place: usize)
-        ensures { self.new.core.plans ≡ self.old.core.plans }
-    {
-        if let Some(client) = self.clients.try_remove(place) {
-            self.drop_client(client);
+            self.drop_client(place);
         }
     }
 
     /// Serves those that stand in the line now, each once.
     pub(crate) fn serve_line<N: Network<W>>(&mut self, net: &mut N)
-        ensures { self.new.core.plans ≡ self.old.core.plans }
+        ensures goes { Goes self.old self.new }
+        ensures told { TellsLoop (N.told net.old) (N.told net.new) self.old self.new }
     {
         for _token in 0..self.line.len() {
             let Some(token) = self.line.pop_front() else {
@@ -104,33 +102,64 @@ impl<H: ReplyHook + Drop, W: Wire + Drop> EventLoop<H, W> {
 
     /// Reads the client's stream once, if it is to be read.
     fn serve_client<N: Network<W>>(&mut self, net: &mut N, place: usize)
-        ensures { self.new.core.plans ≡ self.old.core.plans }
+        ensures goes { Goes self.old self.new }
+        ensures told { TellsLoop (N.told net.old) (N.told net.new) self.old self.new }
     {
         // before what it brings
         self.tick(net);
-        let Some(mut client) = self.clients.try_remove(place) else {
+        let Some(hints) = self.hints.get_mut(place) else {
             return;
         };
-        client.is_in_line = false;
-        let heard = if client.is_to_be_read(&self.core) {
-            client.read(&mut self.core)
-        } else {
-            Heard::Nothing
-        };
-        if client.phase() == Phase::Lingers && heard == Heard::End {
+        hints.is_in_line = false;
+        let heard = self.read_client(place);
+        if heard == Heard::End && self.clients().phase(place) == Some(Phase::Lingers) {
             self.stop_lingering(place);
             return;
         }
-        self.put_back_client(client);
+        self.note_half_read(place, heard);
         if matches!(heard, Heard::Broke | Heard::End) {
             self.give_up_unwanted(place);
         }
         self.note(place);
     }
 
+    /// Notes of the client in that place whether a piece that it brought made no request.
+    fn note_half_read(&mut self, place: usize, heard: Heard)
+        ensures goes { Goes self.old self.new }
+        ensures told { self.new.side.told ≡ self.old.side.told }
+    {
+        if heard != Heard::Piece {
+            return;
+        }
+        let makes_none = self.clients().is_owed_nothing(place);
+        if let Some(hints) = self.hints.get_mut(place) {
+            hints.is_half_read = makes_none;
+        }
+    }
+
+    /// Reads the stream of the client in that place, if it is to be read.
+    fn read_client(&mut self, place: usize) -> Heard
+        ensures goes { Goes self.old self.new }
+        ensures told { self.new.side.told ≡ self.old.side.told }
+    {
+        if !self.is_to_be_read(place) {
+            return Heard::Nothing;
+        }
+        match self.hints.get_mut(place) {
+            Some(hints) => self.exchanges.read(place, &mut hints.edges),
+            None => Heard::Nothing,
+        }
+    }
+
+    /// Whether the client in that place is to be read: its stream may have bytes, and nothing waits to be written to it.
+    fn is_to_be_read(&self, place: usize) -> bool {
+        self.may_read(place) && self.clients().is_to_be_read(place)
+    }
+
     /// Writes to the clients for whom something may be there. Answers whether there were any.
     pub(crate) fn write_noted<N: Network<W>>(&mut self, net: &mut N) -> bool
-        ensures { self.new.core.plans ≡ self.old.core.plans }
+        ensures goes { Goes self.old self.new }
+        ensures told { TellsLoop (N.told net.old) (N.told net.new) self.old self.new }
     {
         let count = self.noted.len();
         for _client in 0..count {
@@ -143,40 +172,37 @@ impl<H: ReplyHook + Drop, W: Wire + Drop> EventLoop<H, W> {
 
     /// Writes the replies that are there to the client in that place, and lets it leave if nothing more comes.
     fn write_client<N: Network<W>>(&mut self, net: &mut N, place: usize)
-        ensures { self.new.core.plans ≡ self.old.core.plans }
+        ensures goes { Goes self.old self.new }
+        ensures told { TellsLoop (N.told net.old) (N.told net.new) self.old self.new }
     {
-        let Some(mut client) = self.clients.try_remove(place) else {
+        let Some(hints) = self.hints.get_mut(place) else {
             return;
         };
-        client.is_noted = false;
-        if client.phase() == Phase::Lingers {
-            let goes_on = client.edges.may_read;
-            self.put_back_client(client);
-            if goes_on {
+        hints.is_noted = false;
+        if self.clients().phase(place) == Some(Phase::Lingers) {
+            if self.may_read(place) {
                 self.line_up_client(place);
             }
             return;
         }
-        let written = client.write(&mut self.core, net);
+        let written = self.write_replies(net, place);
         if written == Written::Failed {
-            self.drop_client(client);
-        } else if client.is_to_leave(&self.core) {
-            self.leave(client, place);
-        } else {
-            let goes_on = written == Written::More || client.is_to_be_read(&self.core);
-            self.put_back_client(client);
-            if goes_on {
-                self.line_up_client(place);
-            }
+            self.drop_client(place);
+        } else if self.clients().is_to_leave(place) {
+            self.leave(place);
+        } else if written == Written::More || self.is_to_be_read(place) {
+            self.line_up_client(place);
         }
     }
 
-    /// A client that was taken out comes back to its place: none came or went meanwhile, and the last that was freed is taken first.
-    pub(crate) fn put_back_client(&mut self, client: Client<W>)
-        ensures { self.new.core.plans ≡ self.old.core.plans }
+    /// Writes the replies that are there to the client in that place.
+    fn write_replies<N: Network<W>>(&mut self, net: &mut N, place: usize) -> Written
+        ensures goes { Goes self.old self.new }
+        ensures told { TellsLoop (N.told net.old) (N.told net.new) self.old self.new }
     {
-        if let Err(failed) = self.clients.insert(client) {
-            self.drop_client(failed.value);
+        match self.hints.get_mut(place) {
+            Some(hints) => self.exchanges.write(net, place, &mut hints.edges),
+            None => Written::All,
         }
     }
 }

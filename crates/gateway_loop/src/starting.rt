@@ -1,81 +1,121 @@
 ghost use Rattle.std.specs.Prelude.{◌≡◌};
+ghost use Rattle.gateway_loop.specs.Loop.{Goes, TellsLoop};
 
-use crate::asking::Asking;
+use crate::errand::Errand;
 use crate::event_loop::EventLoop;
 use crate::limits::MOST_EXCHANGES;
 use crate::network::Network;
-use branch_exchange::{ExchangeEnd, Loss};
-use connect_codec::{BranchAsk, branch_request};
-use gateway_core::{Job, ReplyHook};
-use http_pieces::Bytes;
-use std::alloc::{AllocError, Global};
+use branch_exchange::Loss;
+use gateway_core::ReplyHook;
 use std::net::SocketAddr;
 use wires::Wire;
 
 impl<H: ReplyHook + Drop, W: Wire + Drop> EventLoop<H, W> {
     /// Begins to ask for jobs while there are some, and places for them, and at most for so many. Answers for how many.
     pub(crate) fn start_jobs<N: Network<W>>(&mut self, net: &mut N, most: u32) -> u32
-        ensures { self.new.core.plans ≡ self.old.core.plans }
+        ensures goes { Goes self.old self.new }
+        ensures told { TellsLoop (N.told net.old) (N.told net.new) self.old self.new }
     {
         let mut started = 0u32;
         for _start in 0..most {
-            if self.asking.len() >= MOST_EXCHANGES {
+            if self.exchanges.len() >= MOST_EXCHANGES {
                 return started;
             }
-            let Some(job) = self.core.take_job() else {
+            let Some(place) = self.exchanges.begin() else {
                 return started;
             };
             started = started.saturating_add(1);
-            self.start(net, job);
+            self.start(net, place);
         }
         started
     }
 
-    /// Begins to ask for the job. One that can't be asked for is recorded at once.
-    fn start<N: Network<W>>(&mut self, net: &mut N, job: Job)
-        ensures { self.new.core.plans ≡ self.old.core.plans }
+    /// Begins the exchange in that place, which is new. One that nobody waits for, or for which there is no memory, is over at once.
+    fn start<N: Network<W>>(&mut self, net: &mut N, place: usize)
+        ensures goes { Goes self.old self.new }
+        ensures told { TellsLoop (N.told net.old) (N.told net.new) self.old self.new }
     {
-        let client = match self.place_of(job.call().conn) {
-            Some(client) if job.wanted() => client,
-            _ => return self.record(&job, ExchangeEnd::Lost(Loss::NotWanted)),
+        let Some(client) = self.client_of_new(place) else {
+            self.exchanges.lose(place, Loss::NotWanted);
+            return self.drop_new(place);
         };
-        let Ok(request) = request_of(self.alloc, &job) else {
-            return self.record_for(net, client, &job, ExchangeEnd::NoMemory);
-        };
-        let place = self.asking.vacant_key();
-        let deadline = job.deadline();
-        let mut asking = Asking::new(self.alloc, job, client, request);
-        if !self.enlist(client, place, deadline) {
-            return self.end(net, asking, place, ExchangeEnd::NoMemory);
+        if self
+            .errands
+            .insert(Errand::new(self.alloc, client))
+            .is_err()
+        {
+            self.exchanges.starve(place);
+            return self.drop_new(place);
         }
-        match asking.job().address().parse::<SocketAddr>() {
-            Ok(address) => {
-                asking.set_address(address);
-                self.try_next(net, asking, place, Loss::NoAddress);
-            }
-            Err(_) => self.look_up(net, asking, place),
+        if !self.enlist(client, place) {
+            return self.starve(net, place);
         }
+        if self.is_over(place) {
+            return self.end(net, place);
+        }
+        if self.has_address(place) {
+            self.try_next(net, place, Loss::NoAddress);
+        } else {
+            self.look_up(net, place);
+        }
+    }
+
+    /// The place of the client for whose call the new exchange in that place is, if its answer is wanted.
+    fn client_of_new(&self, place: usize) -> Option<usize> {
+        let job = self.exchanges.asking(place)?.job();
+        if !job.wanted() {
+            return None;
+        }
+        self.place_of(job.call().conn)
+    }
+
+    /// The new exchange in that place is over before anything else knows of it.
+    fn drop_new(&mut self, place: usize)
+        ensures goes { Goes self.old self.new }
+        ensures told { self.new.side.told ≡ self.old.side.told }
+    {
+        let _job = self.exchanges.finish(place);
     }
 
     /// Gives the exchange in that place to its client, and sets its deadline. False for want of memory.
-    fn enlist(&mut self, client: usize, place: usize, deadline: Option<u64>) -> bool
-        ensures { self.new.core.plans ≡ self.old.core.plans }
+    fn enlist(&mut self, client: usize, place: usize) -> bool
+        ensures goes { Goes self.old self.new }
+        ensures told { self.new.side.told ≡ self.old.side.told }
     {
-        let Some(client) = self.clients.get_mut(client) else {
+        let deadline = self.deadline_of(place);
+        let Some(hints) = self.hints.get_mut(client) else {
             return false;
         };
-        client.add_exchange(place).is_ok() && self.set_until(place, deadline)
+        hints.add_exchange(place).is_ok() && self.set_until(place, deadline)
     }
-}
 
-/// The request that asks for the job.
-fn request_of(alloc: Global, job: &Job) -> Result<Bytes, AllocError> {
-    let ask = BranchAsk {
-        address: job.address(),
-        path: job.path(),
-        remaining: job.remaining(),
-        request_id: job.request_id(),
-        body: job.body(),
-    };
-    branch_request(alloc, &ask)
+    /// The deadline of the job that is asked for in that place.
+    pub(crate) fn deadline_of(&self, place: usize) -> Option<u64> {
+        self.exchanges.asking(place)?.job().deadline()
+    }
+
+    /// Whether the exchange in that place ended.
+    fn is_over(&self, place: usize) -> bool {
+        match self.exchanges.asking(place) {
+            Some(asking) => asking.is_over(),
+            None => true,
+        }
+    }
+
+    /// Whether the address of the new exchange in that place is no name. It is to be tried then.
+    fn has_address(&mut self, place: usize) -> bool
+        ensures goes { Goes self.old self.new }
+        ensures told { self.new.side.told ≡ self.old.side.told }
+    {
+        let Some(asking) = self.exchanges.asking(place) else {
+            return false;
+        };
+        let Ok(address) = asking.job().address().parse::<SocketAddr>() else {
+            return false;
+        };
+        if let Some(errand) = self.errands.get_mut(place) {
+            errand.set_address(address);
+        }
+        true
+    }
 }

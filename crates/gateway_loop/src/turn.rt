@@ -1,4 +1,7 @@
 ghost use Rattle.std.specs.Prelude.{◌≡◌};
+ghost use Rattle.gateway_loop.specs.Loop.{Goes, TellsLoop};
+ghost use Rattle.loop_model.specs.Growing.{HasTicked};
+ghost use Rattle.loop_model.specs.Whole.{ContinuesLoop};
 
 use crate::comings::Comings;
 use crate::event_loop::EventLoop;
@@ -10,7 +13,9 @@ use wires::Wire;
 impl<H: ReplyHook + Drop, W: Wire + Drop> EventLoop<H, W> {
     /// One turn: takes what the last wait brought, and does what can be done without waiting. `next_turn` tells when another is due.
     pub fn turn<N: Network<W>>(&mut self, net: &mut N, comings: &mut Comings<H, W>)
-        ensures { self.new.core.plans ≡ self.old.core.plans }
+        ensures continues { ContinuesLoop self.old self.new }
+        ensures told { TellsLoop (N.told net.old) (N.told net.new) self.old self.new }
+        ensures ticks { HasTicked self.old.side self.new.side }
     {
         self.tick(net);
         self.admit_all(net, &mut comings.streams);
@@ -26,7 +31,8 @@ impl<H: ReplyHook + Drop, W: Wire + Drop> EventLoop<H, W> {
 
     /// Begins to ask for the jobs that came, and writes the replies that are there, until neither brings anything more.
     fn settle<N: Network<W>>(&mut self, net: &mut N)
-        ensures { self.new.core.plans ≡ self.old.core.plans }
+        ensures goes { Goes self.old self.new }
+        ensures told { TellsLoop (N.told net.old) (N.told net.new) self.old self.new }
     {
         let mut left = MOST_STARTS;
         for _round in 0..MOST_STARTS {
@@ -37,7 +43,7 @@ impl<H: ReplyHook + Drop, W: Wire + Drop> EventLoop<H, W> {
                 break;
             }
         }
-        let has_jobs = self.core.waiting_jobs() > 0 && self.asking.len() < MOST_EXCHANGES;
+        let has_jobs = self.clients().waiting_jobs() > 0 && self.exchanges.len() < MOST_EXCHANGES;
         self.again = has_jobs || !self.line.is_empty() || !self.noted.is_empty();
     }
 }

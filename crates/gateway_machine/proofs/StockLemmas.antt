@@ -60,9 +60,6 @@ module _ {H : Type 0} where
   pub takes_then : (n : ℕ) (u v w : HookedContexts H) → TakesAtMostOne n u v → StocksStay v w → TakesAtMostOne n u w
   takes_then n u v w a b other stock is = a other stock (b other stock is)
 
-  pub takes_none : (n : ℕ) (v w : HookedContexts H) → StocksStay v w → TakesAtMostOne n v w
-  takes_none n v w stays other stock is = inl (stays other stock is)
-
   -- a connection's hooks are dropped
   pub drops_stay : (n : ℕ) (v w : HookedContexts H) → DropsHooks n v w → StocksStay v w
   drops_stay n v w drops number stock is = ⊎_elim

@@ -1,6 +1,6 @@
 ghost use Rattle.std.specs.Prelude.{◌≡◌, ◌≤◌, ◌^◌, option_map, true, ℕ};
 ghost use Rattle.gateway_model.specs.Past.{smaller};
-ghost use Rattle.gateway_theory.specs.Task.{deadline_at, job_at, left_at};
+ghost use Rattle.gateway_theory.specs.Task.{job_at, left_at};
 
 use crate::machine::task::Task;
 use gateway_model::CallId;
@@ -24,14 +24,14 @@ impl Model for Job {
 
     ghost Value = { HandedJob };
 
-    ghost view = { λ j. record { job = record (job_at j.start j.task) { remaining = left_at j.start j.deadline }; deadline = j.deadline; wanted = j.wanted } };
+    ghost view = { λ j. record { job = record (job_at j.start j.task) { deadline = j.deadline; remaining = left_at j.start j.deadline }; wanted = j.wanted } };
 }
 
 impl Job {
     /// The job of a branch that starts at this moment.
     pub(crate) fn new(task: Task, moment: u64) -> Job
         requires { moment ≤ 2 ^ 62 }
-        ensures { result ≡ record { job = job_at moment task; deadline = deadline_at moment task; wanted = true } }
+        ensures { result ≡ record { job = job_at moment task; wanted = true } }
     {
         let deadline = sooner(task.asked.deadline, task.deadline(moment));
         Job {
@@ -54,6 +54,22 @@ impl Job {
         ensures { result ≡ self.now.job.branch }
     {
         self.task.branch
+    }
+
+    /// The path of its call's plan.
+    pub fn plan_path(&self) -> &str
+        ensures { result.now ≡ self.now.job.plan_path }
+    {
+        self.task.asked.plan.path()
+    }
+
+    /// The name of the branch.
+    pub fn branch_name(&self) -> &str
+        ensures { result.now ≡ self.now.job.branch_name }
+    {
+        self.task.asked.plan.branches()[self.task.branch as usize]
+            .name
+            .as_str()
     }
 
     /// The backend's address, `host:port`.
@@ -105,7 +121,7 @@ impl Job {
     /// The branch's own deadline or its call's, whichever comes first: a moment, in milliseconds. `remaining` is what was left of it
     /// as the branch started.
     pub fn deadline(&self) -> Option<u64>
-        ensures deadline { result ≡ self.now.deadline }
+        ensures deadline { result ≡ self.now.job.deadline }
         ensures left { (start : ℕ) × (self.now.job.remaining ≡ left_at start result) }
     {
         self.deadline

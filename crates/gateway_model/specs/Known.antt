@@ -1,13 +1,14 @@
 -- What whoever holds the lock knows of the gateway, whatever events brought it there.
-use Rattle.std.specs.Prelude.{◌≡◌, ℕ, ◌≤◌, Bool, true, false, ◌&&◌, not, ◌==◌, List, ◌++◌, length, Option, Some}
+use Rattle.std.specs.Prelude.{◌≡◌, ℕ, ◌≤◌, Bool, true, false, ◌&&◌, not, ◌==◌, List, ◌++◌, length, if◌then◌else◌, Option, None, Some, option_map}
 use Rattle.gateway_model.specs.declared.entry.ReplyEntry.{ReplyEntry}
 use Rattle.gateway_model.specs.declared.id.CallId.{CallId}
+use Rattle.gateway_model.specs.CallRecord.{CallRecord}
 use Rattle.gateway_model.specs.Breaks.{BreakAsTheyMay, InOrder, by_events}
 use Rattle.gateway_model.specs.Events.{is_open}
 use Rattle.gateway_model.specs.Job.{JobValue}
 use Rattle.gateway_model.specs.Occurrence.{Occurrence}
-use Rattle.gateway_model.specs.Past.{ArrivedCall, call, can_be_decided, is_broken, marked, outs}
-use Rattle.gateway_model.specs.Queue.{own_events, queued_entries, record_deadlines, record_of}
+use Rattle.gateway_model.specs.Past.{ArrivedCall, Past, branch_deadlines, call, can_be_decided, is_broken, marked, outs}
+use Rattle.gateway_model.specs.Queue.{own_events, queued_entries, record_of}
 use Rattle.gateway_model.specs.Record.{is_decided, is_lawful}
 use Rattle.gateway_model.specs.Starts.{Placed, jobs, occurrences}
 use Rattle.gateway_model.specs.History.{History}
@@ -23,6 +24,8 @@ pub record Shown : Type 0 where
   pub waiting : List JobValue
   -- how many branches of a call are out
   pub outs : CallId → ℕ
+  -- the record so far of a call that can be decided
+  pub recorded : CallId → Option CallRecord
 
 -- the connection is open, and is not broken
 abbrev pub is_whole : ℕ → Shown → Bool
@@ -31,6 +34,10 @@ is_whole c s = s.is_open c && not (s.is_broken c)
 -- the job is of a call of that connection
 abbrev pub is_of : ℕ → JobValue → Bool
 is_of c j = j.call.conn == c
+
+-- the record so far of the call, while it can be decided
+abbrev pub record_now : CallId → Past → Option CallRecord
+record_now id past = if can_be_decided id past then option_map (λ a. record_of a (branch_deadlines id past) (own_events id past)) (call id past) else None
 
 -- after all that came, by which this occurred
 pub record IsKnown (s : Shown) (h : History) (os : List Occurrence) : Type 0 where
@@ -45,9 +52,9 @@ pub record IsKnown (s : Shown) (h : History) (os : List Occurrence) : Type 0 whe
   -- the replies of an open connection, taken or not, are its queue; the jobs, taken or waiting, are all that started, in order
   pub queue_is : (c : ℕ) → s.is_open c ≡ true → h.taken c ++ s.untaken c ≡ queued_entries c (marked (occurrences lived))
   pub jobs_are : h.handed ++ s.waiting ≡ jobs (marked (occurrences lived))
-  -- the branches that are out are those of the definitions, and a call that can be decided has a lawful record, which is not decided
+  -- the branches that are out are those of the definitions, and so are the records of the calls that can be decided: each is lawful, and not decided
   pub outs_are : (id : CallId) → s.outs id ≡ outs id (marked (occurrences lived))
-  pub records : (id : CallId) (a : ArrivedCall) → call id (marked os) ≡ Some a → can_be_decided id (marked os) ≡ true
-      → let r = record_of a (record_deadlines id (marked os)) (own_events id (marked os)) in (is_lawful r ≡ true) × (is_decided r ≡ false)
+  pub records_are : (id : CallId) → s.recorded id ≡ record_now id (marked (occurrences lived))
+  pub records : (id : CallId) (r : CallRecord) → s.recorded id ≡ Some r → (is_lawful r ≡ true) × (is_decided r ≡ false)
   -- no call, of whatever connection, has more branches out than its limit
   pub limit : (id : CallId) (a : ArrivedCall) → call id (marked os) ≡ Some a → s.outs id ≤ a.plan.limit

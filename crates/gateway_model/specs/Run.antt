@@ -42,10 +42,11 @@ is_start_of c s = s.conn == c
 -- ---- where connections broke
 
 -- what a run comes to: all of it is by what occurred and by where connections broke
-pub record IsLived (opened : List ℕ) (bytes : List (List ℕ)) (begun : List Start) (broken : List ℕ) (es : Before) (occurred lived : List Placed) : Type 0 where
+pub record IsLived (opened : List ℕ) (bytes : List (List ℕ)) (begun : List Start) (asked : List JobValue) (broken : List ℕ) (es : Before) (occurred lived : List Placed) : Type 0 where
   pub same : by_events lived ≡ occurred
   pub in_order : InOrder (length es) lived
   pub breaks : BreakAsTheyMay opened es lived
   pub broken_are : (c : ℕ) → is_listed c broken ≡ is_broken c (marked (occurrences lived))
   pub queued_are : (c : ℕ) → c < length opened → slice_index_or bytes c [] ≡ queued c (marked (occurrences lived))
   pub starts_are : begun ≡ starts_of lived
+  pub jobs_are : asked ≡ map (λ s. s.1) (starts lived)

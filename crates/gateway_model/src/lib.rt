@@ -19,5 +19,5 @@ pub use event::Event;
 pub use id::{CallId, ConnId};
 pub use record::CallRecord;
 pub use reply_bytes::ReplyBytes;
-pub use run::{Run, RunError, Start};
+pub use run::{RunError, Start};
 pub use seen::Seen;

@@ -1,6 +1,6 @@
 -- The hooks of connections and of calls, beside their contexts.
-use Rattle.std.proofs.Common.{◌≡◌, ℕ, ◌<◌, zero, suc, refl, sym, ap, ◌∙◌, List, [], ◌∷◌, ◌++◌, Option, Some, None, true, false, ⊎_elim, inl, inr, subst, map, length, arith}
-use Rattle.std.specs.Prelude.{◌⊎◌, IfNone, IfOk, IfSome, OnErr, Result, Ok, Err, ◌==◌, ◌||◌, not, if◌then◌else◌, filter, slice_set, slice_index_or}
+use Rattle.std.proofs.Common.{◌≡◌, ℕ, ◌<◌, zero, suc, refl, sym, ap, ◌∙◌, List, [], ◌∷◌, ◌++◌, append-nil, Option, Some, None, true, false, ⊎_elim, inl, inr, subst, map, length, arith}
+use Rattle.std.specs.Prelude.{◌⊎◌, IfNone, IfOk, IfSome, OnErr, OnOk, Result, Ok, Err, ◌==◌, ◌||◌, not, if◌then◌else◌, filter, slice_set, slice_index_or}
 use Rattle.std.specs.List.{list_any}
 use Rattle.std.proofs.lemmas.Bool.{cases_Bool, eqb-true, or_parts}
 use Rattle.std.proofs.lemmas.List.{map_push}
@@ -8,6 +8,8 @@ use Rattle.std.proofs.lemmas.Option.{same_Some}
 use Rattle.context_tree.specs.Context.{Id, same}
 use Rattle.call_contexts.specs.Standing.{AreApart, WithHooks, with_standing, hook_for, is_call as is_standing}
 use Rattle.http_pieces.specs.Request.{most_requests}
+use Rattle.std.specs.declared.alloc.AllocError.{AllocError}
+use Rattle.gateway_model.specs.declared.ending.Ending.{Ending}
 use Rattle.gateway_model.specs.declared.id.CallId.{CallId}
 use Rattle.gateway_model.specs.Past.{is_call}
 use Rattle.gateway_theory.specs.lemmas.Cases.{all_stay, sym_eqb}
@@ -16,7 +18,7 @@ use Rattle.gateway_replies.specs.declared.contexts.peer.Peer.{Peer}
 use Rattle.gateway_replies.specs.declared.contexts.cancelled.CancelledBy.{CancelledBy}
 use Rattle.gateway_replies.specs.declared.contexts.life.Life.{Life}
 use Rattle.gateway_replies.specs.Contexts.{AllContexts, AreTied, CallContext, ContextsValue, Lives, NoTwo, Peers, ctx_for, ctx_of, first_of, same_id}
-use Rattle.gateway_replies.specs.Hooks.{BringsHooks, DropsHook, DropsHooks, HookedContexts, Hooks, KeepsHooks, KeepsStocks, Stocks, TakesHook, hook_of, hooked, hooks_but, hooks_of_others, stock_in, stock_of}
+use Rattle.gateway_replies.specs.Hooks.{BringsHooks, Called, DropsHooks, GivesBytes, HookedContexts, Hooks, KeepsHooks, LosesHook, KeepsStocks, Stocks, TakesHook, hook_of, hooked, hooks_but, hooks_of_others, stock_in, stock_of}
 use Rattle.gateway_replies.specs.Ties.{AreHooked, Takes, hooks_of, life_tie, life_ties, peer_ties, stock_tie, stock_ties}
 use Rattle.gateway_replies.proofs.ListLemmas.{any_map, filter_map_both, same_itself, same_true}
 use Rattle.gateway_replies.proofs.PeerLemmas.{first_same, rest_same}
@@ -264,7 +266,7 @@ module _ {H : Type 0} where
       let two = or_parts (p.number == number) (list_any (λ (q : ℕ × Id). q.0 == number) (peer_ties ps)) none in
       rw two.0 (no_stock_yet number ps two.1)
 
-  pub takes_most : (u : HookedContexts H) (x : ContextsValue) (ps qs : List (Peer H)) (hs : Hooks H) (number : ℕ) (r : Option H) → hooked x (stock_ties ps) hs ≡ u → peer_ties qs ≡ peer_ties ps
+  pub takes_most : {log : Called} (u : HookedContexts H) (x : ContextsValue) (ps qs : List (Peer H)) (hs : Hooks H) (number : ℕ) (r : Option H) → hooked x (stock_ties ps) hs log ≡ u → peer_ties qs ≡ peer_ties ps
       → Takes number r (stock_ties ps) (stock_ties qs) → (other : ℕ) (stock : List H) → stock_in other (stock_ties qs) ≡ Some stock
       → (stock_in other u.stocks ≡ Some stock) ⊎ ((other ≡ number) × ((hook : H) × (stock_in other u.stocks ≡ Some (hook ∷ stock))))
   takes_most u x ps qs hs number r u_is ties takes other stock there =
@@ -277,22 +279,24 @@ module _ {H : Type 0} where
   pub still_hooked : (ls : Lives) (hs is : List (Id × H)) → is ≡ hs → AreHooked ls hs → AreHooked ls is
   still_hooked ls hs is e hooked = ap (map (λ (h : Id × H). h.0)) e ∙ hooked
 
-  pub keeps : (u : HookedContexts H) (x y : ContextsValue) (ps : List (Peer H)) (ls : Lives) (hs is : List (Id × H)) → hooked x (stock_ties ps) (hooks_of ls hs) ≡ u → is ≡ hs
-      → KeepsHooks u (hooked y (stock_ties ps) (hooks_of ls is))
+  pub keeps : {log : Called} (u : HookedContexts H) (x y : ContextsValue) (ps : List (Peer H)) (ls : Lives) (hs is : List (Id × H)) → hooked x (stock_ties ps) (hooks_of ls hs) log ≡ u → is ≡ hs
+      → KeepsHooks u (hooked y (stock_ties ps) (hooks_of ls is) log)
   keeps u x y ps ls hs is u_is e = record {
     stocks_are = ap (λ (v : HookedContexts H). v.stocks) u_is;
     hooks_are = ap (hooks_of ls) e ∙ ap (λ (v : HookedContexts H). v.hooks) u_is;
+    called_are = ap (λ (v : HookedContexts H). v.called) u_is;
   }
 
-  pub brings : (u : HookedContexts H) (x y : ContextsValue) (ps more : List (Peer H)) (p : Peer H) (stock : List H) (ls : Lives) (hs is : List (Id × H)) → hooked x (stock_ties ps) (hooks_of ls hs) ≡ u → is ≡ hs
+  pub brings : {log : Called} (u : HookedContexts H) (x y : ContextsValue) (ps more : List (Peer H)) (p : Peer H) (stock : List H) (ls : Lives) (hs is : List (Id × H)) → hooked x (stock_ties ps) (hooks_of ls hs) log ≡ u → is ≡ hs
       → more ≡ ps ++ p ∷ [] → p.stock.items ≡ stock → length stock ≡ most_requests → stock_in p.number (stock_ties ps) ≡ None
-      → BringsHooks p.number stock u (hooked y (stock_ties more) (hooks_of ls is))
+      → BringsHooks p.number stock u (hooked y (stock_ties more) (hooks_of ls is) log)
   brings u x y ps more p stock ls hs is u_is e more_is stock_is full new = record {
     full = full;
     none = ap (λ (v : HookedContexts H). stock_in p.number v.stocks) (sym u_is) ∙ new;
     stocks_are = ap stock_ties more_is ∙ map_push stock_tie ps p ∙ ap (λ (v : HookedContexts H). v.stocks ++ (p.number, p.stock.items) ∷ []) u_is
         ∙ ap (λ s. u.stocks ++ (p.number, s) ∷ []) stock_is;
     hooks_are = ap (hooks_of ls) e ∙ ap (λ (v : HookedContexts H). v.hooks) u_is;
+    called_are = ap (λ (v : HookedContexts H). v.called) u_is;
   }
 
   pub begun_hooked : (lives more : List Life) (hs is : List (Id × H)) (l : Life) (hook : H) → AreHooked (life_ties lives) hs → more ≡ lives ++ l ∷ [] → is ≡ hs ++ (l.ctx, hook) ∷ []
@@ -301,14 +305,15 @@ module _ {H : Type 0} where
       subst (λ ls. AreHooked ls is) (sym (ap life_ties more_is ∙ map_push life_tie lives l))
       (still_hooked (life_ties lives ++ life_tie l ∷ []) (hs ++ (l.ctx, hook) ∷ []) is is_is (hooked_more (life_ties lives) hs (life_tie l) hook hooked))
 
-  pub takes_one : (u : HookedContexts H) (x y : ContextsValue) (ps qs : List (Peer H)) (lives more : List Life) (hs is : List (Id × H)) (l : Life) (hook : H)
-      → hooked x (stock_ties ps) (hooks_of (life_ties lives) hs) ≡ u → stock_of l.id.conn (stock_ties ps) ≡ hook ∷ stock_of l.id.conn (stock_ties qs) → AreHooked (life_ties lives) hs
-      → more ≡ lives ++ l ∷ [] → is ≡ hs ++ (l.ctx, hook) ∷ [] → TakesHook l.id u (hooked y (stock_ties qs) (hooks_of (life_ties more) is))
+  pub takes_one : {log : Called} (u : HookedContexts H) (x y : ContextsValue) (ps qs : List (Peer H)) (lives more : List Life) (hs is : List (Id × H)) (l : Life) (hook : H)
+      → hooked x (stock_ties ps) (hooks_of (life_ties lives) hs) log ≡ u → stock_of l.id.conn (stock_ties ps) ≡ hook ∷ stock_of l.id.conn (stock_ties qs) → AreHooked (life_ties lives) hs
+      → more ≡ lives ++ l ∷ [] → is ≡ hs ++ (l.ctx, hook) ∷ [] → TakesHook l.id u (hooked y (stock_ties qs) (hooks_of (life_ties more) is) log)
   takes_one u x y ps qs lives more hs is l hook u_is first hooked more_is is_is = record {
     hook = hook;
     first = sym (ap (λ (v : HookedContexts H). stock_of l.id.conn v.stocks) u_is) ∙ first;
     hooks_are = ap (λ ls. hooks_of ls is) (ap life_ties more_is ∙ map_push life_tie lives l) ∙ ap (hooks_of (life_ties lives ++ life_tie l ∷ [])) is_is
         ∙ hooks_more (life_ties lives) hs (life_tie l) hook hooked ∙ ap (λ (v : HookedContexts H). v.hooks ++ (l.id, hook) ∷ []) u_is;
+    called_are = ap (λ (v : HookedContexts H). v.called) u_is;
   }
 
   pub gone_hooked : {V : Type 0} (ps : Peers) (lives left : List Life) (cs : List (CallContext V)) (hs is : List (Id × H)) (id : CallId) (x : Id) → AreTied ps (life_ties lives) cs → AreApart cs
@@ -318,34 +323,38 @@ module _ {H : Type 0} where
       subst (λ ls. AreHooked ls is) (sym (ap life_ties left_is ∙ filter_map_both (λ (t : CallId × Id). not (is_call t.0 id)) life_tie lives))
       (still_hooked (filter (λ (t : CallId × Id). not (is_call t.0 id)) (life_ties lives)) (filter (λ (h : Id × H). not (same h.0 x)) hs) is is_is (hooks_less ps (life_ties lives) cs hs id x tied apart calls hooked at).0)
 
-  pub drops_one : {V : Type 0} (u : HookedContexts H) (y z : ContextsValue) (peers : List (Peer H)) (ps : Peers) (lives left : List Life) (cs : List (CallContext V)) (hs is : List (Id × H)) (id : CallId) (x : Id)
-      → hooked y (stock_ties peers) (hooks_of (life_ties lives) hs) ≡ u → AreTied ps (life_ties lives) cs → AreApart cs → NoTwo same_id (life_ties lives) → AreHooked (life_ties lives) hs
+  -- and these are called
+  pub drops_one : {V : Type 0} {log later : Called} (more : Called) (u : HookedContexts H) (y z : ContextsValue) (peers : List (Peer H)) (ps : Peers) (lives left : List Life) (cs : List (CallContext V)) (hs is : List (Id × H)) (id : CallId) (x : Id)
+      → hooked y (stock_ties peers) (hooks_of (life_ties lives) hs) log ≡ u → AreTied ps (life_ties lives) cs → AreApart cs → NoTwo same_id (life_ties lives) → AreHooked (life_ties lives) hs
       → ctx_for id (life_ties lives) ≡ Some x → left ≡ filter (λ l. not (is_call l.id id)) lives → is ≡ filter (λ h. not (same h.0 x)) hs
-      → DropsHook id u (hooked z (stock_ties peers) (hooks_of (life_ties left) is))
-  drops_one u y z peers ps lives left cs hs is id x u_is tied apart calls hooked at left_is is_is = record {
+      → later ≡ log ++ more → LosesHook id more u (hooked z (stock_ties peers) (hooks_of (life_ties left) is) later)
+  drops_one more u y z peers ps lives left cs hs is id x u_is tied apart calls hooked at left_is is_is later_is = record {
     stocks_are = ap (λ (v : HookedContexts H). v.stocks) u_is;
     hooks_are = ap (λ ls. hooks_of ls is) (ap life_ties left_is ∙ filter_map_both (λ (t : CallId × Id). not (is_call t.0 id)) life_tie lives)
         ∙ ap (hooks_of (filter (λ (t : CallId × Id). not (is_call t.0 id)) (life_ties lives))) is_is ∙ (hooks_less ps (life_ties lives) cs hs id x tied apart calls hooked at).1
         ∙ ap (λ (v : HookedContexts H). hooks_but id v.hooks) u_is;
+    called_are = later_is ∙ ap (λ (v : HookedContexts H). v.called ++ more) u_is;
   }
 
-  pub drops_none : (u : HookedContexts H) (y : ContextsValue) (ss : Stocks H) (ls : Lives) (hs : List (Id × H)) (id : CallId) → hooked y ss (hooks_of ls hs) ≡ u → AreHooked ls hs
-      → ctx_for id ls ≡ None → DropsHook id u u
+  pub drops_none : {log : Called} (u : HookedContexts H) (y : ContextsValue) (ss : Stocks H) (ls : Lives) (hs : List (Id × H)) (id : CallId) → hooked y ss (hooks_of ls hs) log ≡ u → AreHooked ls hs
+      → ctx_for id ls ≡ None → LosesHook id [] u u
   drops_none u y ss ls hs id u_is hooked none = record {
     stocks_are = refl;
     hooks_are = subst (λ (v : HookedContexts H). v.hooks ≡ hooks_but id v.hooks) u_is (no_hook_but id ls hs hooked (no_ctx_for id ls none));
+    called_are = sym (append-nil u.called);
   }
 
-  pub calls_hook : {V : Type 0} (u : HookedContexts H) (y : ContextsValue) (ss : Stocks H) (ps : Peers) (ls : Lives) (cs : List (CallContext V)) (hs : List (Id × H)) (id : CallId) (x : Id) (hook : H)
-      → hooked y ss (hooks_of ls hs) ≡ u → AreTied ps ls cs → AreApart cs → AreHooked ls hs → ctx_for id ls ≡ Some x → hook_of id u.hooks ≡ Some hook → hook_for x hs ≡ Some hook
+  pub calls_hook : {V : Type 0} {log : Called} (u : HookedContexts H) (y : ContextsValue) (ss : Stocks H) (ps : Peers) (ls : Lives) (cs : List (CallContext V)) (hs : List (Id × H)) (id : CallId) (x : Id) (hook : H)
+      → hooked y ss (hooks_of ls hs) log ≡ u → AreTied ps ls cs → AreApart cs → AreHooked ls hs → ctx_for id ls ≡ Some x → hook_of id u.hooks ≡ Some hook → hook_for x hs ≡ Some hook
   calls_hook u y ss ps ls cs hs id x hook u_is tied apart hooked at its = its_hook ps ls cs hs id x tied apart hooked at ∙ ap (λ (v : HookedContexts H). hook_of id v.hooks) u_is ∙ its
 
   -- a connection goes of which no call has a context
-  pub drops_its : (u : HookedContexts H) (y z : ContextsValue) (peers left : List (Peer H)) (ls : Lives) (hs is : List (Id × H)) (number : ℕ) → hooked y (stock_ties peers) (hooks_of ls hs) ≡ u
-      → left ≡ filter (λ p. not (p.number == number)) peers → is ≡ hs → first_of number ls ≡ None → DropsHooks number u (hooked z (stock_ties left) (hooks_of ls is))
+  pub drops_its : {log : Called} (u : HookedContexts H) (y z : ContextsValue) (peers left : List (Peer H)) (ls : Lives) (hs is : List (Id × H)) (number : ℕ) → hooked y (stock_ties peers) (hooks_of ls hs) log ≡ u
+      → left ≡ filter (λ p. not (p.number == number)) peers → is ≡ hs → first_of number ls ≡ None → DropsHooks number u (hooked z (stock_ties left) (hooks_of ls is) log)
   drops_its u y z peers left ls hs is number u_is left_is is_is none = record {
     stocks_are = ap stock_ties left_is ∙ stocks_less number peers ∙ ap (λ (v : HookedContexts H). filter (λ s. not (s.0 == number)) v.stocks) u_is;
     hooks_are = ap (hooks_of ls) is_is ∙ hooks_stay number ls hs none ∙ ap (λ (v : HookedContexts H). hooks_of_others number v.hooks) u_is;
+    called_are = ap (λ (v : HookedContexts H). v.called) u_is;
   }
 
   no_peer : (number : ℕ) (peers : List (Peer H)) → ctx_of number (peer_ties peers) ≡ None → list_any (λ (s : ℕ × List H). s.0 == number) (stock_ties peers) ≡ false
@@ -355,11 +364,12 @@ module _ {H : Type 0} where
       (λ (n : (p.number == number) ≡ false). rw n (no_peer number ps (rw n at none)))
       (cases_Bool (p.number == number))
 
-  pub drops_nothing : (u : HookedContexts H) (y : ContextsValue) (peers : List (Peer H)) (ls : Lives) (hs : List (Id × H)) (number : ℕ) → hooked y (stock_ties peers) (hooks_of ls hs) ≡ u
+  pub drops_nothing : {log : Called} (u : HookedContexts H) (y : ContextsValue) (peers : List (Peer H)) (ls : Lives) (hs : List (Id × H)) (number : ℕ) → hooked y (stock_ties peers) (hooks_of ls hs) log ≡ u
       → ctx_of number (peer_ties peers) ≡ None → first_of number ls ≡ None → DropsHooks number u u
   drops_nothing u y peers ls hs number u_is no_conn none = record {
     stocks_are = subst (λ (v : HookedContexts H). v.stocks ≡ filter (λ s. not (s.0 == number)) v.stocks) u_is (stocks_stay number peers (no_peer number peers no_conn));
     hooks_are = subst (λ (v : HookedContexts H). v.hooks ≡ hooks_of_others number v.hooks) u_is (hooks_stay number ls hs none);
+    called_are = refl;
   }
 
 -- where a branch has its context, and where memory was refused, the hooks stay
@@ -371,3 +381,19 @@ module _ {V H : Type 0} where
   pub started_hooked : {A E : Type 0} (ls : Lives) (v w : WithHooks CancelledBy V H) (r : Result A E) (standing : AllContexts V) → IfOk r (λ _. w ≡ with_standing standing v) → OnErr r (w ≡ v)
       → AreHooked ls v.hooks → AreHooked ls w.hooks
   started_hooked ls v w r standing made refused hooked = still_hooked ls v.hooks w.hooks (same_hooks_then v w r standing made refused) hooked
+
+-- ---- what the reply to a decided call makes of its hook
+
+pub ok_if : {T E P : Type 0} (r : Result T E) → P → OnOk r P
+ok_if (Ok x) p = p
+ok_if (Err e) p = tt
+
+module _ {H : Type 0} (gives : H → Ending → Result (List ℕ) AllocError → Type 0) (id : CallId) (told : Option Ending) where
+  pub gives_told : (ending : Ending) (r : Result (List ℕ) AllocError) (v : HookedContexts H) → Some ending ≡ told
+      → ((hook : H) → hook_of id v.hooks ≡ Some hook → gives hook ending r) → IfOk r (λ bytes. GivesBytes gives id told bytes v)
+  gives_told ending (Ok bytes) v is gave = λ hook other its told_is. subst (λ e. gives hook e (Ok bytes)) (same_Some ending other (is ∙ told_is)) (gave hook its)
+  gives_told ending (Err error) v is gave = tt
+
+  pub gives_none : (r : Result (List ℕ) AllocError) (v : HookedContexts H) → None ≡ told → IfOk r (λ bytes. GivesBytes gives id told bytes v)
+  gives_none (Ok bytes) v is = λ hook other its told_is. absurd (let clash : None ≡ Some other = is ∙ told_is in cc)
+  gives_none (Err error) v is = tt

@@ -12,7 +12,7 @@ ghost use Rattle.gateway_replies.specs.Contexts.{IsNotDue, KeepsOthers, LivesApa
 ghost use Rattle.gateway_model.specs.Duty.{MeetsDuty};
 ghost use Rattle.gateway_model.specs.Past.{is_call};
 ghost use Rattle.gateway_model.specs.declared.id.CallId.{CallId as AnyCall};
-ghost use Rattle.gateway_replies.specs.Hooks.{BringsHooks, DropsHook, DropsHooks, KeepsHooks, KeepsStocks, MayLoseHook, TakesAtMostOne, TakesHook, hook_of, hooks_of_others, none_hooked, stock_in};
+ghost use Rattle.gateway_replies.specs.Hooks.{BringsHooks, CallsHook, DropsHook, DropsHooks, KeepsHooks, KeepsStocks, MayLoseHook, TakesAtMostOne, TakesHook, hook_of, hooks_of_others, none_hooked, stock_in};
 ghost use Rattle.gateway_replies.specs.Ties.{Takes, life_ties, peer_ties, stock_ties};
 
 use crate::arrived_call::ArrivedCall;
@@ -26,6 +26,7 @@ use context_tree::{Cause, CtxId};
 use gateway_model::{CallEvent, CallId, Ending};
 use gateway_theory::Trigger;
 use http_pieces::Bytes;
+use http_server::Log;
 use std::alloc::{AllocError, Global};
 use std::marker::Model;
 use std::sync::Arc;
@@ -39,6 +40,8 @@ pub struct Contexts<H> {
     peers: Vec<Peer<H>>,
     /// One of each call that can be decided.
     lives: Vec<Life>,
+    /// The calls whose hooks were called, with what each was told.
+    called: Log<CallId, Ending>,
 }
 
 impl<H> Model for Contexts<H> {
@@ -52,7 +55,8 @@ impl<H> Model for Contexts<H> {
     ghost view = { λ c. hooked
         (contexts_of arc_value (peer_ties c.peers.items) (life_ties c.lives.items) c.contexts.standing)
         (stock_ties c.peers.items)
-        (hooks_of (life_ties c.lives.items) c.contexts.hooks) };
+        (hooks_of (life_ties c.lives.items) c.contexts.hooks)
+        c.called.items };
 
     ghost invariant = { λ c. IsTied (peer_ties c.peers.items) (life_ties c.lives.items) c.contexts.standing
         × AreHooked (life_ties c.lives.items) c.contexts.hooks };
@@ -67,6 +71,7 @@ impl<H: ReplyHook + Drop> Contexts<H> {
             contexts: CallContexts::new(alloc)?,
             peers: Vec::new(alloc),
             lives: Vec::new(alloc),
+            called: Log::new(),
         })
     }
 
@@ -191,13 +196,14 @@ impl<H: ReplyHook + Drop> Contexts<H> {
         ensures duty { IfOk result (λ bytes. MeetsDuty ending bytes) }
         ensures called { (hook : H) → hook_of id.now self.old.hooks ≡ Just hook → H.gives hook ending result }
         ensures gone { self.new.standing ≡ without id.now self.old.standing }
-        ensures hooks { DropsHook id.now self.old self.new }
+        ensures hooks { CallsHook id.now ending self.old self.new }
     {
         let Some(ctx) = ctx_for(&self.lives, id) else {
             unreachable!();
         };
         self.contexts.apart_law();
         remove_life(&mut self.lives, id);
+        self.called = self.called.and(id, &ending);
         match self.contexts.end(ctx, ending) {
             Some(answer) => answer,
             None => unreachable!(),
@@ -259,6 +265,7 @@ impl<H: ReplyHook + Drop> Contexts<H> {
         ensures none { first_life number self.new.standing.calls ≡ Nothing }
         ensures stocks { self.new.stocks ≡ self.old.stocks }
         ensures hooks { hooks_of_others number self.new.hooks ≡ hooks_of_others number self.old.hooks }
+        ensures called { self.new.called ≡ self.old.called }
     {
         for _index in 0..self.lives.len() {
             self.abandon_first(number);
@@ -270,6 +277,7 @@ impl<H: ReplyHook + Drop> Contexts<H> {
         ensures gone { self.new.standing ≡ without_first (first_life number self.old.standing.calls) self.old.standing }
         ensures stocks { self.new.stocks ≡ self.old.stocks }
         ensures hooks { hooks_of_others number self.new.hooks ≡ hooks_of_others number self.old.hooks }
+        ensures called { self.new.called ≡ self.old.called }
     {
         let Some(id) = first_call(&self.lives, number) else {
             return;

@@ -1,8 +1,6 @@
-ghost use Rattle.std.specs.Prelude.{◌≡◌, IfOk, OnErr, OnOk, option_and_then, option_map, true};
-ghost use Rattle.gateway_model.specs.CallRecord.{last_event};
+ghost use Rattle.std.specs.Prelude.{◌≡◌, IfOk, OnErr, OnOk, true};
 ghost use Rattle.gateway_replies.specs.Contexts.{KeepsOthers, is_life, without};
-ghost use Rattle.gateway_model.specs.Errors.{cause_of};
-ghost use Rattle.gateway_theory.specs.Endings.{ending_with};
+ghost use Rattle.gateway_replies.specs.Hooks.{CallsAtMost, GivesBytes, LosesHook, called_on, ending_for};
 ghost use Rattle.gateway_model.specs.Queue.{call_reply};
 ghost use Rattle.gateway_theory.specs.Replies.{reply_with};
 ghost use Rattle.gateway_model.specs.declared.entry.ReplyEntry.{ReplyEntry};
@@ -28,6 +26,9 @@ pub fn reply_to<H: ReplyHook + Drop>(
     ensures gone { OnOk result (contexts.new.standing ≡ without id contexts.old.standing) }
     ensures others { OnErr result (KeepsOthers id.conn contexts.old.standing contexts.new.standing) }
     ensures stocks { contexts.new.stocks ≡ contexts.old.stocks }
+    ensures hook { OnOk result (LosesHook id (called_on id (ending_for call)) contexts.old contexts.new) }
+    ensures called { OnOk result (GivesBytes H.gives id (ending_for call) (call_reply call).bytes contexts.old) }
+    ensures once { OnErr result (CallsAtMost (called_on id (ending_for call)) contexts.old.called contexts.new.called) }
 {
     let bytes = bytes_of(alloc, contexts, &id, &call)?;
     Ok(reply_of_call(id, call, bytes))
@@ -45,6 +46,9 @@ fn bytes_of<H: ReplyHook + Drop>(
     ensures gone { OnOk result (contexts.new.standing ≡ without id.now contexts.old.standing) }
     ensures others { OnErr result (KeepsOthers id.now.conn contexts.old.standing contexts.new.standing) }
     ensures stocks { contexts.new.stocks ≡ contexts.old.stocks }
+    ensures hook { OnOk result (LosesHook id.now (called_on id.now (ending_for call.now)) contexts.old contexts.new) }
+    ensures called { IfOk result (λ bytes. GivesBytes H.gives id.now (ending_for call.now) bytes contexts.old) }
+    ensures once { OnErr result (CallsAtMost (called_on id.now (ending_for call.now)) contexts.old.called contexts.new.called) }
 {
     match last_ending(alloc, call)? {
         Some(ending) => contexts.end(id, ending),
@@ -57,8 +61,7 @@ fn bytes_of<H: ReplyHook + Drop>(
 
 /// How its last event ends it; an answer does not.
 fn last_ending(alloc: Global, call: &CallRecord) -> Result<Option<Ending>, AllocError>
-    ensures { IfOk result (λ ending. ending
-        ≡ option_map (λ cause. ending_with cause call.now.last) (option_and_then (cause_of call.now.plan) (last_event call.now.events))) }
+    ensures { IfOk result (λ ending. ending ≡ ending_for call.now) }
 {
     match call.events.last() {
         Some(event) => ending_of(alloc, &call.plan, event, call.last),

@@ -1,7 +1,7 @@
 -- What is known of the core's definitions and of what it stands for: the laws of the crate below that the proofs of a run use.
 use Rattle.std.specs.Prelude.{◌≡◌, ◌↔◌, ℕ, ◌<◌, ◌≤◌, true, List, [], ◌∷◌, ◌++◌, length}
 use Rattle.call_plan.specs.Plan.{PlanRecord}
-use Rattle.gateway_model.specs.Events.{Before, Occurs, connections, is_open, listens, open_connections, succeeds}
+use Rattle.gateway_model.specs.Events.{Before, Occurs, connections, is_open, open_connections, succeeds}
 use Rattle.gateway_model.specs.Starts.{Placed}
 
 -- one more opening that succeeds, behind some events and all others that do, changes nothing of what these come to
@@ -12,7 +12,5 @@ pub record OpeningsLaws : Type 0 where
       → length es ≤ place → connections (opened ++ place ∷ []) es ≡ connections opened es
   pub is_open : (opened : List ℕ) (place : ℕ) (es : Before) → ((other : ℕ) → succeeds opened other ≡ true → other < place)
       → length es ≤ place → (c : ℕ) → is_open (opened ++ place ∷ []) c es ≡ is_open opened c es
-  pub listens : (opened : List ℕ) (place : ℕ) (es : Before) → ((other : ℕ) → succeeds opened other ≡ true → other < place)
-      → length es ≤ place → (c : ℕ) → listens (opened ++ place ∷ []) c es ≡ listens opened c es
   pub open_connections : (opened : List ℕ) (place : ℕ) (es : Before) → ((other : ℕ) → succeeds opened other ≡ true → other < place)
       → length es ≤ place → open_connections (opened ++ place ∷ []) es ≡ open_connections opened es

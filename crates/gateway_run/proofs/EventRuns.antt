@@ -37,6 +37,7 @@ same_gathered f g v log es same h = record {
   queued_size = h.queued_size;
   broke_size = h.broke_size;
   starts_are = h.starts_are;
+  jobs_are = h.jobs_are;
   queued_are = h.queued_are;
   unflagged = λ c off. h.unflagged c (same c ∙ off);
   flagged = λ c on. h.flagged c (same c ∙ on);
@@ -159,11 +160,6 @@ module _ {H : Type 0} (openings : OpeningsLaws) (e : Event) (es : Before) (v u w
       mid : HasRun (λ c. is_closing_of c e) u gathered es
       mid = collected_for e v u log gathered es h collects
 
-      -- how many connections there are then
-      still_open : (r : Stepped H) → Served w (history_of (opened_by r (length es) gathered.opened) (e ∷ es) mid.taken (map job_started mid.started))
-          → connections (opened_by r (length es) gathered.opened) (e ∷ es) ≡ w.opened
-      still_open r s = s.conns.count_is
-
       starts_on : (l : LogValue) → next ≡ l → StartsAll (length es) w x l end
       starts_on l is = subst (λ y. StartsAll (length es) w x y end) is starts
 
@@ -176,7 +172,7 @@ module _ {H : Type 0} (openings : OpeningsLaws) (e : Event) (es : Before) (v u w
           (steps_on e es u w gathered.opened (λ taken handed s. subst (λ o. Served w (history_of o (e ∷ es) taken handed)) (ap (λ y. opened_by y (length es) gathered.opened) r_is ∙ same gathered.opened)
           (served (history_of gathered.opened es taken handed) s))
           (λ taken handed. subst (λ o. Adds o e (history_of gathered.opened es taken handed) u w) (ap (λ y. opened_by y (length es) gathered.opened) r_is ∙ same gathered.opened) (adds (history_of gathered.opened es taken handed))) keeps)
-          (λ c. refl) (λ c. refl) refl x end (starts_on gathered (next_is ∙ ap (λ y. log_after y (length es) gathered) r_is ∙ kept))
+          (λ c. refl) (λ c. refl) refl refl x end (starts_on gathered (next_is ∙ ap (λ y. log_after y (length es) gathered) r_is ∙ kept))
           (mid.opened_size ∙ size) (mid.queued_size ∙ size) (mid.broke_size ∙ size)
         where
           served_now : Served w (history_of gathered.opened (e ∷ es) mid.taken (map job_started mid.started))
@@ -206,7 +202,7 @@ module _ {H : Type 0} (openings : OpeningsLaws) (e : Event) (es : Before) (v u w
           (steps_open e es u w gathered.opened openings e_is (few conn (history_of gathered.opened es mid.taken (map job_started mid.started)) r_is mid.served)
           (λ taken handed s. subst (λ o. Served w (history_of o (e ∷ es) taken handed)) (ap (λ y. opened_by y (length es) gathered.opened) r_is) (served (history_of gathered.opened es taken handed) s))
           (λ taken handed. subst (λ o. Adds o e (history_of gathered.opened es taken handed) u w) (ap (λ y. opened_by y (length es) gathered.opened) r_is) (adds (history_of gathered.opened es taken handed))) keeps)
-          (λ c. more_default gathered.queued c []) (λ c. more_default gathered.broke c false) refl x end (starts_on (log_after {H = H} (Opened conn) (length es) gathered) (next_is ∙ ap (λ y. log_after y (length es) gathered) r_is))
+          (λ c. more_default gathered.queued c []) (λ c. more_default gathered.broke c false) refl refl x end (starts_on (log_after {H = H} (Opened conn) (length es) gathered) (next_is ∙ ap (λ y. log_after y (length es) gathered) r_is))
           (length-append gathered.opened (length es ∷ []) ∙ (let a = mid.opened_size in omega (arith, a, size)))
           (length-append gathered.queued ([] ∷ []) ∙ (let a = mid.queued_size in omega (arith, a, size)))
           (length-append gathered.broke (false ∷ []) ∙ (let a = mid.broke_size in omega (arith, a, size)))

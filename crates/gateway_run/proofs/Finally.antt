@@ -72,7 +72,7 @@ at_default (y ∷ xs) (suc n) x d lt e = at_default xs n x d (omega (arith, lt))
 
 -- ---- a run of no events
 
-pub run_first : (v : GatewayValue) (log : LogValue) → Served v no_history → Lives v no_history [] → log ≡ log_value [] [] [] [] → HasRun (λ c. false) v log []
+pub run_first : (v : GatewayValue) (log : LogValue) → Served v no_history → Lives v no_history [] → log ≡ log_value [] [] [] [] [] → HasRun (λ c. false) v log []
 run_first v log served lives log_is = subst (λ l. HasRun (λ c. false) v l []) (sym log_is) (record {
   taken = λ c. [];
   started = [];
@@ -83,6 +83,7 @@ run_first v log served lives log_is = subst (λ l. HasRun (λ c. false) v l []) 
   queued_size = served.conns.count_is;
   broke_size = served.conns.count_is;
   starts_are = refl;
+  jobs_are = refl;
   queued_are = λ c. beyond [] c [] (omega arith);
   unflagged = λ c off there. beyond [] c false (omega arith);
   flagged = λ c on there. absurd (cc);
@@ -153,7 +154,7 @@ module _ (count : ℕ) (v : GatewayValue) (log : LogValue) (es : Before) (broken
     starts_all : log.starts ≡ starts_of was.lived
     starts_all = h.starts_are ∙ ap (map run_start) was.starts_lived
 
-    run_lived : (lived : List Placed) × IsLived log.opened log.queued log.starts broken es occurred lived
+    run_lived : (lived : List Placed) × IsLived log.opened log.queued log.starts log.jobs broken es occurred lived
     run_lived = (
       was.lived,
       record {
@@ -163,6 +164,7 @@ module _ (count : ℕ) (v : GatewayValue) (log : LogValue) (es : Before) (broken
         broken_are = λ c. flag_is c ∙ flag_lived c;
         queued_are = queue_all;
         starts_are = starts_all;
+        jobs_are = h.jobs_are ∙ ap (map job_started) was.starts_lived;
       },
     )
 
@@ -190,7 +192,7 @@ module _ (count : ℕ) (v : GatewayValue) (log : LogValue) (es : Before) (broken
   run_sizes = h.queued_size ∙ sym h.opened_size
 
   -- all of it
-  pub run_is : (plans : List PlanRecord) → v.plans ≡ plans → IsRun plans es log.opened log.queued log.starts broken
+  pub run_is : (plans : List PlanRecord) → v.plans ≡ plans → IsRun plans es log.opened log.queued log.starts log.jobs broken
   run_is plans plans_are = record {
     opened_are = h.opened_are;
     queued_are = λ occurred o c lt off. run_queued occurred (its occurred o) c off lt;

@@ -99,6 +99,7 @@ module _ (gathered : ℕ → Bool) (n : ℕ) (v w : GatewayValue) (log later : L
     queued_size = h.queued_size;
     broke_size = h.broke_size;
     starts_are = h.starts_are;
+    jobs_are = h.jobs_are;
     queued_are = h.queued_are;
     unflagged = λ c off there. h.unflagged c (first (gathered c) (c == n) off) there;
     flagged = λ c on there. h.flagged c (was c on there) there;
@@ -253,6 +254,7 @@ module _ (gathered : ℕ → Bool) (n : ℕ) (v w : GatewayValue) (log later : L
       queued_size = length-set log.queued n (queue_at n log ++ bytes_of (untaken_of n v)) ∙ h.queued_size ∙ sym t.only.opened_is;
       broke_size = length-set log.broke n (flag_at n log || is_broken_conn n v) ∙ h.broke_size ∙ sym t.only.opened_is;
       starts_are = h.starts_are;
+      jobs_are = h.jobs_are;
       queued_are = λ c. queue c (which c);
       unflagged = λ c off there. plainly c off there (which c);
       flagged = λ c on there. flag c on there (which c);

@@ -27,7 +27,7 @@ use Rattle.gateway_run.proofs.ClosedRuns.{AllStill, broken_then, closes_now, que
 use Rattle.gateway_run.proofs.Flags.{beyond, jobs_again, starts_at}
 use Rattle.gateway_theory.specs.lemmas.Adding.{events_are, occurrences_at}
 use Rattle.gateway_theory.specs.lemmas.CutLemmas.{jobs_of_starts}
-use Rattle.gateway_theory.specs.lemmas.EventStarts.{closed_by}
+use Rattle.gateway_theory.specs.lemmas.ShutConns.{closed_by}
 use Rattle.gateway_theory.specs.lemmas.Knowing.{broken_lived, queue_lived}
 use Rattle.gateway_theory.specs.lemmas.PrefixLemmas.{events_occur, is_shut_in, without_shut}
 
@@ -65,7 +65,7 @@ pub record Steps (e : Event) (es : Before) (v w : GatewayValue) (opened later : 
   pub before : (occurred : List Placed) → HasConns v opened es → Occurs v.plans later es occurred → Occurs v.plans opened es occurred
 
 module _ (e : Event) (es : Before) (v w : GatewayValue) (log next : LogValue) (h : HasRun (λ c. is_closing_of c e) v log es) (s : Steps e es v w log.opened next.opened)
-    (queued_are : (c : ℕ) → queue_at c next ≡ queue_at c log) (flags_are : (c : ℕ) → flag_at c next ≡ flag_at c log) (starts_same : next.starts ≡ log.starts) where
+    (queued_are : (c : ℕ) → queue_at c next ≡ queue_at c log) (flags_are : (c : ℕ) → flag_at c next ≡ flag_at c log) (starts_same : next.starts ≡ log.starts) (jobs_same : next.jobs ≡ log.jobs) where
   served : Served w (history_of next.opened (e ∷ es) h.taken (map job_started h.started))
   served = s.served h.taken (map job_started h.started) h.served
 
@@ -186,6 +186,7 @@ module _ (e : Event) (es : Before) (v w : GatewayValue) (log next : LogValue) (h
     broke_size = broke_size;
     starts_are = ap (λ xs. xs ++ map (start_at (length es)) new) (starts_same ∙ h.starts_are) ∙ ap (λ xs. map run_start h.started ++ xs) (starts_at (length es) new)
         ∙ sym (map-append run_start h.started (map (start (length es)) new));
+    jobs_are = ap (λ js. js ++ new) (jobs_same ∙ h.jobs_are) ∙ sym handed_are;
     queued_are = λ c. queued_are c ∙ h.queued_are c;
     unflagged = λ c gathered there. flags_are c ∙ open_unflagged c there;
     flagged = λ c gathered there. absurd (cc);

@@ -8,8 +8,6 @@ use Rattle.gateway_theory.specs.declared.fault.StepFault.{StepFault}
 use Rattle.gateway_run.specs.Stepping.{TellsBreaks, TellsConn, TellsOpening, done_of, opened_by, opening_of, seen_in, taken_of}
 use Rattle.gateway_run.specs.declared.stepping.Stepped.{Stepped}
 use Rattle.gateway_run.specs.declared.stepping.Stepped.TheVariants.{Fault, Opened}
-use Rattle.gateway_model.specs.declared.entry.ReplyEntry.{ReplyEntry}
-use Rattle.gateway_model.specs.Events.{Before}
 use Rattle.gateway_theory.specs.Refused.{RefusesOpening}
 use Rattle.gateway_theory.specs.Gateway.{GatewayValue, with_jobs}
 use Rattle.gateway_theory.specs.Serving.{Breaks, KeepsBut, TellsStep}
@@ -56,9 +54,10 @@ all_started v w s none = (
 )
 
 -- a log by its parts
-pub log_same : {o o' : List ℕ} {q q' : List (List ℕ)} {b b' : List Bool} {s s' : List Start} → o ≡ o' → q ≡ q' → b ≡ b' → s ≡ s' → log_value o q b s ≡ log_value o' q' b' s'
-log_same {o} {o'} {q} {q'} {b} {b'} {s} {s'} os qs bs ss =
-    ap (λ x. log_value x q b s) os ∙ ap (λ x. log_value o' x b s) qs ∙ ap (λ x. log_value o' q' x s) bs ∙ ap (λ x. log_value o' q' b' x) ss
+pub log_same : {o o' : List ℕ} {q q' : List (List ℕ)} {b b' : List Bool} {s s' : List Start} {j j' : List JobValue} → o ≡ o' → q ≡ q' → b ≡ b' → s ≡ s' → j ≡ j'
+    → log_value o q b s j ≡ log_value o' q' b' s' j'
+log_same {o} {o'} {q} {q'} {b} {b'} {s} {s'} {j} {j'} os qs bs ss js =
+    ap (λ x. log_value x q b s j) os ∙ ap (λ x. log_value o' x b s j) qs ∙ ap (λ x. log_value o' q' x s j) bs ∙ ap (λ x. log_value o' q' b' x j) ss ∙ ap (λ x. log_value o' q' b' s' x) js
 
 -- ---- an event that is no opening opens none
 
@@ -91,11 +90,11 @@ module _ {H : Type 0} where
 
 -- ---- what is told
 
-pub none_begins : {H : Type 0} → (answer : Result ⊤ StepFault) → (answer ≡ Err Exhausted → ⊥) → done_of {H = H} answer ≡ Fault Exhausted → ⊥
-none_begins (Ok all) none is = cc
-none_begins (Err Gone) none is = cc
-none_begins (Err Exhausted) none is = none refl
-none_begins (Err Memory) none is = cc
+pub begins_told : {H : Type 0} → (P : Type 0) (answer : Result ⊤ StepFault) → (answer ≡ Err Exhausted → P) → done_of {H = H} answer ≡ Fault Exhausted → P
+begins_told P (Ok all) begins is = absurd (cc)
+begins_told P (Err Gone) begins is = absurd (cc)
+begins_told P (Err Exhausted) begins is = begins refl
+begins_told P (Err Memory) begins is = absurd (cc)
 
 pub conn_told : (H : Type 0) (n : ℕ) (answer : Result ⊤ StepFault) (w : GatewayValue) → (v : GatewayValue) → TellsStep n v w answer → TellsConn n (done_of {H = H} answer) v w
 conn_told H n (Ok all) w v tells = (tells.unbroken, λ not_listening. let clash : Ok all ≡ Err Gone = tells.gone.1 not_listening in absurd (cc))

@@ -25,10 +25,12 @@ pub record LogValue : Type 0 where
   -- what was taken for each connection, and whether it was broken as it was looked at last
   pub queued : List (List ℕ)
   pub broke : List Bool
+  -- what started, and the jobs that were taken, one for each start
   pub starts : List Start
+  pub jobs : List JobValue
 
-abbrev pub log_value : List ℕ → List (List ℕ) → List Bool → List Start → LogValue
-log_value opened queued broke starts = record { opened = opened; queued = queued; broke = broke; starts = starts }
+abbrev pub log_value : List ℕ → List (List ℕ) → List Bool → List Start → List JobValue → LogValue
+log_value opened queued broke starts jobs = record { opened = opened; queued = queued; broke = broke; starts = starts; jobs = jobs }
 
 abbrev pub queue_at : ℕ → LogValue → List ℕ
 queue_at c log = slice_index_or log.queued c []
@@ -61,7 +63,7 @@ pub record StartsAll (place : ℕ) (v w : GatewayValue) (log later : LogValue) :
   pub rest : w ≡ with_jobs [] v
   pub served : (h : History) → Served v h → Served w (after_jobs (jobs_of v) h)
   pub lives : (h : History) (lived : List Placed) → Lives v h lived → Lives w (after_jobs (jobs_of v) h) lived
-  pub log_is : later ≡ record log { starts = log.starts ++ map (start_at place) (jobs_of v) }
+  pub log_is : later ≡ record log { starts = log.starts ++ map (start_at place) (jobs_of v); jobs = log.jobs ++ jobs_of v }
 
 -- ---- how it stands for the events
 
@@ -89,6 +91,7 @@ pub record HasRun (gathered : ℕ → Bool) (v : GatewayValue) (log : LogValue) 
   pub queued_size : length log.queued ≡ v.opened
   pub broke_size : length log.broke ≡ v.opened
   pub starts_are : log.starts ≡ map run_start started
+  pub jobs_are : log.jobs ≡ map job_started started
   pub queued_are : (c : ℕ) → queue_at c log ≡ bytes_of (taken c)
   pub unflagged : (c : ℕ) → gathered c ≡ false → is_open_conn c v ≡ true → flag_at c log ≡ false
   pub flagged : (c : ℕ) → gathered c ≡ true → is_open_conn c v ≡ true → flag_at c log ≡ is_broken_conn c v

@@ -2,7 +2,7 @@
 use Rattle.std.specs.Prelude.{ℕ, ◌<◌, List, ◌++◌, length, take, codes, decimal, flat_map, Option}
 use Rattle.std.specs.List.{enumerate_from}
 use Rattle.std.specs.Io.KnownBytes.{Appends}
-use Rattle.gateway_model.specs.declared.run.Run.{Run}
+use Rattle.gateway_run.specs.declared.outcome.Run.{Run}
 use Rattle.gateway_model.specs.declared.run.Start.{Start}
 
 -- of the text, known bytes grew by the first few, and not by the whole

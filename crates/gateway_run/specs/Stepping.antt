@@ -1,7 +1,5 @@
 -- What a step answers, and what a run takes down of it.
 use Rattle.std.specs.Prelude.{◌≡◌, ◌≤◌, ⊤, ℕ, Bool, true, false, List, [], ◌∷◌, ◌++◌, length, Result, Ok, Err}
-use Rattle.gateway_model.specs.declared.entry.ReplyEntry.{ReplyEntry}
-use Rattle.gateway_model.specs.Job.{JobValue}
 use Rattle.connect_codec.specs.declared.answer.Outcome.{Outcome}
 use Rattle.gateway_model.specs.declared.id.CallId.{CallId}
 use Rattle.gateway_model.specs.Past.{call_id}
@@ -10,7 +8,7 @@ use Rattle.gateway_model.specs.declared.event.Event.{Event}
 use Rattle.gateway_model.specs.declared.event.Event.TheVariants.{Opening, Piece, HangUp, Moment, BranchResult, Drain, Closing}
 use Rattle.gateway_model.specs.declared.seen.Seen.{Seen}
 use Rattle.gateway_model.specs.History.{History}
-use Rattle.gateway_theory.specs.Told.{TellsTook}
+use Rattle.gateway_theory.specs.Told.{BeginsWithin, TellsTook}
 use Rattle.gateway_theory.specs.declared.fault.OpenError.{OpenError}
 use Rattle.gateway_theory.specs.Refused.{RefusesOpening}
 use Rattle.gateway_theory.specs.declared.fault.StepFault.{StepFault}
@@ -37,7 +35,7 @@ seen_in _ = []
 
 -- the log with room for the connection that was opened, if one was
 abbrev pub log_after : {H : Type 0} → Stepped H → ℕ → LogValue → LogValue
-log_after (Opened conn) place log = log_value (log.opened ++ place ∷ []) (log.queued ++ [] ∷ []) (log.broke ++ false ∷ []) log.starts
+log_after (Opened conn) place log = log_value (log.opened ++ place ∷ []) (log.queued ++ [] ∷ []) (log.broke ++ false ∷ []) log.starts log.jobs
 log_after _ place log = log
 
 -- what is queued for a connection was taken before it closes
@@ -92,7 +90,7 @@ TellsResult id branch outcome _ v w = ⊥
 
 abbrev pub Tells : {H : Type 0} → Event → Stepped H → GatewayValue → GatewayValue → Type 0
 Tells Opening stepped v w = TellsOpening stepped v w
-Tells (Piece conn bytes) stepped v w = TellsConn conn stepped v w
+Tells (Piece conn bytes) stepped v w = TellsConn conn stepped v w × (stepped ≡ Fault Exhausted → BeginsWithin conn bytes v)
 Tells (HangUp conn) stepped v w = TellsConn conn stepped v w × (stepped ≡ Fault Exhausted → ⊥)
 Tells (Moment m) stepped v w = TellsBreaks stepped v w
 Tells (BranchResult conn request branch outcome) stepped v w = TellsResult (call_id conn request) branch outcome stepped v w

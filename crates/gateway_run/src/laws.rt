@@ -22,7 +22,7 @@ ghost use Rattle.gateway_model.specs.Run.{bytes_of};
 
 use gateway_theory::event_laws::pieces_law;
 use gateway_theory::laws::{
-    decided_law, event_law, limit_law as out_limit_law, queue_law, record_law,
+    decided_law, limit_law as out_limit_law, queue_law, record_law, starts_law,
 };
 use http_pieces::laws::{existence_law, fresh_law, requests_law};
 
@@ -126,8 +126,8 @@ pub fn any_cut_law()
     ensures starts { (a b : List Placed) → occurrences a ≡ occurrences b
         → map (λ s. s.1) (starts a) ≡ map (λ s. s.1) (starts b) }
 {
-    event_law();
     pieces_law();
+    starts_law();
 }
 
 /// What was queued by some events is the beginning of what is queued by those and later ones.

@@ -5,13 +5,15 @@
 mod fault;
 pub mod laws;
 mod log;
+mod outcome;
 mod script;
 mod stepping;
 mod text;
 mod whole;
 
 pub use fault::ScriptError;
-pub use gateway_model::{Event, Run, RunError, Start};
+pub use gateway_model::{Event, RunError, Start};
+pub use outcome::Run;
 pub use script::read_script;
 pub use stepping::{Stepped, step};
 pub use text::{WriteFault, write_run};

@@ -3,7 +3,7 @@ ghost use Rattle.gateway_theory.specs.Gateway.{untaken_of};
 ghost use Rattle.gateway_run.specs.Log.{Collects, StartsAll, TookReplies, log_value};
 ghost use Rattle.gateway_model.specs.Run.{bytes_of};
 
-use gateway_core::{ConnId, Core, ReplyHook};
+use gateway_core::{ConnId, Core, Job, ReplyHook};
 use gateway_model::Start;
 use http_pieces::Bytes;
 use std::alloc::{AllocError, Global};
@@ -20,15 +20,17 @@ pub(crate) struct Log {
     /// Whether each connection was broken as it was looked at last.
     pub(crate) broke: Vec<bool>,
     pub(crate) starts: Vec<Start>,
+    /// The jobs that were taken, one for each start.
+    pub(crate) jobs: Vec<Job>,
 }
 
 impl Model for Log {
-    ghost use Rattle.std.specs.Prelude.{◌≡◌, length};
+    ghost use Rattle.std.specs.Prelude.{◌≡◌, length, map};
     ghost use Rattle.gateway_run.specs.Log.{LogValue, log_value};
 
     ghost Value = { LogValue };
 
-    ghost view = { λ l. log_value l.opened.items l.queued.items l.broke.items l.starts.items };
+    ghost view = { λ l. log_value l.opened.items l.queued.items l.broke.items l.starts.items (map (λ j. j.job) l.jobs.items) };
 
     ghost invariant = { λ l. length l.broke.items ≡ length l.queued.items };
 }
@@ -36,7 +38,7 @@ impl Model for Log {
 impl Log {
     /// Nothing was taken down yet.
     pub(crate) fn new(alloc: Global) -> Log
-        ensures { result ≡ log_value [] [] [] [] }
+        ensures { result ≡ log_value [] [] [] [] [] }
     {
         Log {
             alloc,
@@ -44,6 +46,7 @@ impl Log {
             queued: Vec::new(alloc),
             broke: Vec::new(alloc),
             starts: Vec::new(alloc),
+            jobs: Vec::new(alloc),
         }
     }
 
@@ -68,7 +71,7 @@ impl Log {
     /// Makes room for a connection that was opened at the event of this place.
     pub(crate) fn open(&mut self, place: u64) -> Result<(), AllocError>
         ensures { OnOk result (self.new
-            ≡ log_value (self.old.opened ++ place ∷ []) (self.old.queued ++ [] ∷ []) (self.old.broke ++ false ∷ []) self.old.starts) }
+            ≡ log_value (self.old.opened ++ place ∷ []) (self.old.queued ++ [] ∷ []) (self.old.broke ++ false ∷ []) self.old.starts self.old.jobs) }
     {
         self.opened.reserve(1)?;
         self.queued.reserve(1)?;
@@ -94,6 +97,7 @@ impl Log {
                 request: job.call().request,
                 branch: job.branch(),
             })?;
+            self.jobs.push(job)?;
         }
         Ok(())
     }

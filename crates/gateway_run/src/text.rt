@@ -2,7 +2,8 @@ ghost use Rattle.std.specs.Prelude.{OnOk, OnErr, flat_map};
 ghost use Rattle.std.specs.Io.KnownBytes.{Appends};
 ghost use Rattle.gateway_run.specs.RunText.{AppendsSome, connection_text, connections_text, start_line, starts_text, broken_line, broken_text, run_text};
 
-use gateway_model::{Run, Start};
+use crate::outcome::Run;
+use gateway_model::Start;
 use http_pieces::Bytes;
 use itoa::Buffer;
 use std::io::Write;

@@ -1,4 +1,4 @@
-ghost use Rattle.std.specs.Prelude.{◌≡◌, ◌∷◌, ◌<◌, ◌≤◌, ◌+◌, ◌==◌, ◌↔◌, [], Err, false, nat_lt, true, ℕ, IfOk, List, OnOk, filter, is_some, length, not, slice_index_or};
+ghost use Rattle.std.specs.Prelude.{◌≡◌, ◌∷◌, ◌<◌, ◌≤◌, ◌+◌, ◌==◌, ◌↔◌, [], Err, false, nat_lt, true, ℕ, IfOk, List, OnOk, filter, is_some, length, map, not, slice_index_or};
 ghost use Rattle.std.specs.List.{count_by, range_with_len};
 ghost use Rattle.std.specs.Vec.Iter.{into_iter_items};
 ghost use Rattle.gateway_model.specs.Events.{Before, IsOpened, IsRising, Occurs};
@@ -15,10 +15,11 @@ ghost use Rattle.gateway_run.specs.Running.{openings_at};
 ghost use Rattle.gateway_run.specs.Stepping.{CollectsFor, log_after};
 
 use crate::log::Log;
+use crate::outcome::Run;
 use crate::stepping::{Stepped, step};
 use call_plan::Plans;
 use gateway_core::{Core, ReplyHook, Stock};
-use gateway_model::{Event, Run, RunError};
+use gateway_model::{Event, RunError};
 use gateway_theory::event_laws::openings_law;
 use std::alloc::{AllocError, Global};
 use std::vec::IntoIter;
@@ -44,11 +45,12 @@ pub fn run<H: ReplyHook + Drop>(
     // The openings that succeeded, each where fewer connections were open than may be.
     ensures opened { IfOk result (λ run. IsOpened run.opened.items (newest_first events.items)) }
 
-    // What is queued for every connection, and what starts, in order, is by what occurred and by where connections broke.
+    // What is queued for every connection, and what starts, in order and with what each backend is asked, is by what occurred
+    // and by where connections broke.
     ensures lived { IfOk result (λ run. (occurred : List Placed)
         → Occurs plans run.opened.items (newest_first events.items) occurred
-        → (lived : List Placed) × IsLived run.opened.items run.queued.items run.starts.items run.broken.items
-        (newest_first events.items) occurred lived) }
+        → (lived : List Placed) × IsLived run.opened.items run.queued.items run.starts.items (map (λ j. j.job) run.jobs.items)
+        run.broken.items (newest_first events.items) occurred lived) }
     // For a connection that did not break the second does not matter.
     ensures queued { IfOk result (λ run. (occurred : List Placed)
         → Occurs plans run.opened.items (newest_first events.items) occurred → (c : ℕ) → c < length run.opened.items
@@ -79,7 +81,7 @@ fn whole_run<H: ReplyHook + Drop>(
 ) -> Result<Run, AllocError>
     requires { length stocks.items ≡ count_by is_opening events.items }
     ensures { IfOk result (λ run. IsRun plans (newest_first events.items)
-        run.opened.items run.queued.items run.starts.items run.broken.items) }
+        run.opened.items run.queued.items run.starts.items (map (λ j. j.job) run.jobs.items) run.broken.items) }
 {
     let mut core = Core::new(alloc, plans)?;
     let mut log = Log::new(alloc);
@@ -90,6 +92,7 @@ fn whole_run<H: ReplyHook + Drop>(
         opened: log.opened,
         queued: log.queued,
         starts: log.starts,
+        jobs: log.jobs,
         broken,
     })
 }

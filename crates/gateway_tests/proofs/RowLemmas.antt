@@ -4,10 +4,7 @@ use Rattle.std.specs.List.{range_with_len}
 use Rattle.std.proofs.lemmas.Bool.{cases_Bool, eq-eqb, ne_eqb}
 use Rattle.std.proofs.lemmas.List.FromFn.{map-range_with_len_more, length-map-range_with_len}
 use Rattle.http_pieces.specs.Request.{closes}
-use Rattle.connect_codec.specs.Reply.{bare_reply}
 use Rattle.connect_codec.specs.declared.verdict.Verdict.TheVariants.{Bare}
-use Rattle.gateway_model.specs.declared.reply_bytes.ReplyBytes.{ReplyBytes}
-use Rattle.gateway_model.specs.Reply.{reply_of}
 use Rattle.gateway_model.specs.Past.{Mark, Past, call_id, arrivals, is_broken, mark_of, marked}
 use Rattle.gateway_model.specs.declared.entry.ReplyEntry.{ReplyEntry}
 use Rattle.gateway_model.specs.declared.id.CallId.{CallId}
@@ -33,10 +30,6 @@ front_more f g stays k (suc n) a all here =
     by_first None o_is full rest = absurd (cc)
     by_first (Some x) o_is full rest =
         ap (λ o. front (o ∷ map g (range_with_len (k + 1) (suc n)))) (stays k x o_is) ∙ ap (λ xs. x ∷ xs) (rest (omega (arith, full)))
-
--- the reply to request number k
-abbrev get_reply : ℕ → ReplyBytes
-get_reply k = reply_of (bare_reply 405 (closes (get_request k))) (closes (get_request k))
 
 gets_whole : (n : ℕ) → is_broken 0 (marked (after_gets n)) ≡ false
 unfolding after_gets

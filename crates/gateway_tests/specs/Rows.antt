@@ -40,15 +40,18 @@ abbrev pub record_with : PlanRecord → ℕ → Option ℕ → Bool → List (Op
 record_with plan start deadline last branch_deadlines events =
     record { plan = plan; start = start; deadline = deadline; last = last; branch_deadlines = branch_deadlines; events = events }
 
--- the job of a branch, with so much left of its time
-abbrev pub job_with : CallId → ℕ → PlanRecord → HttpRequest → Option (List ℕ) → Option ℕ → JobValue
-job_with call i plan request request_id remaining = record {
+-- the job of a branch, with this deadline and so much left of its time
+abbrev pub job_with : CallId → ℕ → PlanRecord → HttpRequest → Option (List ℕ) → Option ℕ → Option ℕ → JobValue
+job_with call i plan request request_id deadline remaining = record {
   call = call;
   branch = i;
+  plan_path = plan.path;
+  branch_name = (branch_at plan i).name;
   address = (branch_at plan i).address;
   path = (branch_at plan i).path;
   body = request.body;
   request_id = request_id;
+  deadline = deadline;
   remaining = remaining;
 }
 
@@ -174,13 +177,13 @@ asks_on conn plan timeout id k = Comes conn (Request (request_for plan.path k) (
 
 -- ---- what occurs on connection 0
 
--- the branch of that request's call on connection 0 starts at that place, with all of its plan's time left
+-- the branch of that request's call on connection 0 starts at that place, at moment 0, with all of its plan's time left
 abbrev pub starts_then : PlanRecord → ℕ → ℕ → ℕ → StartedJob
-starts_then plan place request branch = start place (job_with (call_id 0 request) branch plan (request_for plan.path request) None plan.timeout)
+starts_then plan place request branch = start place (job_with (call_id 0 request) branch plan (request_for plan.path request) None plan.timeout plan.timeout)
 
--- the branch of the first call on connection 0 starts at that place, with so much left
-abbrev pub starts_with : PlanRecord → ℕ → ℕ → Option ℕ → StartedJob
-starts_with plan place branch left = start place (job_with (call_id 0 0) branch plan (request_for plan.path 0) None left)
+-- the branch of the first call on connection 0 starts at that place, with this deadline and so much left
+abbrev pub starts_with : PlanRecord → ℕ → ℕ → Option ℕ → Option ℕ → StartedJob
+starts_with plan place branch deadline left = start place (job_with (call_id 0 0) branch plan (request_for plan.path 0) None deadline left)
 
 -- request number k asks for a call of the plan, with that timeout
 abbrev pub asks : PlanRecord → Option ℕ → ℕ → Occurrence

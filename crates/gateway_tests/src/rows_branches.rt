@@ -51,7 +51,7 @@ fn later_start()
         ≡ failed Code.DeadlineExceeded (codes "car: context deadline exceeded") ∷ [] }
     ensures bytes { bytes_queued (asked_at_1000 None (Some 50) (Some 10) ++ Moment 1030 ∷ answers 0 1 (codes "2") ∷ Moment 1040 ∷ []) ≡ 155 }
     ensures starts { row_starts (asked_at_1000 None (Some 50) (Some 10) ++ Moment 1030 ∷ answers 0 1 (codes "2") ∷ [])
-        ≡ starts_with (quote_timed None (Some 50) (Some 10)) 2 0 (Some 5000) ∷ starts_with (quote_timed None (Some 50) (Some 10)) 2 1 (Some 50) ∷ starts_with (quote_timed None (Some 50) (Some 10)) 4 2 (Some 10) ∷ [] }
+        ≡ starts_with (quote_timed None (Some 50) (Some 10)) 2 0 (Some 6000) (Some 5000) ∷ starts_with (quote_timed None (Some 50) (Some 10)) 2 1 (Some 1050) (Some 50) ∷ starts_with (quote_timed None (Some 50) (Some 10)) 4 2 (Some 1040) (Some 10) ∷ [] }
     ensures deadlines { option_map (λ (r : CallRecord). r.branch_deadlines) (record_in (asked_at_1000 None (Some 50) (Some 10) ++ Moment 1030 ∷ answers 0 1 (codes "2") ∷ Moment 1040 ∷ []))
         ≡ Some (None ∷ Some 1050 ∷ Some 1040 ∷ []) }
 {}
@@ -84,21 +84,21 @@ fn moments_back()
     ensures last { replies 0 (past_of (Opening ∷ Moment (2 ^ 62) ∷ asks (quote_timed None (Some 50) None) None 0 ∷ Moment (2 ^ 62 + 50) ∷ [])) ≡ [] }
 {}
 
-/// What is left of a job is that of the sooner deadline.
+/// A job has the sooner deadline, and what is left until then.
 fn time_left()
     ensures longer { row_starts (asked_at_1000 None (Some 9000) None)
-        ≡ starts_with (quote_timed None (Some 9000) None) 2 0 (Some 5000) ∷ starts_with (quote_timed None (Some 9000) None) 2 1 (Some 5000) ∷ [] }
+        ≡ starts_with (quote_timed None (Some 9000) None) 2 0 (Some 6000) (Some 5000) ∷ starts_with (quote_timed None (Some 9000) None) 2 1 (Some 6000) (Some 5000) ∷ [] }
     ensures call { replies 0 (past_of (asked_at_1000 None (Some 9000) None ++ Moment 6000 ∷ []))
         ≡ failed Code.DeadlineExceeded (codes "context deadline exceeded") ∷ [] }
     ensures shorter { row_starts (asked_at_1000 None (Some 50) None)
-        ≡ starts_with (quote_timed None (Some 50) None) 2 0 (Some 5000) ∷ starts_with (quote_timed None (Some 50) None) 2 1 (Some 50) ∷ [] }
+        ≡ starts_with (quote_timed None (Some 50) None) 2 0 (Some 6000) (Some 5000) ∷ starts_with (quote_timed None (Some 50) None) 2 1 (Some 1050) (Some 50) ∷ [] }
 {}
 
 /// A branch that expired is out until its result, and frees no place.
 fn limit_is_kept()
     ensures both { outs (call_id 0 0) (past_of (asked_at_1000 None (Some 50) None ++ Moment 1050 ∷ [])) ≡ 2 }
     ensures starts { row_starts (asked_at_1000 None (Some 50) None ++ Moment 1050 ∷ answers 0 0 (codes "1") ∷ answers 0 1 (codes "2") ∷ [])
-        ≡ starts_with (quote_timed None (Some 50) None) 2 0 (Some 5000) ∷ starts_with (quote_timed None (Some 50) None) 2 1 (Some 50) ∷ [] }
+        ≡ starts_with (quote_timed None (Some 50) None) 2 0 (Some 6000) (Some 5000) ∷ starts_with (quote_timed None (Some 50) None) 2 1 (Some 1050) (Some 50) ∷ [] }
     ensures none { outs (call_id 0 0) (past_of (asked_at_1000 None (Some 50) None ++ Moment 1050 ∷ answers 0 0 (codes "1") ∷ answers 0 1 (codes "2") ∷ []))
         ≡ 0 }
 {}

@@ -62,10 +62,10 @@ fn unlawful_failures()
     ensures answered { is_lawful (quote_record (CallEvent.Answer 0 (codes "1") ∷ CallEvent.Failed 0 (error Code.Unavailable (codes "busy")) ∷ [])) ≡ false }
 {}
 
-/// A job has the id of its call's request, and what is left of its time as its branch starts.
+/// A job has the id of its call's request, its call's deadline, and what is left until then as its branch starts.
 fn branch_request()
     ensures { row_starts (Opening ∷ Moment 1000 ∷ asks_on 0 quote (Some 100) (Some (codes "r-7")) 0 ∷ Moment 1010 ∷ answers 0 1 (codes "2") ∷ [])
-        ≡ start 2 (job_with (call_id 0 0) 0 quote (request_for quote.path 0) (Some (codes "r-7")) (Some 100))
-        ∷ start 2 (job_with (call_id 0 0) 1 quote (request_for quote.path 0) (Some (codes "r-7")) (Some 100))
-        ∷ start 4 (job_with (call_id 0 0) 2 quote (request_for quote.path 0) (Some (codes "r-7")) (Some 90)) ∷ [] }
+        ≡ start 2 (job_with (call_id 0 0) 0 quote (request_for quote.path 0) (Some (codes "r-7")) (Some 1100) (Some 100))
+        ∷ start 2 (job_with (call_id 0 0) 1 quote (request_for quote.path 0) (Some (codes "r-7")) (Some 1100) (Some 100))
+        ∷ start 4 (job_with (call_id 0 0) 2 quote (request_for quote.path 0) (Some (codes "r-7")) (Some 1100) (Some 90)) ∷ [] }
 {}

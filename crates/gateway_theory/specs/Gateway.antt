@@ -197,4 +197,5 @@ shown v = record {
   untaken = λ c. untaken_of c v;
   waiting = jobs_of v;
   outs = λ id. outs_of id v;
+  recorded = λ id. kept_record id v;
 }

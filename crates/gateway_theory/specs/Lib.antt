@@ -2,7 +2,6 @@ pub mod Endings
 pub mod Replies
 pub mod Task
 pub mod Arrivals
-pub mod Finished
 pub mod Step
 pub mod LiveStands
 pub mod Begins
@@ -27,6 +26,5 @@ pub mod Refused
 pub mod Serving
 pub mod Served
 pub mod Told
-pub mod EventAdds
 pub mod RequestLaws
 pub mod lemmas

@@ -1,7 +1,7 @@
 -- A branch of a call that waits for its start, and a job as it is handed out.
 use Rattle.std.specs.Prelude.{ℕ, ◌-◌, Bool, Option, option_map}
 use Rattle.gateway_model.specs.declared.id.CallId.{CallId}
-use Rattle.gateway_model.specs.Past.{ArrivedCall, deadline_from, smaller}
+use Rattle.gateway_model.specs.Past.{ArrivedCall}
 use Rattle.gateway_model.specs.Job.{JobValue, job_of}
 
 -- a branch of a call that waits for its start
@@ -21,12 +21,7 @@ job_at moment t = job_of t.call t.branch t.asked moment
 abbrev pub left_at : ℕ → Option ℕ → Option ℕ
 left_at moment deadline = option_map (λ d. d - moment) deadline
 
--- the sooner of two deadlines: its call's, and its own, where it starts at this moment
-abbrev pub deadline_at : ℕ → TaskValue → Option ℕ
-deadline_at moment t = smaller t.asked.deadline (deadline_from moment t.asked.plan t.branch)
-
--- a job as it is handed out: the moment at which its deadline is, and whether its answer was still wanted then
+-- a job as it is handed out, and whether its answer was still wanted then
 pub record HandedJob : Type 0 where
   pub job : JobValue
-  pub deadline : Option ℕ
   pub wanted : Bool

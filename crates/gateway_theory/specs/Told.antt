@@ -23,7 +23,7 @@ use Rattle.gateway_theory.specs.LiveStands.{is_live}
 use Rattle.gateway_theory.specs.Replies.{ReplyValue}
 use Rattle.gateway_theory.specs.Results.{NoneSpent}
 use Rattle.gateway_theory.specs.Served.{Adds, FedUpTo, Lives, Served, after_reply}
-use Rattle.gateway_theory.specs.Serving.{Breaks}
+use Rattle.gateway_theory.specs.Serving.{Breaks, WouldBegin}
 use Rattle.gateway_theory.specs.Store.{call_at}
 
 -- ---- what it stands for
@@ -59,6 +59,15 @@ abbrev pub TakesBytes : ℕ → List ℕ → Result ℕ StepFault → GatewayVal
 TakesBytes conn bytes result v w =
     (fed : List ℕ) (h : History) (first : GatewayValue) → FedUpTo conn fed h first v
     → MatchResult result (λ n. FedUpTo conn (fed ++ take n bytes) h first w) (λ _. Adds h.opened (Piece conn (fed ++ bytes)) h first w)
+
+-- the first bytes of the piece were fed, whatever it stood for, and with the rest a request is whole which would begin a call
+pub record BeginsWithin (conn : ℕ) (piece : List ℕ) (v : GatewayValue) : Type 0 where
+  pub fed : List ℕ
+  pub rest : List ℕ
+  pub parts : fed ++ rest ≡ piece
+  pub now : GatewayValue
+  pub stands : (h : History) → Served v h → FedUpTo conn fed h v now
+  pub begins : WouldBegin conn rest now
 
 -- of a stream that goes on, the bytes taken bring one request at most, or the stream's refusal; of one that has ended all are taken
 pub record TakesOne (plans : List PlanRecord) (text bytes : List ℕ) (n : ℕ) : Type 0 where
@@ -110,6 +119,6 @@ pub record TellsTook (id : CallId) (branch : ℕ) (took : Took) (v w : GatewayVa
 
 -- whether the answer to a job of this call is wanted: where the call can be decided, by what was lived
 pub record IsWanted (id : CallId) (v : GatewayValue) (wanted : Bool) : Type 0 where
-  pub kept : wanted ≡ is_some (call_at id v.machine.calls).live
+  pub kept : wanted ≡ is_some ((shown v).recorded id)
   pub broken : is_whole id.conn (shown v) ≡ false → wanted ≡ false
   pub by_lived : (h : History) (lived : List Placed) → Lives v h lived → wanted ≡ is_live id (marked (occurrences lived))

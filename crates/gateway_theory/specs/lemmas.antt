@@ -16,14 +16,12 @@ pub mod SlotLemmas
 pub mod MachineLemmas
 pub mod GoingOn
 pub mod Taking
-pub mod Tallies
 pub mod Bringing
 pub mod FewCalls
 pub mod Unconcerned
 pub mod GivingUp
 pub mod Readings
 pub mod RecordLemmas
-pub mod PlacesOfStarts
 pub mod StoreLemmas
 pub mod EndLemmas
 pub mod ReplyLemmas
@@ -64,7 +62,6 @@ pub mod ServedWhole
 pub mod Growing
 pub mod Keeping
 pub mod ServedFirst
-pub mod EventStarts
 pub mod KeptCalls
 pub mod Forgetting
 pub mod SeenResults
@@ -75,4 +72,5 @@ pub mod Knowing
 pub mod Beginning
 pub mod Telling
 pub mod OneAtATime
+pub mod ShutConns
 pub mod OneEvent

@@ -2,7 +2,7 @@
 ghost use Rattle.std.specs.Prelude.{◌≡◌, ◌↔◌, ℕ, true, ◌<◌, ◌≤◌, ◌++◌, ◌∷◌, [], List, length};
 ghost use Rattle.call_plan.specs.Plan.{PlanRecord};
 ghost use Rattle.gateway_model.specs.declared.event.Event.{Event};
-ghost use Rattle.gateway_model.specs.Events.{IsShifted, Occurs, connections, is_open, listens, open_connections, succeeds};
+ghost use Rattle.gateway_model.specs.Events.{IsShifted, Occurs, connections, is_open, open_connections, succeeds};
 ghost use Rattle.gateway_model.specs.declared.event.Event.TheVariants.{Piece};
 ghost use Rattle.gateway_model.specs.Starts.{Placed, occurrences};
 
@@ -31,9 +31,6 @@ pub fn openings_law()
     ensures is_open { (opened : List ℕ) (place : ℕ) (es : List Event)
         → ((other : ℕ) → succeeds opened other ≡ true → other < place) → length es ≤ place
         → (c : ℕ) → is_open (opened ++ place ∷ []) c es ≡ is_open opened c es }
-    ensures listens { (opened : List ℕ) (place : ℕ) (es : List Event)
-        → ((other : ℕ) → succeeds opened other ≡ true → other < place) → length es ≤ place
-        → (c : ℕ) → listens (opened ++ place ∷ []) c es ≡ listens opened c es }
     ensures open_connections { (opened : List ℕ) (place : ℕ) (es : List Event)
         → ((other : ℕ) → succeeds opened other ≡ true → other < place) → length es ≤ place
         → open_connections (opened ++ place ∷ []) es ≡ open_connections opened es }

@@ -7,7 +7,6 @@ mod fault;
 pub mod laws;
 pub mod request_laws;
 pub mod served_laws;
-pub mod stream_laws;
 mod tally;
 mod trigger;
 

@@ -6,12 +6,61 @@ use std::alloc::{AllocError, Global};
 /// So many letters of a value or a path are shown.
 const MOST_SHOWN: usize = 80;
 
-/// Adds the line of a finding: the place, the key or element with what stands there, and what is wrong.
+/// Lines of a report on the file of that name; it is not named where that is empty.
+#[derive(Drop)]
+pub(crate) struct Lines<'n> {
+    name: &'n str,
+    text: String,
+}
+
+impl<'n> Lines<'n> {
+    /// None yet.
+    pub(crate) fn new(alloc: Global, name: &'n str) -> Lines<'n> {
+        Lines {
+            name,
+            text: String::new(alloc),
+        }
+    }
+
+    pub(crate) fn push_str(&mut self, more: &str) -> Result<(), AllocError> {
+        self.text.push_str(more)
+    }
+
+    /// Adds a letter, or a mark in place of one that would end the line.
+    fn push(&mut self, letter: char) -> Result<(), AllocError> {
+        self.text
+            .push(if letter.is_control() { '?' } else { letter })
+    }
+
+    /// How many bytes they have.
+    pub(crate) fn len(&self) -> usize {
+        self.text.len()
+    }
+
+    pub(crate) fn into_text(self) -> String {
+        self.text
+    }
+
+    /// Adds the file's name.
+    fn push_name(&mut self) -> Result<(), AllocError> {
+        if self.name.is_empty() {
+            return Ok(());
+        }
+        let name = self.name;
+        for letter in name.chars() {
+            self.push(letter)?;
+        }
+        self.push_str(": ")
+    }
+}
+
+/// Adds the line of a finding: the file, the place, the key or element with what stands there, and what is wrong.
 pub(crate) fn push_finding(
     alloc: Global,
-    lines: &mut String,
+    lines: &mut Lines<'_>,
     finding: &Finding<'_>,
 ) -> Result<(), AllocError> {
+    lines.push_name()?;
     push_place(lines, alloc, &finding.place)?;
     let has_name = !finding.name.is_empty();
     if has_name {
@@ -34,7 +83,7 @@ pub(crate) fn push_finding(
     lines.push_str("\n")
 }
 
-fn push_place(lines: &mut String, alloc: Global, place: &Place<'_>) -> Result<(), AllocError> {
+fn push_place(lines: &mut Lines<'_>, alloc: Global, place: &Place<'_>) -> Result<(), AllocError> {
     match place {
         Place::File => Ok(()),
         Place::Text(line, column) => {
@@ -66,7 +115,7 @@ fn push_place(lines: &mut String, alloc: Global, place: &Place<'_>) -> Result<()
 
 /// Adds a plan's number, and its path where it has a text there.
 fn push_plan(
-    lines: &mut String,
+    lines: &mut Lines<'_>,
     alloc: Global,
     plan: usize,
     path: Option<&Value>,
@@ -81,14 +130,18 @@ fn push_plan(
 }
 
 /// Adds a number, with a text in front of it.
-pub(crate) fn push_count(lines: &mut String, before: &str, count: usize) -> Result<(), AllocError> {
+pub(crate) fn push_count(
+    lines: &mut Lines<'_>,
+    before: &str,
+    count: usize,
+) -> Result<(), AllocError> {
     let mut buffer = Buffer::new();
     lines.push_str(before)?;
     lines.push_str(buffer.format(count))
 }
 
 /// Adds a value as JSON; of an array or an object what it is alone.
-fn push_value(lines: &mut String, alloc: Global, value: &Value) -> Result<(), AllocError> {
+fn push_value(lines: &mut Lines<'_>, alloc: Global, value: &Value) -> Result<(), AllocError> {
     if value.is_array() {
         lines.push_str("[..]")
     } else if value.is_object() {
@@ -99,12 +152,12 @@ fn push_value(lines: &mut String, alloc: Global, value: &Value) -> Result<(), Al
 }
 
 /// Adds the first letters of a text, so that a line stays one.
-pub(crate) fn push_shown(lines: &mut String, text: &str) -> Result<(), AllocError> {
+pub(crate) fn push_shown(lines: &mut Lines<'_>, text: &str) -> Result<(), AllocError> {
     for (k, letter) in text.chars().enumerate() {
         if k == MOST_SHOWN {
             return lines.push_str("..");
         }
-        lines.push(if letter.is_control() { '?' } else { letter })?;
+        lines.push(letter)?;
     }
     Ok(())
 }

@@ -1,7 +1,7 @@
 //! What the gateway takes of a plan and what will not work as it seems to be meant.
 use crate::complaint::Complaint;
 use crate::finding::{Finding, Place};
-use crate::lines::push_finding;
+use crate::lines::{Lines, push_finding};
 use crate::plan_fault::{MOST_PLANS, branches_of, is_branch_timeout, text_of};
 use crate::spelling::meant_key;
 use crate::structure::repeated_key;
@@ -29,7 +29,7 @@ const MOST_PORT: u64 = 65_535;
 /// Adds the warnings of an array of plans, of as many as a file may have.
 pub(crate) fn push_plan_warnings(
     alloc: Global,
-    lines: &mut String,
+    lines: &mut Lines<'_>,
     plans: &[Value],
 ) -> Result<(), AllocError> {
     for (k, plan) in plans.iter().take(MOST_PLANS).enumerate() {
@@ -42,7 +42,7 @@ pub(crate) fn push_plan_warnings(
 
 fn push_warnings_of_plan<'v>(
     alloc: Global,
-    lines: &mut String,
+    lines: &mut Lines<'_>,
     place: Place<'v>,
     plan: &'v Value,
 ) -> Result<(), AllocError> {
@@ -71,7 +71,7 @@ fn push_warnings_of_plan<'v>(
 /// Adds a warning for a path that looks like a pattern.
 fn push_path_warning<'v>(
     alloc: Global,
-    lines: &mut String,
+    lines: &mut Lines<'_>,
     place: Place<'v>,
     plan: &'v Value,
 ) -> Result<(), AllocError> {
@@ -86,7 +86,7 @@ fn push_path_warning<'v>(
 /// Adds a warning for a plan whose calls may wait for ever, or don't wait at all.
 fn push_plan_timeout_warning<'v>(
     alloc: Global,
-    lines: &mut String,
+    lines: &mut Lines<'_>,
     place: Place<'v>,
     plan: &'v Value,
     branches: &[Value],
@@ -120,7 +120,7 @@ fn is_above(limit: Option<&Value>, branches: usize) -> bool {
 
 fn push_address_warnings<'v>(
     alloc: Global,
-    lines: &mut String,
+    lines: &mut Lines<'_>,
     place: Place<'v>,
     branch: &'v Value,
 ) -> Result<(), AllocError> {
@@ -143,7 +143,7 @@ fn push_address_warnings<'v>(
 /// Adds a warning for a branch that expires no sooner than its call by the timeout of its plan.
 fn push_branch_timeout_warning<'v>(
     alloc: Global,
-    lines: &mut String,
+    lines: &mut Lines<'_>,
     place: Place<'v>,
     of_plan: Option<&Value>,
     branch: &'v Value,
@@ -182,7 +182,7 @@ fn has_no_port(address: &str) -> bool {
 /// it is near to one.
 pub(crate) fn push_key_warnings<'v>(
     alloc: Global,
-    lines: &mut String,
+    lines: &mut Lines<'_>,
     place: Place<'v>,
     object: &'v Value,
     known: &[&'static str],
@@ -209,7 +209,7 @@ pub(crate) fn push_key_warnings<'v>(
 /// Adds a warning for the first key of a file's objects that stands twice in its object. The text is JSON.
 pub(crate) fn push_repeated_key(
     alloc: Global,
-    lines: &mut String,
+    lines: &mut Lines<'_>,
     text: &[u8],
 ) -> Result<(), AllocError> {
     let Some(found) = repeated_key(alloc, text, &FILE_KEYS)? else {
@@ -225,7 +225,7 @@ pub(crate) fn push_repeated_key(
 
 pub(crate) fn push_warning(
     alloc: Global,
-    lines: &mut String,
+    lines: &mut Lines<'_>,
     found: &Finding<'_>,
 ) -> Result<(), AllocError> {
     lines.push_str("warning: ")?;

@@ -7,7 +7,7 @@ use crate::complaint::Complaint;
 use crate::event_fault::elements_of;
 use crate::finding::{Finding, Place};
 use crate::json_fault::json_fault;
-use crate::lines::push_finding;
+use crate::lines::{Lines, push_finding};
 use crate::plan_fault::plans_fault;
 use crate::plan_warnings::{push_plan_warnings, push_repeated_key};
 use crate::script_fault::{plans_of, script_fault};
@@ -40,14 +40,14 @@ pub struct ScriptReport {
     pub text: String,
 }
 
-/// The report on the text of a plan file.
-pub fn plan_report(alloc: Global, text: &[u8]) -> Result<PlanReport, AllocError>
+/// The report on the text of the plan file of that name, which stands in each of its findings; it may be empty.
+pub fn plan_report(alloc: Global, name: &str, text: &[u8]) -> Result<PlanReport, AllocError>
     ensures fault { IfOk result (λ report. IsVerdict report.fault (plans_in text.now)) }
     ensures says { IfOk result (λ report. Says report.fault (string_bytes report.text)) }
 {
     match read_plans(alloc, text) {
         Ok(plans) => {
-            let lines = fine_plans(alloc, &plans, text)?;
+            let lines = fine_plans(alloc, name, &plans, text)?;
             Ok(PlanReport {
                 fault: None,
                 warned: lines.warned,
@@ -56,7 +56,7 @@ pub fn plan_report(alloc: Global, text: &[u8]) -> Result<PlanReport, AllocError>
         }
         Err(PlanError::Memory) => Err(AllocError),
         Err(fault) => {
-            let lines = refused_plans(alloc, text)?;
+            let lines = refused_plans(alloc, name, text)?;
             Ok(PlanReport {
                 fault: Some(fault),
                 warned: lines.warned,
@@ -66,14 +66,14 @@ pub fn plan_report(alloc: Global, text: &[u8]) -> Result<PlanReport, AllocError>
     }
 }
 
-/// The report on the text of a script.
-pub fn script_report(alloc: Global, text: &[u8]) -> Result<ScriptReport, AllocError>
+/// The report on the text of the script of that name.
+pub fn script_report(alloc: Global, name: &str, text: &[u8]) -> Result<ScriptReport, AllocError>
     ensures fault { IfOk result (λ report. IsVerdict report.fault (script_in text.now)) }
     ensures says { IfOk result (λ report. Says report.fault (string_bytes report.text)) }
 {
     match read_script(alloc, text) {
         Ok((plans, events)) => {
-            let lines = fine_script(alloc, &plans, events.len(), text)?;
+            let lines = fine_script(alloc, name, &plans, events.len(), text)?;
             Ok(ScriptReport {
                 fault: None,
                 warned: lines.warned,
@@ -82,7 +82,7 @@ pub fn script_report(alloc: Global, text: &[u8]) -> Result<ScriptReport, AllocEr
         }
         Err(ScriptError::Memory) => Err(AllocError),
         Err(fault) => {
-            let lines = refused_script(alloc, text)?;
+            let lines = refused_script(alloc, name, text)?;
             Ok(ScriptReport {
                 fault: Some(fault),
                 warned: lines.warned,
@@ -92,17 +92,17 @@ pub fn script_report(alloc: Global, text: &[u8]) -> Result<ScriptReport, AllocEr
     }
 }
 
-/// The text for a file that is longer than one may be.
-pub fn too_long(alloc: Global) -> Result<String, AllocError>
+/// The text for a file of that name that is longer than one may be.
+pub fn too_long(alloc: Global, name: &str) -> Result<String, AllocError>
     ensures { IfOk result (λ text. IsRefusal (string_bytes text)) }
 {
-    let mut lines = String::new(alloc);
+    let mut lines = Lines::new(alloc, name);
     push_finding(
         alloc,
         &mut lines,
         &Finding::at(Place::File, Complaint::TooLong),
     )?;
-    refused(alloc, &lines)
+    refused(alloc, &lines.into_text())
 }
 
 fn fine(alloc: Global, lines: &String) -> Result<String, AllocError>
@@ -121,27 +121,30 @@ fn refused(alloc: Global, lines: &String) -> Result<String, AllocError>
     Ok(text)
 }
 
-/// Lines of a report.
+/// What was found.
 #[derive(Drop)]
-struct Lines {
+struct Found {
     text: String,
     warned: bool,
 }
 
-impl Lines {
-    /// These, of which the first so many bytes are no warnings.
-    fn of(text: String, before: usize) -> Lines {
-        let warned = text.len() > before;
-        Lines { text, warned }
+impl Found {
+    /// These lines, of which the first so many bytes are no warnings.
+    fn of(lines: Lines<'_>, before: usize) -> Found {
+        let warned = lines.len() > before;
+        Found {
+            text: lines.into_text(),
+            warned,
+        }
     }
 }
 
-fn fine_plans(alloc: Global, plans: &Plans, text: &[u8]) -> Result<Lines, AllocError> {
-    let mut lines = String::new(alloc);
+fn fine_plans(alloc: Global, name: &str, plans: &Plans, text: &[u8]) -> Result<Found, AllocError> {
+    let mut lines = Lines::new(alloc, name);
     push_number(&mut lines, plans.len(), " plan\n", " plans\n")?;
     let Ok(value) = read_value(alloc, text)? else {
-        return Ok(Lines {
-            text: lines,
+        return Ok(Found {
+            text: lines.into_text(),
             warned: false,
         });
     };
@@ -149,45 +152,46 @@ fn fine_plans(alloc: Global, plans: &Plans, text: &[u8]) -> Result<Lines, AllocE
     let before = lines.len();
     push_repeated_key(alloc, &mut lines, text)?;
     push_plan_warnings(alloc, &mut lines, elements_of(&value))?;
-    Ok(Lines::of(lines, before))
+    Ok(Found::of(lines, before))
 }
 
-fn refused_plans(alloc: Global, text: &[u8]) -> Result<Lines, AllocError> {
-    let mut lines = String::new(alloc);
+fn refused_plans(alloc: Global, name: &str, text: &[u8]) -> Result<Found, AllocError> {
+    let mut lines = Lines::new(alloc, name);
     match read_value(alloc, text)? {
         Ok(value) => {
             push_fault(alloc, &mut lines, plans_fault(&value))?;
             let before = lines.len();
             push_repeated_key(alloc, &mut lines, text)?;
             push_plan_warnings(alloc, &mut lines, elements_of(&value))?;
-            Ok(Lines::of(lines, before))
+            Ok(Found::of(lines, before))
         }
-        Err(error) => no_json(alloc, text, &error),
+        Err(error) => no_json(alloc, name, text, &error),
     }
 }
 
 /// The line of a text that is no JSON.
-fn no_json(alloc: Global, text: &[u8], error: &Error) -> Result<Lines, AllocError> {
-    let mut lines = String::new(alloc);
+fn no_json(alloc: Global, name: &str, text: &[u8], error: &Error) -> Result<Found, AllocError> {
+    let mut lines = Lines::new(alloc, name);
     push_finding(alloc, &mut lines, &json_fault(text, error))?;
-    Ok(Lines {
-        text: lines,
+    Ok(Found {
+        text: lines.into_text(),
         warned: false,
     })
 }
 
 fn fine_script(
     alloc: Global,
+    name: &str,
     plans: &Plans,
     events: usize,
     text: &[u8],
-) -> Result<Lines, AllocError> {
-    let mut lines = String::new(alloc);
+) -> Result<Found, AllocError> {
+    let mut lines = Lines::new(alloc, name);
     push_number(&mut lines, plans.len(), " plan, ", " plans, ")?;
     push_number(&mut lines, events, " event\n", " events\n")?;
     let Ok(script) = read_value(alloc, text)? else {
-        return Ok(Lines {
-            text: lines,
+        return Ok(Found {
+            text: lines.into_text(),
             warned: false,
         });
     };
@@ -195,20 +199,20 @@ fn fine_script(
     let before = lines.len();
     push_repeated_key(alloc, &mut lines, text)?;
     push_script_warnings(alloc, &mut lines, &script)?;
-    Ok(Lines::of(lines, before))
+    Ok(Found::of(lines, before))
 }
 
-fn refused_script(alloc: Global, text: &[u8]) -> Result<Lines, AllocError> {
-    let mut lines = String::new(alloc);
+fn refused_script(alloc: Global, name: &str, text: &[u8]) -> Result<Found, AllocError> {
+    let mut lines = Lines::new(alloc, name);
     match read_value(alloc, text)? {
         Ok(script) => {
             push_fault(alloc, &mut lines, script_fault(&script))?;
             let before = lines.len();
             push_repeated_key(alloc, &mut lines, text)?;
             push_script_warnings(alloc, &mut lines, &script)?;
-            Ok(Lines::of(lines, before))
+            Ok(Found::of(lines, before))
         }
-        Err(error) => no_json(alloc, text, &error),
+        Err(error) => no_json(alloc, name, text, &error),
     }
 }
 
@@ -222,7 +226,7 @@ fn read_value(alloc: Global, text: &[u8]) -> Result<Result<Value, Error>, AllocE
 
 fn push_fault(
     alloc: Global,
-    lines: &mut String,
+    lines: &mut Lines<'_>,
     found: Option<Finding<'_>>,
 ) -> Result<(), AllocError> {
     match found {

@@ -2,6 +2,7 @@
 use crate::complaint::Complaint;
 use crate::finding::{Finding, Place};
 use crate::form::Form;
+use crate::lines::Lines;
 use crate::plan_warnings::{push_key_warnings, push_plan_warnings, push_warning};
 use crate::script_fault::{events_of, plans_of};
 use serde_json::Value;
@@ -12,7 +13,7 @@ const SCRIPT_KEYS: [&str; 2] = ["plans", "events"];
 /// Adds the warnings of a script.
 pub(crate) fn push_script_warnings(
     alloc: Global,
-    lines: &mut String,
+    lines: &mut Lines<'_>,
     script: &Value,
 ) -> Result<(), AllocError> {
     push_key_warnings(alloc, lines, Place::File, script, &SCRIPT_KEYS)?;

@@ -1,4 +1,4 @@
-use crate::lines::{push_count, push_shown};
+use crate::lines::{Lines, push_count, push_shown};
 use crate::plan_fault::text_of;
 use call_plan::{Plan, Plans};
 use itoa::Buffer;
@@ -7,7 +7,7 @@ use std::alloc::AllocError;
 
 /// Adds how many there are, as `2 plans`.
 pub(crate) fn push_number(
-    lines: &mut String,
+    lines: &mut Lines<'_>,
     count: usize,
     one: &str,
     more: &str,
@@ -19,7 +19,7 @@ pub(crate) fn push_number(
 /// Adds what the plans serve, a line for each plan and one for each of its branches. The entries are those that the
 /// plans were read of, and give the order.
 pub(crate) fn push_served(
-    lines: &mut String,
+    lines: &mut Lines<'_>,
     plans: &Plans,
     entries: &[Value],
 ) -> Result<(), AllocError> {
@@ -31,7 +31,7 @@ pub(crate) fn push_served(
     Ok(())
 }
 
-fn push_served_plan(lines: &mut String, number: usize, plan: &Plan) -> Result<(), AllocError> {
+fn push_served_plan(lines: &mut Lines<'_>, number: usize, plan: &Plan) -> Result<(), AllocError> {
     push_count(lines, "plan ", number)?;
     lines.push_str(" (")?;
     push_shown(lines, plan.path())?;
@@ -56,7 +56,7 @@ fn push_served_plan(lines: &mut String, number: usize, plan: &Plan) -> Result<()
     Ok(())
 }
 
-fn push_ms(lines: &mut String, ms: u64) -> Result<(), AllocError> {
+fn push_ms(lines: &mut Lines<'_>, ms: u64) -> Result<(), AllocError> {
     let mut buffer = Buffer::new();
     lines.push_str(", timeout ")?;
     lines.push_str(buffer.format(ms))?;

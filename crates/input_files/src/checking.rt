@@ -11,19 +11,25 @@ use std::alloc::Global;
 use std::fs::{File, Files};
 use std::io::{self, Read, Write};
 
-/// Checks the file that is named, and prints what is to be said of it. With `--strict` a file with warnings ends as a refused
-/// one does.
+/// Checks the file that is named, and prints what is to be said of it. With `--strict` a file with warnings ends as a
+/// refused one does.
 pub fn check<R: Print + AllocGlobal + Files>(rt: &R, checked: &Checked) -> Result<(), Fault> {
     let alloc = rt.alloc();
     let mut writer = io::writer(rt);
     let (warned, fault) = match &checked.file {
         CheckedFile::Plans(path) => {
             let mut file = File::open(rt, path.as_str())?;
-            (check_plans(alloc, &mut file, &mut writer)?, Fault::Plans)
+            (
+                check_plans(alloc, path.as_str(), &mut file, &mut writer)?,
+                Fault::Plans,
+            )
         }
         CheckedFile::Script(path) => {
             let mut file = File::open(rt, path.as_str())?;
-            (check_script(alloc, &mut file, &mut writer)?, Fault::Script)
+            (
+                check_script(alloc, path.as_str(), &mut file, &mut writer)?,
+                Fault::Script,
+            )
         }
     };
     if warned && checked.strict {
@@ -32,10 +38,12 @@ pub fn check<R: Print + AllocGlobal + Files>(rt: &R, checked: &Checked) -> Resul
     Ok(())
 }
 
-/// Reads a plan file and writes what is to be said of it: that it is fine and what it serves, or why it is refused.
-/// `Plans` where it is refused, `Io` where a read or a write failed, `Memory` for want of memory. Answers whether it warned.
+/// Reads the plan file of that name and writes what is to be said of it: that it is fine and what it serves, or why it
+/// is refused. `Plans` where it is refused, `Io` where a read or a write failed, `Memory` for want of memory. Answers
+/// whether it warned.
 pub fn check_plans<R: Read, W: Write>(
     alloc: Global,
+    name: &str,
     reader: &mut R,
     writer: &mut W,
 ) -> Result<bool, Fault>
@@ -46,10 +54,10 @@ pub fn check_plans<R: Read, W: Write>(
         × WritesRefusal (W.contents writer.old) (W.contents writer.new) }
 {
     let Some(text) = read_text(alloc, reader)? else {
-        write_text(&too_long(alloc)?, writer)?;
+        write_text(&too_long(alloc, name)?, writer)?;
         return Err(Fault::Plans);
     };
-    let report = plan_report(alloc, text.as_slice())?;
+    let report = plan_report(alloc, name, text.as_slice())?;
     write_text(&report.text, writer)?;
     match report.fault {
         None => Ok(report.warned),
@@ -57,10 +65,11 @@ pub fn check_plans<R: Read, W: Write>(
     }
 }
 
-/// Reads a script and writes what is to be said of it, as `check_plans` does. `Script` where it is refused. Answers whether
-/// it warned.
+/// Reads the script of that name and writes what is to be said of it, as `check_plans` does. `Script` where it is
+/// refused. Answers whether it warned.
 pub fn check_script<R: Read, W: Write>(
     alloc: Global,
+    name: &str,
     reader: &mut R,
     writer: &mut W,
 ) -> Result<bool, Fault>
@@ -71,10 +80,10 @@ pub fn check_script<R: Read, W: Write>(
         × WritesRefusal (W.contents writer.old) (W.contents writer.new) }
 {
     let Some(text) = read_text(alloc, reader)? else {
-        write_text(&too_long(alloc)?, writer)?;
+        write_text(&too_long(alloc, name)?, writer)?;
         return Err(Fault::Script);
     };
-    let report = script_report(alloc, text.as_slice())?;
+    let report = script_report(alloc, name, text.as_slice())?;
     write_text(&report.text, writer)?;
     match report.fault {
         None => Ok(report.warned),

@@ -1,5 +1,5 @@
-//! The files that the program's words name: a plan file that is served, and what `connect_gateway check` prints of a plan
-//! file or a script.
+//! The files that the program's words name: a plan file that is served, and what `connect_gateway check` prints of a
+//! plan file or a script.
 #![tactic(auto)]
 
 mod checking;

@@ -1,10 +1,14 @@
-ghost use Rattle.std.specs.Prelude.{◌≡◌, Err, IfErr, IfOk, ℕ, List, Ok};
+ghost use Rattle.std.specs.Prelude.{◌≡◌, Err, IfErr, IfOk, ℕ, List, Ok, string_bytes};
+ghost use Rattle.std.specs.Result.{result_err};
 ghost use Rattle.call_plan.specs.Plan.{PlanRecord};
 ghost use Rattle.call_plan.specs.PlanFile.{plans_in};
+ghost use Rattle.input_check.specs.Report.{Says};
 ghost use Rattle.script_replay.specs.Fault.{IsOfPlanInput};
 ghost use Rattle.script_replay.specs.Input.{ReadsTooMuch, ReadsWhole};
 
 use call_plan::{PlanError, Plans, read_plans};
+use http_pieces::Text;
+use input_check::plan_report;
 use json_values::{json_value, text_at};
 use script_replay::{Fault, read_text};
 use serde_json::Value;
@@ -49,6 +53,26 @@ impl PlanFile {
             Err(PlanError::Memory) => Err(Fault::Memory),
             Err(_) => Err(Fault::Plans),
         }
+    }
+
+    /// What `connect_gateway check` says of it under that name.
+    pub fn report(&self, alloc: Global, name: &str) -> Result<String, AllocError>
+        ensures says { IfOk result (λ text. Says (result_err (plans_in self.now)) (string_bytes text)) }
+    {
+        Ok(plan_report(alloc, name, self.text.as_slice())?.text)
+    }
+
+    /// The paths of its plans, in their order.
+    pub fn paths(&self, alloc: Global) -> Result<Vec<Text>, AllocError> {
+        let mut paths = Vec::new(alloc);
+        if let Some(plans) = json_value(alloc, self.text.as_slice())? {
+            for plan in elements_of(&plans) {
+                if let Some(path) = text_at(plan, "path") {
+                    paths.push(Text::from_str(alloc, path)?)?;
+                }
+            }
+        }
+        Ok(paths)
     }
 
     /// Whether the address of a backend is a name, which must be looked up.

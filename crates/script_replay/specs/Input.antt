@@ -1,5 +1,5 @@
 -- What reading a script or a plan file comes to, and running a script.
-use Rattle.std.specs.Prelude.{◌≡◌, ◌≤◌, ◌⊎◌, ℕ, List, length, Option, Ok}
+use Rattle.std.specs.Prelude.{◌≡◌, ◌≤◌, ◌⊎◌, ℕ, List, length, map, Option, Ok}
 use Rattle.std.specs.Io.KnownBytes.{Appends, Consumes, IsAtEnd}
 use Rattle.call_plan.specs.Plan.{PlanRecord}
 use Rattle.call_plan.specs.PlanFile.{plans_in}
@@ -8,7 +8,7 @@ use Rattle.gateway_model.specs.Run.{newest_first}
 use Rattle.gateway_run.specs.RunText.{run_text}
 use Rattle.gateway_run.specs.Script.{script_in}
 use Rattle.gateway_model.specs.declared.event.Event.{Event}
-use Rattle.gateway_model.specs.declared.run.Run.{Run}
+use Rattle.gateway_run.specs.declared.outcome.Run.{Run}
 
 -- the whole text was read, and is no longer than it may be
 abbrev pub ReadsWhole : Option (List ℕ) → Option (List ℕ) → List ℕ → Type 0
@@ -43,5 +43,5 @@ pub record Replays (given left held now : Option (List ℕ)) : Type 0 where
   pub events : List Event
   pub run : Run
   pub read : ReadsScript given left plans events
-  pub ran : IsRun plans (newest_first events) run.opened.items run.queued.items run.starts.items run.broken.items
+  pub ran : IsRun plans (newest_first events) run.opened.items run.queued.items run.starts.items (map (λ j. j.job) run.jobs.items) run.broken.items
   pub written : Appends held now (run_text run)

@@ -4,6 +4,7 @@
 
 mod fault;
 mod input;
+mod patient;
 mod plain_hook;
 mod replaying;
 

@@ -6,6 +6,7 @@ ghost use Rattle.script_replay.specs.Input.{ReadsNoScript, Replays};
 
 use crate::fault::Fault;
 use crate::input::read_input;
+use crate::patient::Patient;
 use crate::plain_hook::{PlainHook, stock};
 use gateway_core::Stock;
 use gateway_run::{Run, RunError, openings, run, write_run};
@@ -50,12 +51,12 @@ fn write_text<W: Write + Drop>(alloc: Global, run: &Run, writer: W) -> Result<W,
     ensures faults { IfErr result IsOfReading }
     ensures written { IfOk result (λ now. Appends (W.contents writer) (W.contents now) (run_text run.now)) }
 {
-    let mut buffered = BufWriter::new(alloc, writer)?;
+    let mut buffered = BufWriter::new(alloc, Patient { inner: writer })?;
     if write_run(run, &mut buffered).is_err() {
         return Err(Fault::Io);
     }
     match buffered.into_inner() {
-        Ok(writer) => Ok(writer),
+        Ok(patient) => Ok(patient.inner),
         Err(_) => Err(Fault::Io),
     }
 }

@@ -6,16 +6,13 @@ use Rattle.gateway_theory.specs.declared.fault.StepFault.TheVariants.{Exhausted,
 use Rattle.std.proofs.lemmas.Bool.{cases_lt, eqb-true}
 use Rattle.std.proofs.lemmas.List.Elements.{filter-append}
 use Rattle.std.proofs.lemmas.List.{length-drop, take-append-drop, take_all}
-use Rattle.gateway_model.specs.declared.entry.ReplyEntry.{ReplyEntry}
-use Rattle.gateway_model.specs.Events.{Before}
 use Rattle.gateway_model.specs.declared.event.Event.TheVariants.{Piece}
 use Rattle.gateway_model.specs.Known.{is_of}
 use Rattle.gateway_theory.specs.Gateway.{GatewayValue, is_broken_conn, untaken_of}
-use Rattle.gateway_model.specs.Job.{JobValue}
 use Rattle.gateway_model.specs.History.{History}
 use Rattle.gateway_theory.specs.Served.{Adds, FedUpTo, HasConns}
-use Rattle.gateway_theory.specs.Told.{AddsEvent}
-use Rattle.gateway_theory.specs.Serving.{CountsCalls, NotListening, Keeps, TellsStep, most_begun}
+use Rattle.gateway_theory.specs.Told.{AddsEvent, BeginsWithin}
+use Rattle.gateway_theory.specs.Serving.{CountsCalls, NotListening, Keeps, TellsStep, WouldBegin, most_begun}
 
 -- nothing was fed yet, or the connection listens, and did
 pub data Listening (conn : ℕ) (v w : GatewayValue) : Type 0 where
@@ -195,6 +192,10 @@ fault_tells conn u v w fed r fault h fed_is r_is tells = record {
   exhausted = λ e. tells.exhausted (fault_same fed r fault Exhausted fed_is r_is e);
   unbroken = subst (λ x. OnOk x (is_broken_conn conn w ≡ false)) (sym r_is) tt;
 }
+
+-- a call would begin with what is left of the piece
+pub begins_within : (conn : ℕ) (piece rest : List ℕ) (v w : GatewayValue) → Delivery conn piece rest v w → WouldBegin conn rest w → BeginsWithin conn piece v
+begins_within conn piece rest v w d begins = record { fed = d.done; rest = rest; parts = d.whole; now = w; stands = λ history s. d.fed history s.conns; begins = begins }
 
 pub whole_tells : {B : Type 0} (conn n : ℕ) (u v w : GatewayValue) (fed : Result ℕ StepFault) (b : B) → Listening conn u v → fed ≡ Ok n → TellsStep conn v w fed → TellsStep conn u w (Ok b)
 whole_tells conn n u v w fed b h fed_is tells = record {

@@ -1,7 +1,7 @@
-ghost use Rattle.std.specs.Prelude.{◌==◌};
+ghost use Rattle.std.specs.Prelude.{◌≡◌, ◌==◌, Err};
 ghost use Rattle.gateway_model.specs.declared.event.Event.TheVariants.{Piece};
 ghost use Rattle.gateway_theory.specs.Serving.{CountsCalls, Keeps, TellsStep};
-ghost use Rattle.gateway_theory.specs.Told.{AddsEvent, TakesEvent};
+ghost use Rattle.gateway_theory.specs.Told.{AddsEvent, BeginsWithin, TakesEvent};
 
 use gateway_core::{ConnId, Core, ReplyHook, StepFault};
 use gateway_theory::served_laws::parts_law;
@@ -18,6 +18,7 @@ pub fn deliver<H: ReplyHook + Drop>(
     ensures stands { TakesEvent (Piece conn piece.now) core.old core.new }
     ensures adds { AddsEvent (Piece conn piece.now) core.old core.new }
     ensures tells { TellsStep conn core.old core.new result }
+    ensures begins { result ≡ Err StepFault.Exhausted → BeginsWithin conn piece.now core.old }
     ensures counts { CountsCalls core.old core.new }
     ensures keeps { Keeps (λ c. c == conn) core.old core.new }
 {

@@ -1,9 +1,8 @@
 -- How one event adds to what was lived.
-use Rattle.std.proofs.Common.{◌≡◌, ℕ, suc, ◌<◌, ◌≤◌, Bool, true, false, List, [], ◌∷◌, ◌++◌, map, length, refl, sym, ap, ◌∙◌, subst, arith, append-nil, append_assoc}
-use Rattle.std.specs.Prelude.{⊤, if◌then◌else◌, not, filter, reverse}
+use Rattle.std.proofs.Common.{◌≡◌, ℕ, suc, ◌≤◌, Bool, true, false, List, [], ◌∷◌, ◌++◌, length, refl, sym, ap, ◌∙◌, subst, arith, append_assoc}
+use Rattle.std.specs.Prelude.{⊤, if◌then◌else◌, not, reverse}
 use Rattle.std.proofs.lemmas.List.{map-append, reverse-append}
 use Rattle.std.proofs.lemmas.List.Elements.{filter-append}
-use Rattle.call_plan.specs.Plan.{PlanRecord}
 use Rattle.gateway_model.specs.Breaks.{BreakAsTheyMay, CanBreakAt, InOrder, MayOccur, by_events}
 use Rattle.gateway_model.specs.Concerns.{can_break}
 use Rattle.gateway_model.specs.Events.{Before, Occurs, OccursAt, onto, stream}
@@ -18,7 +17,7 @@ use Rattle.gateway_model.specs.declared.event.Event.{Event}
 use Rattle.gateway_theory.specs.Gateway.{GatewayValue, HasCome}
 use Rattle.gateway_theory.specs.GatewayLived.{GatewayLives}
 use Rattle.gateway_theory.specs.Lived.{breaks_of}
-use Rattle.gateway_theory.specs.Served.{Adds, HasConns, Lives, Served, StandsBy, at_place, then_came}
+use Rattle.gateway_theory.specs.Served.{Adds, HasConns, Lives, Served, at_place, then_came}
 
 -- ---- which may break
 
@@ -46,20 +45,6 @@ pub record Newer (P : ℕ → List Occurrence → Type 0) (S : List Occurrence �
 pub breaks_join : (P : ℕ → List Occurrence → Type 0) (xs ys os : List Occurrence) → AreBreaks P xs (ys ++ os) → AreBreaks P ys os → AreBreaks P (xs ++ ys) os
 breaks_join P [] ys os a b = b
 breaks_join P (x ∷ xs) ys os a b = (subst (λ us. BreakSo P x us) (sym (append_assoc xs ys os)) a.0, breaks_join P xs ys os a.1 b)
-
-break_if : (P Q : ℕ → List Occurrence → Type 0) → ((c : ℕ) (os : List Occurrence) → P c os → Q c os) → (o : Occurrence) (os : List Occurrence) → BreakSo P o os → BreakSo Q o os
-break_if P Q f (Break c) os b = f c os b
-break_if P Q f Opening os b = tt
-break_if P Q f (Comes c x) os b = tt
-break_if P Q f (HangUp c) os b = tt
-break_if P Q f (Moment m) os b = tt
-break_if P Q f (Result id i r) os b = tt
-break_if P Q f Drain os b = tt
-break_if P Q f (Closing c) os b = tt
-
-pub breaks_if : (P Q : ℕ → List Occurrence → Type 0) → ((c : ℕ) (os : List Occurrence) → P c os → Q c os) → (newer os : List Occurrence) → AreBreaks P newer os → AreBreaks Q newer os
-breaks_if P Q f [] os b = tt
-breaks_if P Q f (o ∷ newer) os b = (break_if P Q f o (newer ++ os) b.0, breaks_if P Q f newer os b.1)
 
 -- breaks alone are nothing by the events
 pub without_these : (cs : List ℕ) → without_breaks (breaks_of cs) ≡ []

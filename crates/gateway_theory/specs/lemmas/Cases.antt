@@ -25,10 +25,6 @@ pub or_none : {A : Type 0} (x : Option A) → option_or x None ≡ x
 or_none None = refl
 or_none (Some a) = refl
 
-pub not_so : (b : Bool) → not b ≡ true → b ≡ false
-not_so true e = absurd (cc)
-not_so false e = refl
-
 pub sym_eqb : (a b : ℕ) → (a == b) ≡ (b == a)
 sym_eqb a b = grind (arith, rules)
 

@@ -300,7 +300,3 @@ jobs_of_starts (o ∷ placed) =
     without_place : (place : ℕ) (js : List JobValue) → map job_started (map (start place) js) ≡ js
     without_place place [] = refl
     without_place place (j ∷ js) = ap (λ rest. j ∷ rest) (without_place place js)
-
--- the same branches start, whatever the places
-pub same_starts : (a b : List Placed) → occurrences a ≡ occurrences b → map job_started (starts a) ≡ map job_started (starts b)
-same_starts a b e = jobs_of_starts a ∙ ap (λ os. jobs (marked os)) e ∙ sym (jobs_of_starts b)

@@ -72,8 +72,8 @@ module _ (i : ℕ) (x : Coming) (v : MachineValue) (closed : ℕ → ConnState) 
   step_is : arriving k.number x (machine closed v) ≡ s
   step_is = ap (λ (m : ConnState). arrive v.moment v.drained (is_full m.slots) (call_id k.number (m.taken + length m.slots)) x) state_is
 
-  fate_is : were_broken k.number ≡ false
-  fate_is = sym (h.open_are k.number k found) ∙ unbroken
+  whole_before : were_broken k.number ≡ false
+  whole_before = sym (h.open_are k.number k found) ∙ unbroken
 
   -- ---- it came
 
@@ -97,7 +97,7 @@ module _ (i : ℕ) (x : Coming) (v : MachineValue) (closed : ℕ → ConnState) 
 
       on : (d : ℕ) → (d == k.number) ≡ true → is_broken_after broken_now were_broken d ≡ false
       on d its =
-          ap (λ b. b || broken_now d) (ap (λ n. were_broken n) (eqb-true d k.number its) ∙ fate_is)
+          ap (λ b. b || broken_now d) (ap (λ n. were_broken n) (eqb-true d k.number its) ∙ whole_before)
           ∙ ap (λ o. option_map_or (λ (y : ConnValue). y.broken) o false) (conn_is d ∙ ap (λ b. if b then Some (added s.reply k) else conn_of d v.conns) its) ∙ unbroken
 
       other : (d : ℕ) → is_broken_after broken_now were_broken d ≡ true → (d == k.number) ≡ false

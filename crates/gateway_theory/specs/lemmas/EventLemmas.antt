@@ -8,7 +8,7 @@ use Rattle.gateway_model.specs.Starts.{Placed}
 use Rattle.gateway_theory.specs.RequestLaws.{RequestLaws}
 use Rattle.gateway_model.specs.declared.event.Event.{Event}
 use Rattle.gateway_model.specs.declared.event.Event.TheVariants.{Opening, Piece, HangUp, Moment, BranchResult, Drain, Closing}
-use Rattle.gateway_model.specs.Events.{Before, Gains, OccursAt, Occurs, onto, listens, stream}
+use Rattle.gateway_model.specs.Events.{Before, Gains, OccursAt, onto, listens, stream}
 
 pub gains_unique : RequestLaws → (plans : List PlanRecord) (text longer : List ℕ) (a b : List Coming) → Gains plans text longer a → Gains plans text longer b → a ≡ b
 gains_unique laws plans text longer a b g h =
@@ -36,15 +36,6 @@ at_unique laws plans opened (Moment m) before x y h g = h ∙ sym g
 at_unique laws plans opened (BranchResult conn request branch outcome) before x y h g = h ∙ sym g
 at_unique laws plans opened Drain before x y h g = h ∙ sym g
 at_unique laws plans opened (Closing conn) before x y h g = h ∙ sym g
-
--- events come to one list of occurrences
-pub occurs_unique : RequestLaws → (plans : List PlanRecord) (opened : List ℕ) (events : Before) (a b : List Placed)
-    → Occurs plans opened events a → Occurs plans opened events b → a ≡ b
-occurs_unique laws plans opened [] a b h g = h ∙ sym g
-occurs_unique laws plans opened (e ∷ before) a b h g =
-    let past : h.0 ≡ g.0 = occurs_unique laws plans opened before h.0 g.0 h.1 g.1 in
-    let os : h.2.0 ≡ g.2.0 = at_unique laws plans opened e before h.2.0 g.2.0 h.2.1 g.2.1 in
-    h.2.2 ∙ rw (past, os) (sym g.2.2)
 
 pub onto_front : (place : ℕ) (os : List Occurrence) (more past : List Placed) → onto place os (more ++ past) ≡ onto place os more ++ past
 onto_front place [] more past = refl

@@ -1,9 +1,8 @@
 -- The jobs of the branches that start, at one occurrence more.
-use Rattle.std.proofs.Common.{◌≡◌, ℕ, true, false, List, [], ◌∷◌, ◌++◌, map, Option, refl, ap, ◌∙◌, ⊎_elim}
+use Rattle.std.proofs.Common.{◌≡◌, ℕ, true, false, List, [], ◌∷◌, map, Option, refl, ap, ⊎_elim}
 use Rattle.std.specs.Prelude.{◌&&◌}
 use Rattle.std.specs.List.{range_with_len}
 use Rattle.std.proofs.lemmas.Bool.{cases_Bool}
-use Rattle.std.proofs.lemmas.List.{append-nil}
 use Rattle.connect_codec.specs.declared.answer.Outcome.{Outcome}
 use Rattle.gateway_model.specs.declared.seen.Seen.TheVariants.{Counted}
 use Rattle.gateway_model.specs.declared.id.CallId.{CallId}
@@ -13,7 +12,6 @@ use Rattle.gateway_model.specs.declared.entry.ReplyEntry.{ReplyEntry}
 use Rattle.gateway_model.specs.Queue.{answer_of, entry, front}
 use Rattle.gateway_theory.specs.Replies.{replies}
 use Rattle.gateway_model.specs.Starts.{jobs_started}
-use Rattle.gateway_model.specs.Starts.{jobs as all_jobs}
 use Rattle.gateway_theory.specs.lemmas.StandsLemmas.{Quiet, entry_same, result_quiet, started_same}
 use Rattle.gateway_theory.specs.lemmas.Frame.{none_start}
 
@@ -36,11 +34,6 @@ not_counted id i past h =
     (cases_Bool (can_be_decided id past)))
     (λ (back : is_out id i past ≡ false). rw back refl)
     (cases_Bool (is_out id i past))
-
-pub uncounted_starts : (id : CallId) (i : ℕ) (outcome : Outcome) (past : Past) → (how_seen id i past ≡ Counted → ⊥)
-    → all_jobs (mark_of past (Result id i outcome) ∷ past) ≡ all_jobs past
-uncounted_starts id i outcome past h =
-    ap (λ js. all_jobs past ++ js) (uncounted_jobs id i outcome past (not_counted id i past h)) ∙ append-nil (all_jobs past)
 
 pub uncounted_replies : (id : CallId) (i : ℕ) (outcome : Outcome) (past : Past) (conn : ℕ) → (how_seen id i past ≡ Counted → ⊥)
     → replies conn (mark_of past (Result id i outcome) ∷ past) ≡ replies conn past

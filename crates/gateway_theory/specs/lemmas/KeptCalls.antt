@@ -1,6 +1,6 @@
 -- What is kept of a call, by the events that a gateway stands for: its record so far, and how many of its branches are out.
 use Rattle.std.proofs.Common.{◌≡◌, ℕ, zero, suc, ◌≤◌, ◌<◌, Bool, true, false, List, [], ◌∷◌, ◌++◌, length, Option, None, Some, refl, sym, ap, ◌∙◌, subst, arith, append_assoc, append-nil, ⊎_elim}
-use Rattle.std.specs.Prelude.{◌&&◌, is_none, is_some, not, option_map, option_to_list, slice_index_or}
+use Rattle.std.specs.Prelude.{◌&&◌, if◌then◌else◌, is_some, not, option_map, slice_index_or}
 use Rattle.std.specs.List.{count_by}
 use Rattle.std.specs.Option.{option_map_or}
 use Rattle.std.proofs.lemmas.Bool.{cases_Bool, cases_eq, cond_both, and_parts}
@@ -9,21 +9,20 @@ use Rattle.gateway_model.specs.declared.call_event.CallEvent.{CallEvent}
 use Rattle.gateway_model.specs.declared.call_event.CallEvent.TheVariants.{Answer as Answered, Failed, Expired, BranchExpired, HungUp, Drained}
 use Rattle.gateway_model.specs.declared.id.CallId.{CallId}
 use Rattle.gateway_model.specs.CallRecord.{CallRecord, last_event}
-use Rattle.gateway_theory.specs.Conn.{ConnValue}
 use Rattle.gateway_model.specs.Breaks.{by_events}
 use Rattle.gateway_model.specs.Events.{Occurs}
-use Rattle.gateway_theory.specs.Gateway.{GatewayValue, kept_record, outs_of, shown}
-use Rattle.gateway_model.specs.Known.{is_whole}
+use Rattle.gateway_theory.specs.Gateway.{GatewayValue, kept_record, outs_of}
+use Rattle.gateway_model.specs.Known.{record_now}
 use Rattle.gateway_theory.specs.LiveStands.{LiveStands, MayLive}
 use Rattle.gateway_model.specs.Occurrence.{Occurrence}
-use Rattle.gateway_model.specs.Past.{ArrivedCall, Past, began, branches, call, can_be_decided, count_below, decided, decides, is_shut, is_out, mark_of, marked, outs, started}
-use Rattle.gateway_model.specs.Queue.{own_events, record_deadlines, record_of}
+use Rattle.gateway_model.specs.Past.{ArrivedCall, Past, began, branch_deadlines, branches, call, can_be_decided, count_below, decides, is_out, marked, outs, started}
+use Rattle.gateway_model.specs.Queue.{own_events, record_of}
 use Rattle.gateway_model.specs.Record.{answers_among, is_decided, is_ending, is_lawful}
 use Rattle.gateway_theory.specs.Served.{Lives, Served}
 use Rattle.gateway_model.specs.Starts.{Placed, occurrences}
 use Rattle.gateway_model.specs.History.{History}
-use Rattle.gateway_theory.specs.Step.{CallState, Live}
-use Rattle.gateway_theory.specs.Store.{call_at, conn_of}
+use Rattle.gateway_theory.specs.Step.{Live}
+use Rattle.gateway_theory.specs.Store.{call_at}
 use Rattle.gateway_theory.specs.lemmas.LimitLemmas.{count_less, out_started, outs_limit}
 use Rattle.gateway_theory.specs.lemmas.OrderLemmas.{some_same}
 use Rattle.gateway_theory.specs.lemmas.PrefixLemmas.{call_within, events_occur}
@@ -142,30 +141,11 @@ ends_never r before (e ∷ es) on so_far =
     let parts = and_parts (not (decides (answers_among before) (length r.plan.branches) e)) (none_decides r (before ++ e ∷ []) es) on in
     subst (λ xs. ends r xs ≡ false) (append_assoc before (e ∷ []) es) (ends_never r (before ++ e ∷ []) es parts.1 (goes_behind r before e parts.0))
 
--- so it is of any call that can be decided
-pub record_lawful : (id : CallId) (a : ArrivedCall) (os : List Occurrence) → call id (marked os) ≡ Some a → can_be_decided id (marked os) ≡ true
-    → (is_lawful (record_of a (record_deadlines id (marked os)) (own_events id (marked os))) ≡ true)
-    × (is_decided (record_of a (record_deadlines id (marked os)) (own_events id (marked os))) ≡ false)
-record_lawful id a os a_is on =
-    let parts = and_parts (is_none (decided id (marked os))) (not (is_shut id.conn (marked os))) on in
-    let going : Going id a (marked os) = (lawful id os a a_is).going (undecided (decided id (marked os)) parts.0) (unshut (is_shut id.conn (marked os)) parts.1) in (
-      rw (same_follow a (record_deadlines id (marked os)) (own_events id (marked os)) [] (own_events id (marked os)) ∙ going.follow (record_deadlines id (marked os)), going.early) refl,
-      ends_never (record_of a [] []) [] (own_events id (marked os)) (going.on []) refl,
-    )
-  where
-    undecided : (d : Option CallEvent) → is_none d ≡ true → d ≡ None
-    undecided None is = refl
-    undecided (Some e) is = absurd (cc)
-
-    unshut : (b : Bool) → not b ≡ true → b ≡ false
-    unshut false is = refl
-    unshut true is = absurd (cc)
-
 -- the record that is kept of a call
 pub record_kept : (id : CallId) (kept : CallRecord) (v : GatewayValue) (history : History)
-    (occurred : List Placed) → Served v history → Occurs v.plans history.opened history.events occurred → is_whole id.conn (shown v) ≡ true
+    (occurred : List Placed) → Served v history → Occurs v.plans history.opened history.events occurred
     → kept_record id v ≡ Some kept → (is_lawful kept ≡ true) × (is_decided kept ≡ false)
-record_kept id kept v history occurred h o whole kept_is = by_live (call_at id v.machine.calls).live refl
+record_kept id kept v history occurred h o kept_is = by_live (call_at id v.machine.calls).live refl
   where
     x : (lived : List Placed) × (by_events lived ≡ occurred) × Lives v history lived
     x = h.stands occurred o
@@ -187,3 +167,25 @@ record_kept id kept v history occurred h o whole kept_is = by_live (call_at id v
     by_live (Some l) l_is = subst (λ (r : CallRecord). (is_lawful r ≡ true) × (is_decided r ≡ false))
         (some_same (sym (ap (λ y. option_map (λ (z : Live). record_of z.asked z.deadlines z.events) y) l_is) ∙ kept_is))
         (lawful_now l (subst (λ y. MayLive id y (call_at id v.machine.calls).out (marked os)) l_is (x.2.stands.lives.calls_stand id).live_is))
+
+-- it is the record so far by what was lived
+pub record_lived : (id : CallId) (v : GatewayValue) (history : History) (lived : List Placed) → Lives v history lived → kept_record id v ≡ record_now id (marked (occurrences lived))
+record_lived id v history lived l = by_live (call_at id v.machine.calls).live (l.stands.lives.calls_stand id).live_is
+  where
+    past : Past
+    past = marked (occurrences lived)
+
+    none_now : (b : Bool) (a : Option ArrivedCall) → (is_some a && b) ≡ false
+        → None ≡ (if b then option_map (λ c. record_of c (branch_deadlines id past) (own_events id past)) a else None)
+    none_now true (Some c) dead = absurd (cc)
+    none_now true None dead = refl
+    none_now false a dead = refl
+
+    by_live : (k : Option Live) → MayLive id k (call_at id v.machine.calls).out past → option_map (λ (z : Live). record_of z.asked z.deadlines z.events) k ≡ record_now id past
+    by_live None dead = none_now (can_be_decided id past) (call id past) dead
+    by_live (Some k) s =
+        let on : can_be_decided id past ≡ true = rw (s.undecided, s.unshut) refl in
+        ap (λ ds. Some (record_of k.asked ds k.events)) s.deadlines_are
+        ∙ ap (λ es. Some (record_of k.asked (branch_deadlines id past) es)) s.events_are
+        ∙ sym (ap (λ (a : Option ArrivedCall). option_map (λ c. record_of c (branch_deadlines id past) (own_events id past)) a) s.call_is)
+        ∙ sym (ap (λ (b : Bool). if b then option_map (λ c. record_of c (branch_deadlines id past) (own_events id past)) (call id past) else None) on)

@@ -12,7 +12,7 @@ use Rattle.gateway_theory.specs.Conn.{ConnValue, state_of}
 use Rattle.gateway_theory.specs.Gateway.{GatewayValue, is_broken_conn, is_open_conn, shown, untaken_of}
 use Rattle.gateway_theory.specs.Served.{Lives, Served}
 use Rattle.gateway_theory.specs.Store.{call_at, conn_of}
-use Rattle.gateway_theory.specs.lemmas.KeptCalls.{outs_kept, outs_same, record_lawful}
+use Rattle.gateway_theory.specs.lemmas.KeptCalls.{outs_kept, outs_same, record_kept, record_lived}
 use Rattle.gateway_theory.specs.lemmas.LivedEnds.{in_conns}
 use Rattle.gateway_theory.specs.lemmas.Readings.{queue_is}
 
@@ -47,6 +47,7 @@ module _ (v : GatewayValue) (history : History) (occurred : List Placed) (h : Se
     queue_is = λ c there. queue_lived v history (h.stands occurred o).0 (h.stands occurred o).2 c there;
     jobs_are = (h.stands occurred o).2.stands.lives.jobs_are;
     outs_are = λ id. outs_same id (call_at id v.machine.calls).out (marked (occurrences (h.stands occurred o).0)) ((h.stands occurred o).2.stands.lives.calls_stand id).out_is;
-    records = λ id a a_is on. record_lawful id a (occurrences occurred) a_is on;
+    records_are = λ id. record_lived id v history (h.stands occurred o).0 (h.stands occurred o).2;
+    records = λ id r r_is. record_kept id r v history occurred h o r_is;
     limit = λ id a a_is. outs_kept id a v history occurred h o a_is;
   }

@@ -110,9 +110,6 @@ WasOrNew c v l os =
 
 module _ (v w : MachineValue) (os : List Occurrence) (orderly : IsOrderly v) (then_orderly : IsOrderly w) (conns : ConnsLive v.conns os)
     (back : (c : ℕ) (l : ConnValue) → conn_of c w.conns ≡ Some l → WasOrNew c v l os) where
-  abbrev pub broken_now : List ℕ
-  broken_now = newly_broken v.conns w.conns
-
   abbrev pub os_now : List Occurrence
   os_now = breaks_of (newly_broken v.conns w.conns) ++ os
 

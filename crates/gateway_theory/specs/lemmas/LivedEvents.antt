@@ -1,9 +1,9 @@
 -- What the gateway stands for after each occurrence at which nothing comes on a stream, and what is taken from it.
 use Rattle.std.proofs.Common.{◌≡◌, ℕ, suc, ◌+◌, ◌-◌, ◌≤◌, ◌<◌, Bool, true, false, List, [], ◌∷◌, ◌++◌, map, length, drop, Option, None, Some, refl, sym, ap, ◌∙◌, subst, arith, append_assoc, ⊎_elim, inl, inr, All}
-use Rattle.std.specs.Prelude.{⊤, ◌⊎◌, if◌then◌else◌, ◌==◌, ◌||◌, ◌&&◌, not, filter, is_some, option_map, option_to_list, slice_index_or}
+use Rattle.std.specs.Prelude.{⊤, ◌⊎◌, if◌then◌else◌, ◌==◌, ◌||◌, ◌&&◌, not, filter, option_map, option_to_list, slice_index_or}
 use Rattle.std.specs.Option.{option_map_or, option_or}
 use Rattle.std.proofs.lemmas.Bool.{cases_Bool, cond_both, eq-eqb, eqb-true}
-use Rattle.std.proofs.lemmas.List.{length-append, length-drop}
+use Rattle.std.proofs.lemmas.List.{length-drop}
 use Rattle.std.proofs.lemmas.List.Elements.{All-map}
 use Rattle.http_pieces.specs.Reader.{HasRead, Partial, reader_value}
 use Rattle.connect_codec.specs.declared.answer.Outcome.{Outcome}
@@ -15,22 +15,20 @@ use Rattle.gateway_model.specs.Past.{Past, breaks, is_broken, is_call, is_shut, 
 use Rattle.gateway_model.specs.declared.entry.ReplyEntry.{ReplyEntry}
 use Rattle.gateway_model.specs.declared.event.Event.{Event}
 use Rattle.gateway_model.specs.declared.id.CallId.{CallId}
-use Rattle.gateway_theory.specs.Arrivals.{calls_arrived}
-use Rattle.gateway_theory.specs.Breaks.{AfterBreaks, ConnStays}
+use Rattle.gateway_theory.specs.Breaks.{ConnStays}
 use Rattle.gateway_theory.specs.Conn.{ConnValue, conn_value, state_of, without_first}
 use Rattle.gateway_theory.specs.Ends.{AreApart, CallsEnd, EndsBy, is_broken_in}
 use Rattle.gateway_theory.specs.Gateway.{GatewayValue, HasCome, StreamValue, is_listening, new_stream, stream_of}
 use Rattle.gateway_theory.specs.GatewayLived.{ConnsLive, GatewayLives, NotYetOpened, newly_broken}
 use Rattle.gateway_theory.specs.Kept.{KeptValue}
-use Rattle.gateway_theory.specs.LiveStands.{CallStands, MayLive}
+use Rattle.gateway_theory.specs.LiveStands.{CallStands}
 use Rattle.gateway_theory.specs.Lived.{LivedStands, breaks_of, broken_one}
-use Rattle.gateway_theory.specs.Machine.{ConnState, MachineState, is_coming, new_conn}
+use Rattle.gateway_theory.specs.Machine.{ConnState}
 use Rattle.gateway_theory.specs.Opens.{JobTaken, ReplyTaken, closed_at, closed_from, closed_with, opened_as}
 use Rattle.gateway_theory.specs.Orderly.{ConnsApart, IsInOrder, IsOrderly}
 use Rattle.gateway_theory.specs.Replies.{ReplyValue}
 use Rattle.gateway_theory.specs.Results.{Forgets, ResultTaken, Starved, is_spent, without_call}
-use Rattle.gateway_theory.specs.Standing.{SlotsStand}
-use Rattle.gateway_theory.specs.Step.{CallState, call_state, gone}
+use Rattle.gateway_theory.specs.Step.{call_state, gone}
 use Rattle.gateway_theory.specs.Store.{MachineValue, broken_at, broken_conn, call_at, conn_at, conn_of, conn_state, given_up_if, hung_at, hung_if, machine, numbers}
 use Rattle.gateway_theory.specs.Task.{HandedJob}
 use Rattle.gateway_theory.specs.declared.fault.Took.{Took}
@@ -39,18 +37,17 @@ use Rattle.gateway_theory.specs.lemmas.Adding.{AreBreaks, MayBreak}
 use Rattle.gateway_theory.specs.lemmas.Cases.{and_false, or_none, or_true, sym_eqb}
 use Rattle.gateway_theory.specs.lemmas.GoingOn.{flipped}
 use Rattle.gateway_theory.specs.lemmas.Concerned.{BrokeBy, ends_by, failure, lived_concerns, result_by, starved_by}
-use Rattle.gateway_theory.specs.lemmas.EndLemmas.{just_broken, numbers_broken}
 use Rattle.gateway_theory.specs.lemmas.EndSteps.{ends_breaks}
 use Rattle.gateway_theory.specs.lemmas.EndingSteps.{goes_ended, goes_told}
 use Rattle.gateway_theory.specs.lemmas.FeedLemmas.{stream_added}
-use Rattle.gateway_theory.specs.lemmas.GatewaySteps.{Goes, NoCallOf, WasBefore, goes_broken, goes_forgotten, goes_listens, goes_result, goes_starved, goes_then, hung_listens, streams_go}
-use Rattle.gateway_theory.specs.lemmas.Growing.{Grew, grew_broken, grew_ended, grew_result, grew_starved}
+use Rattle.gateway_theory.specs.lemmas.GatewaySteps.{Goes, NoCallOf, WasBefore, goes_broken, goes_forgotten, goes_listens, goes_result, goes_starved, hung_listens, streams_go}
+use Rattle.gateway_theory.specs.lemmas.Growing.{Grew, grew_ended, grew_result, grew_starved}
 use Rattle.gateway_theory.specs.lemmas.LimitLemmas.{same_call}
 use Rattle.gateway_theory.specs.lemmas.LivedEnds.{WasOrNew, arrived_behind, back_of, broken_behind, conns_lives, event_lives, broken_in, broken_are_in, in_conns, listed_filter, machine_lives, newly_is, unshut_then}
 use Rattle.gateway_theory.specs.lemmas.LivedSteps.{listed, lived_alike, lived_break}
 use Rattle.gateway_theory.specs.lemmas.OpenSteps.{close_breaks, open_breaks, reply_handed}
-use Rattle.gateway_theory.specs.lemmas.OrderLemmas.{broken_order, closed_order, opened_order, same_given, some_same}
-use Rattle.gateway_theory.specs.lemmas.OrderSteps.{by_numbers, ends_order, result_order, starved_order}
+use Rattle.gateway_theory.specs.lemmas.OrderLemmas.{closed_order, opened_order, same_given, some_same}
+use Rattle.gateway_theory.specs.lemmas.OrderSteps.{ends_order, result_order, starved_order}
 use Rattle.gateway_theory.specs.lemmas.ResultSteps.{result_breaks}
 use Rattle.gateway_theory.specs.lemmas.StarvedSteps.{spent_gone, starved_breaks}
 use Rattle.gateway_theory.specs.lemmas.StoreLemmas.{call_given_up, conn_broken}
@@ -269,9 +266,6 @@ module _ (v w : GatewayValue) (texts : ℕ → List ℕ) (taken : ℕ → List R
       by_it other false x = rw x (l.lives.calls_stand other)
 
   module _ (id : CallId) (branch : ℕ) (u : MachineValue) (forgets : Forgets id u w.machine) (outcome : Outcome) where
-    between : GatewayValue
-    between = record w { machine = u }
-
     pub result_lives : (took : Took) → ResultTaken id branch outcome v.machine u took
         → GatewayLives w texts taken handed (Result id branch outcome ∷ (breaks_of (newly_broken v.machine.conns u.conns) ++ os))
     result_lives took r = forgotten_lives id u (Result id branch outcome ∷ (breaks_of (newly_broken v.machine.conns u.conns) ++ os)) forgets

@@ -20,7 +20,7 @@ use Rattle.gateway_theory.specs.Standing.{ConnStands, SlotsStand}
 use Rattle.gateway_theory.specs.Step.{CallState, call_state, has_out, kept, step}
 use Rattle.gateway_theory.specs.lemmas.Cases.{and_false, and_true, or_none, or_true}
 use Rattle.gateway_theory.specs.lemmas.GoingOn.{comes_on, elsewhere, flipped, next_of, other_goes}
-use Rattle.gateway_theory.specs.lemmas.EventStarts.{quiet_shut}
+use Rattle.gateway_theory.specs.lemmas.ShutConns.{quiet_shut}
 use Rattle.gateway_theory.specs.lemmas.GoingOn.{call_goes, conn_goes}
 use Rattle.gateway_theory.specs.lemmas.Frame.{none_start, out_after, unbroken}
 use Rattle.gateway_theory.specs.lemmas.LimitLemmas.{same_call}

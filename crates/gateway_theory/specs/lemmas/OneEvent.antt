@@ -1,10 +1,10 @@
 -- What one event more makes of the stream of a connection.
-use Rattle.std.proofs.Common.{◌≡◌, ℕ, suc, ◌<◌, ◌≤◌, Bool, true, false, List, [], ◌∷◌, ◌++◌, length, refl, sym, ap, ◌∙◌, arith, append-nil}
+use Rattle.std.proofs.Common.{◌≡◌, ℕ, suc, ◌<◌, ◌≤◌, Bool, true, false, List, [], ◌∷◌, ◌++◌, length, refl, ◌∙◌, arith, append-nil}
 use Rattle.std.specs.Prelude.{◌&&◌, ◌||◌, not, if◌then◌else◌}
 use Rattle.std.proofs.Math.Bool.{and-true, or-false}
 use Rattle.std.proofs.lemmas.Bool.{lt-ltb, le-ltb, eq-eqb, and_left, or_from}
 use Rattle.gateway_model.specs.declared.event.Event.{Event}
-use Rattle.gateway_model.specs.declared.event.Event.TheVariants.{Opening, Piece, HangUp, Moment, BranchResult, Drain, Closing}
+use Rattle.gateway_model.specs.declared.event.Event.TheVariants.{Opening, Piece, HangUp, Closing}
 use Rattle.gateway_model.specs.Events.{Before, connections, hung_up, is_closing_of, is_hang_up_of, is_open, is_opening, listens, piece_of, stream, succeeds}
 
 and_false : (b : Bool) → (b && false) ≡ false
@@ -92,11 +92,6 @@ pub born_open : (opened : List ℕ) (es : Before) → succeeds opened (length es
 born_open opened es succeeds_here =
     let c = connections opened es in
     rw (le-ltb c c (omega arith), succeeds_here) (lt-ltb c (suc c) (omega arith))
-
-pub born_listens : (opened : List ℕ) (es : Before) → succeeds opened (length es) ≡ true → listens opened (connections opened es) (Opening ∷ es) ≡ true
-born_listens opened es succeeds_here =
-    let c = connections opened es in
-    ap (λ b. b && not (hung_up opened c (Opening ∷ es))) (born_open opened es succeeds_here) ∙ ap (λ b. not b) (born_hung opened es)
 
 pub born_stream : (opened : List ℕ) (es : Before) → stream opened (connections opened es) (Opening ∷ es) ≡ []
 born_stream opened es =

@@ -1,16 +1,15 @@
 -- The machine is orderly between two occurrences.
-use Rattle.std.proofs.Common.{◌≡◌, ℕ, zero, suc, ◌+◌, ◌-◌, ◌≤◌, ◌<◌, ◌≢◌, Bool, true, false, List, [], ◌∷◌, ◌++◌, map, length, filter, drop, Option, None, Some, refl, sym, ap, ◌∙◌, subst, arith, ⊎_elim, append-nil, All}
+use Rattle.std.proofs.Common.{◌≡◌, ℕ, zero, suc, ◌+◌, ◌-◌, ◌<◌, ◌≢◌, Bool, true, false, List, [], ◌∷◌, ◌++◌, map, length, filter, drop, Option, None, Some, refl, sym, ap, ◌∙◌, subst, arith, ⊎_elim, append-nil, All}
 use Rattle.std.specs.Prelude.{if◌then◌else◌, not, ◌==◌, is_some, option_map, slice_set, slice_index_or}
 use Rattle.std.specs.Option.{option_or, option_map_or}
-use Rattle.std.proofs.lemmas.Bool.{cond_both, cases_Bool, cases_eq, cases_lt, eq-eqb, eqb-true}
+use Rattle.std.proofs.lemmas.Bool.{cond_both, cases_Bool, cases_eq, eq-eqb, eqb-true}
 use Rattle.std.proofs.lemmas.List.{get_or-set_same, get_or-set_other, length-set, length-map, length-append, length-drop, get_or_default}
 use Rattle.std.proofs.lemmas.List.Elements.{All-map, All-append}
-use Rattle.std.proofs.Math.ListN.{get_or-eq_default}
 use Rattle.std.proofs.lemmas.List.Kept.{AllPairs-filter}
 use Rattle.gateway_model.specs.declared.entry.ReplyEntry.{ReplyEntry}
 use Rattle.gateway_model.specs.declared.id.CallId.{CallId}
 use Rattle.gateway_theory.specs.Conn.{ConnValue, added, conn_value, next_of, without_first}
-use Rattle.gateway_theory.specs.Ends.{AreApart, IsSettled, is_broken_in}
+use Rattle.gateway_theory.specs.Ends.{AreApart}
 use Rattle.gateway_theory.specs.Enters.{entered_at, kept_now}
 use Rattle.gateway_theory.specs.Kept.{KeptValue}
 use Rattle.gateway_theory.specs.Opens.{closed_at, opened_as}
@@ -140,23 +139,6 @@ has_broken were_broken v h are = record {
       let c = live_open v id h.calls_are live in
       absurd (let clash : false ≡ true = sym c.2 ∙ are id.conn c.0 c.1 ∙ broken in cc));
 }
-
-pub settled : (v : MachineValue) → IsOrderly v → IsSettled v
-settled v h = record {
-  no_reply = λ j. by_place j (λ k. k.reply ≡ None) refl (λ k o. o.no_reply);
-  none_live = λ j. by_place j (λ k. is_broken_in k.id.conn v.conns ≡ true → k.call.live ≡ None) (λ _. refl)
-      (λ k o broken. none_live k.call.live (λ live.
-      let c = o.on_unbroken live in
-      absurd (let clash : false ≡ true = sym c.2 ∙ ap (λ x. option_map_or (λ (y : ConnValue). y.broken) x false) (sym c.1) ∙ broken in cc)));
-  has_conn = λ j. by_place j (λ k. is_some k.call.live ≡ true → is_some (conn_of k.id.conn v.conns) ≡ true) (λ e. absurd (cc))
-      (λ k o live. ap is_some (o.on_unbroken live).1);
-}
-  where
-    by_place : (j : ℕ) (P : KeptValue → Type 0) → P no_call → ((k : KeptValue) → IsInOrder v.conns k → P k) → P (kept_at j v.calls)
-    by_place j P none each = ⊎_elim
-        (λ (lt : j < length v.calls). each (kept_at j v.calls) (h.calls_are j no_call lt))
-        (λ (ge : length v.calls ≤ j). subst P (sym (get_or-eq_default v.calls no_call {n = j} ge)) none)
-        (cases_lt j (length v.calls))
 
 -- no call has the id of a connection's next request
 pub fresh_next : (i : ℕ) (v : MachineValue) → i < length v.conns → IsOrderly v → IsFound (next_of (conn_at i v.conns)) v.calls None

@@ -17,7 +17,7 @@ use Rattle.gateway_model.specs.Breaks.{by_events}
 use Rattle.gateway_model.specs.Starts.{Placed, jobs, jobs_by, occurrences}
 use Rattle.gateway_model.specs.declared.id.CallId.{CallId}
 use Rattle.gateway_theory.specs.lemmas.Frame.{call_same}
-use Rattle.gateway_theory.specs.lemmas.EventStarts.{shut_jobs}
+use Rattle.gateway_theory.specs.lemmas.ShutConns.{shut_jobs}
 use Rattle.gateway_model.specs.Past.{ArrivedCall, Mark, Past, arrivals, asked_by, asked_now, breaks, call, call_id, coming_now, coming_on, counts, decided, deciding, ends_at_arrival, event_by, is_broken, is_shut, mark_of, marked, now, own_event, shuts}
 use Rattle.gateway_model.specs.Queue.{IsPrefixOf, call_entry, came, entry, entry_by, front, own_events, queued_entries, record_deadlines}
 use Rattle.gateway_theory.specs.lemmas.Cases.{or_none}

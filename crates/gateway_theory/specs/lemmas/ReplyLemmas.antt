@@ -3,49 +3,11 @@ use Rattle.std.proofs.Common.{◌≡◌, ℕ, List, [], ◌∷◌, ◌++◌, ◌
 use Rattle.std.proofs.lemmas.List.{take_more, length-map}
 use Rattle.std.proofs.lemmas.List.FromFn.{length-range_with_len, map-range_with_len_more}
 use Rattle.std.specs.List.{range_with_len}
-use Rattle.std.specs.Prelude.{Option, None, Some, unwrap_or, option_and_then, option_map}
-use Rattle.std.specs.Option.{option_or, option_map_or}
-use Rattle.connect_codec.specs.Reply.{error_reply}
-use Rattle.gateway_model.specs.declared.ending.EndCause.{EndCause}
+use Rattle.std.specs.Prelude.{Option, None, Some, unwrap_or}
+use Rattle.std.specs.Option.{option_or}
 use Rattle.gateway_model.specs.declared.call_event.CallEvent.{CallEvent}
-use Rattle.gateway_model.specs.declared.call_event.CallEvent.TheVariants.{Answer}
-use Rattle.gateway_model.specs.CallRecord.{CallRecord, answer_in, answer_of_branch, answers_in, last_event}
-use Rattle.error_document.specs.declared.document.RpcError.{RpcError}
-use Rattle.gateway_model.specs.declared.reply_bytes.ReplyBytes.{ReplyBytes}
-use Rattle.gateway_model.specs.Reply.{reply_of}
-use Rattle.gateway_model.specs.Errors.{cause_error, error_of, cause_of, ending_error}
-use Rattle.gateway_theory.specs.Endings.{ending_with}
-use Rattle.gateway_model.specs.Queue.{call_reply}
-use Rattle.gateway_theory.specs.Replies.{joined_reply}
+use Rattle.gateway_model.specs.CallRecord.{answer_in, answer_of_branch, answers_in}
 use Rattle.gateway_theory.specs.lemmas.StandsLemmas.{answer_after}
-
--- the reply to a call by the error that its last event tells, if that tells one
-abbrev by_error : CallRecord → Option RpcError → ReplyBytes
-by_error r error =
-    option_map_or (λ error. reply_of (error_reply error r.last) r.last) error (reply_of (joined_reply r.plan r.events r.last) r.last)
-
-abbrev by_event : CallRecord → Option CallEvent → ReplyBytes
-by_event r event = by_error r (option_and_then (error_of r.plan) event)
-
--- the reply to a call is the connection's last where its record says so
-pub call_last : (r : CallRecord) → (call_reply r).last ≡ r.last
-call_last r = by (option_and_then (error_of r.plan) (last_event r.events))
-  where
-    by : (error : Option RpcError) → (by_error r error).last ≡ r.last
-    by None = refl
-    by (Some error) = refl
-
--- the reply to a call that an event ends is that ending's
-pub ended_reply : (r : CallRecord) (e : CallEvent) (why : EndCause) → last_event r.events ≡ Some e → cause_of r.plan e ≡ Some why
-    → (call_reply r).bytes ≡ error_reply (ending_error (ending_with why r.last)) r.last
-ended_reply r e why is_last is_why =
-    ap (λ (event : Option CallEvent). (by_event r event).bytes) is_last
-    ∙ ap (λ (trigger : Option EndCause). (by_error r (option_map cause_error trigger)).bytes) is_why
-
--- the reply to a call that an answer decides
-pub answered_reply : (r : CallRecord) (i : ℕ) (body : List ℕ) → last_event r.events ≡ Some (Answer i body)
-    → (call_reply r).bytes ≡ joined_reply r.plan r.events r.last
-answered_reply r i body is_last = ap (λ (event : Option CallEvent). (by_event r event).bytes) is_last
 
 -- of two answers of one branch the later one counts
 pub later_answer : (i : ℕ) (es : List CallEvent) (e : CallEvent)

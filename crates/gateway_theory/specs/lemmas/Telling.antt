@@ -1,11 +1,12 @@
 -- How a result is seen, and whether a job is wanted, by what was lived.
 use Rattle.std.proofs.Common.{◌≡◌, ℕ, Bool, true, false, List, Option, None, Some, refl, sym, ap, ◌∙◌}
-use Rattle.std.specs.Prelude.{◌&&◌, not, is_some, slice_index_or}
+use Rattle.std.specs.Prelude.{◌&&◌, not, is_some, option_map, slice_index_or}
 use Rattle.std.specs.Option.{option_map_or}
 use Rattle.gateway_model.specs.declared.id.CallId.{CallId}
 use Rattle.gateway_model.specs.declared.seen.Seen.{Seen}
 use Rattle.gateway_model.specs.Known.{is_whole}
 use Rattle.gateway_model.specs.Past.{Past, can_be_decided, how_seen, is_out, marked}
+use Rattle.gateway_model.specs.Queue.{record_of}
 use Rattle.gateway_model.specs.Starts.{occurrences}
 use Rattle.gateway_theory.specs.Breaks.{seen_by}
 use Rattle.gateway_theory.specs.Conn.{ConnValue}
@@ -62,9 +63,13 @@ module _ (id : CallId) (v : GatewayValue) (orderly : IsOrderly v.machine) where
       by_conn (Some k) k_is = broken_not_live v.machine (broken_in v.machine.conns) id (broken_are_in v.machine orderly)
           (on_not (is_broken_conn id.conn v) (sym (ap (λ x. is_some x && not (is_broken_conn id.conn v)) k_is) ∙ off))
 
+  recorded_live : (o : Option Live) → is_some o ≡ is_some (option_map (λ (l : Live). record_of l.asked l.deadlines l.events) o)
+  recorded_live None = refl
+  recorded_live (Some l) = refl
+
   pub wanted_told : (wanted : Bool) → wanted ≡ is_some c.live → IsWanted id v wanted
   wanted_told wanted kept = record {
-    kept = kept;
+    kept = kept ∙ recorded_live c.live;
     broken = λ off. kept ∙ ap (λ (l : Option Live). is_some l) (not_whole_not_live off);
     by_lived = λ history lived l. kept ∙ live_stands id (marked (occurrences lived)) c.live c.out (l.stands.lives.calls_stand id).live_is;
   }

@@ -1,7 +1,9 @@
-use Rattle.std.proofs.Common.{subst, sym}
+use Rattle.std.proofs.Common.{◌≡◌, ◌∙◌, Some, None, append-nil, inl, inr, subst, sym}
 use Rattle.gateway_replies.specs.Contexts.{KeepsOthers}
+use Rattle.gateway_replies.specs.Hooks.{CallsAtMost, LosesHook, called_on, ending_for}
 use Rattle.gateway_theory.specs.lemmas.Cases.{err_if}
 use Rattle.gateway_replies.proofs.ContextLemmas.{without_others}
+use Rattle.gateway_replies.proofs.HookLemmas.{gives_none, gives_told, ok_if}
 use Rattle.gateway_replies.proofs.decided.bytes_of.Goals as goal
 
 pub returns-in-Some-clause-others : goal.returns-in-Some-clause-others
@@ -11,3 +13,29 @@ returns-in-Some-clause-others g c =
 pub returns-in-None-clause-others : goal.returns-in-None-clause-others
 returns-in-None-clause-others g c =
     err_if c.joined.result (subst (KeepsOthers c.args.id.now.conn c.args.contexts.now.standing) (sym c.abandon.ensures.gone) (without_others c.args.id.now c.args.contexts.now.standing))
+
+pub returns-in-Some-clause-hook : goal.returns-in-Some-clause-hook
+returns-in-Some-clause-hook g c =
+    let told : Some c.in-Some.ending ≡ ending_for c.args.call.now = sym c.in-Some.is ∙ c.in_ok-ending.ensures in
+    ok_if c.end.result (subst (λ o. LosesHook c.args.id.now (called_on c.args.id.now o) c.args.contexts.now c.end.new.self) told c.end.ensures.hooks)
+
+pub returns-in-Some-clause-called : goal.returns-in-Some-clause-called
+returns-in-Some-clause-called g c =
+    gives_told g.H.Hook.gives c.args.id.now (ending_for c.args.call.now) c.in-Some.ending c.end.result c.args.contexts.now (sym c.in-Some.is ∙ c.in_ok-ending.ensures) c.end.ensures.called
+
+pub returns-in-Some-clause-once : goal.returns-in-Some-clause-once
+returns-in-Some-clause-once g c =
+    let told : Some c.in-Some.ending ≡ ending_for c.args.call.now = sym c.in-Some.is ∙ c.in_ok-ending.ensures in
+    err_if c.end.result (subst (λ o. CallsAtMost (called_on c.args.id.now o) c.args.contexts.now.called c.end.new.self.called) told (inr c.end.ensures.hooks.called_are))
+
+pub returns-in-None-clause-hook : goal.returns-in-None-clause-hook
+returns-in-None-clause-hook g c =
+    let told : None ≡ ending_for c.args.call.now = sym c.in-None.is ∙ c.in_ok-ending.ensures in
+    ok_if c.joined.result (subst (λ o. LosesHook c.args.id.now (called_on c.args.id.now o) c.args.contexts.now c.abandon.new.self) told c.abandon.ensures.hooks)
+
+pub returns-in-None-clause-called : goal.returns-in-None-clause-called
+returns-in-None-clause-called g c =
+    gives_none g.H.Hook.gives c.args.id.now (ending_for c.args.call.now) c.joined.result c.args.contexts.now (sym c.in-None.is ∙ c.in_ok-ending.ensures)
+
+pub returns-in-None-clause-once : goal.returns-in-None-clause-once
+returns-in-None-clause-once g c = err_if c.joined.result (inl (c.abandon.ensures.hooks.called_are ∙ append-nil c.args.contexts.now.called))

@@ -12,7 +12,7 @@ pub returns-clause-queued : goal.returns-clause-queued
 returns-clause-queued c = λ a b conn e. ap (λ os. queued conn (marked os)) e
 
 pub returns-clause-starts : goal.returns-clause-starts
-returns-clause-starts c = λ a b e. c.event_law.ensures.jobs a ∙ ap (λ os. jobs (marked os)) e ∙ sym (c.event_law.ensures.jobs b)
+returns-clause-starts c = λ a b e. c.starts_law.ensures a ∙ ap (λ os. jobs (marked os)) e ∙ sym (c.starts_law.ensures b)
 
 pub returns-clause-shifts : goal.returns-clause-shifts
 returns-clause-shifts c = is_shifted

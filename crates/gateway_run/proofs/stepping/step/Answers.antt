@@ -3,13 +3,13 @@ use Rattle.std.proofs.Common.{◌∙◌, true, false, refl, [], ◌∷◌, lengt
 use Rattle.gateway_model.specs.Events.{is_closing_of, most_open, open_connections}
 use Rattle.gateway_model.specs.declared.event.Event.TheVariants.{BranchResult, Closing, Drain, HangUp, Moment, Opening, Piece}
 use Rattle.gateway_theory.specs.Served.{Adds, Served}
-use Rattle.gateway_theory.specs.Told.{TellsTook}
+use Rattle.gateway_theory.specs.Told.{BeginsWithin, TellsTook}
 use Rattle.gateway_theory.specs.Serving.{KeepsBut, TellsStep}
 use Rattle.gateway_model.specs.Past.{call_id}
 use Rattle.gateway_model.specs.History.{History, after_event}
 use Rattle.gateway_run.specs.Stepping.{AddsStep, Tells, TellsBreaks, TellsConn, TellsOpening, after_step, seen_in}
 use Rattle.gateway_run.specs.declared.stepping.Stepped.TheVariants.{Done, Saw}
-use Rattle.gateway_run.proofs.Starting.{breaks_told, by_done, by_opening, by_taken, conn_told, few_told, keeps_closing, keeps_for, none_begins, none_done, none_opening, none_taken, opening_told}
+use Rattle.gateway_run.proofs.Starting.{begins_told, breaks_told, by_done, by_opening, by_taken, conn_told, few_told, keeps_closing, keeps_for, none_done, none_opening, none_taken, opening_told}
 use Rattle.gateway_run.proofs.stepping.step.Goals as goal
 
 pub returns-in-Some-clause-stands : goal.returns-in-Some-clause-stands
@@ -92,13 +92,16 @@ returns-in-Closing-clause-adds g c = subst (λ e. (history : History) → Adds h
     (λ history. subst (λ n. Adds history.opened (Closing n) history c.args.core.now c.close.new.self) c.of-in-Closing.ensures (c.close.ensures.adds history))
 
 pub returns-in-Piece-clause-tells : goal.returns-in-Piece-clause-tells
-returns-in-Piece-clause-tells g c = subst (λ e. Tells e c.done.result c.args.core.now c.deliver.new.core) (sym c.in-Piece.is)
-    (subst (λ s. TellsConn c.in-Piece.conn s c.args.core.now c.deliver.new.core) (sym c.done.ensures) (conn_told _ c.in-Piece.conn c.deliver.result c.deliver.new.core c.args.core.now (subst (λ n. TellsStep n c.args.core.now c.deliver.new.core c.deliver.result) c.of.ensures c.deliver.ensures.tells)))
+returns-in-Piece-clause-tells g c = subst (λ e. Tells e c.done.result c.args.core.now c.deliver.new.core) (sym c.in-Piece.is) (
+  subst (λ s. TellsConn c.in-Piece.conn s c.args.core.now c.deliver.new.core) (sym c.done.ensures) (conn_told _ c.in-Piece.conn c.deliver.result c.deliver.new.core c.args.core.now (subst (λ n. TellsStep n c.args.core.now c.deliver.new.core c.deliver.result) c.of.ensures c.deliver.ensures.tells)),
+  λ is. subst (λ n. BeginsWithin n c.in-Piece.bytes c.args.core.now) c.of.ensures
+      (subst (λ bytes. BeginsWithin c.of.result bytes c.args.core.now) c.as_slice.ensures (begins_told _ c.deliver.result c.deliver.ensures.begins (sym c.done.ensures ∙ is))),
+)
 
 pub returns-in-HangUp-clause-tells : goal.returns-in-HangUp-clause-tells
 returns-in-HangUp-clause-tells g c = subst (λ e. Tells e c.done-in-HangUp.result c.args.core.now c.hang_up.new.self) (sym c.in-HangUp.is) (
   subst (λ s. TellsConn c.in-HangUp.conn s c.args.core.now c.hang_up.new.self) (sym c.done-in-HangUp.ensures) (conn_told _ c.in-HangUp.conn c.hang_up.result c.hang_up.new.self c.args.core.now (subst (λ n. TellsStep n c.args.core.now c.hang_up.new.self c.hang_up.result) c.of-in-HangUp.ensures c.hang_up.ensures.tells)),
-  λ is. none_begins c.hang_up.result c.hang_up.ensures.begins (sym c.done-in-HangUp.ensures ∙ is),
+  λ is. begins_told ⊥ c.hang_up.result c.hang_up.ensures.begins (sym c.done-in-HangUp.ensures ∙ is),
 )
 
 pub returns-in-Moment-clause-tells : goal.returns-in-Moment-clause-tells

@@ -1,5 +1,6 @@
-use Rattle.std.proofs.Common.{◌≡◌, ◌∙◌, length, sym, ap, subst}
+use Rattle.std.proofs.Common.{◌≡◌, ◌∙◌, length, map, sym, ap, subst}
 use Rattle.std.specs.Prelude.{nat_lt}
+use Rattle.gateway_theory.specs.Task.{HandedJob}
 use Rattle.gateway_run.specs.Log.{HasRun, LogValue, log_value}
 use Rattle.gateway_model.specs.Run.{newest_first}
 use Rattle.gateway_run.proofs.Finally.{run_first, run_is}
@@ -9,7 +10,7 @@ pub returns : goal.returns
 returns g c =
     let es = newest_first c.args.events.items in
     let count = length c.take_events.new.log.opened in
-    let log : LogValue = log_value c.log-2.inside.opened.items c.log-2.inside.queued.items c.log-2.inside.broke.items c.log-2.inside.starts.items in
+    let log : LogValue = log_value c.log-2.inside.opened.items c.log-2.inside.queued.items c.log-2.inside.broke.items c.log-2.inside.starts.items (map (λ (j : HandedJob). j.job) c.log-2.inside.jobs.items) in
     let h : HasRun (λ n. nat_lt n count) c.collect_all.new.core log es =
     subst (λ l. HasRun (λ n. nat_lt n count) c.collect_all.new.core l es) (sym c.log-2.view_is)
     (c.in_ok-collect_all.ensures.ran es (c.in_ok-take_events.ensures.ran (run_first c.in_ok-core.core c.new-log.result c.in_ok-core.ensures.stands c.in_ok-core.ensures.lives c.new-log.ensures))) in

@@ -1,5 +1,4 @@
 use Rattle.std.proofs.Common.{◌∷◌, ◌++◌, []}
-use Rattle.gateway_theory.specs.lemmas.CutLemmas.{listens_same}
 use Rattle.gateway_theory.specs.lemmas.LaterOpenings.{same_count, same_openings}
 use Rattle.gateway_theory.specs.lemmas.ServedOpens.{shrunk}
 use Rattle.gateway_theory.specs.lemmas.ServedOpens.{grown, occurs_before}
@@ -13,6 +12,5 @@ returns c = record {
   );
   connections = λ opened place es below le. (same_openings opened place es below le).connections_are;
   is_open = λ opened place es below le. (same_openings opened place es below le).open_is;
-  listens = λ opened place es below le c. listens_same opened (opened ++ place ∷ []) es es c (same_openings opened place es below le);
   open_connections = same_count;
 }

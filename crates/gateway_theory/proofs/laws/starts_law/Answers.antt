@@ -1,5 +1,5 @@
-use Rattle.gateway_theory.specs.lemmas.PlacesOfStarts.{starts_at, jobs_in_order}
+use Rattle.gateway_theory.specs.lemmas.CutLemmas.{jobs_of_starts}
 use Rattle.gateway_theory.proofs.laws.starts_law.Goals as goal
 
 pub returns : goal.returns
-returns c = record { at_place = starts_at; in_order = jobs_in_order }
+returns c = jobs_of_starts

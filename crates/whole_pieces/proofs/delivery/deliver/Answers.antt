@@ -1,8 +1,9 @@
 use Rattle.std.specs.Prelude.{◌==◌}
 use Rattle.std.proofs.Common.{drop}
-use Rattle.whole_pieces.proofs.PieceParts.{all_rest, begun, counts_then, empty_rest, fault_tells, fed_fault, fed_on, fed_whole, from_err, listening_ok, keeps_then, whole_tells}
+use Rattle.whole_pieces.proofs.PieceParts.{all_rest, begins_within, begun, counts_then, empty_rest, fault_same, fault_tells, fed_fault, fed_on, fed_whole, from_err, listening_ok, keeps_then, whole_tells}
 use Rattle.gateway_model.specs.declared.event.Event.TheVariants.{Piece}
 use Rattle.gateway_theory.specs.lemmas.Adding.{served_event}
+use Rattle.gateway_theory.specs.declared.fault.StepFault.TheVariants.{Exhausted}
 use Rattle.whole_pieces.proofs.delivery.deliver.Goals as goal
 
 pub loop-taken-init : goal.loop-taken-init
@@ -35,6 +36,12 @@ pub returns-in_err-taken-clause-tells : goal.returns-in_err-taken-clause-tells
 returns-in_err-taken-clause-tells g c =
     fault_tells c.args.conn c.args.core.now c.loop-taken.core c.feed.new.self c.feed.result c.from_residual.result c.in_err-taken.field-0.0 c.loop-taken.invariant.listening c.in_err-taken.was
     (from_err c.from_residual.result c.in_err-taken.field-0.0 c.from_residual.ensures.0 c.from_residual.ensures.1) c.feed.ensures.tells
+
+pub returns-in_err-taken-clause-begins : goal.returns-in_err-taken-clause-begins
+returns-in_err-taken-clause-begins g c = λ e.
+    begins_within c.args.conn c.args.piece.now c.loop-taken.rest.now c.args.core.now c.loop-taken.core c.loop-taken.invariant
+    (c.feed.ensures.begins (fault_same c.feed.result c.from_residual.result c.in_err-taken.field-0.0 Exhausted c.in_err-taken.was
+    (from_err c.from_residual.result c.in_err-taken.field-0.0 c.from_residual.ensures.0 c.from_residual.ensures.1) e))
 
 pub returns-then-is_empty-clause-tells : goal.returns-then-is_empty-clause-tells
 returns-then-is_empty-clause-tells g c =

@@ -1,7 +1,8 @@
-use Rattle.std.proofs.Common.{[], refl, arith, false, true, ◌∷◌}
+use Rattle.std.proofs.Common.{[], refl, arith, false, subst}
 use Rattle.gateway_model.specs.declared.event.Event.TheVariants.{Piece}
 use Rattle.backend_pool.proofs.BookLemmas.{reached_by, takes_event, core_keeps}
 use Rattle.std.specs.Prelude.{◌==◌}
+use Rattle.backend_pool.specs.Book.{BookValue, TellsPiece}
 use Rattle.backend_pool.proofs.book.Book.piece.Goals as goal
 
 pub invariant_of-self : goal.invariant_of-self
@@ -20,3 +21,8 @@ pub returns-clause-keeps : goal.returns-clause-keeps
 returns-clause-keeps g c =
     let book = c.self.inside in
     core_keeps (λ n. false) (λ n. n == c.args.conn) [] c.args.self.now book.core c.deliver.new.core book.bytes book.jobs book.results c.self.view_is c.deliver.ensures.keeps
+
+pub returns-clause-tells : goal.returns-clause-tells
+returns-clause-tells g c =
+    subst (λ (x : BookValue). TellsPiece c.args.conn c.args.bytes.now x.core c.deliver.new.core c.deliver.result) c.self.view_is
+    (record { step = c.deliver.ensures.tells; begins = c.deliver.ensures.begins })

@@ -1,6 +1,9 @@
 use Rattle.std.proofs.Common.{◌≡◌}
+use Rattle.loop_model.specs.Growing.{Grows}
+use Rattle.gateway_loop.specs.Clients.{MakesSteps}
 use Rattle.gateway_loop.proofs.client.Client.write.Given as goal
 
--- the plans stay
+-- steps were made
 abbrev pub invariant-loop-write : goal.invariant-loop-write
-invariant-loop-write g l = l.core.plans ≡ l.initial.core.plans
+invariant-loop-write g l =
+    MakesSteps l.fn.core l.core l.fn.self l.self × Grows l.fn.self l.self × (g.N.Network.told l.net ≡ g.N.Network.told l.fn.net)

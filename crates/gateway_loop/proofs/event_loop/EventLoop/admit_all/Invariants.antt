@@ -1,6 +1,7 @@
-use Rattle.std.proofs.Common.{◌≡◌}
+use Rattle.gateway_loop.specs.Loop.{Goes, TellsLoop}
 use Rattle.gateway_loop.proofs.event_loop.EventLoop.admit_all.Given as goal
 
--- the plans stay
+-- it only went on
 abbrev pub invariant-loop-stream : goal.invariant-loop-stream
-invariant-loop-stream g l = l.self.core.plans ≡ l.initial.self.core.plans
+invariant-loop-stream g l =
+    Goes l.fn.self l.self × TellsLoop (g.N.Network.told l.fn.net) (g.N.Network.told l.net) l.fn.self l.self

@@ -1,6 +1,7 @@
-use Rattle.std.proofs.Common.{◌≡◌}
+use Rattle.gateway_loop.specs.Loop.{Goes, TellsLoop}
 use Rattle.gateway_loop.proofs.event_loop.EventLoop.expire.Given as goal
 
--- the plans stay
+-- it only went on
 abbrev pub invariant-loop-timer : goal.invariant-loop-timer
-invariant-loop-timer g l = l.self.core.plans ≡ l.initial.self.core.plans
+invariant-loop-timer g l =
+    Goes l.fn.self l.self × TellsLoop (g.N.Network.told l.fn.net) (g.N.Network.told l.net) l.fn.self l.self

@@ -1,6 +1,8 @@
 use Rattle.std.proofs.Common.{◌≡◌}
+use Rattle.gateway_loop.specs.Loop.{Goes}
 use Rattle.gateway_loop.proofs.event_loop.EventLoop.give_up_all.Given as goal
 
--- the plans stay
+-- it only went on
 abbrev pub invariant-loop-place : goal.invariant-loop-place
-invariant-loop-place g l = l.self.core.plans ≡ l.initial.self.core.plans
+invariant-loop-place g l =
+    Goes l.fn.self l.self × (l.self.side.told ≡ l.fn.self.side.told)

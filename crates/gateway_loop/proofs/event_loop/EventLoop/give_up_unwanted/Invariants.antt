@@ -1,6 +1,8 @@
 use Rattle.std.proofs.Common.{◌≡◌}
+use Rattle.gateway_loop.specs.Loop.{Goes}
 use Rattle.gateway_loop.proofs.event_loop.EventLoop.give_up_unwanted.Given as goal
 
--- the plans stay
+-- it only went on
 abbrev pub invariant-loop-exchange : goal.invariant-loop-exchange
-invariant-loop-exchange g l = l.self.core.plans ≡ l.initial.self.core.plans
+invariant-loop-exchange g l =
+    Goes l.fn.self l.self × (l.self.side.told ≡ l.fn.self.side.told)

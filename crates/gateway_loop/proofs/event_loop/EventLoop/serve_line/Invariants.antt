@@ -1,6 +1,7 @@
-use Rattle.std.proofs.Common.{◌≡◌}
+use Rattle.gateway_loop.specs.Loop.{Goes, TellsLoop}
 use Rattle.gateway_loop.proofs.event_loop.EventLoop.serve_line.Given as goal
 
--- the plans stay
+-- it only went on
 abbrev pub invariant-loop-token : goal.invariant-loop-token
-invariant-loop-token g l = l.self.core.plans ≡ l.initial.self.core.plans
+invariant-loop-token g l =
+    Goes l.fn.self l.self × TellsLoop (g.N.Network.told l.fn.net) (g.N.Network.told l.net) l.fn.self l.self

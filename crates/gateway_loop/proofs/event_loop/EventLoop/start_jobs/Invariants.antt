@@ -1,6 +1,7 @@
-use Rattle.std.proofs.Common.{◌≡◌}
+use Rattle.gateway_loop.specs.Loop.{Goes, TellsLoop}
 use Rattle.gateway_loop.proofs.event_loop.EventLoop.start_jobs.Given as goal
 
--- the plans stay
+-- it only went on
 abbrev pub invariant-loop-start : goal.invariant-loop-start
-invariant-loop-start g l = l.self.core.plans ≡ l.initial.self.core.plans
+invariant-loop-start g l =
+    Goes l.fn.self l.self × TellsLoop (g.N.Network.told l.fn.net) (g.N.Network.told l.net) l.fn.self l.self

@@ -1,10 +1,12 @@
-use Rattle.std.proofs.Common.{◌≡◌}
+use Rattle.gateway_loop.specs.Loop.{Goes, TellsLoop}
 use Rattle.gateway_loop.proofs.event_loop.EventLoop.take_found.Given as goal
 
--- the plans stay
+-- it only went on
 abbrev pub invariant-loop-name : goal.invariant-loop-name
-invariant-loop-name g l = l.self.core.plans ≡ l.initial.self.core.plans
+invariant-loop-name g l =
+    Goes l.fn.self l.self × TellsLoop (g.N.Network.told l.fn.net) (g.N.Network.told l.net) l.fn.self l.self
 
--- the plans stay
+-- it only went on
 abbrev pub invariant-loop-place : goal.invariant-loop-place
-invariant-loop-place g l = l.self.core.plans ≡ l.initial.self.core.plans
+invariant-loop-place g l =
+    Goes l.fn.self l.self × TellsLoop (g.N.Network.told l.fn.net) (g.N.Network.told l.net) l.fn.self l.self

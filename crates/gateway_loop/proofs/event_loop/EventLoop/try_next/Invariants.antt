@@ -1,6 +1,7 @@
-use Rattle.std.proofs.Common.{◌≡◌}
+use Rattle.gateway_loop.specs.Loop.{Goes, TellsLoop}
 use Rattle.gateway_loop.proofs.event_loop.EventLoop.try_next.Given as goal
 
--- the plans stay
+-- it only went on
 abbrev pub invariant-loop-address : goal.invariant-loop-address
-invariant-loop-address g l = l.self.core.plans ≡ l.initial.self.core.plans
+invariant-loop-address g l =
+    Goes l.fn.self l.self × TellsLoop (g.N.Network.told l.fn.net) (g.N.Network.told l.net) l.fn.self l.self

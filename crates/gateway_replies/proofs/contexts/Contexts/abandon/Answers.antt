@@ -1,4 +1,4 @@
-use Rattle.std.proofs.Common.{◌≡◌, ◌∙◌, Some, ap, sym}
+use Rattle.std.proofs.Common.{◌≡◌, ◌∙◌, [], Some, ap, append-nil, sym}
 use Rattle.std.specs.Arc.{arc_value}
 use Rattle.call_contexts.specs.Standing.{WithHooks}
 use Rattle.gateway_replies.specs.Contexts.{ctx_for}
@@ -37,6 +37,6 @@ returns g c =
       gone =
           left_value arc_value (peer_ties c.self.inside.peers.items) c.self.inside.lives.items c.remove_life.new.lives.items c.self.inside.contexts.standing c.abandon.new.self.standing c.args.self.now.standing
           c.args.id.now c.in-Some.ctx c.remove_life.ensures (ap (λ (v : WithHooks _ _ _). v.standing) c.abandon.ensures) c.self.invariant.0 c.apart_law.ensures.apart at (ap (λ (u : HookedContexts _). u.standing) c.self.view_is);
-      hooks = drops_one c.args.self.now _ _ c.self.inside.peers.items (peer_ties c.self.inside.peers.items) c.self.inside.lives.items c.remove_life.new.lives.items c.self.inside.contexts.standing.calls c.self.inside.contexts.hooks
-          c.abandon.new.self.hooks c.args.id.now c.in-Some.ctx c.self.view_is c.self.invariant.0.calls_are c.apart_law.ensures.apart c.self.invariant.0.calls_apart c.self.invariant.1 at c.remove_life.ensures (ap (λ (v : WithHooks _ _ _). v.hooks) c.abandon.ensures);
+      hooks = drops_one [] c.args.self.now _ _ c.self.inside.peers.items (peer_ties c.self.inside.peers.items) c.self.inside.lives.items c.remove_life.new.lives.items c.self.inside.contexts.standing.calls c.self.inside.contexts.hooks
+          c.abandon.new.self.hooks c.args.id.now c.in-Some.ctx c.self.view_is c.self.invariant.0.calls_are c.apart_law.ensures.apart c.self.invariant.0.calls_apart c.self.invariant.1 at c.remove_life.ensures (ap (λ (v : WithHooks _ _ _). v.hooks) c.abandon.ensures) (sym (append-nil _));
     }

@@ -12,6 +12,7 @@ loop-index-preserved g c = (
   sheds_more c.args.number c.loop-index._index c.args.self.now.standing c.loop-index.self.standing c.abandon_first.new.self.standing c.loop-index.invariant.0 c.abandon_first.ensures.gone,
   c.abandon_first.ensures.stocks ∙ c.loop-index.invariant.1,
   c.abandon_first.ensures.hooks ∙ c.loop-index.invariant.2,
+  c.abandon_first.ensures.called ∙ c.loop-index.invariant.3,
 )
 
 pub returns-clause-gone : goal.returns-clause-gone

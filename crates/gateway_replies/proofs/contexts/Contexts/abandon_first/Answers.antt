@@ -1,4 +1,4 @@
-use Rattle.std.proofs.Common.{◌≡◌, ◌∙◌, Some, None, ap, refl, sym}
+use Rattle.std.proofs.Common.{◌≡◌, ◌∙◌, Some, None, ap, append-nil, refl, sym}
 use Rattle.std.specs.Arc.{arc_value}
 use Rattle.gateway_replies.specs.Contexts.{ContextsValue, first_life, first_of, without_first}
 use Rattle.gateway_replies.specs.Hooks.{HookedContexts, hooks_of_others}
@@ -17,6 +17,7 @@ returns-in_default g c =
           sym (ap (λ o. without_first o c.args.self.now.standing) is);
       stocks = refl;
       hooks = refl;
+      called = refl;
     }
 
 pub returns : goal.returns
@@ -30,4 +31,5 @@ returns g c =
       stocks = c.abandon.ensures.hooks.stocks_are;
       hooks = ap (hooks_of_others c.args.number) c.abandon.ensures.hooks.hooks_are ∙ same_hooks c.args.number c.in-Some.id c.args.self.now.hooks
           (first_of_it c.args.number (life_ties c.self.inside.lives.items) c.in-Some.id (ap (λ ls. first_of c.args.number (life_ties ls)) (sym c.deref.ensures.value) ∙ sym c.first_call.ensures ∙ c.in-Some.is));
+      called = c.abandon.ensures.hooks.called_are ∙ append-nil c.args.self.now.called;
     }

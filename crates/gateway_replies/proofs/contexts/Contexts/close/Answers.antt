@@ -11,5 +11,6 @@ returns g c =
       hooks = record {
         stocks_are = c.let_go.ensures.hooks.stocks_are ∙ ap (filter (λ s. not (s.0 == c.args.number))) c.abandon_all.ensures.stocks;
         hooks_are = c.let_go.ensures.hooks.hooks_are ∙ c.abandon_all.ensures.hooks;
+        called_are = c.let_go.ensures.hooks.called_are ∙ c.abandon_all.ensures.called;
       };
     }

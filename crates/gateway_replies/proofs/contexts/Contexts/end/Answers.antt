@@ -1,4 +1,4 @@
-use Rattle.std.proofs.Common.{◌≡◌, ◌∙◌, Some, true, false, ap, sym, is_some}
+use Rattle.std.proofs.Common.{◌≡◌, ◌∙◌, ◌∷◌, [], Some, true, false, ap, sym, is_some}
 use Rattle.std.specs.Arc.{arc_value}
 use Rattle.call_contexts.specs.Standing.{WithHooks}
 use Rattle.gateway_replies.specs.Contexts.{ctx_for, is_life}
@@ -45,8 +45,8 @@ pub returns-clause-hooks : goal.returns-clause-hooks
 returns-clause-hooks g c =
     let at : ctx_for c.args.id.now (life_ties c.self.inside.lives.items) ≡ Some c.in-Some.ctx =
     ap (λ ls. ctx_for c.args.id.now (life_ties ls)) (sym c.deref.ensures.value) ∙ sym c.ctx_for.ensures ∙ c.in-Some.is in
-    drops_one c.args.self.now _ _ c.self.inside.peers.items (peer_ties c.self.inside.peers.items) c.self.inside.lives.items c.remove_life.new.lives.items c.self.inside.contexts.standing.calls c.self.inside.contexts.hooks
-    c.end.new.self.hooks c.args.id.now c.in-Some.ctx c.self.view_is c.self.invariant.0.calls_are c.apart_law.ensures.apart c.self.invariant.0.calls_apart c.self.invariant.1 at c.remove_life.ensures (ap (λ (v : WithHooks _ _ _). v.hooks) c.end.ensures.left)
+    drops_one ((c.args.id.now, c.args.ending) ∷ []) c.args.self.now _ _ c.self.inside.peers.items (peer_ties c.self.inside.peers.items) c.self.inside.lives.items c.remove_life.new.lives.items c.self.inside.contexts.standing.calls c.self.inside.contexts.hooks
+    c.end.new.self.hooks c.args.id.now c.in-Some.ctx c.self.view_is c.self.invariant.0.calls_are c.apart_law.ensures.apart c.self.invariant.0.calls_apart c.self.invariant.1 at c.remove_life.ensures (ap (λ (v : WithHooks _ _ _). v.hooks) c.end.ensures.left) c.and-self-inside.ensures
 
 pub returns-clause-called : goal.returns-clause-called
 returns-clause-called g c = λ hook its.

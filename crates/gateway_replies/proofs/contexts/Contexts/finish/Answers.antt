@@ -17,7 +17,7 @@ returns-in_default g c =
           (no_life arc_value (peer_ties c.self.inside.peers.items) (life_ties c.self.inside.lives.items) c.self.inside.contexts.standing c.args.self.now.standing
           c.args.id.now c.self.invariant.0 (ap (λ (u : HookedContexts _). u.standing) c.self.view_is)
           (ap (λ ls. ctx_for c.args.id.now (life_ties ls)) (sym c.deref.ensures.value) ∙ sym c.ctx_for.ensures ∙ c.in_default.is));
-      hooks = record { stocks_are = refl; hooks_are = refl };
+      hooks = record { stocks_are = refl; hooks_are = refl; called_are = refl };
     }
 
 pub invariant_of-self : goal.invariant_of-self

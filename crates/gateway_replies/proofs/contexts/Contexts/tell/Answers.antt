@@ -80,5 +80,5 @@ returns-in_default g c =
           untold_value arc_value (peer_ties c.self.inside.peers.items) (life_ties c.self.inside.lives.items) c.self.inside.contexts.standing c.args.self.now.standing c.in-HungUp.number c.self.invariant.0
           (ap (λ ps. ctx_of c.in-HungUp.number (peer_ties ps)) (sym c.deref.ensures.value) ∙ sym c.ctx_of.ensures ∙ c.in_default.is) (ap (λ (u : HookedContexts _). u.standing) c.self.view_is)
           ∙ sym (ap (λ (k : Trigger). told k c.args.self.now.standing) c.in-HungUp.is);
-      hooks = record { stocks_are = refl; hooks_are = refl };
+      hooks = record { stocks_are = refl; hooks_are = refl; called_are = refl };
     }

@@ -1,5 +1,7 @@
 use Rattle.std.proofs.Common.{◌≡◌, ◌∷◌, ◌++◌, [], map, sym, ap, ◌∙◌, append-nil, append_assoc}
+use Rattle.std.proofs.lemmas.List.{map-append}
 use Rattle.gateway_model.specs.declared.id.CallId.{CallId}
+use Rattle.gateway_theory.specs.Task.{HandedJob}
 use Rattle.gateway_run.specs.Log.{LogValue}
 use Rattle.gateway_run.specs.Log.{start_at}
 use Rattle.gateway_run.proofs.Starting.{all_started, log_same, one_started}
@@ -19,6 +21,11 @@ loop-job-preserved g c = record {
       ap (λ xs. xs ++ map (start_at c.args.event) c.take_job.new.self.machine.jobs) (c.in_ok-push.ensures.items ∙ ap (λ s. c.loop-job.self-inside.starts.items ++ s ∷ []) start_is)
       ∙ append_assoc c.loop-job.self-inside.starts.items (start_at c.args.event c.in-Some.job.job ∷ []) (map (start_at c.args.event) c.take_job.new.self.machine.jobs)
       ∙ ap (λ js. c.loop-job.self-inside.starts.items ++ map (start_at c.args.event) js) (sym c.in-Some.ensures.first) ∙ c.loop-job.invariant.starts_are;
+  jobs_are =
+      ap (λ xs. map (λ (j : HandedJob). j.job) xs ++ c.take_job.new.self.machine.jobs) c.in_ok-push-2.ensures.items
+      ∙ ap (λ xs. xs ++ c.take_job.new.self.machine.jobs) (map-append (λ (j : HandedJob). j.job) c.loop-job.self-inside.jobs.items (c.in-Some.job ∷ []))
+      ∙ append_assoc (map (λ (j : HandedJob). j.job) c.loop-job.self-inside.jobs.items) (c.in-Some.job.job ∷ []) c.take_job.new.self.machine.jobs
+      ∙ ap (λ js. map (λ (j : HandedJob). j.job) c.loop-job.self-inside.jobs.items ++ js) (sym c.in-Some.ensures.first) ∙ c.loop-job.invariant.jobs_are;
 }
 
 pub returns : goal.returns
@@ -34,5 +41,7 @@ returns g c =
           log_same (ap (λ v. v.items) c.loop-job.invariant.opened_is) (ap (λ v. v.items) c.loop-job.invariant.queued_is) (ap (λ v. v.items) c.loop-job.invariant.broke_is)
           (sym (append-nil c.loop-job.self-inside.starts.items)
           ∙ ap (λ js. c.loop-job.self-inside.starts.items ++ map (start_at c.args.event) js) (sym (c.take_job.ensures.none c.in_default.is)) ∙ c.loop-job.invariant.starts_are)
-          ∙ ap (λ (l : LogValue). record l { starts = l.starts ++ map (start_at c.args.event) c.args.core.now.machine.jobs }) c.self.view_is;
+          (sym (append-nil (map (λ (j : HandedJob). j.job) c.loop-job.self-inside.jobs.items))
+          ∙ ap (λ js. map (λ (j : HandedJob). j.job) c.loop-job.self-inside.jobs.items ++ js) (sym (c.take_job.ensures.none c.in_default.is)) ∙ c.loop-job.invariant.jobs_are)
+          ∙ ap (λ (l : LogValue). record l { starts = l.starts ++ map (start_at c.args.event) c.args.core.now.machine.jobs; jobs = l.jobs ++ c.args.core.now.machine.jobs }) c.self.view_is;
     }

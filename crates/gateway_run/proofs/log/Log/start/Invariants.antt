@@ -1,4 +1,5 @@
 use Rattle.std.proofs.Common.{◌≡◌, ◌++◌, map, length}
+use Rattle.gateway_theory.specs.Task.{HandedJob}
 use Rattle.gateway_run.specs.Log.{start_at}
 use Rattle.gateway_run.proofs.Starting.{Started}
 use Rattle.gateway_run.proofs.log.Log.start.Given as goal
@@ -10,6 +11,7 @@ invariant-loop-job g l = record {
   queued_is : l.self-inside.queued ≡ l.initial.self-inside.queued;
   broke_is : l.self-inside.broke ≡ l.initial.self-inside.broke;
   starts_are : l.self-inside.starts.items ++ map (start_at l.event) l.core.machine.jobs ≡ l.initial.self-inside.starts.items ++ map (start_at l.event) l.initial.core.machine.jobs;
+  jobs_are : map (λ (j : HandedJob). j.job) l.self-inside.jobs.items ++ l.core.machine.jobs ≡ map (λ (j : HandedJob). j.job) l.initial.self-inside.jobs.items ++ l.initial.core.machine.jobs;
 }
 
 abbrev pub decreases-loop-job : goal.decreases-loop-job

@@ -1,0 +1,4 @@
+pub mod Answer
+pub mod Asked
+pub mod Drain
+pub mod Labels

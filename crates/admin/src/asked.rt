@@ -1,0 +1,85 @@
+ghost use Rattle.std.specs.Prelude.{◌≡◌, ◌++◌, [], ℕ, List, IfOk};
+ghost use Rattle.http_pieces.specs.Reader.{HasRead};
+ghost use Rattle.admin.specs.Asked.{Brings, asked_at, asked_of, only_get, only_post};
+
+use connect_codec::target_path;
+use http_pieces::{Reader, Refusal, Request, State};
+use std::alloc::AllocError;
+
+/// What a visitor asks for.
+#[derive(Clone, Copy, PartialEq, Eq, Debug)]
+pub enum Asked {
+    /// The figures: `GET /metrics`.
+    Metrics,
+    /// Whether streams are accepted: `GET /ready`.
+    Ready,
+    /// That the gateway is drained: `POST /drain`.
+    Drain,
+    /// Another method than `GET` at a path that has that alone.
+    OnlyGet,
+    /// Another method than `POST` at a path that has that alone.
+    OnlyPost,
+    /// A path that is none of these.
+    NotFound,
+    /// Nothing: its stream is refused.
+    Refused(Refusal),
+}
+
+/// Hands a piece of a visitor's stream to its reader. Tells what is asked for as soon as the first request is whole, or the
+/// stream is refused; what comes behind that is not looked at.
+pub fn take_in(reader: &mut Reader, piece: &[u8]) -> Result<Option<Asked>, AllocError>
+    ensures { (bytes : List ℕ) → HasRead reader.old bytes [] → IfOk result (Brings bytes piece.now reader.new) }
+{
+    reader.push(piece)?;
+    Ok(match reader.state() {
+        State::More | State::Ended => None,
+        State::Refused(refusal) => Some(Asked::Refused(refusal)),
+        State::Complete => match reader.take() {
+            Some(request) => Some(asked_of(&request)),
+            None => None,
+        },
+    })
+}
+
+fn asked_of(request: &Request) -> Asked
+    ensures { result ≡ asked_of request.now }
+{
+    match target_path(request) {
+        Some(path) => asked_at(path, request.method()),
+        None => Asked::NotFound,
+    }
+}
+
+fn asked_at(path: &[u8], method: &[u8]) -> Asked
+    ensures { result ≡ asked_at path.now method.now }
+{
+    if path == b"/metrics".as_slice() {
+        only_get(method, Asked::Metrics)
+    } else if path == b"/ready".as_slice() {
+        only_get(method, Asked::Ready)
+    } else if path == b"/drain".as_slice() {
+        only_post(method)
+    } else {
+        Asked::NotFound
+    }
+}
+
+fn only_get(method: &[u8], asked: Asked) -> Asked
+    ensures { result ≡ only_get method.now asked }
+{
+    if method == b"GET".as_slice() {
+        asked
+    } else {
+        Asked::OnlyGet
+    }
+}
+
+fn only_post(method: &[u8]) -> Asked
+    ensures { result ≡ only_post method.now }
+{
+    if method == b"POST".as_slice() {
+        Asked::Drain
+    } else {
+        Asked::OnlyPost
+    }
+}

@@ -1,0 +1,21 @@
+//! What the address for operators is asked, and what it says: how many replies came of what and how long they took, as Prometheus
+//! reads it; whether streams are accepted; and how far a drain is. It does no input or output and reads no clock.
+#![tactic(auto)]
+
+mod answer;
+mod asked;
+mod drain;
+mod labels;
+mod loop_counts;
+mod metrics;
+mod totals;
+
+pub use answer::{
+    Readiness, drain_reply, metrics_reply, not_found_reply, only_get_reply, only_post_reply,
+    ready_reply, refusal_reply,
+};
+pub use asked::{Asked, take_in};
+pub use drain::{Drain, Stage};
+pub use loop_counts::LoopCounts;
+pub use metrics::{Figures, LoopFigures, metrics_text};
+pub use totals::PlanTotals;

@@ -1,0 +1,111 @@
+use crate::totals::{ENDINGS, PlanTotals, place_of_ending, place_of_time};
+use access_log::{ended, path, taken};
+use gateway_model::ReplyEntry;
+use http_pieces::Text;
+use std::alloc::{AllocError, Global};
+use std::sync::Arc;
+use std::sync::atomic::{AtomicU64, Ordering};
+
+/// How the replies of one loop came out so far. The loop counts them, and whoever tells the figures reads them meanwhile; neither
+/// waits for the other.
+#[derive(Drop)]
+pub struct LoopCounts {
+    paths: Arc<Vec<Text>>,
+    // for each path, and one more for what is no call
+    counts: Vec<Counts>,
+}
+
+#[derive(Drop)]
+struct Counts {
+    ended: Vec<AtomicU64>,
+    took: Vec<AtomicU64>,
+    milliseconds: AtomicU64,
+}
+
+impl LoopCounts {
+    /// No replies yet, of a loop that serves plans of these paths.
+    pub fn new(alloc: Global, paths: &Arc<Vec<Text>>) -> Result<LoopCounts, AllocError> {
+        let mut counts = Vec::new(alloc);
+        for _path in paths.iter() {
+            counts.push(Counts::new(alloc)?)?;
+        }
+        counts.push(Counts::new(alloc)?)?;
+        Ok(LoopCounts {
+            paths: Arc::try_clone(paths)?,
+            counts,
+        })
+    }
+
+    /// Counts a reply that was written at that moment, in the milliseconds in which the calls' arrivals are told.
+    pub fn count(&self, moment: u64, entry: &ReplyEntry) {
+        let Some(counts) = self.counts.get(self.place_of(entry)) else {
+            return;
+        };
+        add(&counts.ended, place_of_ending(ended(entry)), 1);
+        if let Some(milliseconds) = taken(moment, entry) {
+            add(&counts.took, place_of_time(milliseconds), 1);
+            counts
+                .milliseconds
+                .fetch_add(milliseconds, Ordering::SeqCst);
+        }
+    }
+
+    /// The place of the plan of the reply's call; the last where it answers no call.
+    fn place_of(&self, entry: &ReplyEntry) -> usize {
+        let found = match path(entry) {
+            Some(path) => self.paths.iter().position(|other| other.as_str() == path),
+            None => None,
+        };
+        found.unwrap_or(self.paths.len())
+    }
+
+    /// Adds what was counted to the totals of each plan, and, behind them, of what is no call.
+    pub fn add_to(&self, totals: &mut [PlanTotals]) {
+        for (place, counts) in self.counts.iter().enumerate() {
+            if let Some(totals) = totals.get_mut(place) {
+                counts.add_to(totals);
+            }
+        }
+    }
+}
+
+impl Counts {
+    fn new(alloc: Global) -> Result<Counts, AllocError> {
+        Ok(Counts {
+            ended: zeros(alloc, ENDINGS)?,
+            took: zeros(alloc, 14)?,
+            milliseconds: AtomicU64::new(0),
+        })
+    }
+
+    fn add_to(&self, totals: &mut PlanTotals) {
+        sum(&self.ended, &mut totals.ended);
+        sum(&self.took, &mut totals.took);
+        let milliseconds = self.milliseconds.load(Ordering::SeqCst);
+        totals.milliseconds = totals.milliseconds.saturating_add(milliseconds);
+    }
+}
+
+fn zeros(alloc: Global, count: usize) -> Result<Vec<AtomicU64>, AllocError> {
+    let mut zeros = Vec::with_capacity(alloc, count)?;
+    for _zero in 0..count {
+        zeros.push(AtomicU64::new(0))?;
+    }
+    Ok(zeros)
+}
+
+/// Counts so many more in that place.
+fn add(counts: &[AtomicU64], place: usize, more: u64) {
+    if let Some(count) = counts.get(place) {
+        count.fetch_add(more, Ordering::SeqCst);
+    }
+}
+
+/// Adds each count to the total in its place.
+fn sum(counts: &[AtomicU64], totals: &mut [u64]) {
+    for (place, count) in counts.iter().enumerate() {
+        if let Some(total) = totals.get_mut(place) {
+            *total = total.saturating_add(count.load(Ordering::SeqCst));
+        }
+    }
+}

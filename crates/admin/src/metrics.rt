@@ -1,0 +1,164 @@
+use crate::labels::{add_first, add_label, add_number, add_seconds};
+use crate::totals::{PlanTotals, place_of_ending};
+use access_log::Ended;
+use http_pieces::{Bytes, Text};
+use std::alloc::{AllocError, Global};
+
+/// The endings of calls, in the order in which they are told.
+const OF_CALLS: [Ended; 6] = [
+    Ended::Answers,
+    Ended::Branch,
+    Ended::BranchDeadline,
+    Ended::Deadline,
+    Ended::HangUp,
+    Ended::Drain,
+];
+
+/// Why there was no call.
+const OF_OTHERS: [Ended; 3] = [Ended::NoCall, Ended::OneTooMany, Ended::Refusal];
+
+/// The bounds of the histogram, in seconds, and the last, above all.
+const BOUNDS: [&str; 14] = [
+    "0.001", "0.002", "0.005", "0.01", "0.02", "0.05", "0.1", "0.2", "0.5", "1", "2", "5", "10",
+    "+Inf",
+];
+
+/// How a loop stands.
+#[derive(Clone, Copy, PartialEq, Eq, Debug)]
+pub struct LoopFigures {
+    /// Connections that are open.
+    pub connections: u64,
+    /// Exchanges with backends that are under way.
+    pub exchanges: u64,
+}
+
+/// All that is told.
+#[derive(Drop)]
+pub struct Figures<'a> {
+    /// The paths of the plans, in their order.
+    pub paths: &'a [Text],
+    /// The totals of each plan, and, behind them, of what is no call.
+    pub totals: &'a [PlanTotals],
+    /// Each loop, by its number.
+    pub loops: &'a [LoopFigures],
+    /// How many lines of the log were left out.
+    pub lines_left_out: u64,
+}
+
+/// The figures in Prometheus' text format, version 0.0.4.
+pub fn metrics_text(alloc: Global, figures: &Figures<'_>) -> Result<Bytes, AllocError> {
+    let mut text = Vec::new(alloc);
+    add_replies(&mut text, figures)?;
+    add_times(&mut text, figures)?;
+    add_loops(&mut text, figures.loops)?;
+    add_left_out(&mut text, figures.lines_left_out)?;
+    Ok(Bytes::from_vec(text))
+}
+
+fn add_replies(text: &mut Vec<u8>, figures: &Figures<'_>) -> Result<(), AllocError> {
+    text.extend_from_slice(
+        b"# HELP connect_gateway_replies_total Replies by the plan of their call, and by what ended it or why there was none.\n\
+          # TYPE connect_gateway_replies_total counter\n",
+    )?;
+    for (place, totals) in figures.totals.iter().enumerate() {
+        match figures.paths.get(place) {
+            Some(path) => add_endings(text, path.as_str().as_bytes(), &OF_CALLS, totals)?,
+            None => add_endings(text, b"", &OF_OTHERS, totals)?,
+        }
+    }
+    Ok(())
+}
+
+/// A line for each of these endings.
+fn add_endings(
+    text: &mut Vec<u8>,
+    path: &[u8],
+    endings: &[Ended],
+    totals: &PlanTotals,
+) -> Result<(), AllocError> {
+    for ended in endings {
+        let count = totals.ended.get(place_of_ending(*ended)).copied();
+        add_first(text, "connect_gateway_replies_total", "plan", path)?;
+        add_label(text, "ending", ended.name().as_bytes())?;
+        add_number(text, count.unwrap_or(0))?;
+    }
+    Ok(())
+}
+
+fn add_times(text: &mut Vec<u8>, figures: &Figures<'_>) -> Result<(), AllocError> {
+    text.extend_from_slice(
+        b"# HELP connect_gateway_reply_seconds Time from a call's arrival until its reply was written, by plan.\n\
+          # TYPE connect_gateway_reply_seconds histogram\n",
+    )?;
+    for (path, totals) in figures.paths.iter().zip(figures.totals.iter()) {
+        add_histogram(text, path.as_str().as_bytes(), totals)?;
+    }
+    Ok(())
+}
+
+fn add_histogram(text: &mut Vec<u8>, path: &[u8], totals: &PlanTotals) -> Result<(), AllocError> {
+    let mut count: u64 = 0;
+    for (bound, more) in BOUNDS.iter().zip(totals.took.iter()) {
+        count = count.saturating_add(*more);
+        add_first(text, "connect_gateway_reply_seconds_bucket", "plan", path)?;
+        add_label(text, "le", bound.as_bytes())?;
+        add_number(text, count)?;
+    }
+    add_first(text, "connect_gateway_reply_seconds_sum", "plan", path)?;
+    add_seconds(text, totals.milliseconds)?;
+    add_first(text, "connect_gateway_reply_seconds_count", "plan", path)?;
+    add_number(text, count)
+}
+
+fn add_loops(text: &mut Vec<u8>, loops: &[LoopFigures]) -> Result<(), AllocError> {
+    text.extend_from_slice(
+        b"# HELP connect_gateway_open_connections Connections that are open, by worker.\n\
+          # TYPE connect_gateway_open_connections gauge\n",
+    )?;
+    for (worker, figures) in loops.iter().enumerate() {
+        add_of_worker(
+            text,
+            "connect_gateway_open_connections",
+            worker,
+            figures.connections,
+        )?;
+    }
+    text.extend_from_slice(
+        b"# HELP connect_gateway_backend_exchanges Backends that are asked, by worker.\n\
+          # TYPE connect_gateway_backend_exchanges gauge\n",
+    )?;
+    for (worker, figures) in loops.iter().enumerate() {
+        add_of_worker(
+            text,
+            "connect_gateway_backend_exchanges",
+            worker,
+            figures.exchanges,
+        )?;
+    }
+    Ok(())
+}
+
+fn add_of_worker(
+    text: &mut Vec<u8>,
+    name: &str,
+    worker: usize,
+    count: u64,
+) -> Result<(), AllocError> {
+    add_first(
+        text,
+        name,
+        "worker",
+        itoa::Buffer::new().format(worker).as_bytes(),
+    )?;
+    add_number(text, count)
+}
+
+fn add_left_out(text: &mut Vec<u8>, count: u64) -> Result<(), AllocError> {
+    text.extend_from_slice(
+        b"# HELP connect_gateway_log_lines_left_out_total Lines of the log that were left out, as their reader stalled or failed.\n\
+          # TYPE connect_gateway_log_lines_left_out_total counter\n\
+          connect_gateway_log_lines_left_out_total ",
+    )?;
+    text.extend_from_slice(itoa::Buffer::new().format(count).as_bytes())?;
+    text.extend_from_slice(b"\n")
+}

@@ -1,0 +1,232 @@
+-- What each step makes of the jobs that are asked for, and of those that ended.
+use Rattle.std.proofs.Common.{◌≡◌, ◌≢◌, ℕ, zero, suc, ◌+◌, Bool, true, false, cond, List, [], ◌∷◌, ◌++◌, All, map, Option, None, Some, refl, sym, ap, ◌∙◌, subst, arith, append_assoc, inl, inr, ⊎_elim}
+use Rattle.std.specs.Prelude.{count_by, sum_by, option_map, slice_index_or}
+use Rattle.std.specs.Option.{option_map_or}
+use Rattle.std.proofs.lemmas.Bool.{cases_eq}
+use Rattle.std.proofs.lemmas.List.{map-append}
+use Rattle.std.proofs.lemmas.List.Elements.{All-nil, All-push}
+use Rattle.std.proofs.lemmas.List.Sums.{sum_by-append, sum_by-cons}
+use Rattle.connect_codec.specs.declared.answer.Outcome.{Outcome}
+use Rattle.gateway_model.specs.Job.{JobValue}
+use Rattle.gateway_model.specs.Queue.{IsPrefixOf}
+use Rattle.gateway_theory.specs.Task.{HandedJob}
+use Rattle.slab.specs.Slab.{Slab, Updates, get}
+use Rattle.loop_model.specs.Asking.{AskingValue, EndedValue, IsFair, ended_value}
+use Rattle.loop_model.specs.Explained.{LoopValue}
+use Rattle.loop_model.specs.Growing.{Continues, HasTicked}
+use Rattle.loop_model.specs.Whole.{AsksFairly, ContinuesLoop, WholeLoop, count_asked}
+use Rattle.gateway_loop.specs.Asking.{AskingState, asked_for}
+use Rattle.gateway_loop.specs.Clients.{HandsNothing, Onward}
+use Rattle.gateway_loop.specs.Loop.{Goes, whole_loop}
+use Rattle.gateway_loop.proofs.GrowLemmas as grow
+
+-- ---- what only grows
+
+pub continues_same : (v : WholeLoop) → ContinuesLoop v v
+continues_same v = record { side = grow.continues_same v.side; ended = grow.begins_same v.ended }
+
+continues_then : (u v w : WholeLoop) → ContinuesLoop u v → ContinuesLoop v w → ContinuesLoop u w
+continues_then u v w a b = record {
+  side = grow.continues_then u.side v.side w.side a.side b.side;
+  ended = grow.begins_then u.ended v.ended w.ended a.ended b.ended;
+}
+
+pub onward : (v w : WholeLoop) → ContinuesLoop v w → Goes v w
+onward v w c u a = continues_then u v w a c
+
+pub goes_then : (u v w : WholeLoop) → Goes u v → Goes v w → Goes u w
+goes_then u v w p q a c = q a (p a c)
+
+-- the clients' side went on, and the exchanges are the same
+pub goes_side : (v w : LoopValue) (asking asking' : List (Option AskingState)) (ended : List (AskingState × Option Outcome)) → Onward v w
+    → Goes (whole_loop v asking ended) (whole_loop w asking' ended)
+goes_side v w asking asking' ended o u c = record { side = o u.side c.side; ended = c.ended }
+
+pub goes_ended : (v w : LoopValue) (asking asking' : List (Option AskingState)) (ended ended' : List (AskingState × Option Outcome)) (e : AskingState × Option Outcome)
+    → ended' ≡ ended ++ e ∷ [] → Onward v w → Goes (whole_loop v asking ended) (whole_loop w asking' ended')
+goes_ended v w asking asking' ended ended' e is o u c =
+    let show : AskingState × Option Outcome → EndedValue = λ (d : AskingState × Option Outcome). ended_value (asked_for d.0) d.1 in
+    let more : map show ended' ≡ map show ended ++ show e ∷ [] = ap (map show) is ∙ map-append show ended (e ∷ []) in record {
+      side = o u.side c.side;
+      ended = grow.begins_then u.ended (map show ended) (map show ended') c.ended (show e ∷ [], more);
+    }
+
+pub ticked_on : (u v w : WholeLoop) → HasTicked u.side v.side → Goes v w → HasTicked u.side w.side
+ticked_on u v w t o =
+    let p = (o v (continues_same v)).side.told in
+    (t.0, t.1 ++ p.0, p.1 ∙ ap (λ (l : List ℕ). l ++ p.0) t.2 ∙ append_assoc u.side.told (t.0 ∷ t.1) p.0)
+
+pub ticked_same : (u v w : WholeLoop) → HasTicked u.side v.side → w.side.told ≡ v.side.told → HasTicked u.side w.side
+ticked_same u v w t is = (t.0, t.1, is ∙ t.2)
+
+-- ---- sums over places
+
+module _ {A : Type 0} (f : Option A → ℕ) (none : f None ≡ 0) where
+  abbrev look : List (Option A) → ℕ → Option A
+  look xs i = slice_index_or xs i None
+
+  sum_none : (xs : List (Option A)) → ((j : ℕ) → look xs j ≡ None) → sum_by f xs ≡ 0
+  sum_none [] empty = refl
+  sum_none (x ∷ xs) empty =
+      let head : f x ≡ 0 = ap f (empty zero) ∙ none in
+      let rest = sum_none xs (λ j. empty (suc j)) in
+      sum_by-cons f x xs ∙ omega (arith, head, rest)
+
+  sum_same : (xs ys : List (Option A)) → ((j : ℕ) → look ys j ≡ look xs j) → sum_by f ys ≡ sum_by f xs
+  sum_same [] ys same = sum_none ys same
+  sum_same (x ∷ xs) [] same = sym (sum_none (x ∷ xs) (λ j. sym (same j)))
+  sum_same (x ∷ xs) (y ∷ ys) same =
+      let rest = sum_same xs ys (λ j. same (suc j)) in
+      sum_by-cons f y ys ∙ ap (λ o. f o + sum_by f ys) (same zero) ∙ ap (λ n. f x + n) rest ∙ sym (sum_by-cons f x xs)
+
+  zero_is_not : (k : ℕ) → zero ≡ suc k → ⊥
+  zero_is_not k e = omega (arith, e)
+
+  suc_is_not : (j k : ℕ) → (j ≡ k → ⊥) → suc j ≡ suc k → ⊥
+  suc_is_not j k differ e = differ (omega (arith, e))
+
+  -- where one place changed, the sum changed by its own
+  sum_put : (xs ys : List (Option A)) (i : ℕ) → ((j : ℕ) → j ≢ i → look ys j ≡ look xs j) → sum_by f ys + f (look xs i) ≡ sum_by f xs + f (look ys i)
+  sum_put [] [] i same = refl
+  sum_put [] (y ∷ ys) zero same =
+      let rest = sum_none ys (λ j. same (suc j) (λ e. zero_is_not j (sym e))) in
+      ap (λ n. n + f None) (sum_by-cons f y ys) ∙ omega (arith, none, rest)
+  sum_put [] (y ∷ ys) (suc i) same =
+      let rest = sum_put [] ys i (λ j differ. same (suc j) (suc_is_not j i differ)) in
+      let head : f y ≡ 0 = ap f (same zero (zero_is_not i)) ∙ none in
+      ap (λ n. n + f None) (sum_by-cons f y ys) ∙ omega (arith, head, rest)
+  sum_put (x ∷ xs) [] zero same =
+      let rest = sum_none xs (λ j. sym (same (suc j) (λ e. zero_is_not j (sym e)))) in
+      omega (arith, none, rest) ∙ ap (λ n. n + f None) (sym (sum_by-cons f x xs))
+  sum_put (x ∷ xs) [] (suc i) same =
+      let rest = sum_put xs [] i (λ j differ. same (suc j) (suc_is_not j i differ)) in
+      let head : f x ≡ 0 = ap f (sym (same zero (zero_is_not i))) ∙ none in
+      omega (arith, head, rest) ∙ ap (λ n. n + f None) (sym (sum_by-cons f x xs))
+  sum_put (x ∷ xs) (y ∷ ys) zero same =
+      let rest = sum_same xs ys (λ j. same (suc j) (λ e. zero_is_not j (sym e))) in
+      ap (λ n. n + f x) (sum_by-cons f y ys) ∙ omega (arith, rest) ∙ ap (λ n. n + f y) (sym (sum_by-cons f x xs))
+  sum_put (x ∷ xs) (y ∷ ys) (suc i) same =
+      let rest = sum_put xs ys i (λ j differ. same (suc j) (suc_is_not j i differ)) in
+      let head : f y ≡ f x = ap f (same zero (zero_is_not i)) in
+      ap (λ n. n + f (look xs i)) (sum_by-cons f y ys) ∙ omega (arith, head, rest) ∙ ap (λ n. n + f (look ys i)) (sym (sum_by-cons f x xs))
+
+sum_map : {A B : Type 0} (f : B → ℕ) (g : A → B) (xs : List A) → sum_by f (map g xs) ≡ sum_by (λ x. f (g x)) xs
+sum_map f g [] = refl
+sum_map f g (x ∷ xs) = sum_by-cons f (g x) (map g xs) ∙ ap (λ n. f (g x) + n) (sum_map f g xs) ∙ sym (sum_by-cons (λ y. f (g y)) x xs)
+
+-- ---- how many are asked for
+
+abbrev is_asked : (JobValue → Bool) → Option AskingState → Bool
+is_asked p o = option_map_or (λ (x : AskingState). p x.job.job) o false
+
+abbrev one_asked : (JobValue → Bool) → Option AskingState → ℕ
+one_asked p o = cond (is_asked p o) 1 0
+
+one_shown : (p : JobValue → Bool) (o : Option AskingState) → cond (option_map_or (λ (x : AskingValue). p x.job) (option_map asked_for o) false) 1 0 ≡ one_asked p o
+one_shown p None = refl
+one_shown p (Some x) = refl
+
+sum_alike : {A : Type 0} (f g : A → ℕ) → ((x : A) → f x ≡ g x) → (xs : List A) → sum_by f xs ≡ sum_by g xs
+sum_alike f g same [] = refl
+sum_alike f g same (x ∷ xs) =
+    sum_by-cons f x xs ∙ ap (λ n. n + sum_by f xs) (same x) ∙ ap (λ n. g x + n) (sum_alike f g same xs) ∙ sym (sum_by-cons g x xs)
+
+shown_count : (p : JobValue → Bool) (slots : List (Option AskingState))
+    → count_asked p (map (λ (o : Option AskingState). option_map asked_for o) slots) ≡ sum_by (one_asked p) slots
+shown_count p slots =
+    sum_map (λ (o : Option AskingValue). cond (option_map_or (λ (x : AskingValue). p x.job) o false) 1 0) (λ (o : Option AskingState). option_map asked_for o) slots
+    ∙ sum_alike (λ (o : Option AskingState). cond (option_map_or (λ (x : AskingValue). p x.job) (option_map asked_for o) false) 1 0) (one_asked p) (one_shown p) slots
+
+-- what stands in one place is new
+pub record Put (old new : List (Option AskingState)) (i : ℕ) (o : Option AskingState) : Type 0 where
+  pub here : slice_index_or new i None ≡ o
+  pub there : (j : ℕ) → j ≢ i → slice_index_or new j None ≡ slice_index_or old j None
+
+pub put_one : (s t : Slab AskingState) (i : ℕ) (o : Option AskingState) → Updates s t i o → Put s.slots t.slots i o
+put_one s t i o u = record { here = u.changed; there = u.others }
+
+pub put_back : (s t u : Slab AskingState) (i key : ℕ) (y : AskingState) → Updates s t i None → t.vacant_key ≡ i → key ≡ t.vacant_key → Updates t u key (Some y)
+    → Put s.slots u.slots i (Some y)
+put_back s t u i key y out next is back =
+    let same : key ≡ i = is ∙ next in
+    let again : Updates t u i (Some y) = subst (λ (n : ℕ). Updates t u n (Some y)) same back in
+    record { here = again.changed; there = λ j other. again.others j other ∙ out.others j other }
+
+count_put : (p : JobValue → Bool) (old new : List (Option AskingState)) (i : ℕ) (o n : Option AskingState) → slice_index_or old i None ≡ o → Put old new i n
+    → sum_by (one_asked p) new + one_asked p o ≡ sum_by (one_asked p) old + one_asked p n
+count_put p old new i o n was put =
+    ap (λ (t : Option AskingState). sum_by (one_asked p) new + one_asked p t) (sym was)
+    ∙ sum_put (one_asked p) refl old new i put.there ∙ ap (λ (t : Option AskingState). sum_by (one_asked p) old + one_asked p t) put.here
+
+-- ---- what is kept
+
+-- the exchanges are the same
+pub keeps_asking : (v w : LoopValue) (asking : List (Option AskingState)) (ended : List (AskingState × Option Outcome)) → HandsNothing v w
+    → AsksFairly (whole_loop v asking ended) → AsksFairly (whole_loop w asking ended)
+keeps_asking v w asking ended none a = record {
+  results = none.no_result ∙ a.results;
+  fair = a.fair;
+  jobs = λ p. ap (count_by p) none.no_job ∙ a.jobs p;
+}
+
+-- one of them went on with its job
+pub keeps_put : (v : LoopValue) (old new : List (Option AskingState)) (ended : List (AskingState × Option Outcome)) (i : ℕ) (x y : AskingState)
+    → slice_index_or old i None ≡ Some x → y.job ≡ x.job → Put old new i (Some y) → AsksFairly (whole_loop v old ended) → AsksFairly (whole_loop v new ended)
+keeps_put v old new ended i x y was job put a = record {
+  results = a.results;
+  fair = a.fair;
+  jobs = λ p.
+      let count = count_put p old new i (Some x) (Some y) was put in
+      let same : one_asked p (Some y) ≡ one_asked p (Some x) = ap (λ (j : HandedJob). cond (p j.job) 1 0) job in
+      let is : sum_by (one_asked p) new ≡ sum_by (one_asked p) old = omega (arith, count, same) in
+      a.jobs p ∙ ap (λ n. count_by (λ (e : EndedValue). p e.asking.job) (whole_loop v old ended).ended + n) (shown_count p old ∙ sym is ∙ sym (shown_count p new));
+}
+
+-- a job was taken, and is asked for
+pub takes_job : (v w : LoopValue) (old new : List (Option AskingState)) (ended : List (AskingState × Option Outcome)) (i : ℕ) (y : AskingState) (j : JobValue)
+    → w.results ≡ v.results → w.handed ≡ v.handed ++ j ∷ [] → y.job.job ≡ j → slice_index_or old i None ≡ None → Put old new i (Some y)
+    → AsksFairly (whole_loop v old ended) → AsksFairly (whole_loop w new ended)
+takes_job v w old new ended i y j same more job free put a = record {
+  results = same ∙ a.results;
+  fair = a.fair;
+  jobs = λ p.
+      let count = count_put p old new i None (Some y) free put in
+      let own : one_asked p (Some y) ≡ cond (p j) 1 0 = ap (λ (k : JobValue). cond (p k) 1 0) job in
+      let handed : count_by p w.handed ≡ count_by p v.handed + count_by p (j ∷ []) = ap (count_by p) more ∙ sum_by-append (λ (k : JobValue). cond (p k) 1 0) v.handed (j ∷ []) in
+      let one : count_by p (j ∷ []) ≡ cond (p j) 1 0 + 0 = sum_by-cons (λ (k : JobValue). cond (p k) 1 0) j [] in
+      let before = a.jobs p in
+      let shown = shown_count p old in
+      let later = shown_count p new in
+      omega (arith, count, own, handed, one, before, shown, later);
+}
+
+-- one of them ended, and its result was handed in
+pub ends_one : (v w : LoopValue) (old new : List (Option AskingState)) (ended ended' : List (AskingState × Option Outcome)) (i : ℕ) (x y : AskingState) (o : Option Outcome) (j : HandedJob)
+    → w.results ≡ v.results ++ (j.job, o) ∷ [] → w.handed ≡ v.handed → slice_index_or old i None ≡ Some x → y.job ≡ x.job → j ≡ y.job → Put old new i None
+    → ended' ≡ ended ++ (y, o) ∷ [] → IsFair (ended_value (asked_for y) o) → AsksFairly (whole_loop v old ended) → AsksFairly (whole_loop w new ended')
+ends_one v w old new ended ended' i x y o j results same was job own put more fair a =
+    let show : AskingState × Option Outcome → EndedValue = λ (d : AskingState × Option Outcome). ended_value (asked_for d.0) d.1 in
+    let shown : map show ended' ≡ map show ended ++ show (y, o) ∷ [] = ap (map show) more ∙ map-append show ended ((y, o) ∷ []) in
+    let pair : EndedValue → JobValue × Option Outcome = λ (e : EndedValue). (e.asking.job, e.outcome) in record {
+      results =
+          results ∙ ap (λ (l : List (JobValue × Option Outcome)). l ++ (j.job, o) ∷ []) a.results
+          ∙ ap (λ (k : HandedJob). map pair (map show ended) ++ (k.job, o) ∷ []) own
+          ∙ sym (map-append pair (map show ended) (show (y, o) ∷ []))
+          ∙ ap (map pair) (sym shown);
+      fair = subst (All IsFair) (sym shown) (All-push IsFair (map show ended) (show (y, o)) a.fair fair);
+      jobs = λ p.
+          let of_ended : EndedValue → Bool = λ (e : EndedValue). p e.asking.job in
+          let count = count_put p old new i (Some x) None was put in
+          let one : one_asked p (Some x) ≡ cond (p y.job.job) 1 0 = ap (λ (k : HandedJob). cond (p k.job) 1 0) (sym job) in
+          let none : one_asked p None ≡ 0 = refl in
+          let handed = ap (count_by p) same ∙ a.jobs p in
+          let total : count_by of_ended (map show ended') ≡ count_by of_ended (map show ended) + count_by of_ended (show (y, o) ∷ []) =
+          ap (count_by of_ended) shown ∙ sum_by-append (λ (e : EndedValue). cond (of_ended e) 1 0) (map show ended) (show (y, o) ∷ []) in
+          let last : count_by of_ended (show (y, o) ∷ []) ≡ cond (p y.job.job) 1 0 + 0 = sum_by-cons (λ (e : EndedValue). cond (of_ended e) 1 0) (show (y, o)) [] in
+          let before = shown_count p old in
+          let later = shown_count p new in
+          omega (arith, count, one, none, handed, total, last, before, later);
+    }
+
+pub starts_fair : (v : LoopValue) → v.results ≡ [] → v.handed ≡ [] → AsksFairly (whole_loop v [] [])
+starts_fair v no_results none_handed = record { results = no_results; fair = All-nil IsFair; jobs = λ p. ap (count_by p) none_handed }

@@ -1,0 +1,227 @@
+-- What only grows.
+use Rattle.std.proofs.Common.{◌≡◌, ◌≢◌, ℕ, List, [], ◌∷◌, ◌++◌, map, Option, None, Some, refl, sym, ap, ◌∙◌, subst, append_assoc, append-nil, inl, inr, ⊎_elim, Bool, true, false, cond, arith, length}
+use Rattle.std.specs.Prelude.{◌+◌, count_by}
+use Rattle.std.specs.Option.{option_map_or}
+use Rattle.std.specs.List.{Contains}
+use Rattle.std.proofs.lemmas.Bool.{cases_eq}
+use Rattle.std.proofs.lemmas.List.Elements.{Contains-append_left, Contains-push}
+use Rattle.std.proofs.lemmas.List.{map-append}
+use Rattle.std.proofs.lemmas.List.Sums.{sum_by-cons}
+use Rattle.slab.specs.Slab.{entries_from}
+use Rattle.connect_codec.specs.declared.answer.Outcome.{Outcome}
+use Rattle.gateway_theory.specs.Task.{HandedJob}
+use Rattle.gateway_model.specs.Job.{JobValue}
+use Rattle.gateway_model.specs.Queue.{IsPrefixOf}
+use Rattle.loop_model.specs.Clients.{ClientValue, client_value}
+use Rattle.loop_model.specs.Explained.{LoopValue, at}
+use Rattle.loop_model.specs.Growing.{Continues, Grows, HasTicked}
+use Rattle.gateway_loop.specs.Clients.{Onward, lingering}
+use Rattle.gateway_loop.proofs.LoopLemmas.{Puts}
+
+pub begins_same : {A : Type 0} (xs : List A) → IsPrefixOf xs xs
+begins_same xs = ([], sym (append-nil xs))
+
+pub begins_by : {A : Type 0} (xs ys more : List A) → ys ≡ xs ++ more → IsPrefixOf xs ys
+begins_by xs ys more is = (more, is)
+
+pub begins_is : {A : Type 0} (xs ys : List A) → ys ≡ xs → IsPrefixOf xs ys
+begins_is xs ys is = ([], is ∙ sym (append-nil xs))
+
+pub begins_then : {A : Type 0} (a b c : List A) → IsPrefixOf a b → IsPrefixOf b c → IsPrefixOf a c
+begins_then a b c p q = (p.0 ++ q.0, q.1 ∙ ap (λ t. t ++ q.0) p.1 ∙ append_assoc a p.0 q.0)
+
+pub grows_same : (x : ClientValue) → Grows x x
+grows_same x = record { conn = refl; given = begins_same x.given; got = begins_same x.got }
+
+pub grows_then : (x y z : ClientValue) → Grows x y → Grows y z → Grows x z
+grows_then x y z a b = record {
+  conn = b.conn ∙ a.conn;
+  given = begins_then x.given y.given z.given a.given b.given;
+  got = begins_then x.got y.got z.got a.got b.got;
+}
+
+contains_more : {A : Type 0} (xs ys : List A) (x : A) → IsPrefixOf xs ys → Contains xs x → Contains ys x
+contains_more xs ys x p there = subst (λ l. Contains l x) (sym p.1) (Contains-append_left xs p.0 x there)
+
+pub continues_then : (u v w : LoopValue) → Continues u v → Continues v w → Continues u w
+continues_then u v w a b = record {
+  plans = b.plans ∙ a.plans;
+  clients = λ i x is.
+      let first = a.clients i x is in
+      ⊎_elim
+      (λ (there : at i v.clients ≡ Some first.0). let second = b.clients i first.0 there in (second.0, second.1, grows_then x first.0 second.0 first.2 second.2))
+      (λ (gone : Contains v.gone first.0). (first.0, inr (contains_more v.gone w.gone first.0 b.gone gone), first.2))
+      first.1;
+  gone = begins_then u.gone v.gone w.gone a.gone b.gone;
+  told = begins_then u.told v.told w.told a.told b.told;
+  results = begins_then u.results v.results w.results a.results b.results;
+  handed = begins_then u.handed v.handed w.handed a.handed b.handed;
+}
+
+pub onward : (v w : LoopValue) → Continues v w → Onward v w
+onward v w c u a = continues_then u v w a c
+
+pub continues_same : (v : LoopValue) → Continues v v
+continues_same v = record {
+  plans = refl;
+  clients = λ i x is. (x, inl is, grows_same x);
+  gone = begins_same v.gone;
+  told = begins_same v.told;
+  results = begins_same v.results;
+  handed = begins_same v.handed;
+}
+
+some_is : (a b : ClientValue) → Some a ≡ Some b → a ≡ b
+some_is a b it = cc
+
+-- no client changed
+pub continues_all : (v w : LoopValue) → w.core.plans ≡ v.core.plans → w.clients ≡ v.clients → w.gone ≡ v.gone → IsPrefixOf v.told w.told
+    → IsPrefixOf v.results w.results → IsPrefixOf v.handed w.handed → Continues v w
+continues_all v w plans clients gone told results handed = record {
+  plans = plans;
+  clients = λ i x is. (x, inl (ap (λ cs. at i cs) clients ∙ is), grows_same x);
+  gone = begins_is v.gone w.gone gone;
+  told = told;
+  results = results;
+  handed = handed;
+}
+
+module _ (v w : LoopValue) (plans : w.core.plans ≡ v.core.plans) (told : w.told ≡ v.told) (results : w.results ≡ v.results) (handed : w.handed ≡ v.handed)
+    (i : ℕ) where
+  -- the client in a place grew
+  pub continues_put : (x y : ClientValue) → at i v.clients ≡ Some x → Grows x y → Puts v.clients w.clients i (Some y) → w.gone ≡ v.gone → Continues v w
+  continues_put x y its grows puts gone = record {
+    plans = plans;
+    clients = λ j z is.
+        ⊎_elim
+        (λ (same : j ≡ i).
+        let is_x : x ≡ z = some_is x z (sym its ∙ ap (λ n. at n v.clients) (sym same) ∙ is) in
+        (y, inl (ap (λ n. at n w.clients) same ∙ puts.here), subst (λ (t : ClientValue). Grows t y) is_x grows))
+        (λ (other : j ≡ i → ⊥). (z, inl (puts.there j other ∙ is), grows_same z))
+        (cases_eq j i);
+    gone = begins_is v.gone w.gone gone;
+    told = begins_is v.told w.told told;
+    results = begins_is v.results w.results results;
+    handed = begins_is v.handed w.handed handed;
+  }
+
+  -- .. has gone
+  pub continues_go : (x : ClientValue) → at i v.clients ≡ Some x → Puts v.clients w.clients i None → w.gone ≡ v.gone ++ x ∷ [] → Continues v w
+  continues_go x its puts gone = record {
+    plans = plans;
+    clients = λ j z is.
+        ⊎_elim
+        (λ (same : j ≡ i).
+        let is_x : x ≡ z = some_is x z (sym its ∙ ap (λ n. at n v.clients) (sym same) ∙ is) in
+        (x, inr (subst (λ (l : List ClientValue). Contains l x) (sym gone) (Contains-push v.gone x)), subst (λ (t : ClientValue). Grows t x) is_x (grows_same x)))
+        (λ (other : j ≡ i → ⊥). (z, inl (puts.there j other ∙ is), grows_same z))
+        (cases_eq j i);
+    gone = begins_by v.gone w.gone (x ∷ []) gone;
+    told = begins_is v.told w.told told;
+    results = begins_is v.results w.results results;
+    handed = begins_is v.handed w.handed handed;
+  }
+
+  -- .. came
+  pub continues_come : (y : ClientValue) → at i v.clients ≡ None → Puts v.clients w.clients i (Some y) → w.gone ≡ v.gone → Continues v w
+  continues_come y free puts gone = record {
+    plans = plans;
+    clients = λ j z is.
+        ⊎_elim
+        (λ (same : j ≡ i). absurd (nothing z (sym free ∙ ap (λ n. at n v.clients) (sym same) ∙ is)))
+        (λ (other : j ≡ i → ⊥). (z, inl (puts.there j other ∙ is), grows_same z))
+        (cases_eq j i);
+    gone = begins_is v.gone w.gone gone;
+    told = begins_is v.told w.told told;
+    results = begins_is v.results w.results results;
+    handed = begins_is v.handed w.handed handed;
+  }
+    where
+      nothing : (z : ClientValue) → None ≡ Some z → ⊥
+      nothing z it = cc
+
+-- ---- a client's own
+
+pub grows_by : (conn : ℕ) (p q e f : Bool) (given given' got got' waiting left more sent : List ℕ) → given' ≡ given ++ more → got' ≡ got ++ sent
+    → Grows (client_value conn p given got e waiting) (client_value conn q given' got' f left)
+grows_by conn p q e f given given' got got' waiting left more sent reads writes = record { conn = refl; given = (more, reads); got = (sent, writes) }
+
+pub no_more : (xs ys : List ℕ) → ys ≡ xs → ys ≡ xs ++ []
+no_more xs ys same = same ∙ sym (append-nil xs)
+
+pub grows_lingering : (x : ClientValue) → Grows x (lingering x)
+grows_lingering x = record { conn = refl; given = begins_same x.given; got = begins_same x.got }
+
+-- ---- what logs tell
+
+pub noted : {A B : Type 0} (items later : List (A × B)) (a : A) (b : B) → later ≡ items ++ (a, b) ∷ [] → map (λ (x : A × B). x.0) later ≡ map (λ (x : A × B). x.0) items ++ a ∷ []
+noted {A} {B} items later a b is = ap (λ (l : List (A × B)). map (λ (x : A × B). x.0) l) is ∙ map-append (λ (x : A × B). x.0) items ((a, b) ∷ [])
+
+abbrev told_result : HandedJob × Option Outcome → JobValue × Option Outcome
+told_result r = (r.0.job, r.1)
+
+pub noted_result : (items later : List (HandedJob × Option Outcome)) (j : HandedJob) (o : Option Outcome) → later ≡ items ++ (j, o) ∷ []
+    → map (λ (r : HandedJob × Option Outcome). told_result r) later ≡ map (λ (r : HandedJob × Option Outcome). told_result r) items ++ (j.job, o) ∷ []
+noted_result items later j o is =
+    ap (λ (l : List (HandedJob × Option Outcome)). map (λ (r : HandedJob × Option Outcome). told_result r) l) is
+    ∙ map-append (λ (r : HandedJob × Option Outcome). told_result r) items ((j, o) ∷ [])
+
+pub noted_job : (items later : List (HandedJob × Bool)) (j : HandedJob) (b : Bool) → later ≡ items ++ (j, b) ∷ []
+    → map (λ (x : HandedJob × Bool). x.0.job) later ≡ map (λ (x : HandedJob × Bool). x.0.job) items ++ j.job ∷ []
+noted_job items later j b is =
+    ap (λ (l : List (HandedJob × Bool)). map (λ (x : HandedJob × Bool). x.0.job) l) is ∙ map-append (λ (x : HandedJob × Bool). x.0.job) items ((j, b) ∷ [])
+
+pub tells_one : (before after was now : List ℕ) (m : ℕ) → after ≡ before ++ m ∷ [] → now ≡ was ++ m ∷ [] → (u : List ℕ) → before ≡ u ++ was → after ≡ u ++ now
+tells_one before after was now m told more u is =
+    told ∙ ap (λ (t : List ℕ). t ++ m ∷ []) is ∙ append_assoc u was (m ∷ []) ∙ ap (λ (t : List ℕ). u ++ t) (sym more)
+
+pub goes_then : (u v w : LoopValue) → Onward u v → Onward v w → Onward u w
+goes_then u v w p q a c = q a (p a c)
+
+-- ---- moments that were told
+
+pub ticks_by : (was now : List ℕ) (m : ℕ) → now ≡ was ++ m ∷ [] → (moment : ℕ) × (more : List ℕ) × (now ≡ was ++ moment ∷ more)
+ticks_by was now m is = (m, [], is)
+
+-- what goes on after a moment was told
+pub ticked_on : (u v w : LoopValue) → HasTicked u v → Onward v w → HasTicked u w
+ticked_on u v w t o =
+    let p = (o v (continues_same v)).told in
+    (t.0, t.1 ++ p.0, p.1 ∙ ap (λ (l : List ℕ). l ++ p.0) t.2 ∙ append_assoc u.told (t.0 ∷ t.1) p.0)
+
+pub ticked_same : (u v w : LoopValue) → HasTicked u v → w.told ≡ v.told → HasTicked u w
+ticked_same u v w t is = (t.0, t.1, is ∙ t.2)
+
+-- ---- how many are there
+
+pub nothing_more : (n : ℕ) → 0 + n ≡ n
+nothing_more n = omega arith
+
+pub count_entries : {A : Type 0} (p : A → Bool) (key : ℕ) (slots : List (Option A))
+    → count_by (λ (e : ℕ × A). p e.1) (entries_from key slots) ≡ count_by (λ (o : Option A). option_map_or p o false) slots
+count_entries p key [] = refl
+count_entries p key (None ∷ rest) =
+    count_entries p (key + 1) rest ∙ sym (sum_by-cons (λ o. cond (option_map_or p o false) 1 0) None rest ∙ nothing_more _)
+count_entries p key (Some x ∷ rest) =
+    sum_by-cons (λ e. cond (p e.1) 1 0) (key, x) (entries_from (key + 1) rest)
+    ∙ ap (λ n. cond (p x) 1 0 + n) (count_entries p (key + 1) rest)
+    ∙ sym (sum_by-cons (λ o. cond (option_map_or p o false) 1 0) (Some x) rest)
+
+abbrev pub count_of : {A : Type 0} → (A → Bool) → List (ℕ × A) → ℕ
+count_of p entries = count_by (λ e. p e.1) entries
+
+-- of the entries that are left one more was counted, or passed over
+pub counted : {A : Type 0} (p : A → Bool) (old rest : List (ℕ × A)) (e : ℕ × A) (n total : ℕ) → old ≡ e ∷ rest → p e.1 ≡ true
+    → n + count_of p old ≡ total → (n + 1) + count_of p rest ≡ total
+counted p old rest e n total steps on is =
+    let one : count_of p old ≡ 1 + count_of p rest = ap (λ l. count_of p l) steps ∙ sum_by-cons (λ d. cond (p d.1) 1 0) e rest ∙ ap (λ b. cond b 1 0 + count_of p rest) on in
+    omega (arith, is, one)
+
+pub passed_over : {A : Type 0} (p : A → Bool) (old rest : List (ℕ × A)) (e : ℕ × A) (n total : ℕ) → old ≡ e ∷ rest → p e.1 ≡ false
+    → n + count_of p old ≡ total → n + count_of p rest ≡ total
+passed_over p old rest e n total steps off is =
+    let none : count_of p old ≡ 0 + count_of p rest = ap (λ l. count_of p l) steps ∙ sum_by-cons (λ d. cond (p d.1) 1 0) e rest ∙ ap (λ b. cond b 1 0 + count_of p rest) off in
+    omega (arith, is, none)
+
+pub one_less : {A : Type 0} (old rest : List A) (e : A) → old ≡ e ∷ rest → length old ≡ 1 + length rest
+one_less old rest e steps = ap (λ l. length l) steps ∙ omega arith

@@ -1,0 +1,168 @@
+-- What steps of one client, and other events, make of what the core's history explains.
+use Rattle.std.proofs.Common.{◌≡◌, ◌≢◌, ℕ, ◌<◌, ◌≤◌, Bool, true, false, List, [], ◌∷◌, ◌++◌, All, length, reverse, Option, None, Some, refl, sym, ap, ◌∙◌, subst, arith, append-nil, inl, inr, ⊎_elim}
+use Rattle.std.specs.Prelude.{◌==◌, max}
+use Rattle.std.specs.List.{AllZip}
+use Rattle.std.proofs.lemmas.Bool.{cases_Bool, cases_eq, eqb-true}
+use Rattle.std.proofs.lemmas.List.{reverse-append}
+use Rattle.std.proofs.lemmas.List.Elements.{All-push, All-weaker}
+use Rattle.call_plan.specs.Plan.{PlanRecord}
+use Rattle.connect_codec.specs.declared.answer.Outcome.{Outcome}
+use Rattle.gateway_model.specs.declared.event.Event.{Event}
+use Rattle.gateway_model.specs.declared.event.Event.TheVariants.{BranchResult, Closing, Drain, Moment}
+use Rattle.gateway_model.specs.Events.{connections, succeeds}
+use Rattle.gateway_model.specs.History.{History, after_event, after_jobs, after_opening}
+use Rattle.gateway_model.specs.Job.{JobValue}
+use Rattle.gateway_theory.specs.Gateway.{GatewayValue}
+use Rattle.gateway_theory.specs.Served.{Served}
+use Rattle.slab.specs.Slab.{Slab, Updates, get}
+use Rattle.loop_model.specs.Clients.{ClientValue, client_value}
+use Rattle.loop_model.specs.Explained.{LoopValue, at}
+use Rattle.loop_model.specs.Handed.{HandsIn, IsResultOf, ResultValue, latest, moments, results}
+use Rattle.gateway_loop.specs.Clients.{Fits, HasStood, IsHeld, IsQuiet, IsServing, Leads, MakesSteps, lingering}
+use Rattle.gateway_loop.specs.Laws.{LoopLaws}
+use Rattle.gateway_loop.proofs.LeadLemmas.{Elsewhere, closing_elsewhere, leads_event, leads_jobs, leads_opening}
+use Rattle.gateway_loop.proofs.StepLemmas.{born_fits, closes, fits_on, leaves, quiet_event, stood_on}
+
+-- ---- places
+
+-- what stands in one place is new
+pub record Puts (old new : List (Option ClientValue)) (i : ℕ) (o : Option ClientValue) : Type 0 where
+  pub here : at i new ≡ o
+  pub there : (j : ℕ) → j ≢ i → at j new ≡ at j old
+
+pub puts_one : (s t : Slab ClientValue) (i : ℕ) (o : Option ClientValue) → Updates s t i o → Puts s.slots t.slots i o
+puts_one s t i o u = record { here = u.changed; there = u.others }
+
+-- it was taken out, and put back
+pub puts_back : (s t u : Slab ClientValue) (i key : ℕ) (y : ClientValue) → Updates s t i None → t.vacant_key ≡ i → key ≡ t.vacant_key → Updates t u key (Some y)
+    → Puts s.slots u.slots i (Some y)
+puts_back s t u i key y out next is back =
+    let same : key ≡ i = is ∙ next in
+    let again : Updates t u i (Some y) = subst (λ (n : ℕ). Updates t u n (Some y)) same back in
+    record { here = again.changed; there = λ j other. again.others j other ∙ out.others j other }
+
+data In (old : List (Option ClientValue)) (i : ℕ) (o : Option ClientValue) (j : ℕ) (x : ClientValue) : Type 0 where
+  Here : j ≡ i → o ≡ Some x → In old i o j x
+  There : (j ≡ i → ⊥) → at j old ≡ Some x → In old i o j x
+
+among : (old new : List (Option ClientValue)) (i : ℕ) (o : Option ClientValue) → Puts old new i o → (j : ℕ) (x : ClientValue) → at j new ≡ Some x → In old i o j x
+among old new i o p j x is =
+    ⊎_elim
+    (λ (same : j ≡ i). Here same (sym p.here ∙ ap (λ n. at n new) (sym same) ∙ is))
+    (λ (other : j ≡ i → ⊥). There other (sym (p.there j other) ∙ is))
+    (cases_eq j i)
+
+some_is : (a b : ClientValue) → Some a ≡ Some b → a ≡ b
+some_is a b it = cc
+
+no_some : (b : ClientValue) → None ≡ Some b → ⊥
+no_some b it = cc
+
+differ : (a b : ClientValue) (i j : ℕ) → (a.conn ≡ b.conn → i ≡ j) → (i ≡ j → ⊥) → (a.conn == b.conn) ≡ false
+differ a b i j one other =
+    ⊎_elim (λ (same : (a.conn == b.conn) ≡ true). absurd (other (one (eqb-true a.conn b.conn same)))) (λ (apart : (a.conn == b.conn) ≡ false). apart) (cases_Bool (a.conn == b.conn))
+
+abbrev pub nobodys : ℕ → Bool
+nobodys c = false
+
+pub all_stood : (laws : LoopLaws) (plans : List PlanRecord) (own : ℕ → Bool) (h k : History) (gone : List ClientValue) → Leads plans own h k
+    → All (λ (x : ClientValue). HasStood plans h x) gone → All (λ (x : ClientValue). HasStood plans k x) gone
+all_stood laws plans own h k gone l =
+    All-weaker (λ (x : ClientValue). HasStood plans h x) (λ (x : ClientValue). HasStood plans k x) (λ x s. stood_on laws plans own h k x l s) gone
+
+-- all but the clients are the same
+pub record SameRest (l m : LoopValue) : Type 0 where
+  pub told : m.told ≡ l.told
+  pub results : m.results ≡ l.results
+  pub handed : m.handed ≡ l.handed
+
+module _ (laws : LoopLaws) (plans : List PlanRecord) (moment : ℕ) (l m : LoopValue) where
+  -- the client in a place made steps
+  pub held_steps : (h k : History) (i : ℕ) (x y : ClientValue) → at i l.clients ≡ Some x → y.conn ≡ x.conn → Fits plans k y
+      → Leads plans (λ c. c == x.conn) h k → IsQuiet h k → Puts l.clients m.clients i (Some y) → m.gone ≡ l.gone → SameRest l m
+      → IsHeld plans h moment l → IsHeld plans k moment m
+  held_steps h k i x y its same fits leads quiet puts gone rest held = record {
+    fits = λ j z is. elim (among l.clients m.clients i (Some y) puts j z is) [
+      | Here at_it it ↦ subst (λ (w : ClientValue). Fits plans k w) (some_is y z it) fits
+      | There other there ↦
+          fits_on laws plans (λ c. c == x.conn) h k z leads (differ z x j i (λ one. held.apart j i z x there its one) other) (held.fits j z there)
+    ];
+    apart = λ j n a b is also one. elim (among l.clients m.clients i (Some y) puts j a is) [
+      | Here ja ita ↦ elim (among l.clients m.clients i (Some y) puts n b also) [
+        | Here nb itb ↦ ja ∙ sym nb
+        | There not_n there ↦ ja ∙ held.apart i n x b its there (sym same ∙ ap (λ (w : ClientValue). w.conn) (some_is y a ita) ∙ one)
+      ]
+      | There not_j there_a ↦ elim (among l.clients m.clients i (Some y) puts n b also) [
+        | Here nb itb ↦ held.apart j i a x there_a its (one ∙ ap (λ (w : ClientValue). w.conn) (sym (some_is y b itb)) ∙ same) ∙ sym nb
+        | There not_n there_b ↦ held.apart j n a b there_a there_b one
+      ]
+    ];
+    gone = subst (λ (g : List ClientValue). All (λ (z : ClientValue). HasStood plans k z) g) (sym gone)
+        (all_stood laws plans (λ c. c == x.conn) h k l.gone leads held.gone);
+    latest_is = held.latest_is ∙ ap latest (sym quiet.moments_are);
+    told = subst (λ (t : List ℕ). HandsIn (reverse t) (moments k.events)) (sym rest.told)
+        (subst (λ (ms : List ℕ). HandsIn (reverse l.told) ms) (sym quiet.moments_are) held.told);
+    results = subst (λ (rs : List (JobValue × Option Outcome)). AllZip IsResultOf (results k.events) rs) (sym rest.results)
+        (subst (λ (rs : List ResultValue). AllZip IsResultOf rs l.results) (sym quiet.results_are) held.results);
+    handed = quiet.handed_are ∙ held.handed ∙ sym rest.handed;
+  }
+
+  -- it goes
+  pub held_goes : (h k : History) (i : ℕ) (x : ClientValue) → at i l.clients ≡ Some x → HasStood plans k x
+      → Leads plans (λ c. c == x.conn) h k → IsQuiet h k → Puts l.clients m.clients i None → m.gone ≡ l.gone ++ x ∷ [] → SameRest l m
+      → IsHeld plans h moment l → IsHeld plans k moment m
+  held_goes h k i x its stood leads quiet puts gone rest held = record {
+    fits = λ j z is. elim (among l.clients m.clients i None puts j z is) [
+      | Here at_it it ↦ absurd (no_some z it)
+      | There other there ↦
+          fits_on laws plans (λ c. c == x.conn) h k z leads (differ z x j i (λ one. held.apart j i z x there its one) other) (held.fits j z there)
+    ];
+    apart = λ j n a b is also one. elim (among l.clients m.clients i None puts j a is) [
+      | Here ja ita ↦ absurd (no_some a ita)
+      | There not_j there_a ↦ elim (among l.clients m.clients i None puts n b also) [
+        | Here nb itb ↦ absurd (no_some b itb)
+        | There not_n there_b ↦ held.apart j n a b there_a there_b one
+      ]
+    ];
+    gone = subst (λ (g : List ClientValue). All (λ (z : ClientValue). HasStood plans k z) g) (sym gone)
+        (All-push (λ (z : ClientValue). HasStood plans k z) l.gone x (all_stood laws plans (λ c. c == x.conn) h k l.gone leads held.gone) stood);
+    latest_is = held.latest_is ∙ ap latest (sym quiet.moments_are);
+    told = subst (λ (t : List ℕ). HandsIn (reverse t) (moments k.events)) (sym rest.told)
+        (subst (λ (ms : List ℕ). HandsIn (reverse l.told) ms) (sym quiet.moments_are) held.told);
+    results = subst (λ (rs : List (JobValue × Option Outcome)). AllZip IsResultOf (results k.events) rs) (sym rest.results)
+        (subst (λ (rs : List ResultValue). AllZip IsResultOf rs l.results) (sym quiet.results_are) held.results);
+    handed = quiet.handed_are ∙ held.handed ∙ sym rest.handed;
+  }
+
+  -- one comes, of a connection that no other has
+  pub held_comes : (h k : History) (i : ℕ) (y : ClientValue) → Fits plans k y → y.conn ≡ connections h.opened h.events
+      → ((x : ClientValue) → Fits plans h x → x.conn < connections h.opened h.events)
+      → Leads plans nobodys h k → IsQuiet h k → Puts l.clients m.clients i (Some y) → m.gone ≡ l.gone → SameRest l m
+      → IsHeld plans h moment l → IsHeld plans k moment m
+  held_comes h k i y fits new older leads quiet puts gone rest held = record {
+    fits = λ j z is. elim (among l.clients m.clients i (Some y) puts j z is) [
+      | Here at_it it ↦ subst (λ (w : ClientValue). Fits plans k w) (some_is y z it) fits
+      | There other there ↦ fits_on laws plans nobodys h k z leads refl (held.fits j z there)
+    ];
+    apart = λ j n a b is also one. elim (among l.clients m.clients i (Some y) puts j a is) [
+      | Here ja ita ↦ elim (among l.clients m.clients i (Some y) puts n b also) [
+        | Here nb itb ↦ ja ∙ sym nb
+        | There not_n there ↦ absurd (clash b (held.fits n b there) (sym (ap (λ (w : ClientValue). w.conn) (some_is y a ita)) ∙ new) one)
+      ]
+      | There not_j there_a ↦ elim (among l.clients m.clients i (Some y) puts n b also) [
+        | Here nb itb ↦ absurd (clash a (held.fits j a there_a) (sym (ap (λ (w : ClientValue). w.conn) (some_is y b itb)) ∙ new) (sym one))
+        | There not_n there_b ↦ held.apart j n a b there_a there_b one
+      ]
+    ];
+    gone = subst (λ (g : List ClientValue). All (λ (z : ClientValue). HasStood plans k z) g) (sym gone)
+        (all_stood laws plans nobodys h k l.gone leads held.gone);
+    latest_is = held.latest_is ∙ ap latest (sym quiet.moments_are);
+    told = subst (λ (t : List ℕ). HandsIn (reverse t) (moments k.events)) (sym rest.told)
+        (subst (λ (ms : List ℕ). HandsIn (reverse l.told) ms) (sym quiet.moments_are) held.told);
+    results = subst (λ (rs : List (JobValue × Option Outcome)). AllZip IsResultOf (results k.events) rs) (sym rest.results)
+        (subst (λ (rs : List ResultValue). AllZip IsResultOf rs l.results) (sym quiet.results_are) held.results);
+    handed = quiet.handed_are ∙ held.handed ∙ sym rest.handed;
+  }
+    where
+      clash : (z : ClientValue) → Fits plans h z → {c : ℕ} → c ≡ connections h.opened h.events → c ≡ z.conn → ⊥
+      clash z f is same = let lt = older z f in omega (arith, lt, is, same)

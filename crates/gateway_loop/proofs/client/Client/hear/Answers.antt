@@ -1,0 +1,31 @@
+use Rattle.std.proofs.Common.{ap, refl, take}
+use Rattle.gateway_model.specs.declared.event.Event.TheVariants.{HangUp, Piece}
+use Rattle.gateway_loop.specs.Clients.{lingers_in}
+use Rattle.gateway_loop.proofs.GrowLemmas.{grows_by, no_more}
+use Rattle.gateway_loop.proofs.LeadLemmas.{hang_up_elsewhere, piece_elsewhere}
+use Rattle.gateway_loop.proofs.StepLemmas.{fits_hang_up, fits_piece, steps_event}
+use Rattle.gateway_loop.proofs.client.Client.hear.Goals as goal
+
+pub returns-in-Bytes-clause-steps : goal.returns-in-Bytes-clause-steps
+returns-in-Bytes-clause-steps g c =
+    let i = c.self.inside in
+    let e = c.in-Bytes.ensures in
+    let bytes = take c.in-Bytes.count c.read.new.piece in
+    rw (← c.self.view_is)
+    (steps_event c.args.core.now c.take_in.new.core _ _ (Piece i.conn bytes) c.take_in.ensures.plans refl c.take_in.ensures.stands
+    (fits_piece i.conn c.in-Bytes.count (lingers_in i.phase) (g.W.Wire.ended i.wire) _ (g.W.Wire.given i.wire) (g.W.Wire.got i.wire) i.outbox _ _ c.read.new.piece (ap lingers_in c.in-Reads.is) e.given.2 e.got e.ended
+    (c.self.invariant c.in-Reads.is)) (λ d off. piece_elsewhere i.conn bytes d off) refl refl)
+
+pub returns-in-Bytes-clause-grows : goal.returns-in-Bytes-clause-grows
+returns-in-Bytes-clause-grows g c =
+    let e = c.in-Bytes.ensures in
+    rw (← c.self.view_is) (grows_by _ _ _ _ _ _ _ _ _ _ _ _ _ e.given.2 (no_more _ _ e.got))
+
+pub returns-in-End-clause-steps : goal.returns-in-End-clause-steps
+returns-in-End-clause-steps g c =
+    let i = c.self.inside in
+    let e = c.in-End.ensures in
+    rw (← c.self.view_is)
+    (steps_event c.args.core.now c.hang_up.new.core _ _ (HangUp i.conn) c.hang_up.ensures.plans refl c.hang_up.ensures.stands
+    (fits_hang_up i.conn (lingers_in i.phase) (g.W.Wire.ended i.wire) _ (g.W.Wire.given i.wire) (g.W.Wire.got i.wire) i.outbox _ _ (ap lingers_in c.in-Reads.is) e.given e.got e.ended)
+    (λ d off. hang_up_elsewhere i.conn d off) refl refl)

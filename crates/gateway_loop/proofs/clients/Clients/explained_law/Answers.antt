@@ -1,0 +1,6 @@
+use Rattle.std.proofs.Common.{refl}
+use Rattle.gateway_loop.proofs.ServingLemmas.{explained}
+use Rattle.gateway_loop.proofs.clients.Clients.explained_law.Goals as goal
+
+pub returns : goal.returns
+returns g c = rw (← c.self.view_is) (explained c.loop_laws.ensures c.self.inside.core c.self.inside.moment _ refl c.self.invariant)

@@ -1,0 +1,49 @@
+use Rattle.std.proofs.Common.{[], ◌∷◌, refl}
+use Rattle.gateway_loop.proofs.GrowLemmas.{begins_by, begins_same, continues_all, noted, onward, tells_one, ticks_by}
+use Rattle.gateway_loop.proofs.ServingLemmas.{serving_moment, serving_told}
+use Rattle.gateway_loop.proofs.clients.Clients.tick.Goals as goal
+
+pub invariant_of-self : goal.invariant_of-self
+invariant_of-self g c =
+    let i = c.self.inside in
+    serving_told i.core i.moment c.moment-moment.result _ _ c.if-moment-self.true refl refl (noted i.told.items c.and-self-inside.result.items _ _ c.and-self-inside.ensures) refl refl c.self.invariant
+
+pub invariant_of-self-2 : goal.invariant_of-self-2
+invariant_of-self-2 g c =
+    let i = c.self.inside in
+    rw c.max-self-inside.ensures
+    (serving_moment c.loop_laws.ensures i.core c.moment-broke.new.self i.moment _ _ c.moment-broke.ensures.keeps.plans_are c.moment-moment.result refl refl
+    (noted i.told.items c.and-self-inside.result.items _ _ c.and-self-inside.ensures) refl refl c.moment-broke.ensures.stands c.self.invariant)
+
+pub returns-then-not-is_due-clause-goes : goal.returns-then-not-is_due-clause-goes
+returns-then-not-is_due-clause-goes g c =
+    let i = c.self.inside in
+    rw (← c.self.view_is)
+    (onward _ _ (continues_all _ _ refl refl refl (begins_by _ _ (c.moment-moment.result ∷ []) (noted i.told.items c.and-self-inside.result.items _ _ c.and-self-inside.ensures)) (begins_same _) (begins_same _)))
+
+pub returns-clause-goes : goal.returns-clause-goes
+returns-clause-goes g c =
+    let i = c.self.inside in
+    rw (← c.self.view_is)
+    (onward _ _ (continues_all _ _ c.moment-broke.ensures.keeps.plans_are refl refl (begins_by _ _ (c.moment-moment.result ∷ []) (noted i.told.items c.and-self-inside.result.items _ _ c.and-self-inside.ensures))
+    (begins_same _) (begins_same _)))
+
+pub returns-then-not-is_due-clause-told : goal.returns-then-not-is_due-clause-told
+returns-then-not-is_due-clause-told g c =
+    let i = c.self.inside in
+    rw (← c.self.view_is) (tells_one _ _ _ _ c.moment-moment.result c.moment-moment.ensures.told (noted i.told.items c.and-self-inside.result.items _ _ c.and-self-inside.ensures))
+
+pub returns-clause-told : goal.returns-clause-told
+returns-clause-told g c =
+    let i = c.self.inside in
+    rw (← c.self.view_is) (tells_one _ _ _ _ c.moment-moment.result c.moment-moment.ensures.told (noted i.told.items c.and-self-inside.result.items _ _ c.and-self-inside.ensures))
+
+pub returns-then-not-is_due-clause-ticks : goal.returns-then-not-is_due-clause-ticks
+returns-then-not-is_due-clause-ticks g c =
+    let i = c.self.inside in
+    rw (← c.self.view_is) (ticks_by _ _ c.moment-moment.result (noted i.told.items c.and-self-inside.result.items _ _ c.and-self-inside.ensures))
+
+pub returns-clause-ticks : goal.returns-clause-ticks
+returns-clause-ticks g c =
+    let i = c.self.inside in
+    rw (← c.self.view_is) (ticks_by _ _ c.moment-moment.result (noted i.told.items c.and-self-inside.result.items _ _ c.and-self-inside.ensures))

@@ -1,0 +1,24 @@
+use Rattle.std.proofs.Common.{◌≡◌, List, Option, None, Some, ap, sym, subst, ◌∙◌}
+use Rattle.std.specs.Prelude.{slice_index_or}
+use Rattle.slab.specs.Slab.{Slab}
+use Rattle.gateway_loop.specs.Asking.{AskingState}
+use Rattle.gateway_theory.specs.Task.{HandedJob}
+use Rattle.gateway_loop.proofs.AskLemmas.{Put, goes_side, put_one, takes_job}
+use Rattle.gateway_loop.proofs.exchanges.Exchanges.begin.Goals as goal
+
+pub invariant_of-self-2 : goal.invariant_of-self-2
+invariant_of-self-2 g c =
+    let i = c.self.inside in
+    let put = c.insert_reserved in
+    let slots : c.reserve.new.self.slots ≡ i.asking.slots = ap (λ (s : Slab AskingState). s.slots) c.reserve.ensures.rest_kept in
+    takes_job i.clients c.take_job.new.self i.asking.slots put.new.self.slots i.ended.items put.result c.new-asking.result c.in-Some.job.job
+    c.in-Some.ensures.results c.in-Some.ensures.handed (ap (λ (j : HandedJob). j.job) c.new-asking.ensures)
+    (sym (ap (λ (old : List (Option AskingState)). slice_index_or old put.result None) slots) ∙ put.ensures.was_vacant)
+    (subst (λ (old : List (Option AskingState)). Put old put.new.self.slots put.result (Some c.new-asking.result)) slots (put_one c.reserve.new.self put.new.self put.result _ put.ensures.updates))
+    c.self.invariant
+
+pub returns-clause-goes : goal.returns-clause-goes
+returns-clause-goes g c = rw (← c.self.view_is) (goes_side c.self.inside.clients c.take_job.new.self _ _ _ c.in-Some.ensures.goes)
+
+pub returns-in_default-clause-goes : goal.returns-in_default-clause-goes
+returns-in_default-clause-goes g c = rw (← c.self.view_is) (goes_side c.self.inside.clients c.take_job.new.self _ _ _ c.take_job.ensures.goes)

@@ -1,0 +1,16 @@
+use Rattle.std.proofs.Common.{sym}
+use Rattle.gateway_loop.proofs.AskLemmas.{ends_one, goes_ended, put_one}
+use Rattle.gateway_loop.proofs.exchanges.Exchanges.finish.Goals as goal
+
+pub invariant_of-self-2 : goal.invariant_of-self-2
+invariant_of-self-2 g c =
+    let i = c.self.inside in
+    ends_one i.clients c.record.new.self i.asking.slots c.try_remove.new.self.slots i.ended.items c.and-self-inside.result.items c.args.place c.in-Some.asking c.conclude-outcome.new.self c.conclude-outcome.result
+    c.into_job-job.result c.record.ensures.results c.record.ensures.handed (sym c.in-Some.ensures.value) c.conclude-outcome.ensures.job c.into_job-job.ensures
+    (put_one i.asking c.try_remove.new.self c.args.place _ c.try_remove.ensures.updates) c.and-self-inside.ensures c.conclude-outcome.ensures.fair c.self.invariant
+
+pub returns-clause-goes : goal.returns-clause-goes
+returns-clause-goes g c =
+    let i = c.self.inside in
+    rw (← c.self.view_is)
+    (goes_ended i.clients c.record.new.self _ _ i.ended.items c.and-self-inside.result.items (c.conclude-outcome.new.self, c.conclude-outcome.result) c.and-self-inside.ensures c.record.ensures.goes)

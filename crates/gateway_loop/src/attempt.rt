@@ -1,0 +1,180 @@
+ghost use Rattle.std.specs.Prelude.{◌≡◌, ℕ, List, [], None, IfSome, IsTrue, IsFalse};
+ghost use Rattle.gateway_loop.specs.Asking.{Asks, HadRead, IsUntouchedAttempt, Steps, attempt_value};
+ghost use Rattle.branch_exchange.specs.Exchange.{exchange_value};
+
+use crate::edges::Edges;
+use crate::limits::MOST_STEPS;
+use branch_exchange::{Exchange, ExchangeEnd, Loss};
+use http_pieces::Bytes;
+use std::alloc::Global;
+use std::io::ErrorKind;
+use std::marker::Model;
+use std::mem;
+use wires::{Got, PIECE, Sent, Wire};
+
+/// An exchange, and the stream that it goes over.
+#[derive(Drop)]
+pub(crate) struct Attempt<W: Wire> {
+    exchange: Exchange,
+    // none while its address is not known
+    wire: Option<W>,
+    // whether its stream took a byte
+    is_connected: bool,
+}
+
+impl<W: Wire> Model for Attempt<W> {
+    ghost use Rattle.std.specs.Prelude.{◌≡◌, [], false, Option};
+    ghost use Rattle.std.specs.Option.{option_map_or};
+    ghost use Rattle.gateway_loop.specs.Asking.{AttemptValue, IsUntouchedAttempt, attempt_value};
+
+    ghost Value = { AttemptValue };
+
+    ghost view = { λ a. attempt_value a.exchange (option_map_or W.given a.wire []) (option_map_or W.got a.wire []) };
+
+    ghost invariant = { λ a. a.is_connected ≡ false
+        → IsUntouchedAttempt (attempt_value a.exchange (option_map_or W.given a.wire []) (option_map_or W.got a.wire [])) };
+}
+
+/// What a step of an exchange came to.
+#[derive(Drop)]
+pub(crate) enum Step {
+    /// It would have to wait.
+    Waits,
+    /// There may be more to do.
+    More,
+    /// Its address accepts no connection: nothing was written.
+    Refused(ErrorKind),
+    /// It is over.
+    Ended(ExchangeEnd),
+}
+
+impl<W: Wire> Attempt<W> {
+    /// Before anything was done for this request.
+    pub(crate) fn new(alloc: Global, request: Bytes) -> Attempt<W>
+        ensures asks { Asks request result }
+        ensures untouched { IsUntouchedAttempt result }
+    {
+        Attempt {
+            exchange: Exchange::new(alloc, request),
+            wire: None,
+            is_connected: false,
+        }
+    }
+
+    /// Its stream, once its address is known.
+    pub(crate) fn wire(&self) -> Option<&W> {
+        self.wire.as_ref()
+    }
+
+    /// Whether its stream took a byte.
+    pub(crate) fn is_connected(&self) -> bool
+        ensures { IsFalse result → IsUntouchedAttempt self.now }
+    {
+        self.is_connected
+    }
+
+    /// Whether its request was written whole.
+    pub(crate) fn is_sent(&self) -> bool {
+        self.exchange.is_sent()
+    }
+
+    /// How many bytes of its request are left to be written.
+    pub(crate) fn left(&self) -> usize {
+        self.exchange.request().waiting().len()
+    }
+
+    /// Writes what can be written of the request, and then reads what can be read of the reply.
+    pub(crate) fn step(&mut self, edges: &mut Edges) -> Step
+        ensures { Steps self.old result self.new }
+    {
+        for _step in 0..MOST_STEPS {
+            match self.step_once(edges) {
+                Step::More => {}
+                step => return step,
+            }
+        }
+        Step::More
+    }
+
+    /// Writes once while some of the request is left, and else reads once.
+    fn step_once(&mut self, edges: &mut Edges) -> Step
+        ensures { Steps self.old result self.new }
+    {
+        if self.exchange.is_sent() {
+            self.receive(edges)
+        } else {
+            self.send(edges)
+        }
+    }
+
+    /// Writes once of what is left of the request.
+    fn send(&mut self, edges: &mut Edges) -> Step
+        ensures { Steps self.old result self.new }
+    {
+        if !edges.may_write {
+            return Step::Waits;
+        }
+        let Some(wire) = &mut self.wire else {
+            return Step::Waits;
+        };
+        match wire.write(self.exchange.request()) {
+            Sent::Bytes(count) => {
+                self.exchange.sent(count);
+                self.is_connected = true;
+                Step::More
+            }
+            Sent::Nothing => {
+                edges.may_write = false;
+                Step::Waits
+            }
+            Sent::Interrupted => Step::More,
+            Sent::Failed(kind) if self.is_connected => {
+                Step::Ended(ExchangeEnd::Lost(Loss::Write(kind)))
+            }
+            Sent::Failed(kind) => Step::Refused(kind),
+        }
+    }
+
+    /// Reads once of the reply.
+    fn receive(&mut self, edges: &mut Edges) -> Step
+        ensures { Steps self.old result self.new }
+    {
+        if !edges.may_read {
+            return Step::Waits;
+        }
+        let Some(wire) = &mut self.wire else {
+            return Step::Waits;
+        };
+        let mut piece = [0u8; PIECE];
+        match wire.read(&mut piece) {
+            Got::Bytes(count) => {
+                self.is_connected = true;
+                edges.has_read(count);
+                match self.exchange.received(&piece[..count]) {
+                    Some(end) => Step::Ended(end),
+                    None => Step::More,
+                }
+            }
+            Got::Nothing => {
+                edges.may_read = false;
+                Step::Waits
+            }
+            Got::Interrupted => Step::More,
+            Got::End(Some(kind)) => Step::Ended(ExchangeEnd::Lost(Loss::Read(kind))),
+            Got::End(None) => Step::Ended(ExchangeEnd::Lost(Loss::End)),
+        }
+    }
+}
+
+impl<W: Wire + Drop> Attempt<W> {
+    /// It goes over this stream from now on, of which nothing was read or written. Answers the one before, if there was one.
+    pub(crate) fn connect(&mut self, wire: W) -> Option<W>
+        requires given { W.given wire ≡ [] }
+        requires got { W.got wire ≡ [] }
+        ensures fresh { self.new ≡ attempt_value self.old.exchange [] [] }
+        ensures before { IfSome result (λ before. HadRead (W.given before) (W.got before) self.old) }
+    {
+        self.is_connected = false;
+        mem::replace(&mut self.wire, Some(wire))
+    }
+}

@@ -1,0 +1,351 @@
+ghost use Rattle.std.specs.Prelude.{◌≡◌, ◌++◌, ◌∷◌, [], ℕ, List, IfOk, length, option_map, option_to_list, count_by};
+ghost use Rattle.gateway_loop.specs.Clients.{HandsNothing, Onward, Starts, Tells};
+ghost use Rattle.gateway_model.specs.History.{no_history};
+ghost use Rattle.gateway_theory.specs.Gateway.{jobs_of};
+ghost use Rattle.gateway_theory.specs.Served.{Served};
+ghost use Rattle.loop_model.specs.Explained.{IsExplained};
+ghost use Rattle.loop_model.specs.Growing.{HasTicked};
+ghost use Rattle.slab.specs.Slab.{entries};
+ghost use Rattle.loop_model.specs.Standing.{count_clients, count_lingering};
+
+use crate::client::{Client, Heard, Written};
+use crate::comings::Dealt;
+use crate::edges::Edges;
+use crate::laws::loop_laws;
+use crate::limits::MOST_CLIENTS;
+use crate::moments::is_due;
+use crate::network::Network;
+use crate::phase::Phase;
+use call_plan::Plans;
+use connect_codec::Outcome;
+use gateway_core::{CallId, ConnId, Core, Job, ReplyHook, Tally};
+use http_server::Log;
+use slab::Slab;
+use std::alloc::{AllocError, Global};
+use std::marker::Model;
+use wires::Wire;
+
+/// A core and its clients, by their places. Whatever is done by its functions, one history explains all that its clients' streams brought
+/// and got (`explained_law`).
+#[derive(Drop)]
+pub(crate) struct Clients<H, W: Wire> {
+    alloc: Global,
+    core: Core<H>,
+    clients: Slab<Client<W>>,
+    // the last moment that was handed in
+    moment: u64,
+    // for proofs: the clients that have gone, the moments that were told, the results that were handed in, and the jobs that were taken
+    gone: Log<Client<W>, bool>,
+    told: Log<u64, bool>,
+    results: Log<Job, Option<Outcome>>,
+    handed: Log<Job, bool>,
+}
+
+impl<H, W: Wire> Model for Clients<H, W> {
+    ghost use Rattle.loop_model.specs.Explained.{LoopValue};
+    ghost use Rattle.gateway_loop.specs.Clients.{IsServing, loop_value};
+
+    ghost Value = { LoopValue };
+
+    ghost view = { λ l. loop_value l.core l.clients.slots l.gone.items l.told.items l.results.items l.handed.items };
+
+    ghost invariant = { λ l. IsServing l.core l.moment (loop_value l.core l.clients.slots l.gone.items l.told.items l.results.items l.handed.items) };
+}
+
+impl<H: ReplyHook + Drop, W: Wire + Drop> Clients<H, W> {
+    /// A core that serves these plans, with no client.
+    pub(crate) fn new(alloc: Global, plans: Plans) -> Result<Clients<H, W>, AllocError>
+        ensures plans { IfOk result (λ l. l.core.plans ≡ plans) }
+        ensures starts { IfOk result Starts }
+        ensures serves { IfOk result (λ l. Served l.core no_history) }
+    {
+        Ok(Clients {
+            alloc,
+            core: Core::new(alloc, plans)?,
+            clients: Slab::with_capacity(alloc, MOST_CLIENTS)?,
+            moment: 0,
+            gone: Log::new(),
+            told: Log::new(),
+            results: Log::new(),
+            handed: Log::new(),
+        })
+    }
+
+    /// Opens a connection for the stream: its number, and the place of its client. Where none can be opened, the stream is closed without
+    /// a byte.
+    pub(crate) fn open(&mut self, dealt: Dealt<H, W>) -> Option<(ConnId, usize)>
+        ensures goes { Onward self.old self.new }
+        ensures told { self.new.told ≡ self.old.told }
+        ensures hands { HandsNothing self.old self.new }
+    {
+        loop_laws();
+        if self.clients.reserve(1).is_err() {
+            return None;
+        }
+        let (wire, stock) = dealt.into_parts();
+        let Ok(conn) = self.core.open_conn(stock) else {
+            return None;
+        };
+        let place = self
+            .clients
+            .insert_reserved(Client::new(self.alloc, wire, conn));
+        Some((conn, place))
+    }
+
+    /// Reads the stream of the client in that place once, and hands on what came; of one that lingers it is dropped.
+    pub(crate) fn read(&mut self, place: usize, edges: &mut Edges) -> Heard
+        ensures goes { Onward self.old self.new }
+        ensures told { self.new.told ≡ self.old.told }
+        ensures hands { HandsNothing self.old self.new }
+    {
+        loop_laws();
+        let Some(mut client) = self.clients.try_remove(place) else {
+            return Heard::Nothing;
+        };
+        let heard = client.read(&mut self.core, edges);
+        let _place = self.clients.insert_reserved(client);
+        heard
+    }
+
+    /// Writes what can be written of the replies that are there to the client in that place.
+    pub(crate) fn write<N: Network<W>>(
+        &mut self,
+        net: &mut N,
+        place: usize,
+        edges: &mut Edges,
+    ) -> Written
+        ensures goes { Onward self.old self.new }
+        ensures told { self.new.told ≡ self.old.told }
+        ensures same { N.told net.new ≡ N.told net.old }
+        ensures hands { HandsNothing self.old self.new }
+    {
+        loop_laws();
+        let Some(mut client) = self.clients.try_remove(place) else {
+            return Written::All;
+        };
+        let written = client.write(&mut self.core, net, edges);
+        let _place = self.clients.insert_reserved(client);
+        written
+    }
+
+    /// Closes the connection of the client in that place, which lingers from then on: what still comes is dropped.
+    pub(crate) fn leave(&mut self, place: usize)
+        ensures goes { Onward self.old self.new }
+        ensures told { self.new.told ≡ self.old.told }
+        ensures hands { HandsNothing self.old self.new }
+    {
+        loop_laws();
+        let Some(mut client) = self.clients.try_remove(place) else {
+            return;
+        };
+        self.core.close(client.conn());
+        client.linger();
+        let _place = self.clients.insert_reserved(client);
+    }
+
+    /// Closes the stream of the client in that place, and its connection.
+    pub(crate) fn let_go(&mut self, place: usize)
+        ensures goes { Onward self.old self.new }
+        ensures told { self.new.told ≡ self.old.told }
+        ensures hands { HandsNothing self.old self.new }
+    {
+        loop_laws();
+        let Some(client) = self.clients.try_remove(place) else {
+            return;
+        };
+        self.core.close(client.conn());
+        self.gone = self.gone.and(&client, &true);
+    }
+
+    /// Hands in the present moment, unless that would change nothing. Answers whether something may have come of it for any client.
+    pub(crate) fn tick<N: Network<W>>(&mut self, net: &mut N) -> bool
+        ensures goes { Onward self.old self.new }
+        ensures ticks { HasTicked self.old self.new }
+        ensures told { Tells (N.told net.old) (N.told net.new) self.old self.new }
+        ensures hands { HandsNothing self.old self.new }
+    {
+        loop_laws();
+        let moment = net.moment();
+        self.told = self.told.and(&moment, &true);
+        let is_due = is_due(self.core.next_deadline(), moment.max(self.moment));
+        if moment <= self.moment && !is_due {
+            return false;
+        }
+        self.moment = moment.max(self.moment);
+        let broke = self.core.moment(moment);
+        is_due || broke
+    }
+
+    /// The drain begins: calls that are undecided end, and those that come are refused.
+    pub(crate) fn drain(&mut self)
+        ensures goes { Onward self.old self.new }
+        ensures told { self.new.told ≡ self.old.told }
+        ensures hands { HandsNothing self.old self.new }
+    {
+        loop_laws();
+        let _broke = self.core.drain();
+    }
+
+    /// The next job, if one waits.
+    pub(crate) fn take_job(&mut self) -> Option<Job>
+        ensures goes { Onward self.old self.new }
+        ensures told { self.new.told ≡ self.old.told }
+        ensures handed { self.new.handed ≡ self.old.handed ++ option_to_list (option_map (λ j. j.job) result) }
+        ensures results { self.new.results ≡ self.old.results }
+    {
+        loop_laws();
+        match self.core.take_job() {
+            Some(job) => {
+                self.handed = self.handed.and(&job, &true);
+                Some(job)
+            }
+            None => None,
+        }
+    }
+
+    /// Records what came of the job; None for want of memory.
+    pub(crate) fn record(&mut self, job: &Job, outcome: Option<Outcome>)
+        ensures goes { Onward self.old self.new }
+        ensures told { self.new.told ≡ self.old.told }
+        ensures results { self.new.results ≡ self.old.results ++ (job.now.job, outcome) ∷ [] }
+        ensures handed { self.new.handed ≡ self.old.handed }
+    {
+        loop_laws();
+        self.results = self.results.and(job, &outcome);
+        let call = job.call();
+        match outcome {
+            Some(outcome) => {
+                let _took = self.core.result(&call, job.branch(), outcome);
+            }
+            None => {
+                let _took = self.core.starved(&call, job.branch());
+            }
+        }
+    }
+}
+
+impl<H: ReplyHook + Drop, W: Wire + Drop> Clients<H, W> {
+    /// One history explains all that the clients brought and got. It does nothing.
+    pub(crate) fn explained_law(&self)
+        ensures { IsExplained self.now }
+    {
+        loop_laws();
+        let _ = &self.alloc;
+    }
+
+    /// How many clients there are, those that linger among them.
+    pub(crate) fn len(&self) -> usize
+        ensures { result ≡ count_clients self.now.clients }
+    {
+        self.clients.len()
+    }
+
+    /// How many clients linger.
+    pub(crate) fn lingering(&self) -> usize
+        ensures { result ≡ count_lingering self.now.clients }
+    {
+        lingering_among(&self.clients)
+    }
+
+    /// The last moment that was handed in.
+    pub(crate) fn moment(&self) -> u64 {
+        self.moment
+    }
+
+    /// The stream of the client in that place.
+    pub(crate) fn wire(&self, place: usize) -> Option<&W> {
+        Some(self.clients.get(place)?.wire())
+    }
+
+    /// The connection of the client in that place.
+    pub(crate) fn conn(&self, place: usize) -> Option<ConnId> {
+        Some(self.clients.get(place)?.conn())
+    }
+
+    /// What is done with the stream of the client in that place.
+    pub(crate) fn phase(&self, place: usize) -> Option<Phase> {
+        Some(self.clients.get(place)?.phase())
+    }
+
+    /// Whether the client in that place is to be read, where its stream may have bytes.
+    pub(crate) fn is_to_be_read(&self, place: usize) -> bool {
+        match self.clients.get(place) {
+            Some(client) => client.is_to_be_read(&self.core),
+            None => false,
+        }
+    }
+
+    /// Whether the client in that place is owed nothing, and brings nothing more.
+    pub(crate) fn is_to_leave(&self, place: usize) -> bool {
+        match self.clients.get(place) {
+            Some(client) => client.is_to_leave(&self.core),
+            None => false,
+        }
+    }
+
+    /// Whether each request of the client in that place has its reply, and that was taken.
+    pub(crate) fn is_owed_nothing(&self, place: usize) -> bool {
+        match self.clients.get(place) {
+            Some(client) => {
+                let conn = client.conn();
+                self.core.is_idle(conn) && self.core.untaken(conn) == 0
+            }
+            None => false,
+        }
+    }
+
+    /// Whether nothing is owed to the client in that place: each of its requests has its reply, and that was written.
+    pub(crate) fn is_idle(&self, place: usize) -> bool {
+        self.is_owed_nothing(place) && self.has_written_all(place)
+    }
+
+    /// Whether nothing waits to be written to the client in that place.
+    fn has_written_all(&self, place: usize) -> bool {
+        match self.clients.get(place) {
+            Some(client) => client.has_written_all(),
+            None => false,
+        }
+    }
+
+    /// Whether a reply is there for the connection, or it no longer brings requests or replies.
+    pub(crate) fn may_have_news(&self, conn: ConnId) -> bool {
+        self.core.untaken(conn) > 0 || self.core.ended(conn)
+    }
+
+    /// Whether the answer to a job of this call is wanted.
+    pub(crate) fn is_wanted(&self, call: &CallId) -> bool {
+        self.core.is_wanted(call)
+    }
+
+    /// The least deadline of the undecided calls, and of their branches that are out.
+    pub(crate) fn next_deadline(&self) -> Option<u64> {
+        self.core.next_deadline()
+    }
+
+    /// How many jobs wait to be taken.
+    pub(crate) fn waiting_jobs(&self) -> usize
+        ensures { result ≡ length (jobs_of self.now.core) }
+    {
+        self.core.waiting_jobs()
+    }
+
+    /// How the results that came were seen.
+    pub(crate) fn tally(&self) -> Tally
+        ensures { result ≡ self.now.core.tally }
+    {
+        self.core.tally()
+    }
+}
+
+/// How many of the clients linger.
+fn lingering_among<W: Wire>(clients: &Slab<Client<W>>) -> usize
+    ensures { result ≡ count_by (λ entry. entry.1.lingers) (entries clients.now) }
+{
+    let mut count = 0usize;
+    for client in clients.iter() {
+        if client.1.lingers() {
+            count += 1;
+        }
+    }
+    count
+}

@@ -1,0 +1,58 @@
+-- A job that is asked for, and how that ended.
+use Rattle.std.specs.Prelude.{◌≡◌, ◌⊎◌, ℕ, All, List, [], Option, Some, None}
+use Rattle.connect_codec.specs.BranchRequest.{branch_request}
+use Rattle.connect_codec.specs.Outcome.{outcome_of}
+use Rattle.connect_codec.specs.declared.answer.Outcome.{Outcome}
+use Rattle.gateway_model.specs.Job.{JobValue}
+use Rattle.gateway_model.specs.Queue.{IsPrefixOf}
+use Rattle.http_pieces.specs.Cut.{Complete, IsCut}
+use Rattle.http_pieces.specs.ReplyHead.{reply_kind}
+use Rattle.http_pieces.specs.declared.reply.HttpReply.{HttpReply}
+
+-- a stream to a backend: what was read from it, and what was written to it
+pub record StreamValue : Type 0 where
+  pub given : List ℕ
+  pub got : List ℕ
+
+abbrev pub stream_value : List ℕ → List ℕ → StreamValue
+stream_value given got = record { given = given; got = got }
+
+-- a job that is asked for: the streams that were given up before, and what was read from the one that it goes over, and written to it;
+-- nothing, while there is none
+pub record AskingValue : Type 0 where
+  pub job : JobValue
+  pub tried : List StreamValue
+  pub given : List ℕ
+  pub got : List ℕ
+
+-- one that has ended, and the outcome that was recorded; None where there was no memory for one
+pub record EndedValue : Type 0 where
+  pub asking : AskingValue
+  pub outcome : Option Outcome
+
+abbrev pub ended_value : AskingValue → Option Outcome → EndedValue
+ended_value asking outcome = record { asking = asking; outcome = outcome }
+
+-- the bytes that ask for the job
+abbrev pub request_of : JobValue → List ℕ
+request_of job =
+    branch_request (record { address = job.address; path = job.path; remaining = job.remaining; request_id = job.request_id; body = job.body })
+
+-- nothing was read from the stream, or written to it
+abbrev pub IsUntouched : StreamValue → Type 0
+IsUntouched s = (s.given ≡ []) × (s.got ≡ [])
+
+-- the request was written whole, what was read begins with a reply, and the outcome is that of this reply
+pub record IsAnswered (x : AskingValue) (o : Outcome) : Type 0 where
+  pub whole : x.got ≡ request_of x.job
+  pub reply : HttpReply
+  pub rest : List ℕ
+  pub begins : IsCut reply_kind x.given (Complete reply rest)
+  pub outcome_is : o ≡ outcome_of (Some reply)
+
+-- Nothing was written to a stream that was given up, and to the last one some first bytes of the job's request, and no others. Its outcome
+-- is that of its reply, or of a reply that was lost.
+pub record IsFair (e : EndedValue) : Type 0 where
+  pub untouched : All IsUntouched e.asking.tried
+  pub prefix : IsPrefixOf e.asking.got (request_of e.asking.job)
+  pub outcome : (o : Outcome) → e.outcome ≡ Some o → (o ≡ outcome_of None) ⊎ IsAnswered e.asking o

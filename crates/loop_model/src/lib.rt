@@ -1,0 +1,2 @@
+//! What must be believed of an event loop: its clients, its exchanges, and how one list of events explains them.
+#![tactic(auto)]

@@ -1,0 +1,93 @@
+-- What is known of each request, and of a job's counts.
+use Rattle.std.proofs.Common.{◌≡◌, ℕ, zero, suc, ◌+◌, Bool, List, [], ◌∷◌, ◌++◌, All, cond, length, Option, Some, None, ap, arith, refl, sym, ◌∙◌}
+use Rattle.std.specs.Prelude.{count_by, slice_index_or, take}
+use Rattle.std.proofs.lemmas.List.{length-append}
+use Rattle.std.proofs.lemmas.List.Elements.{All-cons, All-head, All-nil}
+use Rattle.std.proofs.lemmas.List.Sums.{sum_by-cons}
+use Rattle.connect_codec.specs.Outcome.{outcome_of}
+use Rattle.connect_codec.specs.declared.answer.Outcome.{Outcome}
+use Rattle.connect_codec.specs.declared.answer.Outcome.TheVariants.{Answer}
+use Rattle.http_pieces.specs.Cut.{Complete, EndsInEmptyLine, IsCut, Refused, cut_unblocked, with_head, without_block, without_head}
+use Rattle.http_pieces.specs.ReplyHead.{reply_kind}
+use Rattle.http_pieces.specs.declared.reply.HttpReply.{HttpReply}
+use Rattle.connect_codec.specs.BranchRequest.{branch_request}
+use Rattle.connect_codec.specs.Message.{message_bytes}
+use Rattle.gateway_model.specs.Job.{JobValue}
+use Rattle.gateway_model.specs.Queue.{IsPrefixOf}
+use Rattle.loop_model.specs.Asking.{EndedValue, request_of}
+
+pub some_is : (a b : Outcome) → Some a ≡ Some b → a ≡ b
+some_is a b e = cc
+
+pub no_some : (b : Outcome) → None ≡ Some b → ⊥
+no_some b e = cc
+
+pub all_one : {X : Type 0} (P : X → Type 0) (x : X) → P x → All P (x ∷ [])
+all_one P x one = All-cons P x [] one (All-nil P)
+
+-- each request begins with POST
+pub begins_with_p : (j : JobValue) → slice_index_or (request_of j) 0 0 ≡ 80
+unfolding branch_request message_bytes
+begins_with_p j = refl
+
+pub is_something : (xs : List ℕ) → slice_index_or xs 0 0 ≡ 80 → length xs ≡ 0 → ⊥
+is_something [] first none = omega (arith, first)
+is_something (x ∷ xs) first none = omega (arith, none)
+
+pub no_longer_than : (xs : List ℕ) → slice_index_or xs 0 0 ≡ 80 → IsPrefixOf (xs ++ xs) xs → ⊥
+no_longer_than xs first p = is_something xs first (omega (arith, length-append (xs ++ xs) p.0, length-append xs xs, ap (λ (l : List ℕ). length l) p.1))
+
+pub count_one : {X : Type 0} (p : X → Bool) (x : X) → count_by p (x ∷ []) ≡ cond (p x) 1 0 + 0
+count_one p x = sum_by-cons (λ y. cond (p y) 1 0) x []
+
+pub count_two : {X : Type 0} (p : X → Bool) (x y : X) → count_by p (x ∷ y ∷ []) ≡ cond (p x) 1 0 + (cond (p y) 1 0 + 0)
+count_two p x y = sum_by-cons (λ z. cond (p z) 1 0) x (y ∷ []) ∙ ap (λ n. cond (p x) 1 0 + n) (count_one p y)
+
+pub none_written : (xs : List ℕ) → slice_index_or xs 0 0 ≡ 80 → xs ≡ [] → ⊥
+none_written xs first none = is_something xs first (ap (λ (l : List ℕ). length l) none)
+
+pub first_of_all : {X : Type 0} (P : X → Type 0) (x : X) → All P (x ∷ []) → P x
+first_of_all P x all = All-head P x [] all
+
+pub never_lost : (body : List ℕ) → Answer body ≡ outcome_of None → ⊥
+unfolding outcome_of
+never_lost body e = cc
+
+-- ---- no reply was read where nothing was
+
+abbrev nothing : List ℕ
+nothing = []
+
+take_nothing : (n : ℕ) → take n nothing ≡ nothing
+take_nothing zero = refl
+take_nothing (suc n) = refl
+
+ends_nowhere : (n : ℕ) → EndsInEmptyLine (take n nothing) → ⊥
+ends_nowhere n e = omega (arith, ap (λ (l : List ℕ). length l) (sym (take_nothing n) ∙ e.1), length-append e.0 (13 ∷ 10 ∷ 13 ∷ 10 ∷ []))
+
+not_incomplete : (reply : HttpReply) (rest : List ℕ) → Complete reply rest ≡ cut_unblocked reply_kind [] → ⊥
+not_incomplete reply rest e = cc
+
+no_refusal : (reply : HttpReply) (rest : List ℕ) → Complete reply rest ≡ Refused reply_kind.no_head → ⊥
+no_refusal reply rest e = cc
+
+pub none_read : (reply : HttpReply) (rest : List ℕ) → IsCut reply_kind [] (Complete reply rest) → ⊥
+none_read reply rest (without_block none is) = not_incomplete reply rest is
+none_read reply rest (without_head n block none is) = no_refusal reply rest is
+none_read reply rest (with_head n a block head is) = ends_nowhere n block.ends
+
+-- ---- results
+
+abbrev pub job_number : List (JobValue × Option Outcome) → ℕ
+job_number [] = 0
+job_number (r ∷ rest) = r.0.branch
+
+abbrev pub first_outcome : List (JobValue × Option Outcome) → Option Outcome
+first_outcome [] = None
+first_outcome (r ∷ rest) = r.1
+
+pub some_outcome : (o : Outcome) → Some o ≡ None → ⊥
+some_outcome o e = cc
+
+pub longer_than_none : (e : EndedValue) (more : List EndedValue) → [] ≡ (e ∷ []) ++ more → ⊥
+longer_than_none e more is = omega (arith, ap (λ (l : List EndedValue). length l) is, length-append (e ∷ []) more)

@@ -1,0 +1,24 @@
+use Rattle.std.proofs.Common.{true, length, ap, arith}
+use Rattle.loop_rows.proofs.ExchangeLemmas.{first_outcome, job_number, longer_than_none, some_outcome}
+use Rattle.loop_rows.proofs.rows_of_loops.other_jobs.Goals as goal
+
+pub returns-clause-dropped : goal.returns-clause-dropped
+returns-clause-dropped c v j a = omega (arith, a.jobs (λ k. true))
+
+pub returns-clause-untaken : goal.returns-clause-untaken
+returns-clause-untaken c v j a = omega (arith, a.jobs (λ k. true))
+
+pub returns-clause-twice : goal.returns-clause-twice
+returns-clause-twice c v e a = omega (arith, ap (λ l. length l) a.results)
+
+pub returns-clause-never : goal.returns-clause-never
+returns-clause-never c v e a = omega (arith, ap (λ l. length l) a.results)
+
+pub returns-clause-another : goal.returns-clause-another
+returns-clause-another c v o a = omega (arith, ap job_number a.results)
+
+pub returns-clause-otherwise : goal.returns-clause-otherwise
+returns-clause-otherwise c v j o a = some_outcome o (ap first_outcome a.results)
+
+pub returns-clause-anew : goal.returns-clause-anew
+returns-clause-anew c v e s = longer_than_none e s.ended.0 s.ended.1

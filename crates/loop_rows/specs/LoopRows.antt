@@ -1,0 +1,52 @@
+-- What the worked rows speak of.
+use Rattle.std.specs.Prelude.{◌≡◌, ◌<◌, ℕ, Bool, List, [], ◌∷◌, ◌++◌, Option, None}
+use Rattle.call_plan.specs.Plan.{PlanRecord}
+use Rattle.connect_codec.specs.declared.answer.Outcome.{Outcome}
+use Rattle.gateway_model.specs.Events.{Before, Occurs, connections, hung_up, stream}
+use Rattle.gateway_model.specs.History.{History, history_of}
+use Rattle.gateway_model.specs.Job.{JobValue}
+use Rattle.gateway_model.specs.Past.{call_id, marked}
+use Rattle.gateway_model.specs.Queue.{queued}
+use Rattle.gateway_model.specs.Starts.{Placed, occurrences}
+use Rattle.gateway_model.specs.declared.event.Event.TheVariants.{Opening}
+use Rattle.gateway_theory.specs.Gateway.{GatewayValue}
+use Rattle.loop_model.specs.Asking.{AskingValue, EndedValue, StreamValue, ended_value}
+use Rattle.loop_model.specs.Handed.{ResultValue}
+use Rattle.loop_model.specs.Whole.{WholeLoop}
+
+-- these events after two openings that succeeded
+abbrev pub after : Before → History
+after events = history_of (0 ∷ 1 ∷ []) (events ++ Opening ∷ Opening ∷ []) (λ c. []) []
+
+-- the job of that branch of that request of that connection
+abbrev pub job : ℕ → ℕ → ℕ → JobValue
+job conn request branch = record { call = call_id conn request; branch = branch; plan_path = []; branch_name = []; address = []; path = []; body = []; request_id = None; deadline = None; remaining = None }
+
+abbrev pub result_of : ℕ → ℕ → ℕ → Outcome → ResultValue
+result_of conn request branch outcome = record { call = call_id conn request; branch = branch; outcome = outcome }
+
+-- that job is asked for, and nothing was done for it yet
+abbrev pub asking : JobValue → AskingValue
+asking job = record { job = job; tried = []; given = []; got = [] }
+
+-- it was asked for so, and that was recorded of it
+abbrev pub ended : JobValue → List StreamValue → List ℕ → List ℕ → Option Outcome → EndedValue
+ended job tried given got outcome = ended_value (record { job = job; tried = tried; given = given; got = got }) outcome
+
+-- a loop without clients
+abbrev pub loop_of : GatewayValue → List (JobValue × Option Outcome) → List JobValue → List (Option AskingValue) → List EndedValue → WholeLoop
+loop_of core results handed asking ended = record {
+  side = record { core = core; clients = []; gone = []; told = []; results = results; handed = handed };
+  asking = asking;
+  ended = ended;
+}
+
+-- something occurs by the history, and by whatever does these bytes are queued for that connection
+pub record Queues (plans : List PlanRecord) (h : History) (conn : ℕ) (bytes : List ℕ) : Type 0 where
+  pub occurred : List Placed
+  pub occurs : Occurs plans h.opened h.events occurred
+  pub queued_are : (occurred : List Placed) → Occurs plans h.opened h.events occurred → queued conn (marked (occurrences occurred)) ≡ bytes
+
+-- that connection was opened, these bytes came of it, and so is whether it hung up
+abbrev pub IsAt : History → ℕ → List ℕ → Bool → Type 0
+IsAt h conn bytes ended = (conn < connections h.opened h.events) × (stream h.opened conn h.events ≡ bytes) × (hung_up h.opened conn h.events ≡ ended)
