@@ -1,27 +1,21 @@
 -- What steps of one client, and other events, make of what the core's history explains.
-use Rattle.std.proofs.Common.{◌≡◌, ◌≢◌, ℕ, ◌<◌, ◌≤◌, Bool, true, false, List, [], ◌∷◌, ◌++◌, All, length, reverse, Option, None, Some, refl, sym, ap, ◌∙◌, subst, arith, append-nil, inl, inr, ⊎_elim}
-use Rattle.std.specs.Prelude.{◌==◌, max}
+use Rattle.std.proofs.Common.{◌≡◌, ◌≢◌, ℕ, ◌<◌, Bool, true, false, List, [], ◌∷◌, ◌++◌, All, reverse, Option, None, Some, refl, sym, ap, ◌∙◌, subst, arith, ⊎_elim}
+use Rattle.std.specs.Prelude.{◌==◌}
 use Rattle.std.specs.List.{AllZip}
 use Rattle.std.proofs.lemmas.Bool.{cases_Bool, cases_eq, eqb-true}
-use Rattle.std.proofs.lemmas.List.{reverse-append}
 use Rattle.std.proofs.lemmas.List.Elements.{All-push, All-weaker}
 use Rattle.call_plan.specs.Plan.{PlanRecord}
 use Rattle.connect_codec.specs.declared.answer.Outcome.{Outcome}
-use Rattle.gateway_model.specs.declared.event.Event.{Event}
-use Rattle.gateway_model.specs.declared.event.Event.TheVariants.{BranchResult, Closing, Drain, Moment}
-use Rattle.gateway_model.specs.Events.{connections, succeeds}
-use Rattle.gateway_model.specs.History.{History, after_event, after_jobs, after_opening}
+use Rattle.gateway_model.specs.Events.{connections}
+use Rattle.gateway_model.specs.History.{History}
 use Rattle.gateway_model.specs.Job.{JobValue}
-use Rattle.gateway_theory.specs.Gateway.{GatewayValue}
-use Rattle.gateway_theory.specs.Served.{Served}
-use Rattle.slab.specs.Slab.{Slab, Updates, get}
-use Rattle.loop_model.specs.Clients.{ClientValue, client_value}
+use Rattle.slab.specs.Slab.{Slab, Updates}
+use Rattle.loop_model.specs.Clients.{ClientValue}
 use Rattle.loop_model.specs.Explained.{LoopValue, at}
 use Rattle.loop_model.specs.Handed.{HandsIn, IsResultOf, ResultValue, latest, moments, results}
-use Rattle.gateway_loop.specs.Clients.{Fits, HasStood, IsHeld, IsQuiet, IsServing, Leads, MakesSteps, lingering}
+use Rattle.gateway_loop.specs.Clients.{Fits, HasStood, IsHeld, IsQuiet, Leads}
 use Rattle.gateway_loop.specs.Laws.{LoopLaws}
-use Rattle.gateway_loop.proofs.LeadLemmas.{Elsewhere, closing_elsewhere, leads_event, leads_jobs, leads_opening}
-use Rattle.gateway_loop.proofs.StepLemmas.{born_fits, closes, fits_on, leaves, quiet_event, stood_on}
+use Rattle.gateway_loop.proofs.StepLemmas.{fits_on, stood_on}
 
 -- ---- places
 
@@ -76,11 +70,11 @@ pub record SameRest (l m : LoopValue) : Type 0 where
   pub results : m.results ≡ l.results
   pub handed : m.handed ≡ l.handed
 
-module _ (laws : LoopLaws) (plans : List PlanRecord) (moment : ℕ) (l m : LoopValue) where
+module _ (unknown : Outcome) (laws : LoopLaws) (plans : List PlanRecord) (moment : ℕ) (l m : LoopValue) where
   -- the client in a place made steps
   pub held_steps : (h k : History) (i : ℕ) (x y : ClientValue) → at i l.clients ≡ Some x → y.conn ≡ x.conn → Fits plans k y
       → Leads plans (λ c. c == x.conn) h k → IsQuiet h k → Puts l.clients m.clients i (Some y) → m.gone ≡ l.gone → SameRest l m
-      → IsHeld plans h moment l → IsHeld plans k moment m
+      → IsHeld unknown plans h moment l → IsHeld unknown plans k moment m
   held_steps h k i x y its same fits leads quiet puts gone rest held = record {
     fits = λ j z is. elim (among l.clients m.clients i (Some y) puts j z is) [
       | Here at_it it ↦ subst (λ (w : ClientValue). Fits plans k w) (some_is y z it) fits
@@ -102,15 +96,15 @@ module _ (laws : LoopLaws) (plans : List PlanRecord) (moment : ℕ) (l m : LoopV
     latest_is = held.latest_is ∙ ap latest (sym quiet.moments_are);
     told = subst (λ (t : List ℕ). HandsIn (reverse t) (moments k.events)) (sym rest.told)
         (subst (λ (ms : List ℕ). HandsIn (reverse l.told) ms) (sym quiet.moments_are) held.told);
-    results = subst (λ (rs : List (JobValue × Option Outcome)). AllZip IsResultOf (results k.events) rs) (sym rest.results)
-        (subst (λ (rs : List ResultValue). AllZip IsResultOf rs l.results) (sym quiet.results_are) held.results);
+    results = subst (λ (rs : List (JobValue × Option Outcome)). AllZip (IsResultOf unknown) (results k.events) rs) (sym rest.results)
+        (subst (λ (rs : List ResultValue). AllZip (IsResultOf unknown) rs l.results) (sym quiet.results_are) held.results);
     handed = quiet.handed_are ∙ held.handed ∙ sym rest.handed;
   }
 
   -- it goes
   pub held_goes : (h k : History) (i : ℕ) (x : ClientValue) → at i l.clients ≡ Some x → HasStood plans k x
       → Leads plans (λ c. c == x.conn) h k → IsQuiet h k → Puts l.clients m.clients i None → m.gone ≡ l.gone ++ x ∷ [] → SameRest l m
-      → IsHeld plans h moment l → IsHeld plans k moment m
+      → IsHeld unknown plans h moment l → IsHeld unknown plans k moment m
   held_goes h k i x its stood leads quiet puts gone rest held = record {
     fits = λ j z is. elim (among l.clients m.clients i None puts j z is) [
       | Here at_it it ↦ absurd (no_some z it)
@@ -129,8 +123,8 @@ module _ (laws : LoopLaws) (plans : List PlanRecord) (moment : ℕ) (l m : LoopV
     latest_is = held.latest_is ∙ ap latest (sym quiet.moments_are);
     told = subst (λ (t : List ℕ). HandsIn (reverse t) (moments k.events)) (sym rest.told)
         (subst (λ (ms : List ℕ). HandsIn (reverse l.told) ms) (sym quiet.moments_are) held.told);
-    results = subst (λ (rs : List (JobValue × Option Outcome)). AllZip IsResultOf (results k.events) rs) (sym rest.results)
-        (subst (λ (rs : List ResultValue). AllZip IsResultOf rs l.results) (sym quiet.results_are) held.results);
+    results = subst (λ (rs : List (JobValue × Option Outcome)). AllZip (IsResultOf unknown) (results k.events) rs) (sym rest.results)
+        (subst (λ (rs : List ResultValue). AllZip (IsResultOf unknown) rs l.results) (sym quiet.results_are) held.results);
     handed = quiet.handed_are ∙ held.handed ∙ sym rest.handed;
   }
 
@@ -138,7 +132,7 @@ module _ (laws : LoopLaws) (plans : List PlanRecord) (moment : ℕ) (l m : LoopV
   pub held_comes : (h k : History) (i : ℕ) (y : ClientValue) → Fits plans k y → y.conn ≡ connections h.opened h.events
       → ((x : ClientValue) → Fits plans h x → x.conn < connections h.opened h.events)
       → Leads plans nobodys h k → IsQuiet h k → Puts l.clients m.clients i (Some y) → m.gone ≡ l.gone → SameRest l m
-      → IsHeld plans h moment l → IsHeld plans k moment m
+      → IsHeld unknown plans h moment l → IsHeld unknown plans k moment m
   held_comes h k i y fits new older leads quiet puts gone rest held = record {
     fits = λ j z is. elim (among l.clients m.clients i (Some y) puts j z is) [
       | Here at_it it ↦ subst (λ (w : ClientValue). Fits plans k w) (some_is y z it) fits
@@ -159,8 +153,8 @@ module _ (laws : LoopLaws) (plans : List PlanRecord) (moment : ℕ) (l m : LoopV
     latest_is = held.latest_is ∙ ap latest (sym quiet.moments_are);
     told = subst (λ (t : List ℕ). HandsIn (reverse t) (moments k.events)) (sym rest.told)
         (subst (λ (ms : List ℕ). HandsIn (reverse l.told) ms) (sym quiet.moments_are) held.told);
-    results = subst (λ (rs : List (JobValue × Option Outcome)). AllZip IsResultOf (results k.events) rs) (sym rest.results)
-        (subst (λ (rs : List ResultValue). AllZip IsResultOf rs l.results) (sym quiet.results_are) held.results);
+    results = subst (λ (rs : List (JobValue × Option Outcome)). AllZip (IsResultOf unknown) (results k.events) rs) (sym rest.results)
+        (subst (λ (rs : List ResultValue). AllZip (IsResultOf unknown) rs l.results) (sym quiet.results_are) held.results);
     handed = quiet.handed_are ∙ held.handed ∙ sym rest.handed;
   }
     where

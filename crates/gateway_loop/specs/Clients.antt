@@ -5,9 +5,7 @@ use Rattle.call_plan.specs.Plan.{PlanRecord}
 use Rattle.connect_codec.specs.declared.answer.Outcome.{Outcome}
 use Rattle.gateway_model.specs.Events.{Occurs, connections, hung_up, is_open, stream}
 use Rattle.gateway_model.specs.History.{History}
-use Rattle.gateway_model.specs.Job.{JobValue}
 use Rattle.gateway_model.specs.Past.{Past, marked}
-use Rattle.gateway_model.specs.Queue.{IsPrefixOf, queued}
 use Rattle.gateway_model.specs.Run.{bytes_of}
 use Rattle.gateway_model.specs.Starts.{Placed, occurrences}
 use Rattle.gateway_theory.specs.Gateway.{GatewayValue}
@@ -120,21 +118,21 @@ loop_value v clients gone told results handed = record {
   handed = map (λ j. j.0.job) handed;
 }
 
--- the history explains all of this
-pub record IsHeld (plans : List PlanRecord) (h : History) (moment : ℕ) (l : LoopValue) : Type 0 where
+-- the history explains all of this, if this is what those ended with for whose outcome there was no memory
+pub record IsHeld (unknown : Outcome) (plans : List PlanRecord) (h : History) (moment : ℕ) (l : LoopValue) : Type 0 where
   pub fits : (i : ℕ) (x : ClientValue) → at i l.clients ≡ Some x → Fits plans h x
   pub apart : (i j : ℕ) (x y : ClientValue) → at i l.clients ≡ Some x → at j l.clients ≡ Some y → x.conn ≡ y.conn → i ≡ j
   pub gone : All (λ (x : ClientValue). HasStood plans h x) l.gone
   pub latest_is : moment ≡ latest (moments h.events)
   pub told : HandsIn (reverse l.told) (moments h.events)
-  pub results : AllZip IsResultOf (results h.events) l.results
+  pub results : AllZip (IsResultOf unknown) (results h.events) l.results
   pub handed : h.handed ≡ l.handed
 
 -- the core stands for a history that does
-pub record IsServing (v : GatewayValue) (moment : ℕ) (l : LoopValue) : Type 0 where
+pub record IsServing (unknown : Outcome) (v : GatewayValue) (moment : ℕ) (l : LoopValue) : Type 0 where
   pub history : History
   pub serves : Served v history
-  pub held : IsHeld v.plans history moment l
+  pub held : IsHeld unknown v.plans history moment l
 
 -- a new loop
 pub record Starts (l : LoopValue) : Type 0 where

@@ -42,6 +42,7 @@ pub(crate) struct Clients<H, W: Wire> {
 }
 
 impl<H, W: Wire> Model for Clients<H, W> {
+    ghost use Rattle.connect_codec.specs.declared.answer.Outcome.{Outcome};
     ghost use Rattle.loop_model.specs.Explained.{LoopValue};
     ghost use Rattle.gateway_loop.specs.Clients.{IsServing, loop_value};
 
@@ -49,7 +50,8 @@ impl<H, W: Wire> Model for Clients<H, W> {
 
     ghost view = { λ l. loop_value l.core l.clients.slots l.gone.items l.told.items l.results.items l.handed.items };
 
-    ghost invariant = { λ l. IsServing l.core l.moment (loop_value l.core l.clients.slots l.gone.items l.told.items l.results.items l.handed.items) };
+    ghost invariant = { λ l. (unknown : Outcome)
+        → IsServing unknown l.core l.moment (loop_value l.core l.clients.slots l.gone.items l.told.items l.results.items l.handed.items) };
 }
 
 impl<H: ReplyHook + Drop, W: Wire + Drop> Clients<H, W> {

@@ -1,5 +1,5 @@
 -- One list of events explains all clients of a loop.
-use Rattle.std.specs.Prelude.{◌≡◌, ℕ, Bool, false, not, All, List, slice_index_or, map, reverse, Option, Some, None}
+use Rattle.std.specs.Prelude.{◌≡◌, ℕ, false, not, All, List, slice_index_or, reverse, Option, Some, None}
 use Rattle.std.specs.List.{AllZip}
 use Rattle.connect_codec.specs.declared.answer.Outcome.{Outcome}
 use Rattle.gateway_model.specs.Events.{Occurs, is_open}
@@ -27,8 +27,9 @@ pub record LoopValue : Type 0 where
 abbrev pub at : ℕ → List (Option ClientValue) → Option ClientValue
 at i clients = slice_index_or clients i None
 
--- there is one history that the core stands for, and that explains each client, present or gone, each moment and each result
-pub record IsExplained (l : LoopValue) : Type 0 where
+-- There is one history that the core stands for, and that explains each client, present or gone, each moment and each result, if this is
+-- what those branches ended with for whose outcome there was no memory.
+pub record IsExplainedBy (unknown : Outcome) (l : LoopValue) : Type 0 where
   pub history : History
   pub knows : (occurred : List Placed) → Occurs l.core.plans history.opened history.events occurred → IsKnown (shown l.core) history (occurrences occurred)
   pub clients : (i : ℕ) (x : ClientValue) → at i l.clients ≡ Some x → IsExplainedClient l.core.plans history x
@@ -38,5 +39,9 @@ pub record IsExplained (l : LoopValue) : Type 0 where
   pub gone : All (λ (x : ClientValue). IsExplainedClient l.core.plans history x) l.gone
   pub closed : All (λ (x : ClientValue). is_open history.opened x.conn history.events ≡ false) l.gone
   pub told : HandsIn (reverse l.told) (moments history.events)
-  pub results : AllZip IsResultOf (results history.events) l.results
+  pub results : AllZip (IsResultOf unknown) (results history.events) l.results
   pub handed : history.handed ≡ l.handed
+
+-- whatever that was
+abbrev pub IsExplained : LoopValue → Type 0
+IsExplained l = (unknown : Outcome) → IsExplainedBy unknown l

@@ -1,5 +1,5 @@
 -- The moments and the results among events.
-use Rattle.std.specs.Prelude.{◌≡◌, ◌⊎◌, ℕ, ◌≤◌, max, List, [], ◌∷◌, ◌++◌, Option, Some}
+use Rattle.std.specs.Prelude.{◌≡◌, ◌⊎◌, ℕ, ◌≤◌, max, List, [], ◌∷◌, ◌++◌, Option, unwrap_or}
 use Rattle.connect_codec.specs.declared.answer.Outcome.{Outcome}
 use Rattle.gateway_model.specs.declared.event.Event.{Event}
 use Rattle.gateway_model.specs.declared.event.Event.TheVariants.{Moment, BranchResult}
@@ -47,8 +47,8 @@ abbrev pub results : Before → List ResultValue
 results [] = []
 results (e ∷ before) = results before ++ result_in e
 
--- the result is that of the job; where there was no memory for an outcome it may be any
-pub record IsResultOf (r : ResultValue) (e : JobValue × Option Outcome) : Type 0 where
+-- the result is that of the job; where there was no memory for an outcome it is this
+pub record IsResultOf (unknown : Outcome) (r : ResultValue) (e : JobValue × Option Outcome) : Type 0 where
   pub call : r.call ≡ e.0.call
   pub branch : r.branch ≡ e.0.branch
-  pub outcome : (o : Outcome) → e.1 ≡ Some o → r.outcome ≡ o
+  pub outcome : r.outcome ≡ unwrap_or e.1 unknown

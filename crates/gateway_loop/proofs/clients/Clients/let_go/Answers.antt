@@ -5,11 +5,11 @@ use Rattle.gateway_loop.proofs.ServingLemmas.{serving_goes}
 use Rattle.gateway_loop.proofs.clients.Clients.let_go.Goals as goal
 
 pub invariant_of-self-2 : goal.invariant_of-self-2
-invariant_of-self-2 g c =
+invariant_of-self-2 g c u =
     let i = c.self.inside in
-    serving_goes c.loop_laws.ensures i.core c.close.new.self i.moment _ _ c.close.ensures.keeps.plans_are c.args.place c.in-Some.client (sym c.in-Some.ensures.value)
+    serving_goes u c.loop_laws.ensures i.core c.close.new.self i.moment _ _ c.close.ensures.keeps.plans_are c.args.place c.in-Some.client (sym c.in-Some.ensures.value)
     (λ h s. rw (← c.conn.ensures) (c.close.ensures.stands h s)) (puts_one i.clients c.try_remove.new.self c.args.place _ c.try_remove.ensures.updates)
-    (noted i.gone.items c.and-self-inside.result.items _ _ c.and-self-inside.ensures) record { told = refl; results = refl; handed = refl } c.self.invariant
+    (noted i.gone.items c.and-self-inside.result.items _ _ c.and-self-inside.ensures) record { told = refl; results = refl; handed = refl } (c.self.invariant u)
 
 pub returns-clause-goes : goal.returns-clause-goes
 returns-clause-goes g c =

@@ -8,17 +8,17 @@ use Rattle.gateway_loop.proofs.ServingLemmas.{serving_comes}
 use Rattle.gateway_loop.proofs.clients.Clients.open.Goals as goal
 
 pub invariant_of-self-2 : goal.invariant_of-self-2
-invariant_of-self-2 g c =
+invariant_of-self-2 g c u =
     let i = c.self.inside in
     let put = c.insert_reserved-place in
     let parts = c.into_parts-wire in
     let slots : c.reserve.new.self.slots ≡ i.clients.slots = ap (λ (s : Slab ClientValue). s.slots) c.reserve.ensures.rest_kept in
     let puts = puts_one c.reserve.new.self put.new.self put.result (Some c.new.result) put.ensures.updates in
-    serving_comes c.loop_laws.ensures i.core c.open_conn.new.self i.moment _ _ c.open_conn.ensures.keeps.plans_are put.result c.in-Ok.conn
+    serving_comes u c.loop_laws.ensures i.core c.open_conn.new.self i.moment _ _ c.open_conn.ensures.keeps.plans_are put.result c.in-Ok.conn
     (g.W.Wire.given parts.result.0) (g.W.Wire.got parts.result.0) (g.W.Wire.ended parts.result.0) c.in-Ok.ensures.number parts.ensures.given_none parts.ensures.got_none parts.ensures.goes_on c.in-Ok.ensures.stands
     (subst (λ (y : ClientValue). Puts i.clients.slots put.new.self.slots put.result (Some y)) c.new.ensures
     (subst (λ (old : List (Option ClientValue)). Puts old put.new.self.slots put.result (Some c.new.result)) slots puts))
-    refl record { told = refl; results = refl; handed = refl } c.self.invariant
+    refl record { told = refl; results = refl; handed = refl } (c.self.invariant u)
 
 pub returns-clause-goes : goal.returns-clause-goes
 returns-clause-goes g c =

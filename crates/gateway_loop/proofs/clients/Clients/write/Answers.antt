@@ -5,12 +5,12 @@ use Rattle.gateway_loop.proofs.ServingLemmas.{serving_steps}
 use Rattle.gateway_loop.proofs.clients.Clients.write.Goals as goal
 
 pub invariant_of-self-2 : goal.invariant_of-self-2
-invariant_of-self-2 g c =
+invariant_of-self-2 g c u =
     let i = c.self.inside in
     let put = c.insert_reserved-place in
-    serving_steps c.loop_laws.ensures i.core c.write-written.new.core i.moment _ _ c.args.place c.in-Some.client c.write-written.new.self (sym c.in-Some.ensures.value) c.write-written.ensures.steps
+    serving_steps u c.loop_laws.ensures i.core c.write-written.new.core i.moment _ _ c.args.place c.in-Some.client c.write-written.new.self (sym c.in-Some.ensures.value) c.write-written.ensures.steps
     (puts_back i.clients c.try_remove.new.self put.new.self c.args.place put.result _ c.try_remove.ensures.updates c.in-Some.ensures.key_is_next put.ensures.key put.ensures.updates)
-    refl record { told = refl; results = refl; handed = refl } c.self.invariant
+    refl record { told = refl; results = refl; handed = refl } (c.self.invariant u)
 
 pub returns-clause-goes : goal.returns-clause-goes
 returns-clause-goes g c =
