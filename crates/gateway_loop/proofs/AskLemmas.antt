@@ -1,5 +1,5 @@
 -- What each step makes of the jobs that are asked for, and of those that ended.
-use Rattle.std.proofs.Common.{◌≡◌, ◌≢◌, ℕ, zero, suc, ◌+◌, Bool, true, false, cond, List, [], ◌∷◌, ◌++◌, All, map, Option, None, Some, refl, sym, ap, ◌∙◌, subst, arith, append_assoc, inl, inr, ⊎_elim}
+use Rattle.std.proofs.Common.{◌≡◌, ◌≢◌, ℕ, zero, suc, ◌+◌, Bool, false, cond, List, [], ◌∷◌, ◌++◌, All, map, Option, None, Some, refl, sym, ap, ◌∙◌, subst, arith, append_assoc, inl, inr, ⊎_elim}
 use Rattle.std.specs.Prelude.{count_by, sum_by, option_map, slice_index_or}
 use Rattle.std.specs.Option.{option_map_or}
 use Rattle.std.proofs.lemmas.Bool.{cases_eq}
@@ -10,24 +10,99 @@ use Rattle.connect_codec.specs.declared.answer.Outcome.{Outcome}
 use Rattle.gateway_model.specs.Job.{JobValue}
 use Rattle.gateway_model.specs.Queue.{IsPrefixOf}
 use Rattle.gateway_theory.specs.Task.{HandedJob}
-use Rattle.slab.specs.Slab.{Slab, Updates, get}
-use Rattle.loop_model.specs.Asking.{AskingValue, EndedValue, IsFair, ended_value}
+use Rattle.slab.specs.Slab.{Slab, Updates}
+use Rattle.loop_model.specs.Asking.{AskingValue, EndedValue, IsFair, StreamValue, ended_value}
 use Rattle.loop_model.specs.Explained.{LoopValue}
-use Rattle.loop_model.specs.Growing.{Continues, HasTicked}
-use Rattle.loop_model.specs.Whole.{AsksFairly, ContinuesLoop, WholeLoop, count_asked}
+use Rattle.loop_model.specs.Growing.{HasTicked}
+use Rattle.loop_model.specs.Whole.{AsksFairly, AsksOn, ContinuesLoop, GivesUpStream, HasEndedSince, KeepsStream, WholeLoop, asked_at, count_asked}
 use Rattle.gateway_loop.specs.Asking.{AskingState, asked_for}
 use Rattle.gateway_loop.specs.Clients.{HandsNothing, Onward}
 use Rattle.gateway_loop.specs.Loop.{Goes, whole_loop}
 use Rattle.gateway_loop.proofs.GrowLemmas as grow
 
+-- ---- places
+
+-- what stands in one place is new
+pub record Put (old new : List (Option AskingState)) (i : ℕ) (o : Option AskingState) : Type 0 where
+  pub here : slice_index_or new i None ≡ o
+  pub there : (j : ℕ) → j ≢ i → slice_index_or new j None ≡ slice_index_or old j None
+
 -- ---- what only grows
 
+asks_same : (x : AskingValue) → AsksOn x x
+asks_same x = record { job = refl; streams = inl (refl, grow.begins_same x.given, grow.begins_same x.got) }
+
+module _ (x y z : AskingValue) where
+  keeps_keeps : KeepsStream x y → KeepsStream y z → KeepsStream x z
+  keeps_keeps k l = (l.0 ∙ k.0, grow.begins_then x.given y.given z.given k.1 l.1, grow.begins_then x.got y.got z.got k.2 l.2)
+
+  keeps_gives : KeepsStream x y → GivesUpStream y z → GivesUpStream x z
+  keeps_gives k g = record {
+    last = g.last;
+    others = g.others;
+    tried_are = g.tried_are ∙ ap (λ (t : List StreamValue). t ++ g.last ∷ g.others) k.0;
+    given = grow.begins_then x.given y.given g.last.given k.1 g.given;
+    got = grow.begins_then x.got y.got g.last.got k.2 g.got;
+  }
+
+  gives_keeps : GivesUpStream x y → KeepsStream y z → GivesUpStream x z
+  gives_keeps g k = record { last = g.last; others = g.others; tried_are = k.0 ∙ g.tried_are; given = g.given; got = g.got }
+
+  gives_gives : GivesUpStream x y → GivesUpStream y z → GivesUpStream x z
+  gives_gives g h = record {
+    last = g.last;
+    others = g.others ++ h.last ∷ h.others;
+    tried_are = h.tried_are ∙ ap (λ (t : List StreamValue). t ++ h.last ∷ h.others) g.tried_are ∙ append_assoc x.tried (g.last ∷ g.others) (h.last ∷ h.others);
+    given = g.given;
+    got = g.got;
+  }
+
+  asks_then : AsksOn x y → AsksOn y z → AsksOn x z
+  asks_then a b = record {
+    job = b.job ∙ a.job;
+    streams = ⊎_elim
+        (λ (k : KeepsStream x y). ⊎_elim (λ (l : KeepsStream y z). inl (keeps_keeps k l)) (λ (g : GivesUpStream y z). inr (keeps_gives k g)) b.streams)
+        (λ (g : GivesUpStream x y). ⊎_elim (λ (l : KeepsStream y z). inr (gives_keeps g l)) (λ (h : GivesUpStream y z). inr (gives_gives g h)) b.streams)
+        a.streams;
+  }
+
+module _ (u v w : WholeLoop) (y : AskingValue) where
+  since_then : HasEndedSince u v y → IsPrefixOf v.ended w.ended → HasEndedSince u w y
+  since_then e p =
+      let own = ended_value y e.outcome in record {
+        before = e.before;
+        outcome = e.outcome;
+        after = e.after ++ p.0;
+        ended_are =
+            p.1 ∙ ap (λ (t : List EndedValue). t ++ p.0) e.ended_are ∙ append_assoc u.ended (e.before ++ own ∷ e.after) p.0
+            ∙ ap (λ (t : List EndedValue). u.ended ++ t) (append_assoc e.before (own ∷ e.after) p.0);
+      }
+
+  then_since : IsPrefixOf u.ended v.ended → HasEndedSince v w y → HasEndedSince u w y
+  then_since p e =
+      let own = ended_value y e.outcome in record {
+        before = p.0 ++ e.before;
+        outcome = e.outcome;
+        after = e.after;
+        ended_are =
+            e.ended_are ∙ ap (λ (t : List EndedValue). t ++ (e.before ++ own ∷ e.after)) p.1 ∙ append_assoc u.ended p.0 (e.before ++ own ∷ e.after)
+            ∙ ap (λ (t : List EndedValue). u.ended ++ t) (sym (append_assoc p.0 e.before (own ∷ e.after)));
+      }
+
 pub continues_same : (v : WholeLoop) → ContinuesLoop v v
-continues_same v = record { side = grow.continues_same v.side; ended = grow.begins_same v.ended }
+continues_same v = record { side = grow.continues_same v.side; asking = λ i x is. (x, inl is, asks_same x); ended = grow.begins_same v.ended }
 
 continues_then : (u v w : WholeLoop) → ContinuesLoop u v → ContinuesLoop v w → ContinuesLoop u w
 continues_then u v w a b = record {
   side = grow.continues_then u.side v.side w.side a.side b.side;
+  asking = λ i x is.
+      let s = a.asking i x is in
+      ⊎_elim
+      (λ (here : asked_at i v.asking ≡ Some s.0).
+      let t = b.asking i s.0 here in
+      (t.0, ⊎_elim (λ (still : asked_at i w.asking ≡ Some t.0). inl still) (λ (e : HasEndedSince v w t.0). inr (then_since u v w t.0 a.ended e)) t.1, asks_then x s.0 t.0 s.2 t.2))
+      (λ (e : HasEndedSince u v s.0). (s.0, inr (since_then u v w s.0 e b.ended), s.2))
+      s.1;
   ended = grow.begins_then u.ended v.ended w.ended a.ended b.ended;
 }
 
@@ -37,19 +112,91 @@ onward v w c u a = continues_then u v w a c
 pub goes_then : (u v w : WholeLoop) → Goes u v → Goes v w → Goes u w
 goes_then u v w p q a c = q a (p a c)
 
--- the clients' side went on, and the exchanges are the same
-pub goes_side : (v w : LoopValue) (asking asking' : List (Option AskingState)) (ended : List (AskingState × Option Outcome)) → Onward v w
-    → Goes (whole_loop v asking ended) (whole_loop w asking' ended)
-goes_side v w asking asking' ended o u c = record { side = o u.side c.side; ended = c.ended }
+abbrev show_slot : Option AskingState → Option AskingValue
+show_slot o = option_map asked_for o
 
-pub goes_ended : (v w : LoopValue) (asking asking' : List (Option AskingState)) (ended ended' : List (AskingState × Option Outcome)) (e : AskingState × Option Outcome)
-    → ended' ≡ ended ++ e ∷ [] → Onward v w → Goes (whole_loop v asking ended) (whole_loop w asking' ended')
-goes_ended v w asking asking' ended ended' e is o u c =
-    let show : AskingState × Option Outcome → EndedValue = λ (d : AskingState × Option Outcome). ended_value (asked_for d.0) d.1 in
-    let more : map show ended' ≡ map show ended ++ show e ∷ [] = ap (map show) is ∙ map-append show ended (e ∷ []) in record {
-      side = o u.side c.side;
-      ended = grow.begins_then u.ended (map show ended) (map show ended') c.ended (show e ∷ [], more);
+shown_at : (slots : List (Option AskingState)) (i : ℕ) → asked_at i (map (λ (o : Option AskingState). show_slot o) slots) ≡ show_slot (slice_index_or slots i None)
+shown_at [] i = refl
+shown_at (o ∷ rest) zero = refl
+shown_at (o ∷ rest) (suc i) = shown_at rest i
+
+some_asked : (a b : AskingValue) → Some a ≡ Some b → a ≡ b
+some_asked a b e = cc
+
+none_asked : (b : AskingValue) → None ≡ Some b → ⊥
+none_asked b e = cc
+
+-- the clients' side went on, and the exchanges are the same
+pub goes_side : (v w : LoopValue) (asking : List (Option AskingState)) (ended : List (AskingState × Option Outcome)) → Onward v w
+    → Goes (whole_loop v asking ended) (whole_loop w asking ended)
+goes_side v w asking ended o =
+    onward (whole_loop v asking ended) (whole_loop w asking ended) record {
+      side = o v (grow.continues_same v);
+      asking = λ i x is. (x, inl is, asks_same x);
+      ended = grow.begins_same (whole_loop v asking ended).ended;
     }
+
+module _ (old new : List (Option AskingState)) (i : ℕ) where
+  -- what stands elsewhere stands there still
+  stays_at : (o : Option AskingState) (j : ℕ) (z : AskingValue) → Put old new i o → j ≢ i → asked_at j (map (λ (s : Option AskingState). show_slot s) old) ≡ Some z
+      → asked_at j (map (λ (s : Option AskingState). show_slot s) new) ≡ Some z
+  stays_at o j z put other is = shown_at new j ∙ ap (λ (s : Option AskingState). show_slot s) (put.there j other) ∙ sym (shown_at old j) ∙ is
+
+  -- what stood in that place
+  stood_at : (o : Option AskingState) (j : ℕ) (z : AskingValue) → slice_index_or old i None ≡ o → j ≡ i → asked_at j (map (λ (s : Option AskingState). show_slot s) old) ≡ Some z
+      → show_slot o ≡ Some z
+  stood_at o j z was same is =
+      ap (λ (s : Option AskingState). show_slot s) (sym was ∙ ap (λ (n : ℕ). slice_index_or old n None) (sym same)) ∙ sym (shown_at old j) ∙ is
+
+  stands_at : (y : AskingState) (j : ℕ) → Put old new i (Some y) → j ≡ i → asked_at j (map (λ (s : Option AskingState). show_slot s) new) ≡ Some (asked_for y)
+  stands_at y j put same = shown_at new j ∙ ap (λ (s : Option AskingState). show_slot s) (ap (λ (n : ℕ). slice_index_or new n None) same ∙ put.here)
+
+  -- one of them went on
+  pub goes_put : (v : LoopValue) (ended : List (AskingState × Option Outcome)) (x y : AskingState) → slice_index_or old i None ≡ Some x → Put old new i (Some y)
+      → AsksOn (asked_for x) (asked_for y) → Goes (whole_loop v old ended) (whole_loop v new ended)
+  goes_put v ended x y was put on =
+      onward (whole_loop v old ended) (whole_loop v new ended) record {
+        side = grow.continues_same v;
+        asking = λ j z is.
+            ⊎_elim
+            (λ (same : j ≡ i).
+            (asked_for y, inl (stands_at y j put same), subst (λ (t : AskingValue). AsksOn t (asked_for y)) (some_asked (asked_for x) z (stood_at (Some x) j z was same is)) on))
+            (λ (other : j ≡ i → ⊥). (z, inl (stays_at (Some y) j z put other is), asks_same z))
+            (cases_eq j i);
+        ended = grow.begins_same (whole_loop v old ended).ended;
+      }
+
+  -- .. began
+  pub goes_begin : (v w : LoopValue) (ended : List (AskingState × Option Outcome)) (y : AskingState) → Onward v w → slice_index_or old i None ≡ None
+      → Put old new i (Some y) → Goes (whole_loop v old ended) (whole_loop w new ended)
+  goes_begin v w ended y o free put =
+      onward (whole_loop v old ended) (whole_loop w new ended) record {
+        side = o v (grow.continues_same v);
+        asking = λ j z is.
+            ⊎_elim
+            (λ (same : j ≡ i). absurd (none_asked z (stood_at None j z free same is)))
+            (λ (other : j ≡ i → ⊥). (z, inl (stays_at (Some y) j z put other is), asks_same z))
+            (cases_eq j i);
+        ended = grow.begins_same (whole_loop v old ended).ended;
+      }
+
+  -- .. ended
+  pub goes_ended : (v w : LoopValue) (ended ended' : List (AskingState × Option Outcome)) (x y : AskingState) (end : Option Outcome) → Onward v w
+      → slice_index_or old i None ≡ Some x → Put old new i None → ended' ≡ ended ++ (y, end) ∷ [] → AsksOn (asked_for x) (asked_for y)
+      → Goes (whole_loop v old ended) (whole_loop w new ended')
+  goes_ended v w ended ended' x y end o was put is_now on =
+      let show : AskingState × Option Outcome → EndedValue = λ (d : AskingState × Option Outcome). ended_value (asked_for d.0) d.1 in
+      let more : map show ended' ≡ map show ended ++ show (y, end) ∷ [] = ap (map show) is_now ∙ map-append show ended ((y, end) ∷ []) in
+      onward (whole_loop v old ended) (whole_loop w new ended') record {
+        side = o v (grow.continues_same v);
+        asking = λ j z is.
+            ⊎_elim
+            (λ (same : j ≡ i).
+            (asked_for y, inr record { before = []; outcome = end; after = []; ended_are = more }, subst (λ (t : AskingValue). AsksOn t (asked_for y)) (some_asked (asked_for x) z (stood_at (Some x) j z was same is)) on))
+            (λ (other : j ≡ i → ⊥). (z, inl (stays_at None j z put other is), asks_same z))
+            (cases_eq j i);
+        ended = (show (y, end) ∷ [], more);
+      }
 
 pub ticked_on : (u v w : WholeLoop) → HasTicked u.side v.side → Goes v w → HasTicked u.side w.side
 ticked_on u v w t o =
@@ -136,11 +283,6 @@ shown_count : (p : JobValue → Bool) (slots : List (Option AskingState))
 shown_count p slots =
     sum_map (λ (o : Option AskingValue). cond (option_map_or (λ (x : AskingValue). p x.job) o false) 1 0) (λ (o : Option AskingState). option_map asked_for o) slots
     ∙ sum_alike (λ (o : Option AskingState). cond (option_map_or (λ (x : AskingValue). p x.job) (option_map asked_for o) false) 1 0) (one_asked p) (one_shown p) slots
-
--- what stands in one place is new
-pub record Put (old new : List (Option AskingState)) (i : ℕ) (o : Option AskingState) : Type 0 where
-  pub here : slice_index_or new i None ≡ o
-  pub there : (j : ℕ) → j ≢ i → slice_index_or new j None ≡ slice_index_or old j None
 
 pub put_one : (s t : Slab AskingState) (i : ℕ) (o : Option AskingState) → Updates s t i o → Put s.slots t.slots i o
 put_one s t i o u = record { here = u.changed; there = u.others }

@@ -1,13 +1,15 @@
 -- What a job that is asked for has begun.
-use Rattle.std.proofs.Common.{◌≡◌, ℕ, Bool, true, false, List, [], ◌++◌, All, map, Option, None, Some, refl, sym, ap, ◌∙◌, subst}
+use Rattle.std.proofs.Common.{◌≡◌, ℕ, Bool, false, List, [], ◌∷◌, ◌++◌, All, map, Option, None, Some, refl, sym, ap, ◌∙◌, subst, append-nil, inl, inr}
 use Rattle.std.specs.Prelude.{is_some}
 use Rattle.std.proofs.lemmas.List.Elements.{All-nil}
 use Rattle.branch_exchange.specs.declared.exchange_end.ExchangeEnd.{ExchangeEnd}
 use Rattle.branch_exchange.specs.declared.exchange_end.ExchangeEnd.TheVariants as ends
 use Rattle.http_pieces.specs.declared.reply.HttpReply.{HttpReply}
 use Rattle.gateway_theory.specs.Task.{HandedJob}
-use Rattle.loop_model.specs.Asking.{IsUntouched, request_of, stream_value}
-use Rattle.gateway_loop.specs.Asking.{Asks, AttemptValue, HasBegun, HasEnded, IsUntouchedAttempt, asking_state}
+use Rattle.loop_model.specs.Asking.{IsUntouched, StreamValue, request_of, stream_value}
+use Rattle.loop_model.specs.Whole.{AsksOn}
+use Rattle.gateway_loop.specs.Asking.{Asks, AskingState, AttemptValue, HadRead, HasBegun, HasEnded, HasGrown, IsUntouchedAttempt, asked_for, asking_state}
+use Rattle.gateway_loop.proofs.GrowLemmas.{begins_then}
 
 no_reply : (reply : HttpReply) → ends.NoMemory ≡ ends.Reply reply → ⊥
 no_reply reply e = cc
@@ -52,3 +54,35 @@ module _ {W : Type 0} (given got : W → List ℕ) (job : HandedJob) (x : Attemp
     asks = λ none. absurd (some_none e (sym is ∙ none));
     ended = λ f so. subst (λ (t : ExchangeEnd). HasEnded (request_of job.job) t y) (some_end e f (sym is ∙ so)) (ends (b.asks (none_of end off)));
   }
+
+-- ---- what only grows
+
+pub grown_same : (x y : AttemptValue) → y.given ≡ x.given → y.got ≡ x.got → HasGrown x y
+grown_same x y given got = (([], given ∙ sym (append-nil x.given)), ([], got ∙ sym (append-nil x.got)))
+
+pub grown_then : (x y z : AttemptValue) → HasGrown x y → HasGrown y z → HasGrown x z
+grown_then x y z a b = (begins_then x.given y.given z.given a.0 b.0, begins_then x.got y.got z.got a.1 b.1)
+
+pub reads_more : (x y : AttemptValue) (more : List ℕ) → y.given ≡ x.given ++ more → y.got ≡ x.got → HasGrown x y
+reads_more x y more given got = ((more, given), ([], got ∙ sym (append-nil x.got)))
+
+pub writes_more : (x y : AttemptValue) (more : List ℕ) → y.given ≡ x.given → y.got ≡ x.got ++ more → HasGrown x y
+writes_more x y more given got = (([], given ∙ sym (append-nil x.given)), (more, got))
+
+-- it goes over the same stream
+pub asks_on : (x y : AskingState) → y.job ≡ x.job → y.tried ≡ x.tried → HasGrown x.attempt y.attempt → AsksOn (asked_for x) (asked_for y)
+asks_on x y job tried grown = record { job = ap (λ (j : HandedJob). j.job) job; streams = inl (tried, grown.0, grown.1) }
+
+-- .. over its first, before which nothing was written or read
+pub asks_first : (x y : AskingState) → y.job ≡ x.job → y.tried ≡ x.tried → IsUntouchedAttempt x.attempt → AsksOn (asked_for x) (asked_for y)
+asks_first x y job tried fresh =
+    asks_on x y job tried
+    ((y.attempt.given, sym (ap (λ (t : List ℕ). t ++ y.attempt.given) fresh.1)), (y.attempt.got, sym (ap (λ (t : List ℕ). t ++ y.attempt.got) fresh.0)))
+
+-- .. over another
+pub asks_over : (x y : AskingState) (before : StreamValue) → y.job ≡ x.job → y.tried ≡ x.tried ++ before ∷ [] → HadRead before.given before.got x.attempt
+    → AsksOn (asked_for x) (asked_for y)
+asks_over x y before job tried had = record {
+  job = ap (λ (j : HandedJob). j.job) job;
+  streams = inr record { last = before; others = []; tried_are = tried; given = ([], had.0 ∙ sym (append-nil x.attempt.given)); got = ([], had.1 ∙ sym (append-nil x.attempt.got)) };
+}

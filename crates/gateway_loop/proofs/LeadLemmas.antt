@@ -1,6 +1,6 @@
 -- What one event more makes of each connection.
-use Rattle.std.proofs.Common.{◌≡◌, ℕ, suc, ◌<◌, ◌≤◌, Bool, true, false, List, [], ◌∷◌, ◌++◌, length, Option, None, Some, refl, sym, ap, ◌∙◌, subst, arith, append_assoc, ⊎_elim}
-use Rattle.std.specs.Prelude.{◌&&◌, ◌||◌, ◌==◌, not, if◌then◌else◌, is_some, map, nat_lt, MatchBool, ⊤}
+use Rattle.std.proofs.Common.{◌≡◌, ℕ, suc, ◌<◌, ◌≤◌, Bool, true, false, List, [], ◌∷◌, ◌++◌, length, Option, None, refl, sym, ap, ◌∙◌, subst, arith, append_assoc, ⊎_elim}
+use Rattle.std.specs.Prelude.{◌||◌, ◌==◌, if◌then◌else◌, is_some, map, nat_lt, MatchBool, ⊤}
 use Rattle.std.proofs.lemmas.Bool.{cases_Bool, eq-eqb, ltb-false, ltb-true, ne_eqb}
 use Rattle.std.proofs.lemmas.List.{map-append}
 use Rattle.call_plan.specs.Plan.{PlanRecord}
@@ -19,7 +19,7 @@ use Rattle.gateway_theory.specs.Served.{after_reply}
 use Rattle.gateway_theory.specs.lemmas.LaterOpenings.{same_openings}
 use Rattle.gateway_theory.specs.lemmas.OneEvent.{born_hung, born_open, born_stream, connections_grow, deaf_stream, kept_hung, kept_open, kept_stream, shut_deaf, shut_hung, stays_shut, unborn_open}
 use Rattle.gateway_theory.specs.lemmas.ServedOpens.{grown, occurs_before, succeeds_more}
-use Rattle.gateway_loop.specs.Clients.{Follows, IsSameOf, IsStreamOf, Leads}
+use Rattle.gateway_loop.specs.Clients.{Follows, IsStreamOf, Leads}
 
 -- ---- what had occurred
 

@@ -1,5 +1,5 @@
 -- What steps of a client make of what it fits.
-use Rattle.std.proofs.Common.{◌≡◌, ℕ, ◌<◌, Bool, true, false, List, [], ◌∷◌, ◌++◌, length, take, drop, map, flat_map, Option, None, Some, refl, sym, ap, ◌∙◌, subst, arith, append_assoc, append-nil}
+use Rattle.std.proofs.Common.{◌≡◌, ℕ, ◌<◌, Bool, true, false, List, [], ◌∷◌, ◌++◌, length, take, drop, map, flat_map, Option, None, Some, refl, sym, ap, ◌∙◌, subst, append_assoc, append-nil}
 use Rattle.std.specs.Prelude.{◌==◌, ◌&&◌, not, if◌then◌else◌}
 use Rattle.std.proofs.lemmas.Bool.{eq-eqb}
 use Rattle.std.proofs.lemmas.Grind.{flat_map-append}
@@ -7,26 +7,26 @@ use Rattle.std.proofs.lemmas.List.{map-append, take-append-drop}
 use Rattle.call_plan.specs.Plan.{PlanRecord}
 use Rattle.gateway_model.specs.declared.entry.ReplyEntry.{ReplyEntry}
 use Rattle.gateway_model.specs.declared.event.Event.{Event}
-use Rattle.gateway_model.specs.declared.event.Event.TheVariants.{Opening, Piece, HangUp, Closing}
+use Rattle.gateway_model.specs.declared.event.Event.TheVariants.{Piece, HangUp, Closing}
 use Rattle.gateway_model.specs.declared.reply_bytes.ReplyBytes.{ReplyBytes}
-use Rattle.gateway_model.specs.Events.{Occurs, connections, hung_up, is_open, listens, stream, succeeds}
+use Rattle.gateway_model.specs.Events.{Occurs, connections, hung_up, listens, stream, succeeds}
 use Rattle.gateway_model.specs.History.{History, after_event, after_opening}
 use Rattle.gateway_model.specs.Past.{Past, marked}
-use Rattle.gateway_model.specs.Queue.{IsPrefixOf, answer_of, queued, queued_entries}
+use Rattle.gateway_model.specs.Queue.{IsPrefixOf, answer_of, queued}
 use Rattle.gateway_model.specs.Run.{bytes_of}
 use Rattle.gateway_model.specs.Starts.{Placed, occurrences}
 use Rattle.gateway_theory.specs.Gateway.{GatewayValue}
 use Rattle.gateway_theory.specs.Replies.{ReplyValue}
 use Rattle.gateway_theory.specs.Served.{Served, after_reply}
-use Rattle.gateway_theory.specs.lemmas.OneEvent.{connections_grow, kept_hung, kept_open, kept_stream, more_stream, now_hung, shut_open}
-use Rattle.loop_model.specs.Clients.{ClientValue, IsExplainedClient, client_value}
+use Rattle.gateway_theory.specs.lemmas.OneEvent.{kept_hung, kept_open, kept_stream, more_stream, now_hung, shut_open}
+use Rattle.loop_model.specs.Clients.{ClientValue, client_value}
 use Rattle.loop_model.specs.Handed.{moment_in, result_in, results}
-use Rattle.gateway_loop.specs.Clients.{Fits, FitsOn, HasStood, IsQuiet, Leads, MakesSteps, Stands, Steps, lingering}
+use Rattle.gateway_loop.specs.Clients.{Fits, FitsOn, HasStood, IsQuiet, Leads, MakesSteps, Stands, lingering}
 use Rattle.wires.specs.Wires.{Gives}
 use Rattle.wires.specs.declared.got.Got.{Got}
 use Rattle.wires.specs.declared.got.Got.TheVariants as got
 use Rattle.gateway_loop.specs.Laws.{LoopLaws}
-use Rattle.gateway_loop.proofs.LeadLemmas.{Elsewhere, born_is_open, born_known, born_on, born_queue, born_text, closing_elsewhere, follows_event, hang_up_elsewhere, leads_event, leads_none, leads_reply, leads_then, piece_elsewhere}
+use Rattle.gateway_loop.proofs.LeadLemmas.{Elsewhere, born_is_open, born_known, born_on, born_queue, born_text, closing_elsewhere, follows_event, leads_event, leads_none, leads_reply, leads_then}
 
 pub prefix_then : (a b c : List ℕ) → IsPrefixOf a b → IsPrefixOf b c → IsPrefixOf a c
 prefix_then a b c p q = (p.0 ++ q.0, q.1 ∙ ap (λ (t : List ℕ). t ++ q.0) p.1 ∙ append_assoc a p.0 q.0)

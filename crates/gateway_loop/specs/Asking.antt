@@ -1,5 +1,5 @@
 -- A job that is asked for: what was written and read for it, and how that ends.
-use Rattle.std.specs.Prelude.{◌≡◌, ℕ, Bool, All, List, [], ◌++◌, map, Option, Some, None}
+use Rattle.std.specs.Prelude.{◌≡◌, ℕ, Bool, false, if◌then◌else◌, All, List, [], ◌∷◌, ◌++◌, map, Option, Some, None}
 use Rattle.http_pieces.specs.ReplyReader.{HasReadReply}
 use Rattle.http_pieces.specs.declared.reply.HttpReply.{HttpReply}
 use Rattle.branch_exchange.specs.Exchange.{BeginsWithReply, ExchangeValue}
@@ -19,9 +19,13 @@ pub record AttemptValue : Type 0 where
   pub exchange : ExchangeValue
   pub given : List ℕ
   pub got : List ℕ
+  -- whether it has a stream, and whether that took or gave a byte
+  pub has_stream : Bool
+  pub connected : Bool
 
-abbrev pub attempt_value : ExchangeValue → List ℕ → List ℕ → AttemptValue
-attempt_value exchange given got = record { exchange = exchange; given = given; got = got }
+abbrev pub attempt_value : ExchangeValue → List ℕ → List ℕ → Bool → Bool → AttemptValue
+attempt_value exchange given got has_stream connected =
+    record { exchange = exchange; given = given; got = got; has_stream = has_stream; connected = connected }
 
 -- this request is being written, or its reply is being read and is not whole yet
 pub record Asks (request : List ℕ) (x : AttemptValue) : Type 0 where
@@ -41,6 +45,10 @@ IsUntouchedAttempt x = (x.got ≡ []) × (x.given ≡ [])
 -- it was this that was read from its stream, and written to it
 abbrev pub HadRead : List ℕ → List ℕ → AttemptValue → Type 0
 HadRead given got x = (given ≡ x.given) × (got ≡ x.got)
+
+-- more may have been read from its stream, and written to it
+abbrev pub HasGrown : AttemptValue → AttemptValue → Type 0
+HasGrown x y = IsPrefixOf x.given y.given × IsPrefixOf x.got y.got
 
 -- it goes on; or its address accepts no connection; or it has ended so
 abbrev pub StepsTo : List ℕ → Step → AttemptValue → Type 0
@@ -69,6 +77,14 @@ asking_state given got job attempt end tried =
 -- what the loop shows of it
 abbrev pub asked_for : AskingState → AskingValue
 asked_for x = record { job = x.job.job; tried = x.tried; given = x.attempt.given; got = x.attempt.got }
+
+-- the stream that it goes over, if there is one
+abbrev pub stream_of : AttemptValue → List StreamValue
+stream_of x = if x.has_stream then stream_value x.given x.got ∷ [] else []
+
+-- it goes over another stream from now on, and the one before is among those that were given up; unless it ended, or its stream took a byte
+abbrev pub NotesStream : AskingState → AskingState → Type 0
+NotesStream x y = x.end ≡ None → x.attempt.connected ≡ false → y.tried ≡ x.tried ++ stream_of x.attempt
 
 -- nothing was read from the streams that were given up, or written to them; and it asks for its job, or ended so
 pub record HasBegun (x : AskingState) : Type 0 where

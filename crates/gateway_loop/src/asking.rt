@@ -1,6 +1,8 @@
-ghost use Rattle.std.specs.Prelude.{◌≡◌, [], Some, IfOk};
-ghost use Rattle.gateway_loop.specs.Asking.{asked_for};
+ghost use Rattle.std.specs.Prelude.{◌≡◌, [], Some, IfOk, IfSome};
+ghost use Rattle.branch_exchange.specs.Outcomes.{asked_of, outcome_of_asked};
+ghost use Rattle.gateway_loop.specs.Asking.{NotesStream, asked_for};
 ghost use Rattle.loop_model.specs.Asking.{IsFair, ended_value, request_of};
+ghost use Rattle.loop_model.specs.Whole.{AsksOn};
 
 use crate::attempt::{Attempt, Step};
 use crate::edges::Edges;
@@ -88,7 +90,8 @@ impl<W: Wire> Asking<W> {
 
     /// Writes what can be written of the request, and then reads what can be read of the reply.
     pub(crate) fn step(&mut self, edges: &mut Edges) -> Progress
-        ensures { self.new.job ≡ self.old.job }
+        ensures job { self.new.job ≡ self.old.job }
+        ensures on { AsksOn (asked_for self.old) (asked_for self.new) }
     {
         if self.end.is_some() {
             return Progress::Ended;
@@ -106,14 +109,18 @@ impl<W: Wire> Asking<W> {
 
     /// It is over: it is lost by this, whatever was read.
     pub(crate) fn lose(&mut self, loss: Loss)
-        ensures { self.new.job ≡ self.old.job }
+        ensures job { self.new.job ≡ self.old.job }
+        ensures on { AsksOn (asked_for self.old) (asked_for self.new) }
+        ensures ended { self.new.end ≡ Some (ExchangeEnd.Lost loss) }
     {
         set_end(&mut self.end, ExchangeEnd::Lost(loss));
     }
 
     /// It is over: there is no memory for it.
     pub(crate) fn starve(&mut self)
-        ensures { self.new.job ≡ self.old.job }
+        ensures job { self.new.job ≡ self.old.job }
+        ensures on { AsksOn (asked_for self.old) (asked_for self.new) }
+        ensures ended { self.new.end ≡ Some ExchangeEnd.NoMemory }
     {
         set_end(&mut self.end, ExchangeEnd::NoMemory);
     }
@@ -121,7 +128,10 @@ impl<W: Wire> Asking<W> {
     /// The outcome that is to be recorded; None for want of memory. One that has not ended is lost.
     pub(crate) fn conclude(&mut self, alloc: Global) -> Option<Outcome>
         ensures job { self.new.job ≡ self.old.job }
+        ensures on { AsksOn (asked_for self.old) (asked_for self.new) }
         ensures fair { IsFair (ended_value (asked_for self.new) result) }
+        ensures tells { (end : ExchangeEnd) → self.old.end ≡ Some end
+            → IfSome result (λ outcome. outcome_of_asked (asked_of end) ≡ Some outcome) }
     {
         match take_end(&mut self.end) {
             Some(end) => outcome_of(alloc, end.asked()),
@@ -135,7 +145,9 @@ impl<W: Wire + Drop> Asking<W> {
     pub(crate) fn connect(&mut self, wire: W)
         requires given { W.given wire ≡ [] }
         requires got { W.got wire ≡ [] }
-        ensures { self.new.job ≡ self.old.job }
+        ensures job { self.new.job ≡ self.old.job }
+        ensures on { AsksOn (asked_for self.old) (asked_for self.new) }
+        ensures notes { NotesStream self.old self.new }
     {
         if self.attempt.is_connected() || self.end.is_some() {
             return;

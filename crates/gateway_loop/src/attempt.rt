@@ -1,5 +1,5 @@
-ghost use Rattle.std.specs.Prelude.{◌≡◌, ℕ, List, [], None, IfSome, IsTrue, IsFalse};
-ghost use Rattle.gateway_loop.specs.Asking.{Asks, HadRead, IsUntouchedAttempt, Steps, attempt_value};
+ghost use Rattle.std.specs.Prelude.{◌≡◌, ℕ, List, [], None, IfSome, IsTrue, IsFalse, is_some, true, false};
+ghost use Rattle.gateway_loop.specs.Asking.{Asks, HadRead, HasGrown, IsUntouchedAttempt, Steps, attempt_value};
 ghost use Rattle.branch_exchange.specs.Exchange.{exchange_value};
 
 use crate::edges::Edges;
@@ -23,16 +23,18 @@ pub(crate) struct Attempt<W: Wire> {
 }
 
 impl<W: Wire> Model for Attempt<W> {
-    ghost use Rattle.std.specs.Prelude.{◌≡◌, [], false, Option};
+    ghost use Rattle.std.specs.Prelude.{◌≡◌, [], false, Option, is_some};
     ghost use Rattle.std.specs.Option.{option_map_or};
     ghost use Rattle.gateway_loop.specs.Asking.{AttemptValue, IsUntouchedAttempt, attempt_value};
 
     ghost Value = { AttemptValue };
 
-    ghost view = { λ a. attempt_value a.exchange (option_map_or W.given a.wire []) (option_map_or W.got a.wire []) };
+    ghost view = { λ a. attempt_value a.exchange (option_map_or W.given a.wire []) (option_map_or W.got a.wire [])
+        (is_some a.wire) a.is_connected };
 
     ghost invariant = { λ a. a.is_connected ≡ false
-        → IsUntouchedAttempt (attempt_value a.exchange (option_map_or W.given a.wire []) (option_map_or W.got a.wire [])) };
+        → IsUntouchedAttempt (attempt_value a.exchange (option_map_or W.given a.wire []) (option_map_or W.got a.wire [])
+        (is_some a.wire) a.is_connected) };
 }
 
 /// What a step of an exchange came to.
@@ -68,7 +70,8 @@ impl<W: Wire> Attempt<W> {
 
     /// Whether its stream took a byte.
     pub(crate) fn is_connected(&self) -> bool
-        ensures { IsFalse result → IsUntouchedAttempt self.now }
+        ensures is { result ≡ self.now.connected }
+        ensures untouched { IsFalse result → IsUntouchedAttempt self.now }
     {
         self.is_connected
     }
@@ -85,7 +88,8 @@ impl<W: Wire> Attempt<W> {
 
     /// Writes what can be written of the request, and then reads what can be read of the reply.
     pub(crate) fn step(&mut self, edges: &mut Edges) -> Step
-        ensures { Steps self.old result self.new }
+        ensures steps { Steps self.old result self.new }
+        ensures grows { HasGrown self.old self.new }
     {
         for _step in 0..MOST_STEPS {
             match self.step_once(edges) {
@@ -98,7 +102,8 @@ impl<W: Wire> Attempt<W> {
 
     /// Writes once while some of the request is left, and else reads once.
     fn step_once(&mut self, edges: &mut Edges) -> Step
-        ensures { Steps self.old result self.new }
+        ensures steps { Steps self.old result self.new }
+        ensures grows { HasGrown self.old self.new }
     {
         if self.exchange.is_sent() {
             self.receive(edges)
@@ -109,7 +114,8 @@ impl<W: Wire> Attempt<W> {
 
     /// Writes once of what is left of the request.
     fn send(&mut self, edges: &mut Edges) -> Step
-        ensures { Steps self.old result self.new }
+        ensures steps { Steps self.old result self.new }
+        ensures grows { HasGrown self.old self.new }
     {
         if !edges.may_write {
             return Step::Waits;
@@ -137,7 +143,8 @@ impl<W: Wire> Attempt<W> {
 
     /// Reads once of the reply.
     fn receive(&mut self, edges: &mut Edges) -> Step
-        ensures { Steps self.old result self.new }
+        ensures steps { Steps self.old result self.new }
+        ensures grows { HasGrown self.old self.new }
     {
         if !edges.may_read {
             return Step::Waits;
@@ -171,8 +178,10 @@ impl<W: Wire + Drop> Attempt<W> {
     pub(crate) fn connect(&mut self, wire: W) -> Option<W>
         requires given { W.given wire ≡ [] }
         requires got { W.got wire ≡ [] }
-        ensures fresh { self.new ≡ attempt_value self.old.exchange [] [] }
+        ensures fresh { self.new ≡ attempt_value self.old.exchange [] [] true false }
         ensures before { IfSome result (λ before. HadRead (W.given before) (W.got before) self.old) }
+        ensures held { is_some result ≡ self.old.has_stream }
+        ensures first { result ≡ None → IsUntouchedAttempt self.old }
     {
         self.is_connected = false;
         mem::replace(&mut self.wire, Some(wire))

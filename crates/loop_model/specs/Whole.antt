@@ -1,9 +1,10 @@
 -- A loop: its clients, and the exchanges with its backends.
-use Rattle.std.specs.Prelude.{◌≡◌, ℕ, ◌+◌, Bool, false, All, List, count_by, map, Option}
+use Rattle.std.specs.Prelude.{◌≡◌, ◌⊎◌, ℕ, ◌+◌, Bool, false, All, List, ◌∷◌, ◌++◌, count_by, map, slice_index_or, Option, Some, None}
 use Rattle.std.specs.Option.{option_map_or}
+use Rattle.connect_codec.specs.declared.answer.Outcome.{Outcome}
 use Rattle.gateway_model.specs.Job.{JobValue}
 use Rattle.gateway_model.specs.Queue.{IsPrefixOf}
-use Rattle.loop_model.specs.Asking.{AskingValue, EndedValue, IsFair}
+use Rattle.loop_model.specs.Asking.{AskingValue, EndedValue, IsFair, StreamValue, ended_value}
 use Rattle.loop_model.specs.Explained.{IsExplained, LoopValue}
 use Rattle.loop_model.specs.Growing.{Continues}
 
@@ -30,7 +31,40 @@ pub record IsExplainedLoop (w : WholeLoop) : Type 0 where
   pub explained : IsExplained w.side
   pub asks : AsksFairly w
 
--- all of its clients' side continues, and what had ended stays
+-- ---- what only grows
+
+-- the job that is asked for in that place
+abbrev pub asked_at : ℕ → List (Option AskingValue) → Option AskingValue
+asked_at i asking = slice_index_or asking i None
+
+-- it goes over the same stream, from which more may have been read, and to which more may have been written
+abbrev pub KeepsStream : AskingValue → AskingValue → Type 0
+KeepsStream x y = (y.tried ≡ x.tried) × IsPrefixOf x.given y.given × IsPrefixOf x.got y.got
+
+-- that stream was given up since, with all that had been read from it and written to it
+pub record GivesUpStream (x y : AskingValue) : Type 0 where
+  pub last : StreamValue
+  pub others : List StreamValue
+  pub tried_are : y.tried ≡ x.tried ++ last ∷ others
+  pub given : IsPrefixOf x.given last.given
+  pub got : IsPrefixOf x.got last.got
+
+-- the same job: nothing that was read or written for it is forgotten
+pub record AsksOn (x y : AskingValue) : Type 0 where
+  pub job : y.job ≡ x.job
+  pub streams : KeepsStream x y ⊎ GivesUpStream x y
+
+-- it has ended since
+pub record HasEndedSince (v w : WholeLoop) (y : AskingValue) : Type 0 where
+  pub before : List EndedValue
+  pub outcome : Option Outcome
+  pub after : List EndedValue
+  pub ended_are : w.ended ≡ v.ended ++ (before ++ ended_value y outcome ∷ after)
+
+-- all of its clients' side continues; each job that was asked for is asked for in its place with more, or has ended with more; and what
+-- had ended stays
 pub record ContinuesLoop (v w : WholeLoop) : Type 0 where
   pub side : Continues v.side w.side
+  pub asking : (i : ℕ) (x : AskingValue) → asked_at i v.asking ≡ Some x
+      → (y : AskingValue) × ((asked_at i w.asking ≡ Some y) ⊎ HasEndedSince v w y) × AsksOn x y
   pub ended : IsPrefixOf v.ended w.ended

@@ -1,5 +1,5 @@
 -- What the worked rows speak of.
-use Rattle.std.specs.Prelude.{◌≡◌, ◌<◌, ℕ, Bool, List, [], ◌∷◌, ◌++◌, Option, None}
+use Rattle.std.specs.Prelude.{◌≡◌, ◌<◌, ℕ, Bool, List, [], ◌∷◌, ◌++◌, Option, None, Some}
 use Rattle.call_plan.specs.Plan.{PlanRecord}
 use Rattle.connect_codec.specs.declared.answer.Outcome.{Outcome}
 use Rattle.gateway_model.specs.Events.{Before, Occurs, connections, hung_up, stream}
@@ -29,6 +29,10 @@ result_of conn request branch outcome = record { call = call_id conn request; br
 abbrev pub asking : JobValue → AskingValue
 asking job = record { job = job; tried = []; given = []; got = [] }
 
+-- it is asked for so
+abbrev pub asked : JobValue → List StreamValue → List ℕ → List ℕ → AskingValue
+asked job tried given got = record { job = job; tried = tried; given = given; got = got }
+
 -- it was asked for so, and that was recorded of it
 abbrev pub ended : JobValue → List StreamValue → List ℕ → List ℕ → Option Outcome → EndedValue
 ended job tried given got outcome = ended_value (record { job = job; tried = tried; given = given; got = got }) outcome
@@ -40,6 +44,10 @@ loop_of core results handed asking ended = record {
   asking = asking;
   ended = ended;
 }
+
+-- .. that asks for one job
+abbrev pub asks : GatewayValue → AskingValue → WholeLoop
+asks core x = loop_of core [] (x.job ∷ []) (Some x ∷ []) []
 
 -- something occurs by the history, and by whatever does these bytes are queued for that connection
 pub record Queues (plans : List PlanRecord) (h : History) (conn : ℕ) (bytes : List ℕ) : Type 0 where

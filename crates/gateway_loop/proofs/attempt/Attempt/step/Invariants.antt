@@ -1,7 +1,7 @@
 use Rattle.std.proofs.Common.{ℕ, List}
-use Rattle.gateway_loop.specs.Asking.{Asks}
+use Rattle.gateway_loop.specs.Asking.{Asks, HasGrown}
 use Rattle.gateway_loop.proofs.attempt.Attempt.step.Given as goal
 
--- it goes on
+-- it goes on, and nothing is forgotten
 abbrev pub invariant-loop-step : goal.invariant-loop-step
-invariant-loop-step g l = (request : List ℕ) → Asks request l.initial.self → Asks request l.self
+invariant-loop-step g l = ((request : List ℕ) → Asks request l.initial.self → Asks request l.self) × HasGrown l.initial.self l.self

@@ -3,7 +3,8 @@ use Rattle.std.specs.Prelude.{slice_index_or}
 use Rattle.slab.specs.Slab.{Slab}
 use Rattle.gateway_loop.specs.Asking.{AskingState}
 use Rattle.gateway_theory.specs.Task.{HandedJob}
-use Rattle.gateway_loop.proofs.AskLemmas.{Put, goes_side, put_one, takes_job}
+use Rattle.gateway_loop.specs.Loop.{Goes, whole_loop}
+use Rattle.gateway_loop.proofs.AskLemmas.{Put, goes_begin, goes_side, put_one, takes_job}
 use Rattle.gateway_loop.proofs.exchanges.Exchanges.begin.Goals as goal
 
 pub invariant_of-self-2 : goal.invariant_of-self-2
@@ -18,7 +19,20 @@ invariant_of-self-2 g c =
     c.self.invariant
 
 pub returns-clause-goes : goal.returns-clause-goes
-returns-clause-goes g c = rw (← c.self.view_is) (goes_side c.self.inside.clients c.take_job.new.self _ _ _ c.in-Some.ensures.goes)
+returns-clause-goes g c =
+    let i = c.self.inside in
+    let put = c.insert_reserved in
+    let slots : c.reserve.new.self.slots ≡ i.asking.slots = ap (λ (s : Slab AskingState). s.slots) c.reserve.ensures.rest_kept in
+    rw (← c.self.view_is)
+    (goes_begin i.asking.slots put.new.self.slots put.result i.clients c.take_job.new.self i.ended.items c.new-asking.result c.in-Some.ensures.goes
+    (sym (ap (λ (old : List (Option AskingState)). slice_index_or old put.result None) slots) ∙ put.ensures.was_vacant)
+    (subst (λ (old : List (Option AskingState)). Put old put.new.self.slots put.result (Some c.new-asking.result)) slots (put_one c.reserve.new.self put.new.self put.result _ put.ensures.updates)))
 
 pub returns-in_default-clause-goes : goal.returns-in_default-clause-goes
-returns-in_default-clause-goes g c = rw (← c.self.view_is) (goes_side c.self.inside.clients c.take_job.new.self _ _ _ c.take_job.ensures.goes)
+returns-in_default-clause-goes g c =
+    let i = c.self.inside in
+    let slots : c.reserve.new.self.slots ≡ i.asking.slots = ap (λ (s : Slab AskingState). s.slots) c.reserve.ensures.rest_kept in
+    rw (← c.self.view_is)
+    (subst
+    (λ (now : List (Option AskingState)). Goes (whole_loop i.clients i.asking.slots i.ended.items) (whole_loop c.take_job.new.self now i.ended.items))
+    (sym slots) (goes_side i.clients c.take_job.new.self _ _ c.take_job.ensures.goes))

@@ -13,4 +13,5 @@ pub returns-clause-goes : goal.returns-clause-goes
 returns-clause-goes g c =
     let i = c.self.inside in
     rw (← c.self.view_is)
-    (goes_ended i.clients c.record.new.self _ _ i.ended.items c.and-self-inside.result.items (c.conclude-outcome.new.self, c.conclude-outcome.result) c.and-self-inside.ensures c.record.ensures.goes)
+    (goes_ended i.asking.slots c.try_remove.new.self.slots c.args.place i.clients c.record.new.self i.ended.items c.and-self-inside.result.items c.in-Some.asking c.conclude-outcome.new.self c.conclude-outcome.result
+    c.record.ensures.goes (sym c.in-Some.ensures.value) (put_one i.asking c.try_remove.new.self c.args.place _ c.try_remove.ensures.updates) c.and-self-inside.ensures c.conclude-outcome.ensures.on)

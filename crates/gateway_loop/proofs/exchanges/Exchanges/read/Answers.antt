@@ -5,4 +5,4 @@ pub invariant_of-self : goal.invariant_of-self
 invariant_of-self g c = keeps_asking c.self.inside.clients c.read.new.self _ _ c.read.ensures.hands c.self.invariant
 
 pub returns-clause-goes : goal.returns-clause-goes
-returns-clause-goes g c = rw (← c.self.view_is) (goes_side c.self.inside.clients c.read.new.self _ _ _ c.read.ensures.goes)
+returns-clause-goes g c = rw (← c.self.view_is) (goes_side c.self.inside.clients c.read.new.self _ _ c.read.ensures.goes)

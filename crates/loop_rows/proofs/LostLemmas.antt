@@ -1,0 +1,56 @@
+-- What a loop with one job goes on with.
+use Rattle.std.proofs.Common.{◌≡◌, ℕ, zero, suc, ◌+◌, List, [], ◌∷◌, ◌++◌, length, Option, None, Some, ap, append-nil, arith, refl, sym, ◌∙◌}
+use Rattle.std.proofs.lemmas.List.{length-append}
+use Rattle.connect_codec.specs.declared.answer.Outcome.{Outcome}
+use Rattle.gateway_model.specs.Job.{JobValue}
+use Rattle.gateway_model.specs.Queue.{IsPrefixOf}
+use Rattle.gateway_theory.specs.Gateway.{GatewayValue}
+use Rattle.loop_model.specs.Asking.{AskingValue, EndedValue, ended_value}
+use Rattle.loop_model.specs.Clients.{ClientValue}
+use Rattle.loop_model.specs.Growing.{Continues}
+use Rattle.loop_model.specs.Whole.{HasEndedSince, WholeLoop, asked_at}
+use Rattle.loop_rows.specs.LoopRows.{loop_of}
+
+pub some_is : (a b : AskingValue) → Some a ≡ Some b → a ≡ b
+some_is a b e = cc
+
+pub none_is : (b : AskingValue) → None ≡ Some b → ⊥
+none_is b e = cc
+
+none_there : (b : ClientValue) → None ≡ Some b → ⊥
+none_there b e = cc
+
+pub same : {A : Type 0} (xs : List A) → IsPrefixOf xs xs
+same xs = ([], sym (append-nil xs))
+
+-- nobody is there, and this is more
+pub side_on : (v : GatewayValue) (results more : List (JobValue × Option Outcome)) (handed : List JobValue)
+    → Continues (loop_of v results handed [] []).side (loop_of v (results ++ more) handed [] []).side
+side_on v results more handed = record {
+  plans = refl;
+  clients = λ i x is. absurd (none_there x (nobody i ∙ is));
+  gone = same [];
+  told = same [];
+  results = (more, refl);
+  handed = same handed;
+}
+  where
+    nobody : (i : ℕ) → None ≡ Rattle.loop_model.specs.Explained.at i []
+    nobody zero = refl
+    nobody (suc i) = refl
+
+-- it stands in the first place alone
+pub alone : (i : ℕ) (x y : AskingValue) → asked_at i (Some x ∷ []) ≡ Some y → (i ≡ 0) × (x ≡ y)
+alone zero x y is = (refl, some_is x y is)
+alone (suc zero) x y is = absurd (none_is y is)
+alone (suc (suc i)) x y is = absurd (none_is y is)
+
+-- nothing ended since where nothing has ended
+pub nothing_since : (v w : WholeLoop) (y : AskingValue) → w.ended ≡ [] → HasEndedSince v w y → ⊥
+nothing_since v w y none e =
+    omega (
+      arith,
+      ap (λ (l : List EndedValue). length l) (sym none ∙ e.ended_are),
+      length-append v.ended (e.before ++ ended_value y e.outcome ∷ e.after),
+      length-append e.before (ended_value y e.outcome ∷ e.after),
+    )

@@ -1,0 +1,31 @@
+use Rattle.std.proofs.Common.{[], ◌∷◌, None, ap, arith, codes, length, refl, ⊎_elim}
+use Rattle.std.proofs.lemmas.List.{length-append}
+use Rattle.loop_rows.specs.LoopRows.{asked, asking, asks, job, loop_of}
+use Rattle.loop_rows.proofs.LostLemmas.{none_is, nothing_since, some_is}
+use Rattle.loop_rows.proofs.rows_of_loops.jobs_that_are_lost.Goals as goal
+
+pub returns-clause-forgotten : goal.returns-clause-forgotten
+returns-clause-forgotten c v j s =
+    let a = s.asking 0 (asked j [] [] (codes "P")) refl in
+    ⊎_elim
+    (λ here.
+    let is = some_is (asking j) a.0 here in
+    ⊎_elim
+    (λ k. omega (arith, ap (λ y. length y.got) is, ap (λ l. length l) k.2.1, length-append (codes "P") k.2.0))
+    (λ g. omega (arith, ap (λ y. length y.tried) is, ap (λ l. length l) g.tried_are))
+    a.2.streams)
+    (λ e. nothing_since (asks v (asked j [] [] (codes "P"))) (asks v (asking j)) a.0 refl e)
+    a.1
+
+pub returns-clause-another : goal.returns-clause-another
+returns-clause-another c v s =
+    let a = s.asking 0 (asking (job 0 1 2)) refl in
+    ⊎_elim
+    (λ here. omega (arith, ap (λ y. y.job.branch) (some_is (asking (job 0 1 3)) a.0 here), ap (λ k. k.branch) a.2.job))
+    (λ e. nothing_since (asks v (asking (job 0 1 2))) (asks v (asking (job 0 1 3))) a.0 refl e)
+    a.1
+
+pub returns-clause-dropped : goal.returns-clause-dropped
+returns-clause-dropped c v j s =
+    let a = s.asking 0 (asking j) refl in
+    ⊎_elim (λ here. none_is a.0 here) (λ e. nothing_since (asks v (asking j)) (loop_of v [] (j ∷ []) (None ∷ []) []) a.0 refl e) a.1
