@@ -11,7 +11,7 @@ use Rattle.gateway_model.specs.Job.{JobValue}
 use Rattle.gateway_model.specs.Queue.{IsPrefixOf}
 use Rattle.gateway_theory.specs.Task.{HandedJob}
 use Rattle.slab.specs.Slab.{Slab, Updates}
-use Rattle.loop_model.specs.Asking.{AskingValue, EndedValue, IsFair, StreamValue, ended_value}
+use Rattle.loop_model.specs.Asking.{AskingValue, BeginsRequest, EndedValue, IsFair, StreamValue, ended_value}
 use Rattle.loop_model.specs.Explained.{LoopValue}
 use Rattle.loop_model.specs.Growing.{HasTicked}
 use Rattle.loop_model.specs.Whole.{AsksFairly, AsksOn, ContinuesLoop, GivesUpStream, HasEndedSince, KeepsStream, WholeLoop, asked_at, count_asked}
@@ -308,15 +308,31 @@ pub keeps_asking : (v w : LoopValue) (asking : List (Option AskingState)) (ended
 keeps_asking v w asking ended none a = record {
   results = none.no_result ∙ a.results;
   fair = a.fair;
+  begun = a.begun;
   jobs = λ p. ap (count_by p) none.no_job ∙ a.jobs p;
 }
 
+-- where one place changed, each begins its request if what stands there does
+begun_put : (old new : List (Option AskingState)) (i : ℕ) (o : Option AskingState) → Put old new i o → ((x : AskingValue) → show_slot o ≡ Some x → BeginsRequest x)
+    → ((j : ℕ) (x : AskingValue) → asked_at j (map (λ (s : Option AskingState). show_slot s) old) ≡ Some x → BeginsRequest x)
+    → (j : ℕ) (x : AskingValue) → asked_at j (map (λ (s : Option AskingState). show_slot s) new) ≡ Some x → BeginsRequest x
+begun_put old new i o put own before j x is =
+    ⊎_elim
+    (λ (same : j ≡ i). own x (stood_at new new i o j x put.here same is))
+    (λ (other : j ≡ i → ⊥). before j x (shown_at old j ∙ ap (λ (s : Option AskingState). show_slot s) (sym (put.there j other)) ∙ sym (shown_at new j) ∙ is))
+    (cases_eq j i)
+
+begun_by : (y : AskingState) → BeginsRequest (asked_for y) → (x : AskingValue) → show_slot (Some y) ≡ Some x → BeginsRequest x
+begun_by y begun x is = subst (λ (t : AskingValue). BeginsRequest t) (some_asked (asked_for y) x is) begun
+
 -- one of them went on with its job
 pub keeps_put : (v : LoopValue) (old new : List (Option AskingState)) (ended : List (AskingState × Option Outcome)) (i : ℕ) (x y : AskingState)
-    → slice_index_or old i None ≡ Some x → y.job ≡ x.job → Put old new i (Some y) → AsksFairly (whole_loop v old ended) → AsksFairly (whole_loop v new ended)
-keeps_put v old new ended i x y was job put a = record {
+    → slice_index_or old i None ≡ Some x → y.job ≡ x.job → Put old new i (Some y) → BeginsRequest (asked_for y) → AsksFairly (whole_loop v old ended)
+    → AsksFairly (whole_loop v new ended)
+keeps_put v old new ended i x y was job put begun a = record {
   results = a.results;
   fair = a.fair;
+  begun = begun_put old new i (Some y) put (begun_by y begun) a.begun;
   jobs = λ p.
       let count = count_put p old new i (Some x) (Some y) was put in
       let same : one_asked p (Some y) ≡ one_asked p (Some x) = ap (λ (j : HandedJob). cond (p j.job) 1 0) job in
@@ -327,10 +343,11 @@ keeps_put v old new ended i x y was job put a = record {
 -- a job was taken, and is asked for
 pub takes_job : (v w : LoopValue) (old new : List (Option AskingState)) (ended : List (AskingState × Option Outcome)) (i : ℕ) (y : AskingState) (j : JobValue)
     → w.results ≡ v.results → w.handed ≡ v.handed ++ j ∷ [] → y.job.job ≡ j → slice_index_or old i None ≡ None → Put old new i (Some y)
-    → AsksFairly (whole_loop v old ended) → AsksFairly (whole_loop w new ended)
-takes_job v w old new ended i y j same more job free put a = record {
+    → BeginsRequest (asked_for y) → AsksFairly (whole_loop v old ended) → AsksFairly (whole_loop w new ended)
+takes_job v w old new ended i y j same more job free put begun a = record {
   results = same ∙ a.results;
   fair = a.fair;
+  begun = begun_put old new i (Some y) put (begun_by y begun) a.begun;
   jobs = λ p.
       let count = count_put p old new i None (Some y) free put in
       let own : one_asked p (Some y) ≡ cond (p j) 1 0 = ap (λ (k : JobValue). cond (p k) 1 0) job in
@@ -356,6 +373,7 @@ ends_one v w old new ended ended' i x y o j results same was job own put more fa
           ∙ sym (map-append pair (map show ended) (show (y, o) ∷ []))
           ∙ ap (map pair) (sym shown);
       fair = subst (All IsFair) (sym shown) (All-push IsFair (map show ended) (show (y, o)) a.fair fair);
+      begun = begun_put old new i None put (λ (z : AskingValue) is. absurd (none_asked z is)) a.begun;
       jobs = λ p.
           let of_ended : EndedValue → Bool = λ (e : EndedValue). p e.asking.job in
           let count = count_put p old new i (Some x) None was put in
@@ -371,4 +389,9 @@ ends_one v w old new ended ended' i x y o j results same was job own put more fa
     }
 
 pub starts_fair : (v : LoopValue) → v.results ≡ [] → v.handed ≡ [] → AsksFairly (whole_loop v [] [])
-starts_fair v no_results none_handed = record { results = no_results; fair = All-nil IsFair; jobs = λ p. ap (count_by p) none_handed }
+starts_fair v no_results none_handed = record {
+  results = no_results;
+  fair = All-nil IsFair;
+  begun = λ i x is. absurd (none_asked x is);
+  jobs = λ p. ap (count_by p) none_handed;
+}

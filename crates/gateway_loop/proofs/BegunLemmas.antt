@@ -6,7 +6,8 @@ use Rattle.branch_exchange.specs.declared.exchange_end.ExchangeEnd.{ExchangeEnd}
 use Rattle.branch_exchange.specs.declared.exchange_end.ExchangeEnd.TheVariants as ends
 use Rattle.http_pieces.specs.declared.reply.HttpReply.{HttpReply}
 use Rattle.gateway_theory.specs.Task.{HandedJob}
-use Rattle.loop_model.specs.Asking.{IsUntouched, StreamValue, request_of, stream_value}
+use Rattle.gateway_model.specs.Queue.{IsPrefixOf}
+use Rattle.loop_model.specs.Asking.{BeginsRequest, IsUntouched, StreamValue, request_of, stream_value}
 use Rattle.loop_model.specs.Whole.{AsksOn}
 use Rattle.gateway_loop.specs.Asking.{Asks, AskingState, AttemptValue, HadRead, HasBegun, HasEnded, HasGrown, IsUntouchedAttempt, asked_for, asking_state}
 use Rattle.gateway_loop.proofs.GrowLemmas.{begins_then}
@@ -54,6 +55,14 @@ module _ {W : Type 0} (given got : W → List ℕ) (job : HandedJob) (x : Attemp
     asks = λ none. absurd (some_none e (sym is ∙ none));
     ended = λ f so. subst (λ (t : ExchangeEnd). HasEnded (request_of job.job) t y) (some_end e f (sym is ∙ so)) (ends (b.asks (none_of end off)));
   }
+
+-- what was written of it begins its request
+pub begins_request : (x : AskingState) → HasBegun x → BeginsRequest (asked_for x)
+begins_request x b = record { untouched = b.untouched; prefix = by_it x.end refl }
+  where
+    by_it : (end : Option ExchangeEnd) → x.end ≡ end → IsPrefixOf x.attempt.got (request_of x.job.job)
+    by_it None is = (x.attempt.exchange.left, sym (b.asks is).sends)
+    by_it (Some end) is = (b.ended end is).prefix
 
 -- ---- what only grows
 

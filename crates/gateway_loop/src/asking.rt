@@ -1,7 +1,7 @@
 ghost use Rattle.std.specs.Prelude.{◌≡◌, [], Some, IfOk, IfSome};
 ghost use Rattle.branch_exchange.specs.Outcomes.{asked_of, outcome_of_asked};
 ghost use Rattle.gateway_loop.specs.Asking.{NotesStream, asked_for};
-ghost use Rattle.loop_model.specs.Asking.{IsFair, ended_value, request_of};
+ghost use Rattle.loop_model.specs.Asking.{BeginsRequest, IsFair, ended_value, request_of};
 ghost use Rattle.loop_model.specs.Whole.{AsksOn};
 
 use crate::attempt::{Attempt, Step};
@@ -86,6 +86,13 @@ impl<W: Wire> Asking<W> {
     /// Its exchange, and the stream that it goes over.
     pub(crate) fn attempt(&self) -> &Attempt<W> {
         &self.attempt
+    }
+
+    /// What was written for it begins its request, and nothing was written to a stream that was given up. It does nothing.
+    pub(crate) fn begun_law(&self)
+        ensures { BeginsRequest (asked_for self.now) }
+    {
+        let _ = &self.job;
     }
 
     /// Writes what can be written of the request, and then reads what can be read of the reply.

@@ -162,6 +162,7 @@ impl<H: ReplyHook + Drop, W: Wire + Drop> Exchanges<H, W> {
             return None;
         };
         let asking = Asking::new(self.alloc, job);
+        asking.begun_law();
         Some(self.asking.insert_reserved(asking))
     }
 
@@ -174,6 +175,7 @@ impl<H: ReplyHook + Drop, W: Wire + Drop> Exchanges<H, W> {
             return Progress::Waits;
         };
         let progress = asking.step(edges);
+        asking.begun_law();
         let _place = self.asking.insert_reserved(asking);
         progress
     }
@@ -189,6 +191,7 @@ impl<H: ReplyHook + Drop, W: Wire + Drop> Exchanges<H, W> {
             return;
         };
         asking.connect(wire);
+        asking.begun_law();
         let _place = self.asking.insert_reserved(asking);
     }
 
@@ -201,6 +204,7 @@ impl<H: ReplyHook + Drop, W: Wire + Drop> Exchanges<H, W> {
             return;
         };
         asking.lose(loss);
+        asking.begun_law();
         let _place = self.asking.insert_reserved(asking);
     }
 
@@ -213,6 +217,7 @@ impl<H: ReplyHook + Drop, W: Wire + Drop> Exchanges<H, W> {
             return;
         };
         asking.starve();
+        asking.begun_law();
         let _place = self.asking.insert_reserved(asking);
     }
 

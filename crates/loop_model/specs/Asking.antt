@@ -50,9 +50,12 @@ pub record IsAnswered (x : AskingValue) (o : Outcome) : Type 0 where
   pub begins : IsCut reply_kind x.given (Complete reply rest)
   pub outcome_is : o ≡ outcome_of (Some reply)
 
--- Nothing was written to a stream that was given up, and to the last one some first bytes of the job's request, and no others. Its outcome
--- is that of its reply, or of a reply that was lost.
+-- nothing was written to a stream that was given up, and to the one that it goes over some first bytes of the job's request, and no others
+pub record BeginsRequest (x : AskingValue) : Type 0 where
+  pub untouched : All IsUntouched x.tried
+  pub prefix : IsPrefixOf x.got (request_of x.job)
+
+-- so it began, and its outcome is that of its reply, or of a reply that was lost
 pub record IsFair (e : EndedValue) : Type 0 where
-  pub untouched : All IsUntouched e.asking.tried
-  pub prefix : IsPrefixOf e.asking.got (request_of e.asking.job)
+  pub begun : BeginsRequest e.asking
   pub outcome : (o : Outcome) → e.outcome ≡ Some o → (o ≡ outcome_of None) ⊎ IsAnswered e.asking o

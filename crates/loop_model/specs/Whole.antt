@@ -4,7 +4,7 @@ use Rattle.std.specs.Option.{option_map_or}
 use Rattle.connect_codec.specs.declared.answer.Outcome.{Outcome}
 use Rattle.gateway_model.specs.Job.{JobValue}
 use Rattle.gateway_model.specs.Queue.{IsPrefixOf}
-use Rattle.loop_model.specs.Asking.{AskingValue, EndedValue, IsFair, StreamValue, ended_value}
+use Rattle.loop_model.specs.Asking.{AskingValue, BeginsRequest, EndedValue, IsFair, StreamValue, ended_value}
 use Rattle.loop_model.specs.Explained.{IsExplained, LoopValue}
 use Rattle.loop_model.specs.Growing.{Continues}
 
@@ -19,11 +19,16 @@ pub record WholeLoop : Type 0 where
 abbrev pub count_asked : (JobValue → Bool) → List (Option AskingValue) → ℕ
 count_asked p asking = count_by (λ (o : Option AskingValue). option_map_or (λ (x : AskingValue). p x.job) o false) asking
 
--- the results that were handed in are those of the exchanges that ended, in order, and each ended fairly; and a job was taken as often
--- as it has ended, or is asked for
+-- the job that is asked for in that place
+abbrev pub asked_at : ℕ → List (Option AskingValue) → Option AskingValue
+asked_at i asking = slice_index_or asking i None
+
+-- the results that were handed in are those of the exchanges that ended, in order, and each ended fairly; what was written of each that is
+-- asked for begins its request; and a job was taken as often as it has ended, or is asked for
 pub record AsksFairly (w : WholeLoop) : Type 0 where
   pub results : w.side.results ≡ map (λ (e : EndedValue). (e.asking.job, e.outcome)) w.ended
   pub fair : All IsFair w.ended
+  pub begun : (i : ℕ) (x : AskingValue) → asked_at i w.asking ≡ Some x → BeginsRequest x
   pub jobs : (p : JobValue → Bool) → count_by p w.side.handed ≡ count_by (λ (e : EndedValue). p e.asking.job) w.ended + count_asked p w.asking
 
 -- one history explains its clients, its moments, its results and its jobs, and its results are those of its exchanges
@@ -32,10 +37,6 @@ pub record IsExplainedLoop (w : WholeLoop) : Type 0 where
   pub asks : AsksFairly w
 
 -- ---- what only grows
-
--- the job that is asked for in that place
-abbrev pub asked_at : ℕ → List (Option AskingValue) → Option AskingValue
-asked_at i asking = slice_index_or asking i None
 
 -- it goes over the same stream, from which more may have been read, and to which more may have been written
 abbrev pub KeepsStream : AskingValue → AskingValue → Type 0

@@ -1,15 +1,16 @@
 -- What a loop with one job goes on with.
 use Rattle.std.proofs.Common.{◌≡◌, ℕ, zero, suc, ◌+◌, List, [], ◌∷◌, ◌++◌, length, Option, None, Some, ap, append-nil, arith, refl, sym, ◌∙◌}
 use Rattle.std.proofs.lemmas.List.{length-append}
+use Rattle.std.proofs.lemmas.List.Elements.{All-nil}
 use Rattle.connect_codec.specs.declared.answer.Outcome.{Outcome}
 use Rattle.gateway_model.specs.Job.{JobValue}
 use Rattle.gateway_model.specs.Queue.{IsPrefixOf}
 use Rattle.gateway_theory.specs.Gateway.{GatewayValue}
-use Rattle.loop_model.specs.Asking.{AskingValue, EndedValue, ended_value}
+use Rattle.loop_model.specs.Asking.{AskingValue, BeginsRequest, EndedValue, IsUntouched, ended_value, request_of}
 use Rattle.loop_model.specs.Clients.{ClientValue}
 use Rattle.loop_model.specs.Growing.{Continues}
 use Rattle.loop_model.specs.Whole.{HasEndedSince, WholeLoop, asked_at}
-use Rattle.loop_rows.specs.LoopRows.{loop_of}
+use Rattle.loop_rows.specs.LoopRows.{asking, loop_of}
 
 pub some_is : (a b : AskingValue) → Some a ≡ Some b → a ≡ b
 some_is a b e = cc
@@ -44,6 +45,20 @@ pub alone : (i : ℕ) (x y : AskingValue) → asked_at i (Some x ∷ []) ≡ Som
 alone zero x y is = (refl, some_is x y is)
 alone (suc zero) x y is = absurd (none_is y is)
 alone (suc (suc i)) x y is = absurd (none_is y is)
+
+-- .. or in the second
+pub second : (i : ℕ) (x y : AskingValue) → asked_at i (None ∷ Some x ∷ []) ≡ Some y → x ≡ y
+second zero x y is = absurd (none_is y is)
+second (suc i) x y is = (alone i x y is).1
+
+-- .. or nowhere
+pub nowhere : (i : ℕ) (y : AskingValue) → asked_at i (None ∷ []) ≡ Some y → ⊥
+nowhere zero y is = none_is y is
+nowhere (suc i) y is = none_is y is
+
+-- nothing was done for it yet
+pub begins_at_first : (j : JobValue) → BeginsRequest (asking j)
+begins_at_first j = record { untouched = All-nil IsUntouched; prefix = (request_of j, refl) }
 
 -- nothing ended since where nothing has ended
 pub nothing_since : (v w : WholeLoop) (y : AskingValue) → w.ended ≡ [] → HasEndedSince v w y → ⊥

@@ -14,7 +14,8 @@ fn jobs_of_a_loop()
         → AsksFairly (loop_of v ((e.asking.job, e.outcome) ∷ []) (e.asking.job ∷ []) (None ∷ []) (e ∷ [])) }
 {}
 
-/// None is dropped, asked for untaken, or recorded without an end, twice, never, or for another job; and what ended stays.
+/// None is dropped, asked for untaken or by another request, or recorded without an end, twice, never, or for another job; and what ended
+/// stays.
 fn other_jobs()
     ensures dropped { (v : GatewayValue) (j : JobValue) → AsksFairly (loop_of v [] (j ∷ []) (None ∷ []) []) → ⊥ }
     ensures untaken { (v : GatewayValue) (j : JobValue) → AsksFairly (loop_of v [] [] (Some (asking j) ∷ []) []) → ⊥ }
@@ -25,6 +26,7 @@ fn other_jobs()
         → AsksFairly (loop_of v ((job 0 1 5, o) ∷ []) (job 0 1 2 ∷ []) [] (ended (job 0 1 2) [] [] [] o ∷ [])) → ⊥ }
     ensures otherwise { (v : GatewayValue) (j : JobValue) (o : Outcome)
         → AsksFairly (loop_of v ((j, Some o) ∷ []) (j ∷ []) [] (ended j [] [] [] None ∷ [])) → ⊥ }
+    ensures request { (v : GatewayValue) (j : JobValue) → AsksFairly (asks v (asked j [] [] (codes "GET"))) → ⊥ }
     ensures anew { (v : GatewayValue) (e : EndedValue)
         → ContinuesLoop (loop_of v ((e.asking.job, e.outcome) ∷ []) (e.asking.job ∷ []) [] (e ∷ [])) (loop_of v [] [] [] []) → ⊥ }
 {}

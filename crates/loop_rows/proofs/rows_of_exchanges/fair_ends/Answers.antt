@@ -6,28 +6,24 @@ use Rattle.loop_rows.proofs.rows_of_exchanges.fair_ends.Goals as goal
 
 pub returns-clause-answered : goal.returns-clause-answered
 returns-clause-answered c j reply given rest cut = record {
-  untouched = All-nil IsUntouched;
-  prefix = ([], sym (append-nil (request_of j)));
+  begun = record { untouched = All-nil IsUntouched; prefix = ([], sym (append-nil (request_of j))) };
   outcome = λ o is. inr (record { whole = refl; reply = reply; rest = rest; begins = cut; outcome_is = sym (some_is _ o is) });
 }
 
 pub returns-clause-lost : goal.returns-clause-lost
 returns-clause-lost c j given front more is = record {
-  untouched = All-nil IsUntouched;
-  prefix = (more, is);
+  begun = record { untouched = All-nil IsUntouched; prefix = (more, is) };
   outcome = λ o same. inl (sym (some_is _ o same));
 }
 
 pub returns-clause-no_memory : goal.returns-clause-no_memory
 returns-clause-no_memory c j given front more is = record {
-  untouched = All-nil IsUntouched;
-  prefix = (more, is);
+  begun = record { untouched = All-nil IsUntouched; prefix = (more, is) };
   outcome = λ o none. absurd (no_some o none);
 }
 
 pub returns-clause-another_tried : goal.returns-clause-another_tried
 returns-clause-another_tried c j = record {
-  untouched = all_one IsUntouched (stream_value [] []) (refl, refl);
-  prefix = (request_of j, refl);
+  begun = record { untouched = all_one IsUntouched (stream_value [] []) (refl, refl); prefix = (request_of j, refl) };
   outcome = λ o same. inl (sym (some_is _ o same));
 }

@@ -1,11 +1,18 @@
-use Rattle.std.proofs.Common.{arith, refl}
+use Rattle.std.proofs.Common.{arith, refl, subst}
 use Rattle.std.proofs.lemmas.List.Elements.{All-nil}
-use Rattle.loop_model.specs.Asking.{IsFair}
+use Rattle.loop_model.specs.Asking.{BeginsRequest, IsFair}
+use Rattle.loop_rows.specs.LoopRows.{asking}
 use Rattle.loop_rows.proofs.ExchangeLemmas.{all_one}
+use Rattle.loop_rows.proofs.LostLemmas.{begins_at_first, nowhere, second}
 use Rattle.loop_rows.proofs.rows_of_loops.jobs_of_a_loop.Goals as goal
 
 pub returns-clause-asked : goal.returns-clause-asked
-returns-clause-asked c v j = record { results = refl; fair = All-nil IsFair; jobs = λ p. omega arith }
+returns-clause-asked c v j = record {
+  results = refl;
+  fair = All-nil IsFair;
+  begun = λ i x is. subst (λ t. BeginsRequest t) (second i (asking j) x is) (begins_at_first j);
+  jobs = λ p. omega arith;
+}
 
 pub returns-clause-over : goal.returns-clause-over
-returns-clause-over c v e fair = record { results = refl; fair = all_one IsFair e fair; jobs = λ p. omega arith }
+returns-clause-over c v e fair = record { results = refl; fair = all_one IsFair e fair; begun = λ i x is. absurd (nowhere i x is); jobs = λ p. omega arith }

@@ -1,5 +1,8 @@
-use Rattle.std.proofs.Common.{true, length, ap, arith}
-use Rattle.loop_rows.proofs.ExchangeLemmas.{first_outcome, job_number, longer_than_none, some_outcome}
+use Rattle.std.proofs.Common.{[], ◌++◌, true, length, ap, arith, codes, refl}
+use Rattle.loop_model.specs.Asking.{request_of}
+use Rattle.loop_rows.specs.LoopRows.{asked}
+use Rattle.loop_rows.proofs.RowLemmas.{other_first}
+use Rattle.loop_rows.proofs.ExchangeLemmas.{begins_with_p, first_outcome, job_number, longer_than_none, some_outcome}
 use Rattle.loop_rows.proofs.rows_of_loops.other_jobs.Goals as goal
 
 pub returns-clause-dropped : goal.returns-clause-dropped
@@ -19,6 +22,11 @@ returns-clause-another c v o a = omega (arith, ap job_number a.results)
 
 pub returns-clause-otherwise : goal.returns-clause-otherwise
 returns-clause-otherwise c v j o a = some_outcome o (ap first_outcome a.results)
+
+pub returns-clause-request : goal.returns-clause-request
+returns-clause-request c v j a =
+    let b = (a.begun 0 (asked j [] [] (codes "GET")) refl).prefix in
+    other_first (request_of j) (codes "GET" ++ b.0) (λ f. omega (arith, f, begins_with_p j)) b.1
 
 pub returns-clause-anew : goal.returns-clause-anew
 returns-clause-anew c v e s = longer_than_none e s.ended.0 s.ended.1

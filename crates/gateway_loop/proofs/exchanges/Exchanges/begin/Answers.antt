@@ -16,7 +16,7 @@ invariant_of-self-2 g c =
     c.in-Some.ensures.results c.in-Some.ensures.handed (ap (λ (j : HandedJob). j.job) c.new-asking.ensures)
     (sym (ap (λ (old : List (Option AskingState)). slice_index_or old put.result None) slots) ∙ put.ensures.was_vacant)
     (subst (λ (old : List (Option AskingState)). Put old put.new.self.slots put.result (Some c.new-asking.result)) slots (put_one c.reserve.new.self put.new.self put.result _ put.ensures.updates))
-    c.self.invariant
+    c.begun_law.ensures c.self.invariant
 
 pub returns-clause-goes : goal.returns-clause-goes
 returns-clause-goes g c =

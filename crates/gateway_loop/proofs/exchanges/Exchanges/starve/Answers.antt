@@ -7,7 +7,7 @@ invariant_of-self-2 g c =
     let i = c.self.inside in
     let put = c.insert_reserved-place in
     keeps_put i.clients i.asking.slots put.new.self.slots i.ended.items c.args.place c.in-Some.asking c.starve.new.self (sym c.in-Some.ensures.value) c.starve.ensures.job
-    (put_back i.asking c.try_remove.new.self put.new.self c.args.place put.result _ c.try_remove.ensures.updates c.in-Some.ensures.key_is_next put.ensures.key put.ensures.updates) c.self.invariant
+    (put_back i.asking c.try_remove.new.self put.new.self c.args.place put.result _ c.try_remove.ensures.updates c.in-Some.ensures.key_is_next put.ensures.key put.ensures.updates) c.begun_law.ensures c.self.invariant
 
 pub returns-clause-goes : goal.returns-clause-goes
 returns-clause-goes g c =
