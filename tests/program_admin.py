@@ -13,8 +13,8 @@ import time
 import urllib.request
 
 from program_room import (
-    Backend, DONE, IO, STRAY, Untried, WAIT, WORDS, Wrong, answers, at_once, call, client, expect, free_port, full_listener,
-    is_quiet, is_refused, listener, plan, read_message, read_reply, read_to, reply, request, sees_end,
+    Backend, DONE, IO, STRAY, Untried, WAIT, WORDS, Wrong, answers, at_once, call, client, closes, expect, free_port,
+    full_listener, is_quiet, is_refused, listener, plan, read_message, read_reply, read_to, reply, request, sees_end,
 )
 
 DRAINING = '{"code":"unavailable","message":"gateway is draining"}'
@@ -169,7 +169,9 @@ def case_readiness(room):
         for stream in taken:
             answers("one of 64", stream)
         expect("with 64", asks(where, "/ready"), (503, "full"))
+        sees_end("a further one", opened.enter_context(client(port)))
         found = figures(where)
+        expect("the streams that were closed", found[("connect_gateway_streams_closed_total",)], 1)
         expect("the connections", found[("connect_gateway_open_connections", "0")], 64)
         taken[0].close()
         end = time.monotonic() + WAIT
@@ -223,6 +225,27 @@ def case_figures_add_up(room):
     run.send_signal(signal.SIGTERM)
 
 
+def case_figures_of_branches(room):
+    """the figures tell what ended the asking of each backend, and how long that took"""
+    with Backend("1") as backend, listener() as silent:
+        # one after the other: beside the late one an answer could come too late on a busy machine
+        plans = [{"path": "/call", "limit": 1, "branches": [
+            {"name": "good", "address": f"127.0.0.1:{backend.port}", "path": "/"},
+            {"name": "idle", "address": f"127.0.0.1:{backend.port}", "path": "/"},
+            {"name": "late", "address": f"127.0.0.1:{silent.getsockname()[1]}", "path": "/", "timeout_ms": 50}]}]
+        run, port, where = serve(room, json.dumps(plans).encode())
+        with client(port) as stream:
+            for _ in range(7):
+                call(stream)
+                expect("the reply", read_reply(stream)[0], "504")
+        found = expect_replies("the replies", where, {("/call", "branch deadline"): 7})
+    counts = {key[2:]: count for key, count in found.items() if key[0] == "connect_gateway_branches_total"}
+    expect("the branches", counts, {("good", "answer"): 7, ("late", "deadline"): 7, ("idle", "answer"): 7})
+    took = found["connect_gateway_branch_seconds_total", "/call", "late", "deadline"]
+    expect(f"how long they took, {took}", 7 * 0.049 < took < 7 * WAIT, True)
+    run.send_signal(signal.SIGTERM)
+
+
 def case_figures_of_exchanges(room):
     """the figures tell the backends that are asked, of each loop"""
     with listener() as backend:
@@ -238,10 +261,15 @@ def case_figures_of_exchanges(room):
     run.send_signal(signal.SIGTERM)
 
 
+def asked_now(where):
+    """How many backends are asked, by the figures of all loops."""
+    return sum(count for key, count in figures(where).items() if key[0] == "connect_gateway_backend_exchanges")
+
+
 def wait_for_exchanges(where, count):
     """Waits until the figures tell that so many backends are asked: a loop tells it behind each turn."""
     end = time.monotonic() + WAIT
-    while (told := figures(where)[("connect_gateway_backend_exchanges", "0")]) != count:
+    while (told := asked_now(where)) != count:
         if time.monotonic() > end:
             raise Wrong(f"{told} backends are asked, and not {count}")
 
@@ -305,17 +333,9 @@ def case_drain_of_half_a_request(room):
         room.ends("the program", run, DONE)
 
 
-def closes(port):
-    """Waits until nobody listens any more."""
-    end = time.monotonic() + WAIT
-    while not is_refused(port):
-        if time.monotonic() > end:
-            raise Wrong("somebody listens still")
-
-
 def case_drain_after(room):
     """streams are still served for the time of --drain-after, while it says that it is not ready"""
-    run, port, where = serve(room, b"[]", "--drain-after", "2")
+    run, port, where = serve(room, b"[]", "--drain-after", "5")
     expect("before", asks(where, "/ready"), (200, "ready"))
     with client(port) as early:
         answers("before the drain", early)
@@ -330,7 +350,7 @@ def case_drain_after(room):
         drain(where)
         sees_end("an idle connection", early)
         took = time.monotonic() - began
-        expect(f"whether it is closed in time, {took}", 1.9 < took < 9, True)
+        expect(f"whether it is closed in time, {took}", 4.9 < took < 12, True)
     room.ends("the program", run, DONE)
 
 
@@ -493,7 +513,7 @@ def make_all_calls(port, where, clients, rounds):
     stream = client(port)
     # a ninth call, and eight that the drain ends
     stream.sendall(request("/mute") * 9)
-    time.sleep(0.5)
+    wait_for_exchanges(where, 8)
     drain(where)
     for _ in range(8):
         expect("at the drain", read_reply(stream)[0], "503")

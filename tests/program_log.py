@@ -1,4 +1,5 @@
 """Cases of tests/program.py: the log."""
+import contextlib
 import json
 import os
 import resource
@@ -7,14 +8,19 @@ import time
 
 from program_room import (
     Backend, IO, NOT_FOUND, PLANS, STRAY, WAIT, answers, call, client, end_of, expect, free_port, listener, listens, plan,
-    read_reply, read_to, reply, serve_words,
+    read_message, read_reply, read_to, reply, sees_end, serve_words,
 )
 
 
 def told(lines):
     """The lines of a log that tell of replies, and those that tell how the gateway stands."""
     parsed = [json.loads(line) for line in lines.splitlines()]
-    return [line for line in parsed if "status" in line], [line for line in parsed if "asking" in line]
+    return [line for line in parsed if "ended" in line], [line for line in parsed if "asking" in line]
+
+
+def branches_told(lines):
+    """The lines of a log that tell of branches."""
+    return [line for line in map(json.loads, lines.splitlines()) if "cause" in line]
 
 
 def brief(line):
@@ -48,7 +54,9 @@ def case_log_of_each_end(room):
             silent = backend.accept()[0]
         with silent:
             listens(run.stderr)
-            said = b"".join(run.stderr.readline() for _ in range(6))
+            said = b""
+            while len(told(said)[0]) < 6:
+                said += run.stderr.readline()
         said += run.communicate(timeout=WAIT)[1]
     replies, _ = told(said)
     expect("the lines", [brief(line) for line in replies], [
@@ -64,6 +72,127 @@ def case_log_of_each_end(room):
     expect(f"the milliseconds {took}", bounds, (True, True, [None, None]))
     expect("the times", all(began - 1 < line["time"] / 1000 < time.time() + 1 for line in replies), True)
     expect("the status", run.returncode, 0)
+
+
+class Answers(Backend):
+    """A backend that sends these bytes for each request, and ends its stream."""
+
+    def __init__(self, said):
+        super().__init__("")
+        self.answer = said
+
+
+def reply_of(*fields, status="200 OK", body="1"):
+    """A reply with these fields."""
+    return "\r\n".join([f"HTTP/1.1 {status}", *fields, "", body]).encode()
+
+
+JSON = "Content-Type: application/json"
+LENGTH = "Content-Length: 1"
+
+# what a backend sends, and what is told of it: the cause, and its status
+ANSWERS = [
+    (reply_of(JSON, LENGTH), "answer", 200),
+    (reply_of(JSON, LENGTH, status="500 No"), "status", 500),
+    (reply_of(LENGTH), "unexpected content type", 200),
+    (reply_of(JSON, LENGTH, body="x"), "not JSON", 200),
+    (reply_of(JSON, "Content-Length: 2"), "closed early", None),
+    (b"", "closed early", None),
+    (b"nonsense\r\n\r\n", "bad head", None),
+    (reply_of(JSON, "Transfer-Encoding: chunked", body="1\r\n1\r\n0\r\n\r\n"), "no fixed length", None),
+    (reply_of(JSON), "no fixed length", None),
+    (reply_of(JSON, "Content-Length: 65537"), "too long", None),
+    (reply_of("A: " + "x" * 9000, JSON, LENGTH), "too long", None),
+    (reply_of(status="100 Continue", body=""), "bad head", None),
+]
+
+
+def case_log_of_causes(room):
+    """a line of the log tells what ended the asking of each backend that failed, and with --log all of each"""
+    with contextlib.ExitStack() as opened:
+        backends = [opened.enter_context(Answers(said)) for said, _, _ in ANSWERS]
+        mute = opened.enter_context(listener())
+        addresses = [f"127.0.0.1:{backend.port}" for backend in backends]
+        addresses += [f"127.0.0.1:{free_port()}", "no.such.name.invalid:80", f"127.0.0.1:{mute.getsockname()[1]}"]
+        wanted = [(cause, status) for _, cause, status in ANSWERS] + [("refused", None), ("no such name", None), ("deadline", None)]
+        plans = [{"path": f"/{at}", "limit": 1, "branches": [{"name": f"b{at}", "address": address, "path": "/"}]}
+                 for at, address in enumerate(addresses)]
+        plans[-1]["branches"][0]["timeout_ms"] = 300
+        for words, tells_all in (["--log"], False), (["--log", "all"], True):
+            port = free_port()
+            run = room.start(serve_words(port, room.file("plans", json.dumps(plans).encode()), 1, 1) + words)
+            with client(port) as stream:
+                for at in range(len(plans)):
+                    call(stream, f"X-Request-Id: id-{at}\r\n", path=f"/{at}")
+                    read_reply(stream)
+            said = run.communicate(timeout=WAIT)[1]
+            found = {line["branch"]: line for line in branches_told(said)}
+            for at, (cause, status) in enumerate(wanted):
+                if cause == "answer" and not tells_all:
+                    continue
+                line = found.pop(f"b{at}", None)
+                expect(f"whether {cause} is told with {words}", line is not None, True)
+                expect(f"what is told of {cause}", [line[key] for key in (
+                    "address", "cause", "status", "path", "connection", "request", "request_id", "worker")],
+                    [addresses[at], cause, status, f"/{at}", 0, at, f"id-{at}", 0])
+                took = 299 if cause == "deadline" else 0
+                expect(f"how long {cause} took, {line['ms']}", took <= line["ms"] < 1000 * WAIT, True)
+            expect("what else is told", found, {})
+            expect("the request ids of the replies", [line["request_id"] for line in told(said)[0]],
+                   [f"id-{at}" for at in range(len(plans))])
+
+
+def case_log_of_branches_given_up(room):
+    """branches that are given up are told: where another failed, where the client is gone, and at a drain"""
+    where = free_port()
+    with listener() as mute, listener() as failing:
+        made = plan([mute.getsockname()[1], failing.getsockname()[1]], 2)
+        port = free_port()
+        run = room.start(serve_words(port, room.file("plans", made), 1) + ["--log", "--admin", f"127.0.0.1:{where}", "--grace", "0"])
+        with contextlib.ExitStack() as opened:
+            def ask(stream):
+                call(stream)
+                return [opened.enter_context(one.accept()[0]) for one in (mute, failing)]
+
+            with client(port) as stream:
+                failing_one = ask(stream)[1]
+                # else its end is a reset
+                read_message(failing_one)
+                failing_one.close()
+                expect("where one fails", read_reply(stream)[0], "503")
+                asked = ask(stream)
+            for one in asked:
+                read_message(one)
+                expect("where the client is gone", read_to(one, 1), b"")
+            with client(port) as stream:
+                ask(stream)
+                with client(where) as visitor:
+                    visitor.sendall(b"POST /drain HTTP/1.1\r\nHost: g\r\n\r\n")
+                    read_to(visitor, 1000)
+                expect("at a drain", read_reply(stream)[0], "503")
+        said = run.communicate(timeout=WAIT)[1]
+    found = [(line["connection"], line["request"], line["branch"], line["cause"], line["request_id"]) for line in branches_told(said)]
+    expect("what is told", sorted(found), [
+        (0, 0, "b0", "not wanted any more", None), (0, 0, "b1", "closed early", None),
+        (0, 1, "b0", "not wanted any more", None), (0, 1, "b1", "not wanted any more", None),
+        (1, 0, "b0", "drained", None), (1, 0, "b1", "drained", None)])
+
+
+def case_log_of_streams_closed(room):
+    """streams that find no place are told, each by a line"""
+    port = free_port()
+    run = room.start(serve_words(port, room.file("plans", b"[]"), 1) + ["--log"])
+    listens(run.stderr)
+    with contextlib.ExitStack() as opened:
+        for _ in range(64):
+            answers("one of 64", opened.enter_context(client(port)))
+        for _ in range(3):
+            sees_end("a further one", opened.enter_context(client(port)))
+    found = []
+    while len(found) < 3:
+        found += [line["closed"] for line in [json.loads(run.stderr.readline())] if "closed" in line]
+    expect("what is told", found, ["no place"] * 3)
+    run.kill()
 
 
 def case_log_adds_up(room):

@@ -195,6 +195,14 @@ def is_refused(port):
     return False
 
 
+def closes(port):
+    """Waits until nobody listens at the port any more."""
+    end = time.monotonic() + WAIT
+    while not is_refused(port):
+        if time.monotonic() > end:
+            raise Wrong("somebody listens still")
+
+
 def sees_end(what, stream):
     expect(what, read_to(stream, 1), b"")
 

@@ -1,3 +1,5 @@
+pub mod Branch
+pub mod Closed
 pub mod Line
 pub mod Standing
 pub mod Start

@@ -122,10 +122,10 @@ text_or_null text = option_map_or string text null
 abbrev pub number_or_null : Option ℕ → Data
 number_or_null n = option_map_or (λ n. number (unsigned n)) n null
 
--- The document of a reply that a worker wrote at that time, in milliseconds from 1970, and at that moment of the gateway's. The
--- keys are in byte order.
-abbrev pub log_document : ℕ → ℕ → ℕ → CallId → ReplyEntry → Data
-log_document time moment worker id entry =
+-- The document of a reply that a worker wrote at that time, in milliseconds from 1970, and at that moment of the
+-- gateway's, with the request id of its call, if that is known. The keys are in byte order.
+abbrev pub log_document : ℕ → ℕ → ℕ → CallId → ReplyEntry → Option (List ℕ) → Data
+log_document time moment worker id entry request_id =
     object (
     member (codes "branch") (text_or_null (branch_told entry)) (
     member (codes "code") (text_or_null (option_map code_name (code_told entry))) (
@@ -134,10 +134,11 @@ log_document time moment worker id entry =
     member (codes "ms") (number_or_null (taken_told moment entry)) (
     member (codes "path") (text_or_null (path_told entry)) (
     member (codes "request") (number (unsigned id.request)) (
+    member (codes "request_id") (text_or_null request_id) (
     member (codes "status") (number (unsigned (status_told entry))) (
     member (codes "time") (number (unsigned time)) (
-    member (codes "worker") (number (unsigned worker)) no_members))))))))))
+    member (codes "worker") (number (unsigned worker)) no_members)))))))))))
 
 -- the line: the document as compact JSON, with no LF
-unfoldable pub log_line : ℕ → ℕ → ℕ → CallId → ReplyEntry → List ℕ
-log_line time moment worker id entry = compact_text (log_document time moment worker id entry)
+unfoldable pub log_line : ℕ → ℕ → ℕ → CallId → ReplyEntry → Option (List ℕ) → List ℕ
+log_line time moment worker id entry request_id = compact_text (log_document time moment worker id entry request_id)

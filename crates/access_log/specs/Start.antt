@@ -6,8 +6,8 @@ use Rattle.access_log.specs.Line.{text_or_null}
 use Rattle.access_log.specs.declared.start.Remark.{Remark}
 use Rattle.access_log.specs.declared.start.Remark.TheVariants.{Fault, Warning}
 
--- The document of a gateway that listens since that time, in milliseconds from 1970: its addresses, and how many plans and workers it
--- has. The keys are in byte order.
+-- The document of a gateway that listens since that time, in milliseconds from 1970: its addresses, and how many plans
+-- and workers it has. The keys are in byte order.
 abbrev pub start_document : ℕ → List ℕ → Option (List ℕ) → ℕ → ℕ → Data
 start_document time listen admin plans workers =
     object (

@@ -1,6 +1,9 @@
-//! What `serve --log` says, in lines of JSON: what is served and what is wrong, each reply, and how the gateway stands.
+//! What `serve --log` says, in lines of JSON: what is served and what is wrong, each reply, what came of asking a
+//! backend, each stream that is closed unserved, and how the gateway stands.
 #![tactic(auto)]
 
+mod branch;
+mod closed;
 mod ending;
 pub mod laws;
 mod line;
@@ -8,6 +11,8 @@ mod standing;
 mod start;
 mod told;
 
+pub use branch::{BranchAsked, branch_line, tells_branch};
+pub use closed::{Unserved, closed_line};
 pub use ending::Ended;
 pub use line::log_line;
 pub use standing::{Standing, standing_line};

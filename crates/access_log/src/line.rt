@@ -1,4 +1,5 @@
 ghost use Rattle.std.specs.Prelude.{◌≡◌, IfOk, Some, option_map, string_bytes};
+ghost use Rattle.std.specs.Option.{option_copied};
 ghost use Rattle.serde_json.specs.Read.{read};
 ghost use Rattle.serde_json.specs.View.{view};
 ghost use Rattle.access_log.specs.Line.{log_document, log_line, number_or_null, text_or_null};
@@ -8,8 +9,9 @@ use gateway_model::{CallId, ReplyEntry};
 use serde_json::{Value, json};
 use std::alloc::{AllocError, Global};
 
-/// The line for a reply by its entry: an object in JSON, with no LF. `time` is when it was written, in milliseconds from 1970, and
-/// `moment` the same in the milliseconds in which the calls' arrivals are told. Each worker counts its connections by itself.
+/// The line for a reply by its entry: an object in JSON, with no LF. `time` is when it was written, in milliseconds from
+/// 1970, and `moment` the same in the milliseconds in which the calls' arrivals are told. Each worker counts its
+/// connections by itself. `request_id` is that of the call, if it is known.
 #[tactic(auto, unfolding(crate::specs::Line::log_line))]
 pub fn log_line(
     alloc: Global,
@@ -18,11 +20,15 @@ pub fn log_line(
     worker: u32,
     id: CallId,
     entry: &ReplyEntry,
+    request_id: Option<&str>,
 ) -> Result<String, AllocError>
-    ensures text { IfOk result (λ line. string_bytes line ≡ log_line time moment worker id entry.now) }
-    ensures reads_back { IfOk result (λ line. read (string_bytes line) ≡ Some (log_document time moment worker id entry.now)) }
+    ensures text { IfOk result (λ line.
+        string_bytes line ≡ log_line time moment worker id entry.now (option_copied request_id.entry)) }
+    ensures reads_back { IfOk result (λ line.
+        read (string_bytes line)
+        ≡ Some (log_document time moment worker id entry.now (option_copied request_id.entry))) }
 {
-    document(alloc, time, moment, worker, id, entry)?.to_string(alloc)
+    document(alloc, time, moment, worker, id, entry, request_id)?.to_string(alloc)
 }
 
 fn document(
@@ -32,9 +38,12 @@ fn document(
     worker: u32,
     id: CallId,
     entry: &ReplyEntry,
+    request_id: Option<&str>,
 ) -> Result<Value, AllocError>
-    ensures { IfOk result (λ value. view value ≡ log_document time moment worker id entry.now) }
+    ensures { IfOk result (λ value.
+        view value ≡ log_document time moment worker id entry.now (option_copied request_id.entry)) }
 {
+    let request_id = text_or_null(alloc, request_id)?;
     let branch = text_or_null(alloc, told::branch(entry))?;
     let code = text_or_null(alloc, told::code_name(entry))?;
     let path = text_or_null(alloc, told::path(entry))?;
@@ -47,6 +56,7 @@ fn document(
         "ms": ms,
         "path": path,
         "request": id.request,
+        "request_id": request_id,
         "status": told::status(entry),
         "time": time,
         "worker": worker

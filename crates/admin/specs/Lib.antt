@@ -2,3 +2,4 @@ pub mod Answer
 pub mod Asked
 pub mod Drain
 pub mod Labels
+pub mod Names

@@ -25,8 +25,8 @@ pub enum Asked {
     Refused(Refusal),
 }
 
-/// Hands a piece of a visitor's stream to its reader. Tells what is asked for as soon as the first request is whole, or the
-/// stream is refused; what comes behind that is not looked at.
+/// Hands a piece of a visitor's stream to its reader. Tells what is asked for as soon as the first request is whole, or
+/// the stream is refused; what comes behind that is not looked at.
 pub fn take_in(reader: &mut Reader, piece: &[u8]) -> Result<Option<Asked>, AllocError>
     ensures { (bytes : List ℕ) → HasRead reader.old bytes [] → IfOk result (Brings bytes piece.now reader.new) }
 {

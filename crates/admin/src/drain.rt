@@ -4,7 +4,8 @@ ghost use Rattle.admin.specs.Drain.{drain_value, first_of, stage_of, time_left};
 
 use std::marker::Model;
 
-/// Streams are cut so long after the calls that were left were ended, in milliseconds: until then their replies are written.
+/// Streams are cut so long after the calls that were left were ended, in milliseconds: until then their replies are
+/// written.
 const LAST_WRITES: u64 = 2_000;
 
 /// How far a drain is.

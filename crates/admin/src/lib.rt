@@ -1,13 +1,16 @@
-//! What the address for operators is asked, and what it says: how many replies came of what and how long they took, as Prometheus
-//! reads it; whether streams are accepted; and how far a drain is. It does no input or output and reads no clock.
+//! What the address for operators is asked, and what it says: how many replies came of what and how long they took, and
+//! so of branches, as Prometheus reads it; whether streams are accepted; and how far a drain is. It does no input or
+//! output and reads no clock.
 #![tactic(auto)]
 
 mod answer;
 mod asked;
+mod branch_counts;
 mod drain;
 mod labels;
 mod loop_counts;
 mod metrics;
+mod names;
 mod totals;
 
 pub use answer::{
@@ -18,4 +21,5 @@ pub use asked::{Asked, take_in};
 pub use drain::{Drain, Stage};
 pub use loop_counts::LoopCounts;
 pub use metrics::{Figures, LoopFigures, metrics_text};
-pub use totals::PlanTotals;
+pub use names::{BranchName, ServedNames};
+pub use totals::{BranchTotals, PlanTotals};

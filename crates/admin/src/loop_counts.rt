@@ -1,18 +1,21 @@
-use crate::totals::{ENDINGS, PlanTotals, place_of_ending, place_of_time};
+use crate::branch_counts::BranchCounts;
+use crate::names::ServedNames;
+use crate::totals::{BranchTotals, ENDINGS, PlanTotals, place_of_ending, place_of_time};
 use access_log::{ended, path, taken};
+use branch_causes::Cause;
 use gateway_model::ReplyEntry;
-use http_pieces::Text;
 use std::alloc::{AllocError, Global};
 use std::sync::Arc;
 use std::sync::atomic::{AtomicU64, Ordering};
 
-/// How the replies of one loop came out so far. The loop counts them, and whoever tells the figures reads them meanwhile; neither
-/// waits for the other.
+/// How the replies and the branches of one loop came out so far. The loop counts them, and whoever tells the figures
+/// reads them meanwhile; neither waits for the other.
 #[derive(Drop)]
 pub struct LoopCounts {
-    paths: Arc<Vec<Text>>,
-    // for each path, and one more for what is no call
+    names: Arc<ServedNames>,
+    // for each plan, and one more for what is no call
     counts: Vec<Counts>,
+    branches: BranchCounts,
 }
 
 #[derive(Drop)]
@@ -23,16 +26,17 @@ struct Counts {
 }
 
 impl LoopCounts {
-    /// No replies yet, of a loop that serves plans of these paths.
-    pub fn new(alloc: Global, paths: &Arc<Vec<Text>>) -> Result<LoopCounts, AllocError> {
+    /// No replies yet, of a loop that serves what has these names.
+    pub fn new(alloc: Global, names: &Arc<ServedNames>) -> Result<LoopCounts, AllocError> {
         let mut counts = Vec::new(alloc);
-        for _path in paths.iter() {
+        for _path in names.paths.iter() {
             counts.push(Counts::new(alloc)?)?;
         }
         counts.push(Counts::new(alloc)?)?;
         Ok(LoopCounts {
-            paths: Arc::try_clone(paths)?,
+            names: Arc::try_clone(names)?,
             counts,
+            branches: BranchCounts::new(alloc, names.branches.len())?,
         })
     }
 
@@ -53,10 +57,18 @@ impl LoopCounts {
     /// The place of the plan of the reply's call; the last where it answers no call.
     fn place_of(&self, entry: &ReplyEntry) -> usize {
         let found = match path(entry) {
-            Some(path) => self.paths.iter().position(|other| other.as_str() == path),
+            Some(path) => self.names.place_of_plan(path),
             None => None,
         };
-        found.unwrap_or(self.paths.len())
+        found.unwrap_or(self.names.paths.len())
+    }
+
+    /// Counts what ended the asking for the branch with that number of the plan with that path, after so many
+    /// milliseconds.
+    pub fn count_branch(&self, plan: &str, number: u32, cause: Cause, took: u64) {
+        if let Some(place) = self.names.place_of_branch(plan, number) {
+            self.branches.count(place, cause, took);
+        }
     }
 
     /// Adds what was counted to the totals of each plan, and, behind them, of what is no call.
@@ -66,6 +78,11 @@ impl LoopCounts {
                 counts.add_to(totals);
             }
         }
+    }
+
+    /// Adds what was counted to the totals of each branch.
+    pub fn add_branches_to(&self, totals: &mut [BranchTotals]) {
+        self.branches.add_to(totals);
     }
 }
 
@@ -86,7 +103,8 @@ impl Counts {
     }
 }
 
-fn zeros(alloc: Global, count: usize) -> Result<Vec<AtomicU64>, AllocError> {
+/// So many counters, none of which has counted.
+pub(crate) fn zeros(alloc: Global, count: usize) -> Result<Vec<AtomicU64>, AllocError> {
     let mut zeros = Vec::with_capacity(alloc, count)?;
     for _zero in 0..count {
         zeros.push(AtomicU64::new(0))?;
@@ -95,14 +113,14 @@ fn zeros(alloc: Global, count: usize) -> Result<Vec<AtomicU64>, AllocError> {
 }
 
 /// Counts so many more in that place.
-fn add(counts: &[AtomicU64], place: usize, more: u64) {
+pub(crate) fn add(counts: &[AtomicU64], place: usize, more: u64) {
     if let Some(count) = counts.get(place) {
         count.fetch_add(more, Ordering::SeqCst);
     }
 }
 
 /// Adds each count to the total in its place.
-fn sum(counts: &[AtomicU64], totals: &mut [u64]) {
+pub(crate) fn sum(counts: &[AtomicU64], totals: &mut [u64]) {
     for (place, count) in counts.iter().enumerate() {
         if let Some(total) = totals.get_mut(place) {
             *total = total.saturating_add(count.load(Ordering::SeqCst));

@@ -1,7 +1,9 @@
 use crate::labels::{add_first, add_label, add_number, add_seconds};
-use crate::totals::{PlanTotals, place_of_ending};
+use crate::names::{BranchName, ServedNames};
+use crate::totals::{ALL_CAUSES, BranchTotals, PlanTotals, place_of_ending};
 use access_log::Ended;
-use http_pieces::{Bytes, Text};
+use branch_causes::Cause;
+use http_pieces::Bytes;
 use std::alloc::{AllocError, Global};
 
 /// The endings of calls, in the order in which they are told.
@@ -35,12 +37,16 @@ pub struct LoopFigures {
 /// All that is told.
 #[derive(Drop)]
 pub struct Figures<'a> {
-    /// The paths of the plans, in their order.
-    pub paths: &'a [Text],
+    /// What is served.
+    pub names: &'a ServedNames,
     /// The totals of each plan, and, behind them, of what is no call.
     pub totals: &'a [PlanTotals],
+    /// The totals of each branch.
+    pub asked: &'a [BranchTotals],
     /// Each loop, by its number.
     pub loops: &'a [LoopFigures],
+    /// How many streams were closed without a byte.
+    pub streams_closed: u64,
     /// How many lines of the log were left out.
     pub lines_left_out: u64,
 }
@@ -50,7 +56,10 @@ pub fn metrics_text(alloc: Global, figures: &Figures<'_>) -> Result<Bytes, Alloc
     let mut text = Vec::new(alloc);
     add_replies(&mut text, figures)?;
     add_times(&mut text, figures)?;
+    add_asked(&mut text, figures)?;
+    add_waits(&mut text, figures)?;
     add_loops(&mut text, figures.loops)?;
+    add_closed(&mut text, figures.streams_closed)?;
     add_left_out(&mut text, figures.lines_left_out)?;
     Ok(Bytes::from_vec(text))
 }
@@ -61,7 +70,7 @@ fn add_replies(text: &mut Vec<u8>, figures: &Figures<'_>) -> Result<(), AllocErr
           # TYPE connect_gateway_replies_total counter\n",
     )?;
     for (place, totals) in figures.totals.iter().enumerate() {
-        match figures.paths.get(place) {
+        match figures.names.paths.get(place) {
             Some(path) => add_endings(text, path.as_str().as_bytes(), &OF_CALLS, totals)?,
             None => add_endings(text, b"", &OF_OTHERS, totals)?,
         }
@@ -90,7 +99,7 @@ fn add_times(text: &mut Vec<u8>, figures: &Figures<'_>) -> Result<(), AllocError
         b"# HELP connect_gateway_reply_seconds Time from a call's arrival until its reply was written, by plan.\n\
           # TYPE connect_gateway_reply_seconds histogram\n",
     )?;
-    for (path, totals) in figures.paths.iter().zip(figures.totals.iter()) {
+    for (path, totals) in figures.names.paths.iter().zip(figures.totals.iter()) {
         add_histogram(text, path.as_str().as_bytes(), totals)?;
     }
     Ok(())
@@ -108,6 +117,52 @@ fn add_histogram(text: &mut Vec<u8>, path: &[u8], totals: &PlanTotals) -> Result
     add_seconds(text, totals.milliseconds)?;
     add_first(text, "connect_gateway_reply_seconds_count", "plan", path)?;
     add_number(text, count)
+}
+
+fn add_asked(text: &mut Vec<u8>, figures: &Figures<'_>) -> Result<(), AllocError> {
+    text.extend_from_slice(
+        b"# HELP connect_gateway_branches_total Branches whose backend was asked, by what ended that. \
+          What never happened has no line.\n\
+          # TYPE connect_gateway_branches_total counter\n",
+    )?;
+    for (branch, totals) in figures.names.branches.iter().zip(figures.asked.iter()) {
+        for (cause, count) in ALL_CAUSES.iter().zip(totals.ended.iter()) {
+            if *count > 0 {
+                add_branch(text, "connect_gateway_branches_total", branch, *cause)?;
+                add_number(text, *count)?;
+            }
+        }
+    }
+    Ok(())
+}
+
+fn add_waits(text: &mut Vec<u8>, figures: &Figures<'_>) -> Result<(), AllocError> {
+    text.extend_from_slice(
+        b"# HELP connect_gateway_branch_seconds_total How long these branches took together.\n\
+          # TYPE connect_gateway_branch_seconds_total counter\n",
+    )?;
+    for (branch, totals) in figures.names.branches.iter().zip(figures.asked.iter()) {
+        for (place, cause) in ALL_CAUSES.iter().enumerate() {
+            if totals.ended.get(place).is_some_and(|count| *count > 0) {
+                let milliseconds = totals.milliseconds.get(place).copied();
+                add_branch(text, "connect_gateway_branch_seconds_total", branch, *cause)?;
+                add_seconds(text, milliseconds.unwrap_or(0))?;
+            }
+        }
+    }
+    Ok(())
+}
+
+/// Begins a line of a branch and a cause.
+fn add_branch(
+    text: &mut Vec<u8>,
+    name: &str,
+    branch: &BranchName,
+    cause: Cause,
+) -> Result<(), AllocError> {
+    add_first(text, name, "plan", branch.plan.as_str().as_bytes())?;
+    add_label(text, "branch", branch.name.as_str().as_bytes())?;
+    add_label(text, "cause", cause.name().as_bytes())
 }
 
 fn add_loops(text: &mut Vec<u8>, loops: &[LoopFigures]) -> Result<(), AllocError> {
@@ -151,6 +206,17 @@ fn add_of_worker(
         itoa::Buffer::new().format(worker).as_bytes(),
     )?;
     add_number(text, count)
+}
+
+fn add_closed(text: &mut Vec<u8>, count: u64) -> Result<(), AllocError> {
+    text.extend_from_slice(
+        b"# HELP connect_gateway_streams_closed_total Streams that were closed without a byte: \
+          all connections were in use, or memory was refused.\n\
+          # TYPE connect_gateway_streams_closed_total counter\n\
+          connect_gateway_streams_closed_total ",
+    )?;
+    text.extend_from_slice(itoa::Buffer::new().format(count).as_bytes())?;
+    text.extend_from_slice(b"\n")
 }
 
 fn add_left_out(text: &mut Vec<u8>, count: u64) -> Result<(), AllocError> {

@@ -1,4 +1,9 @@
+ghost use Rattle.std.specs.Prelude.{◌≡◌, ◌<◌, slice_index_or};
+ghost use Rattle.admin.specs.declared.totals.TheConstants.{ALL_CAUSES};
+ghost use Rattle.branch_causes.specs.declared.cause.Cause.TheVariants.{Failed};
+
 use access_log::Ended;
+use branch_causes::Cause;
 
 /// The fixed upper bounds of the histogram, in milliseconds; what took longer is counted behind them.
 pub const MOST_MILLISECONDS: [u64; 13] = [
@@ -7,6 +12,9 @@ pub const MOST_MILLISECONDS: [u64; 13] = [
 
 /// So many kinds of endings there are.
 pub(crate) const ENDINGS: usize = 9;
+
+/// So many causes there are that end the asking of a backend.
+pub(crate) const CAUSES: usize = 21;
 
 /// What came of the replies to the calls of one plan, or to those that are no call.
 #[derive(Clone, Copy, PartialEq, Eq, Debug)]
@@ -27,6 +35,80 @@ impl PlanTotals {
             took: [0; 14],
             milliseconds: 0,
         }
+    }
+}
+
+/// What came of asking the backend of one branch.
+#[derive(Clone, Copy, PartialEq, Eq, Debug)]
+pub struct BranchTotals {
+    /// How often each cause ended it.
+    pub(crate) ended: [u64; CAUSES],
+    /// How long all of these took together, in milliseconds.
+    pub(crate) milliseconds: [u64; CAUSES],
+}
+
+impl BranchTotals {
+    /// It was not asked.
+    pub fn new() -> BranchTotals {
+        BranchTotals {
+            ended: [0; CAUSES],
+            milliseconds: [0; CAUSES],
+        }
+    }
+}
+
+/// The causes in the order of their places.
+pub(crate) const ALL_CAUSES: [Cause; CAUSES] = [
+    Cause::Answer,
+    Cause::Status,
+    Cause::ContentType,
+    Cause::NotJson,
+    Cause::Deadline,
+    Cause::NotWanted,
+    Cause::Drained,
+    Cause::NoSuchName,
+    Cause::Refused,
+    Cause::NoRoute,
+    Cause::NoConnection,
+    Cause::Reset,
+    Cause::Failed,
+    Cause::ClosedEarly,
+    Cause::BeforeRequest,
+    Cause::BadHead,
+    Cause::NoFixedLength,
+    Cause::TooLong,
+    Cause::TooManyPieces,
+    Cause::NoDescriptor,
+    Cause::NoMemory,
+];
+
+/// The place of the cause among those that are counted: there it is told again.
+pub(crate) fn place_of_cause(cause: Cause) -> usize
+    ensures within { result < 21 }
+    ensures its { slice_index_or ALL_CAUSES result Failed ≡ cause }
+{
+    match cause {
+        Cause::Answer => 0,
+        Cause::Status => 1,
+        Cause::ContentType => 2,
+        Cause::NotJson => 3,
+        Cause::Deadline => 4,
+        Cause::NotWanted => 5,
+        Cause::Drained => 6,
+        Cause::NoSuchName => 7,
+        Cause::Refused => 8,
+        Cause::NoRoute => 9,
+        Cause::NoConnection => 10,
+        Cause::Reset => 11,
+        Cause::Failed => 12,
+        Cause::ClosedEarly => 13,
+        Cause::BeforeRequest => 14,
+        Cause::BadHead => 15,
+        Cause::NoFixedLength => 16,
+        Cause::TooLong => 17,
+        Cause::TooManyPieces => 18,
+        Cause::NoDescriptor => 19,
+        Cause::NoMemory => 20,
     }
 }
 

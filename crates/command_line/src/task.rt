@@ -61,10 +61,21 @@ pub struct Service {
     pub workers: u32,
     /// How many streams are accepted before the program ends, 1 to 1,000,000; None where it goes on.
     pub connections: Option<u64>,
-    /// Whether it is told on standard error what becomes of calls.
-    pub log: bool,
+    /// What is told on standard error.
+    pub log: Log,
     /// The address for operators, if there is to be one.
     pub admin: Option<Admin>,
+}
+
+/// What is told on standard error.
+#[derive(Clone, Copy, PartialEq, Eq, Debug)]
+pub enum Log {
+    /// Nothing.
+    Off,
+    /// What becomes of calls, and of branches that fail or are given up.
+    Failures,
+    /// What becomes of calls, and of all branches.
+    All,
 }
 
 /// An address for operators, and how a gateway that is drained there ends.
@@ -109,7 +120,7 @@ fn serve_command<'a>(alloc: Global) -> Result<Command<'a>, AllocError> {
         .arg(option(alloc, "plans").required(true))?
         .arg(number(alloc, "workers").required(true))?
         .arg(number(alloc, "connections"))?
-        .arg(option(alloc, "log").action(ArgAction::SetTrue))?
+        .arg(log_option(alloc))?
         .arg(option(alloc, "admin"))?
         .arg(number(alloc, "drain-after"))?
         .arg(number(alloc, "grace"))
@@ -125,6 +136,13 @@ fn check_command<'a>(alloc: Global) -> Result<Command<'a>, AllocError> {
 /// An option of that name.
 fn option<'a>(alloc: Global, name: &'a str) -> Arg<'a> {
     Arg::new(alloc, name).long(name)
+}
+
+/// The option for the log, with a value or none.
+fn log_option<'a>(alloc: Global) -> Arg<'a> {
+    option(alloc, "log")
+        .num_args(0..=1)
+        .default_missing_value("")
 }
 
 /// An option whose value is a whole number.
@@ -162,9 +180,21 @@ fn service_of(alloc: Global, options: &ArgMatches<'_>) -> Result<Task, Fault>
         plans: text_of(alloc, options, "plans")?,
         workers,
         connections,
-        log: options.get_flag("log"),
+        log: log_of(options)?,
         admin: admin_of(alloc, options)?,
     }))
+}
+
+/// What is told on standard error.
+fn log_of(options: &ArgMatches<'_>) -> Result<Log, Fault>
+    ensures { IfErr result IsOfWords }
+{
+    match options.get_str("log") {
+        None => Ok(Log::Off),
+        Some("") => Ok(Log::Failures),
+        Some("all") => Ok(Log::All),
+        Some(_) => Err(Fault::Words),
+    }
 }
 
 /// The address for operators. How a drain goes is said only with it.

@@ -4,10 +4,11 @@ use crate::dealer::sooner;
 use crate::loop_side::LoopSide;
 use crate::visitor::{Seen, Visitor};
 use admin::{
-    Asked, Drain, Figures, LoopFigures, PlanTotals, Readiness, drain_reply, metrics_reply,
-    metrics_text, not_found_reply, only_get_reply, only_post_reply, ready_reply, refusal_reply,
+    Asked, BranchTotals, Drain, Figures, LoopFigures, PlanTotals, Readiness, ServedNames,
+    drain_reply, metrics_reply, metrics_text, not_found_reply, only_get_reply, only_post_reply,
+    ready_reply, refusal_reply,
 };
-use http_pieces::{Bytes, Text};
+use http_pieces::Bytes;
 use mio::net::{TcpListener, TcpStream};
 use mio::{Events, Interest, Poll, Token};
 use std::alloc::{AllocError, Global};
@@ -41,7 +42,7 @@ pub(crate) struct AdminDoor {
     again: Option<u64>,
     /// How far the drain is that is asked for here.
     pub(crate) drain: Drain,
-    paths: Arc<Vec<Text>>,
+    names: Arc<ServedNames>,
     // how many lines of the log were left out
     dropped: Arc<AtomicU64>,
 }
@@ -59,7 +60,7 @@ impl AdminDoor {
         alloc: Global,
         listener: TcpListener,
         drain: Drain,
-        paths: Arc<Vec<Text>>,
+        names: Arc<ServedNames>,
         dropped: Arc<AtomicU64>,
     ) -> Result<AdminDoor, AllocError> {
         Ok(AdminDoor {
@@ -68,7 +69,7 @@ impl AdminDoor {
             listener,
             again: None,
             drain,
-            paths,
+            names,
             dropped,
         })
     }
@@ -184,7 +185,7 @@ impl AdminDoor {
         asked: Asked,
     ) -> Result<Bytes, AllocError> {
         match asked {
-            Asked::Metrics => metrics_reply(self.alloc, &self.metrics(rt, sides)?),
+            Asked::Metrics => metrics_reply(self.alloc, &self.metrics(rt, sides, now)?),
             Asked::Ready => ready_reply(self.alloc, now.readiness),
             Asked::Drain => {
                 self.drain.begin(now.moment);
@@ -198,29 +199,49 @@ impl AdminDoor {
     }
 
     /// The figures of all loops.
-    fn metrics<R: Wait>(&self, rt: &R, sides: &[Arc<LoopSide>]) -> Result<Bytes, AllocError> {
-        let mut totals = Vec::new(self.alloc);
-        for _plan in 0..self.paths.len() {
-            totals.push(PlanTotals::new())?;
-        }
-        totals.push(PlanTotals::new())?;
+    fn metrics<R: Wait>(
+        &self,
+        rt: &R,
+        sides: &[Arc<LoopSide>],
+        now: &Now,
+    ) -> Result<Bytes, AllocError> {
+        let (mut totals, mut asked) = self.no_totals()?;
         let mut loops = Vec::new(self.alloc);
+        let mut unserved = now.unserved;
         for side in sides {
             if let Some(counts) = &side.counts {
                 counts.add_to(&mut totals);
+                counts.add_branches_to(&mut asked);
             }
+            unserved = unserved.saturating_add(side.unserved.load(Ordering::SeqCst));
             loops.push(LoopFigures {
                 connections: side.open.load(Ordering::SeqCst),
                 exchanges: side.standing(rt).asking as u64,
             })?;
         }
         let figures = Figures {
-            paths: &self.paths,
+            names: &self.names,
             totals: &totals,
+            asked: &asked,
             loops: &loops,
+            streams_closed: unserved,
             lines_left_out: self.dropped.load(Ordering::SeqCst),
         };
         metrics_text(self.alloc, &figures)
+    }
+
+    /// Totals of nothing, for each plan and what is no call, and for each branch.
+    fn no_totals(&self) -> Result<(Vec<PlanTotals>, Vec<BranchTotals>), AllocError> {
+        let mut totals = Vec::new(self.alloc);
+        for _plan in 0..self.names.paths.len() {
+            totals.push(PlanTotals::new())?;
+        }
+        totals.push(PlanTotals::new())?;
+        let mut asked = Vec::new(self.alloc);
+        for _branch in 0..self.names.branches.len() {
+            asked.push(BranchTotals::new())?;
+        }
+        Ok((totals, asked))
     }
 
     /// Lets go of visitors whose time is over.
@@ -250,4 +271,6 @@ pub(crate) struct Now {
     /// The moment, in milliseconds since the start.
     pub(crate) moment: u64,
     pub(crate) readiness: Readiness,
+    /// How many streams main closed without a byte.
+    pub(crate) unserved: u64,
 }

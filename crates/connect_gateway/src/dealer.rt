@@ -3,8 +3,10 @@ ghost use Rattle.std.specs.Prelude.{⊤};
 use crate::admin_door::{AdminDoor, Now};
 use crate::clock::SinceStart;
 use crate::host::Host;
+use crate::loop_log::LogLines;
 use crate::loop_side::{LoopSide, Mail};
 use crate::socket::{Seat, Socket};
+use access_log::Unserved;
 use admin::{Readiness, Stage};
 use gateway_loop::Dealt;
 use mio::net::{TcpListener, TcpStream};
@@ -52,6 +54,9 @@ pub(crate) struct Dealer<M> {
     waker: Arc<Waker>,
     sides: Vec<Arc<LoopSide>>,
     admin: Option<AdminDoor>,
+    log: Option<LogLines>,
+    // how many streams were closed without a byte
+    unserved: u64,
     // the stage of a drain that the loops know
     stage: Stage,
 }
@@ -71,6 +76,7 @@ impl<M: Host + Net> Dealer<M> {
         clock: SinceStart,
         listener: TcpListener,
         admin: Option<AdminDoor>,
+        log: Option<LogLines>,
     ) -> Result<Dealer<M>, Fault> {
         let mut listener = listener;
         let mut admin = admin;
@@ -86,6 +92,8 @@ impl<M: Host + Net> Dealer<M> {
             poll,
             sides: Vec::new(alloc),
             admin,
+            log,
+            unserved: 0,
             stage: Stage::Serves,
         })
     }
@@ -128,8 +136,8 @@ impl<M: Host + Net> Dealer<M> {
         unreachable!()
     }
 
-    /// Accepts so many streams, or until a drain ends that, and deals each to a loop. `Io` where accepting fails for too long, and
-    /// where no loop is left.
+    /// Accepts so many streams, or until a drain ends that, and deals each to a loop. `Io` where accepting fails for
+    /// too long, and where no loop is left.
     pub(crate) fn deal_streams(&mut self, most: u64) -> Result<(), Fault> {
         let rt = self.rt;
         let mut dealt: u64 = 0;
@@ -143,8 +151,9 @@ impl<M: Host + Net> Dealer<M> {
             }
             match self.accept() {
                 Ok(Accepted::Stream(stream)) => {
-                    // one for which there is no room or no memory is closed
-                    let _ = self.deal(stream);
+                    if let Err(why) = self.deal(stream) {
+                        self.tell_unserved(why);
+                    }
                     dealt += 1;
                     tries = 0;
                     if dealt % MANY == 0 {
@@ -168,8 +177,8 @@ impl<M: Host + Net> Dealer<M> {
         unreachable!()
     }
 
-    /// The next stream. Where none waits it is waited for one, for the end of a loop or for an operator, unless nobody is to listen any
-    /// more.
+    /// The next stream. Where none waits it is waited for one, for the end of a loop or for an operator, unless nobody
+    /// is to listen any more.
     fn accept(&mut self) -> io::Result<Accepted> {
         let Some(listener) = &self.listener else {
             return Ok(Accepted::NoMore);
@@ -206,6 +215,7 @@ impl<M: Host + Net> Dealer<M> {
         let now = Now {
             moment: self.clock.now(&self.rt),
             readiness: self.readiness(),
+            unserved: self.unserved,
         };
         if let Some(door) = &mut self.admin {
             door.attend(&self.rt, &self.poll, &self.events, &self.sides, &now);
@@ -247,13 +257,28 @@ impl<M: Host + Net> Dealer<M> {
         self.sides.iter().all(|side| side.is_over())
     }
 
-    /// Hands a stream to the loop with the fewest connections. None where it is closed instead.
-    fn deal(&self, stream: TcpStream) -> Option<()> {
-        let side = self.emptiest()?;
+    /// Hands a stream to the loop with the fewest connections. One for which there is no place or no memory is closed.
+    fn deal(&self, stream: TcpStream) -> Result<(), Unserved> {
+        match self.emptiest() {
+            Some(side) => self.hand_to(side, stream).ok_or(Unserved::NoMemory),
+            None => Err(Unserved::NoPlace),
+        }
+    }
+
+    /// Hands a stream to this loop. None where it is closed instead.
+    fn hand_to(&self, side: &LoopSide, stream: TcpStream) -> Option<()> {
         let seat = Seat::among(&side.open).ok()?;
         let socket = Socket::of_client(stream, seat).ok()?;
         let dealt = Dealt::new(Told::new(socket), stock(self.alloc).ok()?);
         side.hand_in(&self.rt, Mail::Stream(dealt)).ok()
+    }
+
+    /// A stream was closed without a byte.
+    fn tell_unserved(&mut self, why: Unserved) {
+        self.unserved = self.unserved.saturating_add(1);
+        if let Some(log) = &self.log {
+            log.tell_unserved(&self.rt, self.alloc, why);
+        }
     }
 
     /// The loop with the fewest connections. None where all are full or over.

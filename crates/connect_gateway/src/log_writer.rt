@@ -44,8 +44,8 @@ impl Model for LogWriter {
 }
 
 impl LogWriter {
-    /// A log of no loops yet: where its lines are handed in, and who writes them.
-    pub(crate) fn new(alloc: Global) -> Result<(LogLines, LogWriter), AllocError> {
+    /// A log of no loops yet, of failures or of all: where its lines are handed in, and who writes them.
+    pub(crate) fn new(alloc: Global, tells_all: bool) -> Result<(LogLines, LogWriter), AllocError> {
         let (handed_in, lines) = unbounded(alloc)?;
         let dropped = Arc::new(alloc, AtomicU64::new(0))?;
         let writer = LogWriter {
@@ -58,6 +58,7 @@ impl LogWriter {
             LogLines {
                 lines: handed_in,
                 dropped,
+                tells_all,
             },
             writer,
         ))
@@ -69,7 +70,8 @@ impl LogWriter {
         Ok(())
     }
 
-    /// Writes until nobody can hand lines in any more and all are written. Whoever waits sees that by the end of this sender.
+    /// Writes until nobody can hand lines in any more and all are written. Whoever waits sees that by the end of this
+    /// sender.
     pub(crate) fn run<R: Clock + Wait + Eprint>(self, rt: &R, done: Sender<()>) {
         let mut told = Instant::now(rt).ok();
         for _ in rt.forever() {

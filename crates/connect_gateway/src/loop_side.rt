@@ -31,6 +31,8 @@ pub(crate) struct LoopSide {
     pub(crate) open: Arc<AtomicU64>,
     /// How its replies came out, where that is asked for.
     pub(crate) counts: Option<LoopCounts>,
+    /// How many streams it closed without a byte.
+    pub(crate) unserved: AtomicU64,
     // how it stood after its last turn
     standing: Mutex<LoopStanding>,
     is_closed: AtomicBool,
@@ -61,6 +63,7 @@ impl LoopSide {
             waker,
             open: Arc::new(alloc, AtomicU64::new(0))?,
             counts,
+            unserved: AtomicU64::new(0),
             standing: Mutex::new(of_no_turn()),
             is_closed: AtomicBool::new(false),
             closes_idle: AtomicBool::new(false),

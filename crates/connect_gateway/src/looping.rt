@@ -7,11 +7,10 @@ use crate::loop_side::{LoopSide, Mail};
 use crate::mio_network::{MioNetwork, WAKER};
 use crate::resolver::Name;
 use crate::socket::Socket;
-use admin::LoopCounts;
+use admin::{LoopCounts, ServedNames};
 use call_plan::Plans;
 use crossbeam_channel::{Receiver, Sender};
 use gateway_loop::{Comings, EventLoop};
-use http_pieces::Text;
 use mio::{Poll, Waker};
 use script_replay::{Fault, PlainHook};
 use std::alloc::{AllocError, Global};
@@ -39,11 +38,11 @@ pub(crate) struct Common<M> {
     /// From when on moments count.
     pub(crate) clock: SinceStart,
     /// Names are handed in there to be looked up.
-    pub(crate) names: Sender<Name>,
+    pub(crate) looked_up: Sender<Name>,
     /// None where nothing is told.
     pub(crate) lines: Option<LogLines>,
-    /// The paths of the plans by which replies are counted; None where they are not.
-    pub(crate) paths: Option<Arc<Vec<Text>>>,
+    /// What is served, by which replies are counted; None where they are not.
+    pub(crate) names: Option<Arc<ServedNames>>,
     /// Wakes main.
     pub(crate) main: Arc<Waker>,
 }
@@ -64,7 +63,7 @@ impl<M: Host> Common<M> {
         side: &Arc<LoopSide>,
     ) -> Result<MioNetwork<M>, AllocError> {
         let side = Arc::try_clone(side)?;
-        let names = self.names.clone()?;
+        let names = self.looked_up.clone()?;
         let log = self.log(worker)?;
         MioNetwork::new(self.rt, self.alloc, poll, self.clock, side, names, log)
     }
@@ -77,8 +76,8 @@ impl<M: Host> Common<M> {
     }
 
     fn counts(&self) -> Result<Option<LoopCounts>, AllocError> {
-        Ok(match &self.paths {
-            Some(paths) => Some(LoopCounts::new(self.alloc, paths)?),
+        Ok(match &self.names {
+            Some(names) => Some(LoopCounts::new(self.alloc, names)?),
             None => None,
         })
     }
@@ -132,8 +131,8 @@ impl<M: Host + Net<Listener = TcpListener, Stream = TcpStream>> Looping<M> {
         &self.side
     }
 
-    /// Serves clients until main deals no more and all have gone, until a drain cuts them, or until it can't wait for them any more.
-    /// Those that are left are closed. Answers whether it did not give up.
+    /// Serves clients until main deals no more and all have gone, until a drain cuts them, or until it can't wait for
+    /// them any more. Those that are left are closed. Answers whether it did not give up.
     pub(crate) fn run(self) -> bool {
         let mut looping = self;
         let are_gone = looping.serve();
@@ -184,8 +183,8 @@ impl<M: Host + Net<Listener = TcpListener, Stream = TcpStream>> Looping<M> {
         unreachable!()
     }
 
-    /// Closes connections to which nothing is owed, of which nothing is unread; and ends the calls that are left, once, if they are
-    /// to end.
+    /// Closes connections to which nothing is owed, of which nothing is unread; and ends the calls that are left, once,
+    /// if they are to end.
     fn close_idle(&mut self) {
         if self.side.ends_calls() && !self.has_ended_calls {
             self.has_ended_calls = true;

@@ -8,7 +8,7 @@ use crate::resolver::Name;
 use crate::socket::Socket;
 use crossbeam_channel::Sender;
 use gateway_core::{CallId, ReplyEntry};
-use gateway_loop::{Network, Ready};
+use gateway_loop::{BranchEnd, Network, Ready};
 use http_server::Log;
 use mio::event::Event;
 use mio::unix::SourceFd;
@@ -18,6 +18,7 @@ use std::io;
 use std::marker::Model;
 use std::net::{Net, SocketAddr, TcpListener, TcpStream};
 use std::sync::Arc;
+use std::sync::atomic::Ordering;
 use std::time::Duration;
 use wires::Told;
 
@@ -74,8 +75,8 @@ impl<M: Host> MioNetwork<M> {
         })
     }
 
-    /// Waits, up to that moment if there is one or until the loop is woken, and tells what is ready. It does not wait, where nothing
-    /// of that can be told.
+    /// Waits, up to that moment if there is one or until the loop is woken, and tells what is ready. It does not wait,
+    /// where nothing of that can be told.
     pub(crate) fn wait(&mut self, until: Option<u64>, ready: &mut Vec<Ready>) -> io::Result<()> {
         ready.clear();
         // the system tells each of them once
@@ -140,8 +141,24 @@ impl<M: Host + Net<Listener = TcpListener, Stream = TcpStream>> Network<Told<Soc
         if let Some(counts) = &self.side.counts {
             counts.count(moment, entry);
         }
-        if let Some(log) = &self.log {
+        if let Some(log) = &mut self.log {
             log.tell_reply(&self.rt, moment, id, entry);
+        }
+    }
+
+    fn tell_unserved(&mut self) {
+        self.side.unserved.fetch_add(1, Ordering::SeqCst);
+        if let Some(log) = &self.log {
+            log.tell_unserved(&self.rt);
+        }
+    }
+
+    fn tell_branch(&mut self, end: &BranchEnd) {
+        if let Some(counts) = &self.side.counts {
+            counts.count_branch(end.plan(), end.number(), end.cause, end.took);
+        }
+        if let Some(log) = &mut self.log {
+            log.tell_branch(&self.rt, end);
         }
     }
 }

@@ -10,10 +10,9 @@ use crate::loop_log::LogLines;
 use crate::looping::{Common, Looping};
 use crate::resolver::resolver;
 use crate::start_log::StartLog;
-use admin::Drain;
+use admin::{Drain, ServedNames};
 use call_plan::Plans;
-use command_line::{Admin, Service};
-use http_pieces::Text;
+use command_line::{Admin, Log, Service};
 use input_files::PlanFile;
 use libc::types::rlimit;
 use libc::{RLIMIT_NOFILE, getrlimit};
@@ -30,20 +29,22 @@ use std::time::Instant;
 /// A second, in milliseconds.
 const SECOND: u64 = 1_000;
 
-/// A worker needs so many descriptors at most: for its connections, for streams that linger and for backends, and for itself.
+/// A worker needs so many descriptors at most: for its connections, for streams that linger and for backends, and for
+/// itself.
 const DESCRIPTORS: u64 = 1_160;
 
 /// So many more are enough for the program.
 const FURTHER_DESCRIPTORS: u64 = 40;
 
-/// Serves the plans of a file to whoever connects, until so many streams were accepted, if that was asked for, and all of
-/// them have ended, or until it is drained. `Plans` for a plan file that is refused; `Io` where it can't be read, at an
-/// address that can't be listened at, where sockets can't be waited for, and after a failed accept; `Memory` where the
-/// loops or their threads can't be made.
+/// Serves the plans of a file to whoever connects, until so many streams were accepted, if that was asked for, and all
+/// of them have ended, or until it is drained. `Plans` for a plan file that is refused; `Io` where it can't be read, at
+/// an address that can't be listened at, where sockets can't be waited for, and after a failed accept; `Memory` where
+/// the loops or their threads can't be made.
 pub(crate) fn serve<
     M: Host + Net<Listener = TcpListener, Stream = TcpStream> + AllocGlobal + Files,
 >(rt: M, service: &Service) -> Result<(), Fault> {
-    // if the program was started without standard streams, no socket takes their numbers: lines of the log stay out of it
+    // if the program was started without standard streams, no socket takes their numbers: lines of the log stay out of
+    // it
     let _input = hold(&rt);
     let _output = hold(&rt);
     let _error = hold(&rt);
@@ -55,7 +56,7 @@ fn serve_file<M: Host + Net<Listener = TcpListener, Stream = TcpStream> + Files>
     alloc: Global,
     service: &Service,
 ) -> Result<(), Fault> {
-    let log = StartLog::new(rt, alloc, service.log);
+    let log = StartLog::new(rt, alloc, service.log != Log::Off);
     let file = read_plan_file(&rt, alloc, &log, service.plans.as_str())?;
     let plans = ServedPlans::of(alloc, &file, service.workers)?;
     drop(file);
@@ -71,15 +72,15 @@ fn serve_plans<M: Host + Net<Listener = TcpListener, Stream = TcpStream>>(
     plans: ServedPlans,
 ) -> Result<(), Fault> {
     let clock = SinceStart::new(Instant::now(&rt)?);
-    let (lines, writer) = LogWriter::new(alloc)?;
-    let dealer = dealer(rt, alloc, log, clock, service, &plans.paths, &lines)?;
+    let (lines, writer) = LogWriter::new(alloc, service.log == Log::All)?;
+    let dealer = dealer(rt, alloc, log, clock, service, &plans.names, &lines)?;
     let common = Common {
         rt,
         alloc,
         clock,
-        names: resolver(rt, alloc, plans.looks_up)?,
-        lines: service.log.then_some(lines),
-        paths: service.admin.is_some().then_some(plans.paths),
+        looked_up: resolver(rt, alloc, plans.looks_up)?,
+        lines: (service.log != Log::Off).then_some(lines),
+        names: service.admin.is_some().then_some(plans.names),
         main: Arc::try_clone(dealer.waker())?,
     };
     log.listens(service, plans.count);
@@ -92,7 +93,7 @@ fn serve_plans<M: Host + Net<Listener = TcpListener, Stream = TcpStream>>(
 struct ServedPlans {
     // a copy for each worker
     of_workers: Vec<Plans>,
-    paths: Arc<Vec<Text>>,
+    names: Arc<ServedNames>,
     count: usize,
     // whether names have to be looked up
     looks_up: bool,
@@ -110,10 +111,12 @@ impl ServedPlans {
         let looks_up = file.has_names(alloc)?;
         let paths = file.paths(alloc)?;
         let count = paths.len();
-        let paths = Arc::new(alloc, paths)?;
+        let plans = file.plans(alloc)?;
+        let names = ServedNames::of(alloc, paths, &plans)?;
+        let names = Arc::new(alloc, names)?;
         Ok(ServedPlans {
             of_workers: copies(alloc, file, workers)?,
-            paths,
+            names,
             count,
             looks_up,
         })
@@ -129,22 +132,27 @@ fn copies(alloc: Global, file: &PlanFile, count: u32) -> Result<Vec<Plans>, Faul
     Ok(plans)
 }
 
-/// Who accepts the streams of clients, whose address is listened at first, and attends to operators, if there is an address for them.
+/// Who accepts the streams of clients, whose address is listened at first, and attends to operators, if there is an
+/// address for them.
 fn dealer<M: Host + Net<Listener = TcpListener, Stream = TcpStream>>(
     rt: M,
     alloc: Global,
     log: &StartLog<M>,
     clock: SinceStart,
     service: &Service,
-    paths: &Arc<Vec<Text>>,
+    names: &Arc<ServedNames>,
     lines: &LogLines,
 ) -> Result<Dealer<M>, Fault> {
     let listener = listen(&rt, log, service.listen.as_str())?;
     let door = match &service.admin {
-        Some(admin) => Some(open_door(&rt, log, alloc, admin, paths, lines)?),
+        Some(admin) => Some(open_door(&rt, log, alloc, admin, names, lines)?),
         None => None,
     };
-    Dealer::new(rt, alloc, clock, listener, door)
+    let told = match service.log {
+        Log::Off => None,
+        _ => Some(lines.try_clone()?),
+    };
+    Dealer::new(rt, alloc, clock, listener, door, told)
 }
 
 /// Warns where fewer descriptors are allowed than so many workers may need (docs/OPERATING.md).
@@ -232,7 +240,7 @@ fn open_door<M: Host + Net>(
     log: &StartLog<M>,
     alloc: Global,
     admin: &Admin,
-    paths: &Arc<Vec<Text>>,
+    names: &Arc<ServedNames>,
     lines: &LogLines,
 ) -> Result<AdminDoor, Fault> {
     let listener = listen(rt, log, admin.address.as_str())?;
@@ -240,9 +248,9 @@ fn open_door<M: Host + Net>(
         admin.drain_after.saturating_mul(SECOND),
         admin.grace.saturating_mul(SECOND),
     );
-    let paths = Arc::try_clone(paths)?;
+    let names = Arc::try_clone(names)?;
     let dropped = Arc::try_clone(&lines.dropped)?;
-    Ok(AdminDoor::new(alloc, listener, drain, paths, dropped)?)
+    Ok(AdminDoor::new(alloc, listener, drain, names, dropped)?)
 }
 
 /// Serves so many streams by a loop for each of these plans, and ends all threads that it started.

@@ -7,10 +7,16 @@ use std::sync::Arc;
 use std::sync::atomic::{AtomicBool, AtomicU64, Ordering};
 use wires::Stream;
 
+/// The system's number for a program that has no descriptor left, and for a system that has none.
+const EMFILE: i32 = 24;
+
+const ENFILE: i32 = 23;
+
 /// A request of so many bytes fits a packet.
 const PACKET: usize = 1_200;
 
-/// A socket whose reads and writes don't wait: a client's, or one to a backend. Where it could not be made its first write fails.
+/// A socket whose reads and writes don't wait: a client's, or one to a backend. Where it could not be made its first
+/// write fails.
 #[derive(Drop)]
 pub(crate) struct Socket {
     // given back before the client can see the end of its stream: whoever sees it finds the place free
@@ -32,7 +38,7 @@ impl Socket {
     pub(crate) fn to_backend<R: Net>(rt: &R, address: SocketAddr, length: usize) -> Socket {
         Socket {
             seat: None,
-            stream: connect(rt, address, length).map_err(|error| error.kind()),
+            stream: connect(rt, address, length).map_err(|error| kind_of(&error)),
         }
     }
 
@@ -52,6 +58,18 @@ fn connect<R: Net>(rt: &R, address: SocketAddr, length: usize) -> io::Result<Tcp
         stream.set_nodelay(true)?;
     }
     Ok(stream)
+}
+
+/// The kind of a failed connection. `QuotaExceeded` where the program or the system has no descriptor left.
+fn kind_of(error: &io::Error) -> ErrorKind {
+    let Some(number) = error.raw_os_error() else {
+        return error.kind();
+    };
+    if number == EMFILE || number == ENFILE {
+        ErrorKind::QuotaExceeded
+    } else {
+        error.kind()
+    }
 }
 
 impl Read for Socket {

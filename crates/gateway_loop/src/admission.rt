@@ -34,13 +34,14 @@ impl<H: ReplyHook + Drop, W: Wire + Drop> EventLoop<H, W> {
         ensures told { TellsLoop (N.told net.old) (N.told net.new) self.old self.new }
     {
         let Some((conn, place)) = self.exchanges.open(dealt) else {
-            return;
+            return net.tell_unserved();
         };
         let is_seated = self.open.push((conn, place)).is_ok()
             && self.hints.insert(Hints::new(self.alloc)).is_ok()
             && self.watch_client(net, place);
         if !is_seated {
             self.drop_client(place);
+            net.tell_unserved();
         }
     }
 

@@ -1,4 +1,7 @@
-ghost use Rattle.std.specs.Prelude.{◌≡◌, [], Some, IfOk, IfSome};
+ghost use Rattle.std.specs.Prelude.{◌≡◌, [], Some, IfOk, IfSome, option_and_then};
+ghost use Rattle.std.specs.Option.{option_map_or};
+ghost use Rattle.branch_causes.specs.Causes.{cause_of_end, status_of_end};
+ghost use Rattle.branch_causes.specs.declared.cause.Cause.TheVariants.{NotWanted};
 ghost use Rattle.branch_exchange.specs.Outcomes.{asked_of, outcome_of_asked};
 ghost use Rattle.gateway_loop.specs.Asking.{NotesStream, asked_for};
 ghost use Rattle.loop_model.specs.Asking.{BeginsRequest, IsFair, ended_value, request_of};
@@ -6,6 +9,7 @@ ghost use Rattle.loop_model.specs.Whole.{AsksOn};
 
 use crate::attempt::{Attempt, Step};
 use crate::edges::Edges;
+use branch_causes::{Cause, status_of_end};
 use branch_exchange::{ExchangeEnd, Loss, outcome_of};
 use connect_codec::{BranchAsk, Outcome, branch_request};
 use gateway_core::Job;
@@ -81,6 +85,26 @@ impl<W: Wire> Asking<W> {
     /// Whether it ended.
     pub(crate) fn is_over(&self) -> bool {
         self.end.is_some()
+    }
+
+    /// What ended it, as far as its exchange tells.
+    pub(crate) fn cause(&self) -> Cause
+        ensures { result ≡ option_map_or cause_of_end self.now.end NotWanted }
+    {
+        match &self.end {
+            Some(end) => Cause::of_end(end),
+            None => Cause::NotWanted,
+        }
+    }
+
+    /// The status of its reply.
+    pub(crate) fn status(&self) -> Option<u16>
+        ensures { result ≡ option_and_then status_of_end self.now.end }
+    {
+        match &self.end {
+            Some(end) => status_of_end(end),
+            None => None,
+        }
     }
 
     /// Its exchange, and the stream that it goes over.

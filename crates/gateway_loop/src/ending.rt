@@ -2,8 +2,10 @@ ghost use Rattle.std.specs.Prelude.{◌≡◌};
 ghost use Rattle.gateway_loop.specs.Loop.{Goes, TellsLoop};
 
 use crate::asking::Progress;
+use crate::branch_end::BranchEnd;
 use crate::event_loop::EventLoop;
 use crate::limits::MOST_EXCHANGES;
+use crate::moments::is_due;
 use crate::network::Network;
 use crate::tokens::{exchange_token, timer_id};
 use branch_exchange::Loss;
@@ -74,8 +76,21 @@ impl<H: ReplyHook + Drop, W: Wire + Drop> EventLoop<H, W> {
         self.end(net, place);
     }
 
-    /// Frees all that the exchange in that place has, and records what came of it: the place of its client, and its call.
+    /// Frees all that the exchange in that place has, and records what came of it: the place of its client, and its
+    /// call.
     pub(crate) fn finish(&mut self, place: usize) -> Option<(usize, CallId)>
+        ensures goes { Goes self.old self.new }
+        ensures told { self.new.side.told ≡ self.old.side.told }
+    {
+        let (client, began, end) = self.take_end(place)?;
+        let took = self.clients().moment().saturating_sub(began);
+        let call = end.call();
+        self.keep_end(end, took);
+        Some((client, call))
+    }
+
+    /// The same: the place of its client, the moment at which it began, and what came of it.
+    fn take_end(&mut self, place: usize) -> Option<(usize, u64, BranchEnd)>
         ensures goes { Goes self.old self.new }
         ensures told { self.new.side.told ≡ self.old.side.told }
     {
@@ -84,11 +99,26 @@ impl<H: ReplyHook + Drop, W: Wire + Drop> EventLoop<H, W> {
             hints.forget_exchange(place);
         }
         let _stopped = self.untils.stop(timer_id(exchange_token(place)));
-        let job = self.exchanges.finish(place)?;
+        let end = self.exchanges.finish(place)?;
         if let Some(number) = errand.waits {
-            self.names.leave(job.address(), number);
+            self.names.leave(end.address(), number);
         }
-        Some((errand.client, job.call()))
+        Some((errand.client, errand.began, end))
+    }
+
+    /// Keeps what came of a branch, after so many milliseconds, until it is told.
+    fn keep_end(&mut self, end: BranchEnd, took: u64)
+        ensures { self.new ≡ self.old }
+    {
+        self.ends.keep(Some(end), took);
+    }
+
+    /// Tells what came of branches.
+    pub(crate) fn tell_ends<N: Network<W>>(&mut self, net: &mut N)
+        ensures goes { Goes self.old self.new }
+        ensures told { TellsLoop (N.told net.old) (N.told net.new) self.old self.new }
+    {
+        self.ends.tell(net);
     }
 
     /// Gives up the exchanges of the client in that place for which nobody waits any more.
@@ -126,8 +156,18 @@ impl<H: ReplyHook + Drop, W: Wire + Drop> EventLoop<H, W> {
         ensures goes { Goes self.old self.new }
         ensures told { self.new.side.told ≡ self.old.side.told }
     {
-        self.exchanges.lose(place, Loss::NotWanted);
+        let loss = self.loss_of_unwanted(place);
+        self.exchanges.lose(place, loss);
         let _ended = self.finish(place);
+    }
+
+    /// Why the exchange in that place is given up. Where its own time or its call's ended the call, that is why.
+    fn loss_of_unwanted(&self, place: usize) -> Loss {
+        if is_due(self.deadline_of(place), self.clients().moment()) {
+            Loss::Deadline
+        } else {
+            Loss::NotWanted
+        }
     }
 
     /// Gives up the exchanges in these places.

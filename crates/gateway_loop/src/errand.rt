@@ -8,6 +8,8 @@ use std::net::SocketAddr;
 pub(crate) struct Errand {
     // the place of its client
     pub(crate) client: usize,
+    // the moment at which it began
+    pub(crate) began: u64,
     pub(crate) edges: Edges,
     // the addresses that are to be tried, where this one, if there is one, accepts no connection
     first: Option<SocketAddr>,
@@ -21,10 +23,11 @@ pub(crate) struct Errand {
 }
 
 impl Errand {
-    /// Of a new exchange for the client in that place.
-    pub(crate) fn new(alloc: Global, client: usize) -> Errand {
+    /// Of an exchange for the client in that place, which begins at that moment.
+    pub(crate) fn new(alloc: Global, client: usize, began: u64) -> Errand {
         Errand {
             client,
+            began,
             edges: Edges::new(),
             first: None,
             others: VecDeque::new(alloc),

@@ -7,6 +7,7 @@ ghost use Rattle.loop_model.specs.Whole.{IsExplainedLoop};
 ghost use Rattle.gateway_loop.specs.Loop.{StartsLoop};
 
 use crate::clients::Clients;
+use crate::ends::Ends;
 use crate::errand::Errand;
 use crate::exchanges::Exchanges;
 use crate::hints::Hints;
@@ -40,6 +41,7 @@ pub struct EventLoop<H, W: Wire> {
     pub(crate) line: VecDeque<usize>,
     // the places of clients for whom something may be there
     pub(crate) noted: VecDeque<usize>,
+    pub(crate) ends: Ends,
     // something is left to be done at once
     pub(crate) again: bool,
 }
@@ -70,6 +72,7 @@ impl<H: ReplyHook + Drop, W: Wire + Drop> EventLoop<H, W> {
             // a token may be left behind whose place changed hands
             line: VecDeque::with_capacity(alloc, 2 * MOST_TIMERS)?,
             noted: VecDeque::with_capacity(alloc, 2 * MOST_CLIENTS)?,
+            ends: Ends::new(alloc)?,
             again: false,
         })
     }

@@ -7,6 +7,7 @@ ghost use Rattle.loop_model.specs.Growing.{HasTicked};
 ghost use Rattle.loop_model.specs.Whole.{IsExplainedLoop};
 
 use crate::asking::{Asking, Progress};
+use crate::branch_end::BranchEnd;
 use crate::client::{Heard, Written};
 use crate::clients::Clients;
 use crate::comings::Dealt;
@@ -16,7 +17,7 @@ use crate::network::Network;
 use branch_exchange::Loss;
 use call_plan::Plans;
 use connect_codec::Outcome;
-use gateway_core::{ConnId, Job, ReplyHook};
+use gateway_core::{ConnId, ReplyHook};
 use http_server::Log;
 use slab::Slab;
 use std::alloc::{AllocError, Global};
@@ -221,18 +222,26 @@ impl<H: ReplyHook + Drop, W: Wire + Drop> Exchanges<H, W> {
         let _place = self.asking.insert_reserved(asking);
     }
 
-    /// Records what came of the exchange in that place, which leaves it: its job.
-    pub(crate) fn finish(&mut self, place: usize) -> Option<Job>
+    /// Records what came of the exchange in that place, which leaves it. How long it took is not told there.
+    pub(crate) fn finish(&mut self, place: usize) -> Option<BranchEnd>
         ensures goes { Goes self.old self.new }
         ensures told { self.new.side.told ≡ self.old.side.told }
     {
         let Some(mut asking) = self.asking.try_remove(place) else {
             return None;
         };
+        let cause = asking.cause();
+        let status = asking.status();
         let outcome = asking.conclude(self.alloc);
+        let cause = cause.settled(&outcome);
         self.ended = self.ended.and(&asking, &outcome);
         let job = asking.into_job();
         self.clients.record(&job, outcome);
-        Some(job)
+        Some(BranchEnd {
+            job,
+            cause,
+            status,
+            took: 0,
+        })
     }
 }

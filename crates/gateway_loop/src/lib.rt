@@ -5,12 +5,14 @@
 mod admission;
 mod asking;
 mod attempt;
+mod branch_end;
 mod client;
 mod clients;
 mod comings;
 mod connecting;
 mod edges;
 mod ending;
+mod ends;
 mod errand;
 mod event_loop;
 mod exchanges;
@@ -30,6 +32,7 @@ mod taking;
 mod tokens;
 mod turn;
 
+pub use branch_end::BranchEnd;
 pub use comings::{Comings, Dealt, LookedUp, Ready};
 pub use event_loop::EventLoop;
 pub use limits::{MOST_ADDRESSES, MOST_EXCHANGES, MOST_LINGERING};

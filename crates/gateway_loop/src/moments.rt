@@ -26,6 +26,7 @@ impl<H: ReplyHook + Drop, W: Wire + Drop> EventLoop<H, W> {
         ensures told { self.new.side.told ≡ self.old.side.told }
     {
         self.exchanges.drain();
+        self.ends.drain();
         self.look_at_all();
         for index in 0..self.open.len() {
             let Some(open) = self.open.get(index) else {

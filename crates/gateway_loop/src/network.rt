@@ -1,5 +1,6 @@
 ghost use Rattle.std.specs.Prelude.{◌≡◌, ◌∷◌, ◌++◌, ℕ, List, [], false};
 
+use crate::branch_end::BranchEnd;
 use gateway_core::{CallId, ReplyEntry};
 use std::net::SocketAddr;
 use wires::Wire;
@@ -32,5 +33,13 @@ pub trait Network<W: Wire> {
 
     /// Is told that the reply to this request was written whole, or that its write failed.
     fn tell_reply(&mut self, id: CallId, entry: &ReplyEntry)
+        ensures told { told self.new ≡ told self.old };
+
+    /// Is told that a stream was closed without a byte: there was no memory for it, or it could not be watched.
+    fn tell_unserved(&mut self)
+        ensures told { told self.new ≡ told self.old };
+
+    /// Is told what asking the backend of a branch came to, before the reply to its call is told.
+    fn tell_branch(&mut self, end: &BranchEnd)
         ensures told { told self.new ≡ told self.old };
 }

@@ -39,9 +39,10 @@ impl<H: ReplyHook + Drop, W: Wire + Drop> EventLoop<H, W> {
             self.exchanges.lose(place, Loss::NotWanted);
             return self.drop_new(place);
         };
+        let began = self.clients().moment();
         if self
             .errands
-            .insert(Errand::new(self.alloc, client))
+            .insert(Errand::new(self.alloc, client, began))
             .is_err()
         {
             self.exchanges.starve(place);
@@ -74,7 +75,8 @@ impl<H: ReplyHook + Drop, W: Wire + Drop> EventLoop<H, W> {
         ensures goes { Goes self.old self.new }
         ensures told { self.new.side.told ≡ self.old.side.told }
     {
-        let _job = self.exchanges.finish(place);
+        let end = self.exchanges.finish(place);
+        self.ends.keep(end, 0);
     }
 
     /// Gives the exchange in that place to its client, and sets its deadline. False for want of memory.

@@ -36,7 +36,7 @@ impl<H: ReplyHook + Drop, W: Wire + Drop> EventLoop<H, W> {
     {
         let mut left = MOST_STARTS;
         for _round in 0..MOST_STARTS {
-            let started = self.start_jobs(net, left);
+            let started = self.start_and_tell(net, left);
             left = left.saturating_sub(started);
             let has_written = self.write_noted(net);
             if started == 0 && !has_written {
@@ -45,5 +45,15 @@ impl<H: ReplyHook + Drop, W: Wire + Drop> EventLoop<H, W> {
         }
         let has_jobs = self.clients().waiting_jobs() > 0 && self.exchanges.len() < MOST_EXCHANGES;
         self.again = has_jobs || !self.line.is_empty() || !self.noted.is_empty();
+    }
+
+    /// Begins to ask for jobs, at most so many, and tells what came of others: how many it began.
+    fn start_and_tell<N: Network<W>>(&mut self, net: &mut N, most: u32) -> u32
+        ensures goes { Goes self.old self.new }
+        ensures told { TellsLoop (N.told net.old) (N.told net.new) self.old self.new }
+    {
+        let started = self.start_jobs(net, most);
+        self.tell_ends(net);
+        started
     }
 }

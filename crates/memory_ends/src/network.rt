@@ -1,13 +1,15 @@
 use crate::stream::{MemoryEnd, MemoryStream, memory_stream};
+use branch_causes::Cause;
 use gateway_core::{CallId, ReplyEntry};
-use gateway_loop::Network;
+use gateway_loop::{BranchEnd, Network};
 use http_server::Log;
 use std::alloc::{AllocError, Global};
 use std::collections::VecDeque;
 use std::net::SocketAddr;
 use wires::Told;
 
-/// A network over memory: it hands out the streams that it was given, tells the moment that it was told, and keeps what it was asked for.
+/// A network over memory: it hands out the streams that it was given, tells the moment that it was told, and keeps what
+/// it was asked for.
 #[derive(Drop)]
 pub struct ScriptedNetwork {
     alloc: Global,
@@ -19,6 +21,8 @@ pub struct ScriptedNetwork {
     watched: Vec<(usize, bool)>,
     looked_up: Vec<String>,
     told: Vec<CallId>,
+    ended: Vec<(u32, Cause)>,
+    unserved: u64,
     watches: u64,
     watch_failing: Option<u64>,
     finds_names: bool,
@@ -37,6 +41,8 @@ impl ScriptedNetwork {
             watched: Vec::new(alloc),
             looked_up: Vec::new(alloc),
             told: Vec::new(alloc),
+            ended: Vec::new(alloc),
+            unserved: 0,
             watches: 0,
             watch_failing: None,
             finds_names: true,
@@ -67,6 +73,11 @@ impl ScriptedNetwork {
         Ok(())
     }
 
+    /// How many streams were closed without a byte.
+    pub fn unserved(&self) -> u64 {
+        self.unserved
+    }
+
     /// How many watches were asked for.
     pub fn watches(&self) -> u64 {
         self.watches
@@ -95,6 +106,11 @@ impl ScriptedNetwork {
     /// The names that were looked up, in order.
     pub fn looked_up(&self) -> &[String] {
         self.looked_up.as_slice()
+    }
+
+    /// The branches that were asked for, by their numbers, and what ended each, in order.
+    pub fn ended(&self) -> &[(u32, Cause)] {
+        self.ended.as_slice()
     }
 
     /// The requests whose replies were written whole, in order.
@@ -143,5 +159,13 @@ impl Network<Told<MemoryStream>> for ScriptedNetwork {
 
     fn tell_reply(&mut self, id: CallId, _entry: &ReplyEntry) {
         let _ = self.told.push(id);
+    }
+
+    fn tell_unserved(&mut self) {
+        self.unserved = self.unserved.saturating_add(1);
+    }
+
+    fn tell_branch(&mut self, end: &BranchEnd) {
+        let _ = self.ended.push((end.number(), end.cause));
     }
 }

@@ -1,0 +1,7 @@
+//! What ended the asking of a backend, by name: for the log and the figures.
+#![tactic(auto)]
+
+mod cause;
+pub mod laws;
+
+pub use cause::{Cause, status_of_end};
