@@ -11,7 +11,8 @@ import time
 
 from program_room import (
     Backend, DONE, Echo, LONG_BODY, NOT_FOUND, STRAY, Trickle, Untried, WAIT, Wrong, answers, at_once, call, client,
-    expect, is_quiet, listener, listens, mount, plan, read_message, read_reply, read_to, reply, request, sees_end,
+    expect, is_quiet, listener, listens, long_listener, mount, plan, read_message, read_reply, read_to, reply, request,
+    sees_end,
 )
 
 # so many backends may be asked at the same time by one loop
@@ -46,13 +47,6 @@ def need_descriptors(count):
     if most < count:
         raise Untried(f"{most} descriptors are too few")
     resource.setrlimit(resource.RLIMIT_NOFILE, (most, most))
-
-
-def long_listener():
-    """A socket that listens, at which many connections may wait."""
-    made = socket.create_server(("127.0.0.1", 0), backlog=4_096)
-    made.settimeout(WAIT)
-    return made
 
 
 # ---- what is asked

@@ -138,6 +138,13 @@ def listener():
     return made
 
 
+def long_listener():
+    """A socket that listens, at which many connections may wait."""
+    made = socket.create_server(("127.0.0.1", 0), backlog=4_096)
+    made.settimeout(WAIT)
+    return made
+
+
 @contextlib.contextmanager
 def full_listener(is_fit=lambda port: True):
     """A socket that listens, at a port that fits, but accepts nothing: as many connections wait as may."""
@@ -277,7 +284,8 @@ class Backend:
     """A backend that answers each request on a connection of its own, after a while, in a thread of its own."""
 
     def __init__(self, body, pause=0.0):
-        self.socket, self.answer, self.pause = listener(), reply(body), pause
+        # where too few may wait the system resets some, and the gateway rightly says that they are lost
+        self.socket, self.answer, self.pause = long_listener(), reply(body), pause
         self.port = self.socket.getsockname()[1]
         self.socket.settimeout(None)
         threading.Thread(target=self.serve, daemon=True).start()
