@@ -10,5 +10,6 @@ pub mod Beginning
 pub mod Leaving
 pub mod Branching
 pub mod Branches
+pub mod Going
 pub mod Sooner
 pub mod Deadlines

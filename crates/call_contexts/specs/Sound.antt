@@ -1,5 +1,5 @@
 -- How the connections and calls are kept in a tree of contexts and a table of hooks.
-use Rattle.std.specs.Prelude.{◌≡◌, ◌||◌, ◌&&◌, ◌==◌, ℕ, Bool, true, false, is_some, nat_le, List, [], ◌∷◌, map, if◌then◌else◌, All, Option, Some, None, option_map, unwrap_or}
+use Rattle.std.specs.Prelude.{◌≡◌, ◌||◌, ◌&&◌, ◌==◌, ℕ, Bool, true, false, is_some, nat_le, not, List, [], ◌∷◌, filter, map, if◌then◌else◌, All, Option, Some, None, option_map, unwrap_or}
 use Rattle.std.specs.List.{list_any}
 use Rattle.std.specs.Option.{option_map_or}
 use Rattle.context_tree.specs.declared.error.Cause.{Cause}
@@ -13,7 +13,7 @@ use Rattle.after_funcs.specs.Hooks.{Operation, waiting, due}
 use Rattle.after_funcs.specs.Stands.{StandsFor as HooksStand}
 use Rattle.call_contexts.specs.declared.life.Life.{Life}
 use Rattle.call_contexts.specs.declared.twig.Twig.{Twig}
-use Rattle.call_contexts.specs.Standing.{request_id_key}
+use Rattle.call_contexts.specs.Standing.{bare_call, request_id_key, seen}
 
 -- an operation on the tree
 abbrev pub Op : Type 0 → Type 0 → Type 0
@@ -159,10 +159,9 @@ abbrev pub twig_at : Id → ℕ → List Twig → Option Twig
 twig_at call n [] = None
 twig_at call n (t ∷ ts) = if is_branch call n t then Some t else twig_at call n ts
 
--- the first branch of a call
-abbrev pub twig_of : Id → List Twig → Option Twig
-twig_of call [] = None
-twig_of call (t ∷ ts) = if same t.call call then Some t else twig_of call ts
+-- the branches of other calls
+abbrev pub other_twigs : Id → List Twig → List Twig
+other_twigs call ts = filter (λ t. not (same t.call call)) ts
 
 -- of these two the branch of the lesser deadline, and of equal ones the first
 abbrev pub sooner_twig : Twig → Option Twig → Twig
@@ -204,3 +203,8 @@ module _ {C V H : Type 0} where
     pub twigs_apart : NoTwo same_twig twigs
     pub hook_waits : map hook_of (waiting hooks) ≡ map kept_of calls
     pub none_due : due hooks ≡ []
+
+-- the contexts of the call's branches are gone, and nothing else
+pub record BranchesGo {C V H : Type 0} (call : Id) (old new : TreeValue C V) (f : AfterFuncs H) (twigs : List Twig) (base : Id) (conns : List Id) (calls : List Life) : Type 0 where
+  pub sound : IsSound new f (other_twigs call twigs) base conns calls
+  pub seen_is : seen new.slots (other_twigs call twigs) base conns calls ≡ bare_call call (seen old.slots twigs base conns calls)

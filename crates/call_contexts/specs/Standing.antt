@@ -1,5 +1,5 @@
 -- What is seen of the connections and calls of a gateway: who stands, and who has ended.
-use Rattle.std.specs.Prelude.{◌≡◌, ℕ, ◌==◌, Bool, true, false, ◌||◌, ◌&&◌, not, nat_le, if◌then◌else◌, List, [], ◌∷◌, ◌++◌, is_some, is_none, map, filter, drop, All, Option, Some, None, option_map, option_and_then}
+use Rattle.std.specs.Prelude.{◌≡◌, ℕ, ◌==◌, Bool, true, false, ◌||◌, ◌&&◌, not, nat_le, if◌then◌else◌, List, [], ◌∷◌, ◌++◌, is_some, is_none, map, filter, All, Option, Some, None, option_map, option_and_then}
 use Rattle.std.specs.List.{list_any}
 use Rattle.std.specs.Option.{option_or, option_map_or}
 use Rattle.context_tree.specs.declared.error.Cause.{Cause}
@@ -191,10 +191,6 @@ module _ {C V : Type 0} where
   -- the first branch of that number of a call is gone
   abbrev pub unbranched : Id → ℕ → Standing C V → Standing C V
   unbranched id branch = on_branches id (λ c. drop_branch branch c.branches)
-
-  -- the first branches of a call are gone
-  abbrev pub branches_fewer : Id → ℕ → Standing C V → Standing C V
-  branches_fewer id n = on_branches id (λ c. drop n c.branches)
 
   -- all branches of a call are gone
   abbrev pub bare_call : Id → Standing C V → Standing C V

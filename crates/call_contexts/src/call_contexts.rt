@@ -4,7 +4,7 @@ ghost use Rattle.std.specs.Option.{option_copied};
 ghost use Rattle.context_tree.specs.Context.{same};
 ghost use Rattle.call_contexts.specs.Standing.{IsNoSooner, AreNoSooner, has_deadline, ended_branch, empty, opened, begun, expired, cancelled, all_ended, closed, gone, with_standing, with_hook, hook_for, request_for, ended_call, branched, unbranched, bare_call, AreApart, is_fresh, is_call, is_conn};
 
-use crate::contexts::{REQUEST_ID, cause_of, free, make, release, tree_laws};
+use crate::contexts::{REQUEST_ID, cause_of, free, free_branches, make, release, tree_laws};
 use crate::life::Life;
 use crate::twig::Twig;
 use crate::{calls, twigs};
@@ -227,13 +227,8 @@ impl<C: Copy, V: Drop, H: Drop> CallContexts<C, V, H> {
     fn let_branches_go(&mut self, call: CtxId)
         ensures { self.new ≡ with_standing (bare_call call self.old.standing) self.old }
     {
-        // no call has more branches than there are
-        for _index in 0..self.twigs.len() {
-            let Some(twig) = twigs::first(&self.twigs, call) else {
-                return;
-            };
-            self.let_branch_go(call, twig.branch);
-        }
+        free_branches(&mut self.tree, &self.hooks, &self.twigs, call);
+        twigs::remove_of(&mut self.twigs, call);
     }
 
     /// Calls the hook of a call with what ended it, and lets go of its contexts and those of its branches. None where no

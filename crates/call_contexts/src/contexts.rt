@@ -1,9 +1,12 @@
 //! The contexts of calls in a tree.
 ghost use Rattle.std.specs.Prelude.{◌≡◌, ◌∷◌, [], List, true, IfOk, OnErr, is_some, unwrap_or};
-ghost use Rattle.context_tree.specs.Context.{Makes, Releases, held};
+ghost use Rattle.context_tree.specs.Context.{Id, Makes, Releases, held};
 ghost use Rattle.context_tree.specs.Tree.{StandsFor};
-ghost use Rattle.call_contexts.specs.Sound.{Op, TreeLaws, IsFree, AreFree, StandsAlike, kind_of, moment_of, with_call, let_go, why};
+ghost use Rattle.call_contexts.specs.Sound.{Op, TreeLaws, BranchesGo, IsFree, IsSound, AreFree, StandsAlike, kind_of, moment_of, with_call, let_go, why};
+ghost use Rattle.call_contexts.specs.declared.life.Life.{Life};
 
+use crate::twig::Twig;
+use after_funcs::AfterFuncs;
 use context_tree::laws::{chain_law, child_law, new_law};
 use context_tree::{Cause, CtxError, CtxId, Tree};
 use std::alloc::AllocError;
@@ -81,6 +84,24 @@ pub(crate) fn free<C: Copy, V: Drop>(tree: &mut Tree<C, V>, ctx: CtxId)
     ensures { (past : List (Op C V)) → StandsFor tree.old past → IsFree ctx past → StandsFor tree.new (Releases ctx ∷ past) }
 {
     tree.release(ctx);
+}
+
+/// Lets go of the contexts of a call's branches.
+pub(crate) fn free_branches<C: Copy, V: Drop, H>(
+    tree: &mut Tree<C, V>,
+    hooks: &AfterFuncs<H>,
+    twigs: &[Twig],
+    call: CtxId,
+)
+    ensures { (base : Id) (conns : List Id) (calls : List Life) → IsSound tree.old hooks.now twigs.now base conns calls
+        → BranchesGo call tree.old tree.new hooks.now twigs.now base conns calls }
+{
+    let _ = hooks;
+    for twig in twigs {
+        if twig.call == call {
+            free(tree, twig.ctx);
+        }
+    }
 }
 
 /// What ended a context that is held, if anything did.

@@ -3,7 +3,7 @@ ghost use Rattle.std.specs.Prelude.{◌≡◌, Some, not, filter};
 ghost use Rattle.std.specs.Option.{option_map_or};
 ghost use Rattle.context_tree.specs.Context.{same};
 ghost use Rattle.call_contexts.specs.Standing.{if_before};
-ghost use Rattle.call_contexts.specs.Sound.{twig_at, twig_of, soonest_of, sooner_twig};
+ghost use Rattle.call_contexts.specs.Sound.{other_twigs, twig_at, soonest_of, sooner_twig};
 
 use crate::twig::Twig;
 use context_tree::CtxId;
@@ -14,18 +14,6 @@ pub(crate) fn find(twigs: &[Twig], call: CtxId, branch: u32) -> Option<Twig>
 {
     for twig in twigs {
         if twig.call == call && twig.branch == branch {
-            return Some(*twig);
-        }
-    }
-    None
-}
-
-/// The first branch of a call.
-pub(crate) fn first(twigs: &[Twig], call: CtxId) -> Option<Twig>
-    ensures { result ≡ twig_of call twigs.now }
-{
-    for twig in twigs {
-        if twig.call == call {
             return Some(*twig);
         }
     }
@@ -63,6 +51,13 @@ pub(crate) fn if_before(twig: Twig, call: Option<u64>) -> Option<u32>
         Some(at) if at <= twig.at => None,
         _ => Some(twig.branch),
     }
+}
+
+/// Leaves the branches of other calls.
+pub(crate) fn remove_of(twigs: &mut Vec<Twig>, call: CtxId)
+    ensures { twigs.new.items ≡ other_twigs call twigs.old.items }
+{
+    twigs.retain(|twig| twig.call != call);
 }
 
 /// Leaves the branches of other contexts.

@@ -125,7 +125,7 @@ closed_if k e = let two = or_parts (is_some k.call.live) (is_some k.reply) e in 
     no_reply None e = refl
     no_reply (Some l) e = absurd (cc)
 
-open_found : (id : CallId) (ks : List KeptValue) (i : ℕ) → IsFound id ks (Some i) → is_open_in id ks ≡ is_open (kept_at i ks)
+pub open_found : (id : CallId) (ks : List KeptValue) (i : ℕ) → IsFound id ks (Some i) → is_open_in id ks ≡ is_open (kept_at i ks)
 open_found id [] i f = absurd (let lt = f.0 in omega (arith, lt))
 open_found id (k ∷ ks) zero f = rw f.1 refl
 open_found id (k ∷ ks) (suc i) f = rw (f.2 0 (omega arith)) (open_found id ks i (let lt = f.0 in omega (arith, lt), f.1, λ j l. f.2 (suc j) (omega (arith, l))))
@@ -133,6 +133,10 @@ open_found id (k ∷ ks) (suc i) f = rw (f.2 0 (omega arith)) (open_found id ks 
 -- as the code finds it
 pub open_here : (id : CallId) (ks : List KeptValue) (i : ℕ) (x : KeptValue) (b : Bool) → IsFound id ks (Some i) → x ≡ kept_at i ks → b ≡ is_open x → b ≡ is_open_in id ks
 open_here id ks i x b f x_is b_is = b_is ∙ ap (λ k. is_open k) x_is ∙ sym (open_found id ks i f)
+
+not_not : (b : Bool) → not b ≡ false → b ≡ true
+not_not true e = refl
+not_not false e = absurd (cc)
 
 pub open_none : (id : CallId) (ks : List KeptValue) → IsFound id ks None → is_open_in id ks ≡ false
 open_none id [] none = refl
@@ -197,15 +201,32 @@ told_set ks ids n m i new t lt same closes count = record {
   count_is = omega (arith, count, t.count_is, sum_by-set waiting_in ks i new no_call lt);
 }
 
-pub covers_open : (ks : List KeptValue) (ids : List CallId) → AreApart ks → Covers ids ks → Covers (filter (λ id. is_open_in id ks) ids) ks
-covers_open ks ids apart c = covers_kept (λ id. is_open_in id ks) ids ks (λ j lt none.
-    closed_if (kept_at j ks) (sym (open_found (kept_at j ks).id ks j (found_place j ks lt apart)) ∙ none)) c
-
 pub told_as : (ks ms : List KeptValue) (ids after : List CallId) (n : ℕ) → AreTold ks ids n → ms ≡ ks → after ≡ ids → AreTold ms after n
 told_as ks ms ids after n t ms_is after_is = subst (λ x. AreTold x after n) (sym ms_is) (subst (λ x. AreTold ks x n) (sym after_is) t)
 
-pub told_pruned : (ks : List KeptValue) (ids after : List CallId) (n : ℕ) → AreTold ks ids n → after ≡ filter (λ id. is_open_in id ks) ids → AreTold ks after n
-told_pruned ks ids after n t after_is = record { apart = t.apart; covered = subst (λ x. Covers x ks) (sym after_is) (covers_open ks ids t.apart t.covered); count_is = t.count_is }
+pub given_id : (n : ℕ) (k : KeptValue) → (given_up_if n k).id ≡ k.id
+given_id n k = cond_both (k.id.conn == n) (given_up k) k (λ (x : KeptValue). x.id ≡ k.id) (λ _. refl) (λ _. refl)
+
+-- the ids of some closed calls go
+pub told_pruned : (p : CallId → Bool) (ks : List KeptValue) (ids after : List CallId) (n : ℕ) → AreTold ks ids n → ((j : ℕ) → j < length ks → p (kept_at j ks).id ≡ false → IsClosed (kept_at j ks))
+    → after ≡ filter p ids → AreTold ks after n
+told_pruned p ks ids after n t closed after_is = record { apart = t.apart; covered = subst (λ x. Covers x ks) (sym after_is) (covers_kept p ids ks closed t.covered); count_is = t.count_is }
+
+-- that of one
+pub told_unlisted : (id : CallId) (ks : List KeptValue) (ids after : List CallId) (n : ℕ) → AreTold ks ids n → ((i : ℕ) → IsFound id ks (Some i) → is_open (kept_at i ks) ≡ false)
+    → after ≡ filter (λ other. not (is_call other id)) ids → AreTold ks after n
+told_unlisted id ks ids after n t closed after_is = told_pruned (λ other. not (is_call other id)) ks ids after n t (λ j lt its.
+    let here : is_call (kept_at j ks).id id ≡ true = not_not (is_call (kept_at j ks).id id) its in
+    closed_if (kept_at j ks) (closed j (subst (λ d. IsFound d ks (Some j)) (same_call (kept_at j ks).id id here) (found_place j ks lt t.apart)))) after_is
+
+-- those of a connection's calls, which were given up
+pub told_dropped : (c : ℕ) (old ks : List KeptValue) (ids after : List CallId) (n : ℕ) → AreTold ks ids n → ks ≡ map (given_up_if c) old → after ≡ filter (λ id. not (id.conn == c)) ids → AreTold ks after n
+told_dropped c old ks ids after n t ks_are after_is = told_pruned (λ id. not (id.conn == c)) ks ids after n t (λ j lt its.
+    let within : j < length old = omega (arith, lt, ap length ks_are, length-map old (given_up_if c)) in
+    let at : kept_at j ks ≡ given_up_if c (kept_at j old) = ap (kept_at j) ks_are ∙ get_or-map (given_up_if c) old j no_call no_call within in
+    let own : ((kept_at j old).id.conn == c) ≡ true = ap (λ (d : CallId). d.conn == c) (sym (ap (λ (k : KeptValue). k.id) at ∙ given_id c (kept_at j old))) ∙ not_not ((kept_at j ks).id.conn == c) its in
+    let e : kept_at j ks ≡ given_up (kept_at j old) = at ∙ ap (λ b. if b then given_up (kept_at j old) else kept_at j old) own in
+    subst IsClosed (sym e) (record { live_is = refl; reply_is = refl })) after_is
 
 pub told_more : (ks : List KeptValue) (ids : List CallId) (n m : ℕ) (k : KeptValue) → AreTold ks ids n → IsFound k.id ks None → m ≡ n + waiting_in k
     → AreTold (ks ++ k ∷ []) (ids ++ k.id ∷ []) m
@@ -227,9 +248,6 @@ told_fewer ks ids n m i id t f count = record {
 
 pub closes_back : (branch : ℕ) (k : KeptValue) → IsClosed k → IsClosed (back_kept branch k)
 closes_back branch k c = record { live_is = refl; reply_is = c.reply_is }
-
-pub given_id : (n : ℕ) (k : KeptValue) → (given_up_if n k).id ≡ k.id
-given_id n k = cond_both (k.id.conn == n) (given_up k) k (λ (x : KeptValue). x.id ≡ k.id) (λ _. refl) (λ _. refl)
 
 pub closes_given : (n : ℕ) (k : KeptValue) → IsClosed k → IsClosed (given_up_if n k)
 closes_given n k c = cond_both (k.id.conn == n) (given_up k) k IsClosed (λ _. record { live_is = refl; reply_is = refl }) (λ _. c)

@@ -9,21 +9,23 @@ use Rattle.std.specs.Map.{keys_of, lookup, remove_entry, set_value, values_of}
 use Rattle.std.specs.Ordering.{is_eq, nat_cmp, ordering_then}
 use Rattle.std.specs.declared.cmp.Ordering.{Ordering}
 use Rattle.std.specs.declared.cmp.Ordering.TheVariants.{Equal, Greater, Less}
-use Rattle.std.proofs.lemmas.Bool.{cases_Bool}
+use Rattle.std.proofs.lemmas.Bool.{cases_Bool, or_parts}
 use Rattle.std.proofs.lemmas.Bool.Decides.{nat_tests}
 use Rattle.std.proofs.lemmas.List.Sums.{sum_by-set}
 use Rattle.std.proofs.lemmas.Map.{keys-set_value}
 use Rattle.std.proofs.lemmas.Map.Keys.{sorted_head, sorted_tail}
-use Rattle.gateway_machine.specs.Calls.{AreTold, Changes, Finds, IsClosed, IsIndexed, IsPruned, Numbered, is_open_by, is_open_in, key_cmp, key_of, number_in}
-use Rattle.gateway_machine.proofs.CallsLemmas.{changed_at, open_here, open_none, part_waits, told_as, told_fewer, told_pruned, told_set, without_is}
+use Rattle.gateway_machine.specs.Calls.{AreTold, Changes, Finds, IsClosed, IsIndexed, Numbered, concerns, is_open_by, is_open_in, key_cmp, key_of, number_in, stays}
+use Rattle.gateway_machine.proofs.CallsLemmas.{changed_at, closed_if, open_found, open_here, open_none, part_waits, told_as, told_fewer, told_pruned, told_set, without_is}
 use Rattle.gateway_machine.specs.Linked.{ended_with, ends_with}
 use Rattle.gateway_model.specs.declared.call_event.CallEvent.{CallEvent}
 use Rattle.gateway_model.specs.declared.id.CallId.{CallId}
 use Rattle.gateway_model.specs.Past.{is_call}
+use Rattle.gateway_theory.specs.declared.trigger.Trigger.{Trigger}
 use Rattle.gateway_theory.specs.Ends.{AreApart, unanswered}
 use Rattle.gateway_theory.specs.Kept.{KeptValue}
 use Rattle.gateway_theory.specs.Step.{Live}
 use Rattle.gateway_theory.specs.Store.{IsFound, call_at, kept_at, no_call, waiting, waiting_in}
+use Rattle.gateway_theory.specs.lemmas.Concerned.{found_place}
 use Rattle.gateway_theory.specs.lemmas.LimitLemmas.{same_call}
 use Rattle.gateway_theory.specs.lemmas.StoreLemmas.{call_found, call_itself}
 
@@ -141,10 +143,6 @@ open_by numbers es next id h = by (get key_cmp numbers (key_of id)) refl
     by (Some n) is =
         let a = indexed_at numbers es next id n h is in
         open_here id (values_of es) a.place (kept_at a.place (values_of es)) (is_open_by (Some n) es) a.found refl (rw a.looked refl)
-
-filter_agrees : {A : Type 0} (p q : A → Bool) (xs : List A) → ((x : A) → p x ≡ q x) → filter p xs ≡ filter q xs
-filter_agrees p q [] same = refl
-filter_agrees p q (x ∷ xs) same = rw (same x) (ap (λ ys. if q x then x ∷ ys else ys) (filter_agrees p q xs same))
 
 pub indexed_as : (numbers after : BTreeMap (ℕ × ℕ) ℕ) (es fs : List Numbered) (next : ℕ) → IsIndexed numbers es next → after.entries ≡ numbers.entries → fs ≡ es → IsIndexed after fs next
 indexed_as numbers after es fs next h after_is fs_is = subst (λ gs. IsIndexed after gs next) (sym fs_is) (record {
@@ -346,17 +344,14 @@ pub store_kept : (numbers : BTreeMap (ℕ × ℕ) ℕ) (es fs : List Numbered) (
 store_kept numbers es fs next ids count id n x y s at is fs_is same closes waits =
     (told_kept id n es fs ids count x y s.0 at is fs_is same closes waits, indexed_set numbers es fs next n x y s.1 is same fs_is)
 
--- the ids of calls that may change without a result are left
-store_pruned : (numbers : BTreeMap (ℕ × ℕ) ℕ) (es : List Numbered) (next : ℕ) (ids after : List CallId) (count : ℕ) → IsStore numbers es next ids count
-    → after ≡ filter (λ id. is_open_by (get key_cmp numbers (key_of id)) es) ids → after ≡ filter (λ id. is_open_in id (values_of es)) ids
-store_pruned numbers es next ids after count s after_is =
-    after_is ∙ filter_agrees (λ id. is_open_by (get key_cmp numbers (key_of id)) es) (λ id. is_open_in id (values_of es)) ids (λ id. open_by numbers es next id s.1)
-
--- the list of ids, as it is told, where room was made in it
-pub store_roomed : (numbers : BTreeMap (ℕ × ℕ) ℕ) (es : List Numbered) (next : ℕ) (ids after : List CallId) (count : ℕ) → IsStore numbers es next ids count
-    → IsPruned (λ id. is_open_by (get key_cmp numbers (key_of id)) es) ids after → AreTold (values_of es) after count
-store_roomed numbers es next ids after count s (inl same) = told_as (values_of es) (values_of es) ids after count s.0 refl same
-store_roomed numbers es next ids after count s (inr fewer) = told_pruned (values_of es) ids after count s.0 (store_pruned numbers es next ids after count s fewer)
+-- of the calls that it concerned the ids of those that may still change without a result are left
+pub store_pruned : (trigger : Trigger) (numbers : BTreeMap (ℕ × ℕ) ℕ) (es : List Numbered) (next : ℕ) (ids after : List CallId) (count : ℕ) → IsStore numbers es next ids count
+    → after ≡ filter (λ id. stays trigger (get key_cmp numbers (key_of id)) es id) ids → AreTold (values_of es) after count
+store_pruned trigger numbers es next ids after count s after_is =
+    told_pruned (λ id. stays trigger (get key_cmp numbers (key_of id)) es id) (values_of es) ids after count s.0 (λ j lt none.
+    let k : KeptValue = kept_at j (values_of es) in
+    let open_not = (or_parts (not (concerns trigger k.id)) (is_open_by (get key_cmp numbers (key_of k.id)) es) none).1 in
+    closed_if k (sym (open_found k.id (values_of es) j (found_place j (values_of es) lt s.0.apart)) ∙ sym (open_by numbers es next k.id s.1) ∙ open_not)) after_is
 
 pub fewer_is : (id : CallId) (n : ℕ) (es fs : List Numbered) → IsAt id n es → fs ≡ remove_entry (is_at (nat_cmp n)) es → AreApart (values_of es) → values_of fs ≡ filter (λ (k : KeptValue). not (is_call k.id id)) (values_of es)
 fewer_is id n es fs a fs_is apart = ap (λ gs. values_of gs) fs_is ∙ a.removed ∙ sym (without_is id (values_of es) a.place a.found apart)

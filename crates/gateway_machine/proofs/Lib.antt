@@ -10,7 +10,7 @@ pub mod GroupLemmas
 pub mod ResultLemmas
 pub mod EnterLemmas
 pub mod QuietLemmas
-mod LeastLemmas
+pub mod LeastLemmas
 pub mod StockLemmas
 pub mod CallsLemmas
 pub mod IndexLemmas

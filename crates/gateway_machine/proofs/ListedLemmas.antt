@@ -3,12 +3,15 @@ use Rattle.std.proofs.Common.{◌≡◌, ℕ, zero, suc, ◌+◌, ◌-◌, ◌�
 use Rattle.std.specs.Prelude.{◌==◌, if◌then◌else◌, nat_lt, option_map, slice_get, slice_set}
 use Rattle.std.proofs.lemmas.Bool.{cases_eq, cases_lt, cond_both, le-ltb, lt-ltb}
 use Rattle.std.proofs.lemmas.List.{drop-drop, ext_get_or, get_or-drop, get_or-map, get_or-set_other, length-map, length-set, set-get_or}
-use Rattle.gateway_machine.specs.Calls.{Changes, Covers, IsClosed}
+use Rattle.gateway_machine.specs.Calls.{Changes, Covers, HasMadeOnly, IsClosed, concerns}
 use Rattle.gateway_model.specs.declared.entry.ReplyEntry.{ReplyEntry}
 use Rattle.gateway_model.specs.declared.id.CallId.{CallId}
 use Rattle.gateway_theory.specs.declared.trigger.Trigger.{Trigger}
+use Rattle.gateway_theory.specs.declared.trigger.Trigger.TheVariants.{Reached, HungUp, Drained}
 use Rattle.gateway_theory.specs.Ends.{AreApart, EndedAt, EndedBelow, IsSettled, SettledBelow, ended_below, ended_kept, is_broken_in, settled_at, without_reply}
+use Rattle.gateway_model.specs.Past.{is_due}
 use Rattle.gateway_theory.specs.Kept.{KeptValue}
+use Rattle.gateway_theory.specs.Least.{deadline_of}
 use Rattle.gateway_theory.specs.Replies.{reply_with}
 use Rattle.gateway_theory.specs.Step.{Live, call_state}
 use Rattle.gateway_theory.specs.Store.{IsFound, MachineValue, filled_in, given_up, given_up_if, kept_at, no_call}
@@ -109,6 +112,46 @@ same_ended trigger k c = by k.call.live c.live_is
     by None e = refl
     by (Some l) e = absurd (cc)
 
+-- so does one that this does not concern
+pub kept_unless : (trigger : Trigger) (k : KeptValue) → concerns trigger k.id ≡ false → ended_kept trigger k ≡ k
+kept_unless (Reached moment) k off = absurd (cc)
+kept_unless (HungUp conn) k off = by k.call.live
+  where
+    by : (o : Option Live) → ended_kept (HungUp conn) (made k.id k.call.out o k.reply) ≡ made k.id k.call.out o k.reply
+    by None = refl
+    by (Some l) = rw off refl
+kept_unless Drained k off = absurd (cc)
+
+-- and one of which nothing is due
+pub kept_before : (moment : ℕ) (k : KeptValue) → is_due moment (deadline_of k) ≡ false → ended_kept (Reached moment) k ≡ k
+kept_before moment k off = by k.call.live off
+  where
+    by : (o : Option Live) → is_due moment (deadline_of (made k.id k.call.out o k.reply)) ≡ false → ended_kept (Reached moment) (made k.id k.call.out o k.reply) ≡ made k.id k.call.out o k.reply
+    by None off = refl
+    by (Some l) off = rw off refl
+
+pub ends_nothing : (trigger : Trigger) (i : ℕ) (s : MachineValue) → ended_kept trigger (kept_at i s.calls) ≡ kept_at i s.calls → EndedAt trigger i s s
+ends_nothing trigger i s same = inl (ap (λ ks. record s { calls = ks }) (sym (ap (slice_set s.calls i) same ∙ set-get_or s.calls i no_call)))
+
+-- and it has no reply then
+made_not : (trigger : Trigger) (b passed : Bool) (k : KeptValue) → concerns trigger k.id ≡ false → k.reply ≡ None → (ended_below trigger b passed k).reply ≡ None
+made_not trigger true passed k off none = refl
+made_not trigger false true k off none = ap (λ (x : KeptValue). x.reply) (kept_unless trigger k off) ∙ none
+made_not trigger false false k off none = none
+
+pub made_only : (trigger : Trigger) (p : ℕ) (v u : MachineValue) → IsSettled v → EndedBelow trigger p v u → HasMadeOnly trigger u.calls
+made_only trigger p v u s h = λ i off.
+    let k : KeptValue = kept_at i v.calls in
+    let b = is_broken_in k.id.conn u.conns in
+    let its : (kept_at i u.calls).id ≡ k.id = ap (λ (x : KeptValue). x.id) (h.calls_are i) ∙ id_below trigger b (nat_lt i p) k in
+    ap (λ (x : KeptValue). x.reply) (h.calls_are i) ∙ made_not trigger b (nat_lt i p) k (ap (concerns trigger) (sym its) ∙ off) (s.no_reply i)
+
+pub made_still : (trigger : Trigger) (p : ℕ) (u w : MachineValue) → HasMadeOnly trigger u.calls → SettledBelow p u w → HasMadeOnly trigger w.calls
+made_still trigger p u w only h = λ i off.
+    let k : KeptValue = kept_at i u.calls in
+    let its : (kept_at i w.calls).id ≡ k.id = ap (λ (x : KeptValue). x.id) (h.calls_are i) ∙ cond_both (nat_lt i p) (without_reply k) k (λ (x : KeptValue). x.id ≡ k.id) (λ _. refl) (λ _. refl) in
+    ap (λ (x : KeptValue). x.reply) (h.calls_are i) ∙ cond_both (nat_lt i p) (without_reply k) k (λ (x : KeptValue). x.reply ≡ None) (λ _. refl) (λ _. only i (ap (concerns trigger) (sym its) ∙ off))
+
 closed_ended : (trigger : Trigger) (b passed : Bool) (k : KeptValue) → IsClosed k → IsClosed (ended_below trigger b passed k)
 closed_ended trigger true passed k c = record { live_is = refl; reply_is = refl }
 closed_ended trigger false true k c = subst IsClosed (sym (same_ended trigger k c)) c
@@ -121,11 +164,11 @@ same_given c k closed = cond_both (k.id.conn == c) (given_up k) k (λ x. x ≡ k
         → made k.id k.call.out None None ≡ made k.id k.call.out o r
     by o r o_is r_is = ap (λ x. made k.id k.call.out x None) (sym o_is) ∙ ap (λ x. made k.id k.call.out o x) (sym r_is)
 
-same_settled : (i : ℕ) (u : MachineValue) → IsClosed (kept_at i u.calls) → settled_at i u ≡ u
-same_settled i u c =
+pub same_settled : (i : ℕ) (u : MachineValue) → (kept_at i u.calls).reply ≡ None → settled_at i u ≡ u
+same_settled i u none =
     let k : KeptValue = kept_at i u.calls in
-    let same : without_reply k ≡ k = ap (λ r. made k.id k.call.out k.call.live r) (sym c.reply_is) in
-    ap (λ r. record u { calls = slice_set u.calls i (without_reply k); conns = filled_in (option_map (reply_with k.id) r) u.conns }) c.reply_is
+    let same : without_reply k ≡ k = ap (λ r. made k.id k.call.out k.call.live r) (sym none) in
+    ap (λ r. record u { calls = slice_set u.calls i (without_reply k); conns = filled_in (option_map (reply_with k.id) r) u.conns }) none
     ∙ ap (λ ks. record u { calls = ks }) (ap (slice_set u.calls i) same ∙ set-get_or u.calls i no_call)
 
 -- ---- the calls end
@@ -208,7 +251,7 @@ skip_settles : (v u : MachineValue) (n p : ℕ) → SettledBelow p v u → p + n
 skip_settles v u zero p h le closed = subst (λ i. SettledBelow i v u) (let e : p ≡ p + 0 = omega arith in e) h
 skip_settles v u (suc n) p h le closed =
     subst (λ i. SettledBelow i v u) (let e : p + 1 + n ≡ p + suc n = omega arith in e)
-    (skip_settles v u n (p + 1) (settles_next p v u u h (omega (arith, le, h.size_is)) (sym (same_settled p u here))) (omega (arith, le)) (λ j from lt. closed j (omega (arith, from)) (omega (arith, lt))))
+    (skip_settles v u n (p + 1) (settles_next p v u u h (omega (arith, le, h.size_is)) (sym (same_settled p u here.reply_is))) (omega (arith, le)) (λ j from lt. closed j (omega (arith, from)) (omega (arith, lt))))
   where
     here : IsClosed (kept_at p u.calls)
     here = subst IsClosed (sym (h.calls_are p ∙ ap (λ b. if b then without_reply (kept_at p v.calls) else kept_at p v.calls) (le-ltb p p (omega arith)))) (closed p (omega arith) (omega arith))

@@ -1,5 +1,5 @@
 -- The store of calls, as the code tells it: the calls by beginning, and the ids of those that may still change without a result.
-use Rattle.std.specs.Prelude.{◌≡◌, ◌<◌, ◌⊎◌, ◌||◌, ℕ, Bool, false, true, filter, if◌then◌else◌, List, [], ◌∷◌, Option, None, Some, is_some, slice_set}
+use Rattle.std.specs.Prelude.{◌≡◌, ◌==◌, ◌<◌, ◌⊎◌, ◌||◌, ℕ, Bool, false, true, if◌then◌else◌, List, [], ◌∷◌, not, Option, None, Some, is_some, slice_set}
 use Rattle.std.specs.BTreeMap.{BTreeMap, get, is_at}
 use Rattle.std.specs.List.{AllByRecursion}
 use Rattle.std.specs.List.Sorted.{IsStrictlySortedBy}
@@ -10,6 +10,8 @@ use Rattle.gateway_model.specs.declared.id.CallId.{CallId}
 use Rattle.gateway_model.specs.Past.{is_call}
 use Rattle.gateway_machine.specs.Linked.{ended_with, ends_with, event_for}
 use Rattle.gateway_replies.specs.Contexts.{ContextsValue, KeepsOthers, without}
+use Rattle.gateway_theory.specs.declared.trigger.Trigger.{Trigger}
+use Rattle.gateway_theory.specs.declared.trigger.Trigger.TheVariants.{Reached, HungUp, Drained}
 use Rattle.gateway_theory.specs.Conn.{ConnValue}
 use Rattle.gateway_theory.specs.Ends.{AreApart, unanswered}
 use Rattle.gateway_theory.specs.Kept.{KeptValue}
@@ -84,9 +86,15 @@ abbrev pub is_open_by : Option ℕ → List Numbered → Bool
 is_open_by None calls = false
 is_open_by (Some n) calls = is_open_at (lookup (is_at (nat_cmp n)) calls)
 
--- the ids are the same, or those of which this is not so are left out
-abbrev pub IsPruned : (CallId → Bool) → List CallId → List CallId → Type 0
-IsPruned stays ids after = (after ≡ ids) ⊎ (after ≡ filter stays ids)
+-- it may end the call of that id
+abbrev pub concerns : Trigger → CallId → Bool
+concerns (Reached moment) id = true
+concerns (HungUp conn) id = conn == id.conn
+concerns Drained id = true
+
+-- it does not concern the call of that number, or that may change without a result
+abbrev pub stays : Trigger → Option ℕ → List Numbered → CallId → Bool
+stays trigger number calls id = not (concerns trigger id) || is_open_by number calls
 
 -- ---- what is done to it
 
@@ -103,6 +111,10 @@ EndsAs moment c d old new = (new ≡ ended_with (event_for moment old.id c) old)
 abbrev pub EndsUnanswered : ℕ → ContextsValue → ContextsValue → KeptValue → KeptValue → Type 0
 EndsUnanswered moment c d old new = (is_some (ends_with (event_for moment old.id c) old.call.out old.call.live).reply ≡ true)
     × (new ≡ unanswered old) × KeepsOthers old.id.conn c d
+
+-- of the calls that it does not concern none has a reply that waits for its slot
+abbrev pub HasMadeOnly : Trigger → List KeptValue → Type 0
+HasMadeOnly trigger calls = (i : ℕ) → concerns trigger (kept_at i calls).id ≡ false → (kept_at i calls).reply ≡ None
 
 -- a machine of these connections and calls, in which no job waits
 abbrev pub rooms : ℕ → Bool → List ConnValue → List KeptValue → MachineValue

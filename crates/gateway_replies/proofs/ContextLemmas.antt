@@ -13,7 +13,7 @@ use Rattle.gateway_model.specs.Past.{ArrivedCall, is_call}
 use Rattle.gateway_replies.specs.declared.contexts.life.Life.{Life}
 use Rattle.gateway_replies.specs.declared.contexts.peer.Peer.{Peer}
 use Rattle.gateway_replies.specs.Ties.{life_tie, life_ties, peer_tie, peer_ties}
-use Rattle.gateway_replies.specs.Contexts.{AllContexts, AreTied, CallContext, ConnContext, LivesApart, PeerValue, by_deadline, by_drain, begun, contexts_of, ContextsValue, IsTied, KeepsOthers, LifeValue, Lives, NoTwo, Peers, closed, contexts_value, ctx_for, ctx_of, ends_of, first_life, first_of, is_life, is_peer, peer, peers_of, life_with, lives_of, opened, others, same_id, same_context, same_number, without, without_calls, without_first}
+use Rattle.gateway_replies.specs.Contexts.{AllContexts, AreTied, CallContext, ConnContext, LivesApart, PeerValue, by_deadline, by_drain, begun, contexts_of, ContextsValue, IsTied, KeepsOthers, LifeValue, Lives, NoTwo, Peers, closed, contexts_value, ctx_for, ctx_of, ends_of, first_life, first_of, is_life, is_peer, peer, peers_of, life_with, lives_of, opened, others, same_id, same_context, same_number, without, without_calls}
 use Rattle.gateway_theory.specs.lemmas.Cases.{all_stay, or_true}
 use Rattle.gateway_theory.specs.lemmas.LimitLemmas.{same_call}
 use Rattle.gateway_theory.specs.lemmas.StoreLemmas.{call_itself}
@@ -222,7 +222,7 @@ same_others number id (l ∷ ls) its = ⊎_elim
 pub without_others : (id : CallId) (x : ContextsValue) → KeepsOthers id.conn x (without id x)
 without_others id x = record { drained_is = refl; conns_are = refl; others_are = same_others id.conn id x.calls (eq-eqb id.conn id.conn refl) }
 
-first_gone : (number : ℕ) (id : CallId) (ls : List LifeValue) → first_life number ls ≡ Some id
+pub first_gone : (number : ℕ) (id : CallId) (ls : List LifeValue) → first_life number ls ≡ Some id
     → ((id.conn == number) ≡ true) × (length (filter (λ (l : LifeValue). not (is_call l.id id)) ls) < length ls)
 first_gone number id [] is = cc
 first_gone number id (l ∷ ls) is = ⊎_elim
@@ -242,39 +242,15 @@ first_gone number id (l ∷ ls) is = ⊎_elim
     ))
     (cases_Bool (l.id.conn == number))
 
--- so many calls of the connection were dropped, or no more were there
-pub record Sheds (number count : ℕ) (v w : ContextsValue) : Type 0 where
-  pub drained_is : w.drained ≡ v.drained
-  pub conns_are : w.conns ≡ v.conns
-  pub others_are : others number w.calls ≡ others number v.calls
-  pub fewer : (first_life number w.calls ≡ None) ⊎ (length w.calls + count ≤ length v.calls)
+-- one after another is dropped, until none is left
+pub drops_one : (number : ℕ) (id : CallId) (v w u : ContextsValue) → KeepsOthers number v w → (id.conn == number) ≡ true → u ≡ without id w → KeepsOthers number v u
+drops_one number id v w u keeps its u_is = subst (KeepsOthers number v) (sym u_is)
+    (record { drained_is = keeps.drained_is; conns_are = keeps.conns_are; others_are = same_others number id w.calls its ∙ keeps.others_are })
 
-pub sheds_more : (number count : ℕ) (v w u : ContextsValue) → Sheds number count v w → u ≡ without_first (first_life number w.calls) w → Sheds number (count + 1) v u
-sheds_more number count v w u sheds u_is = subst (Sheds number (count + 1) v) (sym u_is) (by (first_life number w.calls) refl sheds.fewer)
-  where
-    by : (o : Option CallId) → first_life number w.calls ≡ o → (first_life number w.calls ≡ None) ⊎ (length w.calls + count ≤ length v.calls)
-        → Sheds number (count + 1) v (without_first o w)
-    by None is fewer = record { drained_is = sheds.drained_is; conns_are = sheds.conns_are; others_are = sheds.others_are; fewer = inl is }
-    by (Some id) is (inl none) = absurd (let clash : Some id ≡ None = sym is ∙ none in cc)
-    by (Some id) is (inr less) = record {
-      drained_is = sheds.drained_is;
-      conns_are = sheds.conns_are;
-      others_are = same_others number id w.calls (first_gone number id w.calls is).0 ∙ sheds.others_are;
-      fewer = inr (let fewer_then = (first_gone number id w.calls is).1 in omega (arith, less, fewer_then));
-    }
-
-pub sheds_all : (number count : ℕ) (v w : ContextsValue) → Sheds number count v w → length v.calls ≤ count
-    → (w ≡ without_calls number v) × (first_life number w.calls ≡ None)
-sheds_all number count v w sheds enough =
-    let none : first_life number w.calls ≡ None = ⊎_elim (λ (n : first_life number w.calls ≡ None). n)
-    (λ (less : length w.calls + count ≤ length v.calls). empty w.calls (omega (arith, less, enough))) sheds.fewer in (
-      ap (λ b. contexts_value b w.conns w.calls) sheds.drained_is ∙ ap (λ cs. contexts_value v.drained cs w.calls) sheds.conns_are ∙ ap (contexts_value v.drained v.conns) (sym (others_stay number w.calls none) ∙ sheds.others_are),
-      none,
-    )
-  where
-    empty : (ls : List LifeValue) → length ls ≤ 0 → first_life number ls ≡ None
-    empty [] less = refl
-    empty (l ∷ ls) less = absurd (omega (arith, less))
+pub drops_all : (number : ℕ) (v w : ContextsValue) → KeepsOthers number v w → first_life number w.calls ≡ None → w ≡ without_calls number v
+drops_all number v w keeps none =
+    ap (λ b. contexts_value b w.conns w.calls) keeps.drained_is ∙ ap (λ cs. contexts_value v.drained cs w.calls) keeps.conns_are
+    ∙ ap (contexts_value v.drained v.conns) (sym (others_stay number w.calls none) ∙ keeps.others_are)
 
 -- ---- as the code keeps them
 

@@ -179,10 +179,6 @@ abbrev pub first_life : ℕ → List LifeValue → Option CallId
 first_life number [] = None
 first_life number (l ∷ ls) = if l.id.conn == number then Some l.id else first_life number ls
 
-abbrev pub without_first : Option CallId → ContextsValue → ContextsValue
-without_first None v = v
-without_first (Some id) v = without id v
-
 -- all else than the calls of the connection is as it was
 pub record KeepsOthers (number : ℕ) (v w : ContextsValue) : Type 0 where
   pub drained_is : w.drained ≡ v.drained

@@ -8,7 +8,7 @@ mod peer;
 ghost use Rattle.std.specs.Prelude.{All, ◌≡◌, ◌==◌, [], IfErr, IfOk, None as Nothing, OnErr, OnOk, Some as Just, filter, false, not, option_map, true};
 ghost use Rattle.std.specs.Arc.{arc_value};
 ghost use Rattle.std.specs.List.{list_any};
-ghost use Rattle.gateway_replies.specs.Contexts.{IsNotDue, KeepsOthers, LivesApart, begun, closed, ctx_for, ctx_of, ending_life, event_of, finished, first_life, first_of, has_due, is_life, is_peer, no_contexts, opened, started, told, without, without_calls, without_first};
+ghost use Rattle.gateway_replies.specs.Contexts.{IsNotDue, KeepsOthers, LivesApart, begun, closed, ctx_for, ctx_of, ending_life, event_of, finished, first_life, first_of, has_due, is_life, is_peer, no_contexts, opened, started, told, without, without_calls};
 ghost use Rattle.gateway_model.specs.Duty.{MeetsDuty};
 ghost use Rattle.gateway_model.specs.Past.{is_call};
 ghost use Rattle.gateway_model.specs.declared.id.CallId.{CallId as AnyCall};
@@ -267,22 +267,9 @@ impl<H: ReplyHook + Drop> Contexts<H> {
         ensures hooks { hooks_of_others number self.new.hooks ≡ hooks_of_others number self.old.hooks }
         ensures called { self.new.called ≡ self.old.called }
     {
-        for _index in 0..self.lives.len() {
-            self.abandon_first(number);
+        while let Some(id) = first_call(&self.lives, number) {
+            self.abandon(&id);
         }
-    }
-
-    /// Drops the hook of the first call of the connection of that number.
-    fn abandon_first(&mut self, number: u64)
-        ensures gone { self.new.standing ≡ without_first (first_life number self.old.standing.calls) self.old.standing }
-        ensures stocks { self.new.stocks ≡ self.old.stocks }
-        ensures hooks { hooks_of_others number self.new.hooks ≡ hooks_of_others number self.old.hooks }
-        ensures called { self.new.called ≡ self.old.called }
-    {
-        let Some(id) = first_call(&self.lives, number) else {
-            return;
-        };
-        self.abandon(&id);
     }
 }
 

@@ -1,11 +1,11 @@
 //! The calls that are kept, found by their ids.
-ghost use Rattle.std.specs.Prelude.{[], ◌≡◌, ◌+◌, ◌<◌, ◌≤◌, ◌^◌, ◌++◌, ◌∷◌, ℕ, false, None as Nothing, Some as Just, OnErr, OnOk, true, filter, is_some, length, map, not, option_map, slice_get, slice_set, vec_capacity, vec_len};
+ghost use Rattle.std.specs.Prelude.{[], ◌≡◌, ◌==◌, ◌+◌, ◌<◌, ◌≤◌, ◌^◌, ◌++◌, ◌∷◌, ℕ, false, None as Nothing, Some as Just, OnErr, OnOk, true, filter, is_some, length, map, not, option_map, slice_get, slice_set};
 ghost use Rattle.std.specs.BTreeMap.{get, values};
-ghost use Rattle.gateway_machine.specs.Calls.{Changes, Covers, EndsAs, EndsUnanswered, Finds, IsIndexed, IsPruned, calls_value, is_open_by, key_cmp, key_of};
+ghost use Rattle.gateway_machine.specs.Calls.{Changes, Covers, EndsAs, EndsUnanswered, Finds, IsIndexed, calls_value, concerns, is_open, is_open_by, key_cmp, key_of, stays};
 ghost use Rattle.gateway_machine.specs.KeptCall.{IsStep};
 ghost use Rattle.gateway_model.specs.Past.{is_call};
 ghost use Rattle.gateway_replies.specs.Contexts.{is_life};
-ghost use Rattle.gateway_theory.specs.Ends.{AreApart, without_reply};
+ghost use Rattle.gateway_theory.specs.Ends.{AreApart, ended_kept, without_reply};
 ghost use Rattle.gateway_theory.specs.Replies.{reply_with};
 ghost use Rattle.gateway_theory.specs.Results.{back_kept};
 ghost use Rattle.gateway_theory.specs.Step.{has_out, result_on};
@@ -15,6 +15,7 @@ use crate::machine::kept::{AfterResult, Kept};
 use connect_codec::Outcome;
 use gateway_model::CallId;
 use gateway_replies::{Contexts, Reply, ReplyHook};
+use gateway_theory::Trigger;
 use std::alloc::{AllocError, Global};
 use std::collections::BTreeMap;
 use std::marker::Model;
@@ -30,7 +31,7 @@ pub struct Calls {
     /// Above all numbers.
     next: u64,
     /// The ids of those that may change without a result, by beginning: each that can be decided, and each whose reply is not in
-    /// its slot. Some others are still among them.
+    /// its slot.
     listed: Vec<CallId>,
     /// How many branches of all of them wait for their start.
     waiting: usize,
@@ -76,6 +77,20 @@ impl Calls {
         self.kept.get(&number)
     }
 
+    /// Whether this may end the call of that id. A call that it does not end is not looked at for longer.
+    pub fn may_end(&self, trigger: &Trigger, id: &CallId) -> bool
+        ensures { result ≡ false → (i : ℕ) → IsFound id.now self.now.items (Just i)
+            → ended_kept trigger.now (kept_at i self.now.items) ≡ kept_at i self.now.items }
+    {
+        match trigger {
+            Trigger::Reached(moment) => match self.find(id) {
+                Some(call) => call.is_due(*moment),
+                None => false,
+            },
+            Trigger::HungUp(_) | Trigger::Drained => concerns(trigger, id),
+        }
+    }
+
     /// How many ids of open calls are listed.
     pub fn listed_len(&self) -> usize
         ensures { result ≡ length self.now.listed }
@@ -108,7 +123,7 @@ impl Calls {
     {
         // no number is used twice, so that the calls stand by beginning
         let next = self.next.checked_add(1).ok_or(AllocError)?;
-        make_room(&mut self.listed, &self.kept, &self.numbers)?;
+        self.listed.reserve(1)?;
         let id = call.id();
         let waiting = call.waiting();
         keep(&mut self.kept, &mut self.numbers, self.next, call)?;
@@ -213,6 +228,29 @@ impl Calls {
         call.take_reply()
     }
 
+    /// Gives up the calls of the connection, and leaves the ids of others.
+    pub fn drop_conn(&mut self, number: u64)
+        ensures { self.new.items ≡ map (given_up_if number) self.old.items }
+    {
+        self.give_up(number);
+        unlist_conn(&mut self.listed, number);
+    }
+
+    /// Leaves the other ids: the call changes no more without a result.
+    pub fn unlist(&mut self, id: &CallId)
+        requires { (i : ℕ) → IsFound id.now self.old.items (Just i) → is_open (kept_at i self.old.items) ≡ false }
+        ensures { self.new.items ≡ self.old.items }
+    {
+        unlist(&mut self.listed, id);
+    }
+
+    /// Of the calls that this concerned, leaves the ids of those that may still change without a result.
+    pub fn prune(&mut self, trigger: &Trigger)
+        ensures { self.new.items ≡ self.old.items }
+    {
+        prune(&mut self.listed, &self.kept, &self.numbers, trigger);
+    }
+
     /// Gives up the calls of the connection.
     pub fn give_up(&mut self, number: u64)
         ensures items { self.new.items ≡ map (given_up_if number) self.old.items }
@@ -285,29 +323,26 @@ fn keep(
     }
 }
 
-/// Makes room for one id more. Where none is left, the ids of the calls that no longer change without a result go first, and then
-/// there is room for as many again as stay: so a call is looked at a few times in all, however many there are.
-fn make_room(
+/// Whether this may end the call: a hang-up ends those of its connection alone.
+pub(crate) fn concerns(trigger: &Trigger, id: &CallId) -> bool
+    ensures { result ≡ concerns trigger.now id.now }
+{
+    match trigger {
+        Trigger::HungUp(number) => *number == id.conn.number(),
+        Trigger::Reached(_) | Trigger::Drained => true,
+    }
+}
+
+/// Leaves the ids of calls that this does not concern, and of those that may change without a result.
+fn prune(
     listed: &mut Vec<CallId>,
     kept: &BTreeMap<u64, Kept>,
     numbers: &BTreeMap<(u64, u64), u64>,
-) -> Result<(), AllocError>
-    ensures ids { IsPruned (λ id. is_open_by (get key_cmp numbers.now (key_of id)) kept.now.entries) listed.old.items listed.new.items }
-    ensures room { OnOk result (vec_len listed.new < vec_capacity listed.new) }
+    trigger: &Trigger,
+)
+    ensures { listed.new.items ≡ filter (λ id. stays trigger.now (get key_cmp numbers.now (key_of id)) kept.now.entries id) listed.old.items }
 {
-    if listed.len() < listed.capacity() {
-        return Ok(());
-    }
-    prune(listed, kept, numbers);
-    let more = listed.len().saturating_add(1);
-    listed.reserve(more)
-}
-
-/// Leaves the ids of calls that may change without a result.
-fn prune(listed: &mut Vec<CallId>, kept: &BTreeMap<u64, Kept>, numbers: &BTreeMap<(u64, u64), u64>)
-    ensures { listed.new.items ≡ filter (λ id. is_open_by (get key_cmp numbers.now (key_of id)) kept.now.entries) listed.old.items }
-{
-    listed.retain(|id| is_open(kept, numbers, id));
+    listed.retain(|id| !concerns(trigger, id) || is_open(kept, numbers, id));
 }
 
 /// Whether the call may change without a result: it can be decided, or its reply is not in its slot.
@@ -321,6 +356,13 @@ fn is_open(kept: &BTreeMap<u64, Kept>, numbers: &BTreeMap<(u64, u64), u64>, id: 
         Some(call) => call.is_open(),
         None => false,
     }
+}
+
+/// Leaves the ids of other connections' calls.
+fn unlist_conn(listed: &mut Vec<CallId>, number: u64)
+    ensures { listed.new.items ≡ filter (λ id. not (id.conn == number)) listed.old.items }
+{
+    listed.retain(|id| id.conn.number() != number);
 }
 
 /// Leaves the other ids.

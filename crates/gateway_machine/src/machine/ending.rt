@@ -1,12 +1,12 @@
 ghost use Rattle.std.specs.Prelude.{◌≡◌, ◌≤◌, ℕ, Bool, Some as Just, length};
-ghost use Rattle.gateway_machine.specs.Calls.{rooms};
+ghost use Rattle.gateway_machine.specs.Calls.{HasMadeOnly, rooms};
 ghost use Rattle.gateway_machine.specs.Linked.{IsNow, Over, linked, linked_by, over_by};
 ghost use Rattle.gateway_replies.specs.Contexts.{Ended, ends_of};
 ghost use Rattle.gateway_replies.specs.Hooks.{StocksStay};
 ghost use Rattle.gateway_theory.specs.Ends.{AreApart, CallsEnd, EndedAt, EndedBelow, IsSettled, settled_at, SettledBelow};
 ghost use Rattle.gateway_theory.specs.Store.{IsFound, waiting};
 
-use crate::machine::calls::Calls;
+use crate::machine::calls::{Calls, concerns};
 use crate::machine::conn::Conn;
 use crate::machine::store::{Machine, break_in, fill_in};
 use gateway_model::CallId;
@@ -39,7 +39,8 @@ impl Machine {
             trigger,
             self.moment,
         );
-        settle_listed(&mut self.conns, &mut self.calls);
+        settle_listed(&mut self.conns, &mut self.calls, trigger);
+        self.calls.prune(trigger);
     }
 }
 
@@ -92,6 +93,9 @@ fn end_call<H: ReplyHook + Drop>(
     ensures waits { waiting calls.new.items ≤ waiting calls.old.items }
     ensures stocks { StocksStay contexts.old contexts.new }
 {
+    if !calls.may_end(trigger, id) {
+        return;
+    }
     contexts.apart_law();
     if calls.end(alloc, contexts, id, moment).is_err() {
         let number = id.conn.number();
@@ -101,8 +105,9 @@ fn end_call<H: ReplyHook + Drop>(
     }
 }
 
-/// Puts the replies that were made into their slots.
-fn settle_listed(conns: &mut Vec<Conn>, calls: &mut Calls)
+/// Puts the replies that were made into their slots: those of calls that this concerned.
+fn settle_listed(conns: &mut Vec<Conn>, calls: &mut Calls, trigger: &Trigger)
+    requires { HasMadeOnly trigger.now calls.old.items }
     ensures settled { (moment : ℕ) (drained : Bool) → SettledBelow (length calls.old.items) (rooms moment drained conns.old.items calls.old.items)
         (rooms moment drained conns.new.items calls.new.items) }
     ensures linked { (ends : ℕ → Ended) (over : Over) (moment : ℕ) (drained : Bool) → linked_by ends over (rooms moment drained conns.new.items calls.new.items)
@@ -112,17 +117,21 @@ fn settle_listed(conns: &mut Vec<Conn>, calls: &mut Calls)
     calls.covers_law();
     for index in 0..calls.listed_len() {
         let id = calls.listed_at(index);
-        settle(conns, calls, &id);
+        settle(conns, calls, &id, trigger);
     }
 }
 
 /// Puts the reply of the call into its slot, if it has one.
-fn settle(conns: &mut Vec<Conn>, calls: &mut Calls, id: &CallId)
+fn settle(conns: &mut Vec<Conn>, calls: &mut Calls, id: &CallId, trigger: &Trigger)
+    requires { HasMadeOnly trigger.now calls.old.items }
     ensures settled { (moment : ℕ) (drained : Bool) (i : ℕ) → IsFound id.now calls.old.items (Just i)
         → rooms moment drained conns.new.items calls.new.items ≡ settled_at i (rooms moment drained conns.old.items calls.old.items) }
     ensures listed { calls.new.listed ≡ calls.old.listed }
     ensures waits { waiting calls.new.items ≡ waiting calls.old.items }
 {
+    if !concerns(trigger, id) {
+        return;
+    }
     if let Some(reply) = calls.take_reply(id) {
         fill_in(conns, reply);
     }

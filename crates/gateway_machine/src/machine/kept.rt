@@ -5,6 +5,8 @@ ghost use Rattle.gateway_machine.specs.Calls.{is_open};
 ghost use Rattle.gateway_machine.specs.KeptCall.{GoesOn, IsStep};
 ghost use Rattle.gateway_theory.specs.Ends.{unanswered, without_reply};
 ghost use Rattle.gateway_machine.specs.Linked.{ended_with, ends_with, event_for, passed_on};
+ghost use Rattle.gateway_model.specs.Past.{is_due};
+ghost use Rattle.gateway_theory.specs.Least.{deadline_of};
 ghost use Rattle.gateway_theory.specs.Replies.{reply_with};
 ghost use Rattle.gateway_theory.specs.Results.{back_kept, is_spent};
 ghost use Rattle.gateway_theory.specs.Store.{given_up_if, waiting_in};
@@ -69,6 +71,16 @@ impl Kept {
         ensures { result ≡ is_open self.now }
     {
         self.live.is_some() || self.reply.is_some()
+    }
+
+    /// Whether the moment ends it: it has reached its deadline, or that of a branch of it which is out.
+    pub(crate) fn is_due(&self, moment: u64) -> bool
+        ensures { result ≡ is_due moment (deadline_of self.now) }
+    {
+        match &self.live {
+            Some(live) => live.is_due(&self.out, moment),
+            None => false,
+        }
     }
 
     /// Whether no branch of it is out, and it can't be decided any more.

@@ -158,7 +158,7 @@ impl Machine {
         ensures stocks { StocksStay contexts.old contexts.new }
     {
         contexts.close(number);
-        self.calls.give_up(number);
+        self.calls.drop_conn(number);
         break_in(&mut self.conns, number);
     }
 

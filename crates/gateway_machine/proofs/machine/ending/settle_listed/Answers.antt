@@ -1,6 +1,6 @@
-use Rattle.std.proofs.Common.{◌≡◌, ℕ, ◌+◌, Bool, Some, ap, arith, drop, length, refl, subst, ◌∙◌}
+use Rattle.std.proofs.Common.{◌≡◌, ℕ, ◌+◌, Bool, false, Some, ap, arith, drop, length, refl, subst, ◌∙◌}
 use Rattle.std.specs.Prelude.{slice_get}
-use Rattle.gateway_machine.proofs.ListedLemmas.{SettlesListed, SettlesNext, listed_end, listed_next, settles_first, settles_last, settles_place, settles_then}
+use Rattle.gateway_machine.proofs.ListedLemmas.{SettlesListed, SettlesNext, listed_end, listed_next, made_still, settles_first, settles_last, settles_place, settles_then}
 use Rattle.gateway_machine.proofs.EndingLemmas.{settled_links}
 use Rattle.gateway_machine.specs.Calls.{rooms}
 use Rattle.gateway_model.specs.declared.id.CallId.{CallId}
@@ -18,6 +18,11 @@ loop-index-init c = (
 
 pub listed_at-id-requires : goal.listed_at-id-requires
 listed_at-id-requires c = omega (arith, c.loop-index-test.true, c.listed_len-index-end.ensures, ap length c.loop-index.invariant.3)
+
+pub settle-requires : goal.settle-requires
+settle-requires c =
+    let e = c.loop-index.invariant.0 0 false in
+    made_still c.args.trigger.now e.place (rooms 0 false c.args.conns.now.items c.args.calls.now.items) (rooms 0 false c.loop-index.conns.items c.loop-index.calls.items) c.requires e.settled
 
 pub loop-index-preserved : goal.loop-index-preserved
 loop-index-preserved c =

@@ -1,28 +1,39 @@
-use Rattle.std.proofs.Common.{◌≡◌, ap, sym, ◌∙◌, arith, length}
-use Rattle.std.proofs.lemmas.List.{length-map}
+use Rattle.std.proofs.Common.{◌≡◌, ◌∙◌, None, Some, ap, append-nil, arith, length, sym}
 use Rattle.std.specs.Arc.{arc_value}
-use Rattle.gateway_replies.specs.Contexts.{ContextsValue}
-use Rattle.gateway_replies.specs.Hooks.{HookedContexts}
-use Rattle.gateway_replies.specs.Ties.{life_tie, life_ties, peer_ties}
-use Rattle.gateway_replies.proofs.ContextLemmas.{as_many, sheds_all, sheds_more}
+use Rattle.gateway_replies.specs.Contexts.{ContextsValue, first_life, first_of}
+use Rattle.gateway_replies.specs.Hooks.{HookedContexts, hooks_of_others}
+use Rattle.gateway_replies.specs.Ties.{life_ties, peer_ties}
+use Rattle.gateway_replies.proofs.ContextLemmas.{drops_all, drops_one, first_gone, first_in}
+use Rattle.gateway_replies.proofs.HookLemmas.{first_of_it, same_hooks}
 use Rattle.gateway_replies.proofs.contexts.Contexts.abandon_all.Goals as goal
 
-pub loop-index-preserved : goal.loop-index-preserved
-loop-index-preserved g c = (
-  sheds_more c.args.number c.loop-index._index c.args.self.now.standing c.loop-index.self.standing c.abandon_first.new.self.standing c.loop-index.invariant.0 c.abandon_first.ensures.gone,
-  c.abandon_first.ensures.stocks ∙ c.loop-index.invariant.1,
-  c.abandon_first.ensures.hooks ∙ c.loop-index.invariant.2,
-  c.abandon_first.ensures.called ∙ c.loop-index.invariant.3,
-)
+pub loop-id-preserved : goal.loop-id-preserved
+loop-id-preserved g c =
+    let found = ap (λ ls. first_of c.args.number (life_ties ls)) (sym c.deref.ensures.value) ∙ sym c.first_call.ensures ∙ c.in-Some.is in
+    let its = first_of_it c.args.number (life_ties c.self.inside.lives.items) c.in-Some.id found in (
+      drops_one c.args.number c.in-Some.id c.args.self.now.standing c.loop-id.self.standing c.abandon.new.self.standing c.loop-id.invariant.0 its c.abandon.ensures.gone,
+      c.abandon.ensures.hooks.stocks_are ∙ c.loop-id.invariant.1,
+      ap (hooks_of_others c.args.number) c.abandon.ensures.hooks.hooks_are ∙ same_hooks c.args.number c.in-Some.id c.loop-id.self.hooks its ∙ c.loop-id.invariant.2,
+      c.abandon.ensures.hooks.called_are ∙ append-nil c.loop-id.self.called ∙ c.loop-id.invariant.3,
+    )
+
+pub loop-id-smaller : goal.loop-id-smaller
+loop-id-smaller g c =
+    let is : first_life c.args.number c.loop-id.self.standing.calls ≡ Some c.in-Some.id = ap (λ (v : ContextsValue). first_life c.args.number v.calls) (sym (ap (λ (u : HookedContexts _). u.standing) c.self.view_is))
+    ∙ first_in arc_value (peer_ties c.self.inside.peers.items) (life_ties c.self.inside.lives.items) c.self.inside.contexts.standing.calls c.args.number c.self.invariant.0.calls_are
+    ∙ ap (λ ls. first_of c.args.number (life_ties ls)) (sym c.deref.ensures.value) ∙ sym c.first_call.ensures ∙ c.in-Some.is in
+    let less = (first_gone c.args.number c.in-Some.id c.loop-id.self.standing.calls is).1 in
+    omega (arith, less, ap (λ (v : ContextsValue). length v.calls) c.abandon.ensures.gone)
 
 pub returns-clause-gone : goal.returns-clause-gone
 returns-clause-gone g c =
-    let many : length c.args.self.now.standing.calls ≡ length c.self.inside.lives.items = ap (λ (v : ContextsValue). length v.calls) (sym (ap (λ (u : HookedContexts _). u.standing) c.self.view_is))
-    ∙ as_many arc_value (peer_ties c.self.inside.peers.items) (life_ties c.self.inside.lives.items) c.self.inside.contexts.standing.calls c.self.invariant.0.calls_are ∙ length-map c.self.inside.lives.items life_tie in
-    (sheds_all c.args.number c.loop-index._index c.args.self.now.standing c.loop-index.self.standing c.loop-index.invariant.0 (omega (arith, c.loop-index-test.false, c.len-index-end.ensures, many))).0
+    let none : first_life c.args.number c.loop-id.self.standing.calls ≡ None = ap (λ (v : ContextsValue). first_life c.args.number v.calls) (sym (ap (λ (u : HookedContexts _). u.standing) c.self.view_is))
+    ∙ first_in arc_value (peer_ties c.self.inside.peers.items) (life_ties c.self.inside.lives.items) c.self.inside.contexts.standing.calls c.args.number c.self.invariant.0.calls_are
+    ∙ ap (λ ls. first_of c.args.number (life_ties ls)) (sym c.deref.ensures.value) ∙ sym c.first_call.ensures ∙ c.in_default.is in
+    drops_all c.args.number c.args.self.now.standing c.loop-id.self.standing c.loop-id.invariant.0 none
 
 pub returns-clause-none : goal.returns-clause-none
 returns-clause-none g c =
-    let many : length c.args.self.now.standing.calls ≡ length c.self.inside.lives.items = ap (λ (v : ContextsValue). length v.calls) (sym (ap (λ (u : HookedContexts _). u.standing) c.self.view_is))
-    ∙ as_many arc_value (peer_ties c.self.inside.peers.items) (life_ties c.self.inside.lives.items) c.self.inside.contexts.standing.calls c.self.invariant.0.calls_are ∙ length-map c.self.inside.lives.items life_tie in
-    (sheds_all c.args.number c.loop-index._index c.args.self.now.standing c.loop-index.self.standing c.loop-index.invariant.0 (omega (arith, c.loop-index-test.false, c.len-index-end.ensures, many))).1
+    ap (λ (v : ContextsValue). first_life c.args.number v.calls) (sym (ap (λ (u : HookedContexts _). u.standing) c.self.view_is))
+    ∙ first_in arc_value (peer_ties c.self.inside.peers.items) (life_ties c.self.inside.lives.items) c.self.inside.contexts.standing.calls c.args.number c.self.invariant.0.calls_are
+    ∙ ap (λ ls. first_of c.args.number (life_ties ls)) (sym c.deref.ensures.value) ∙ sym c.first_call.ensures ∙ c.in_default.is
