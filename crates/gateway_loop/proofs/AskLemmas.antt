@@ -1,9 +1,9 @@
 -- What each step makes of the jobs that are asked for, and of those that ended.
-use Rattle.std.proofs.Common.{◌≡◌, ◌≢◌, ℕ, zero, suc, ◌+◌, Bool, false, cond, List, [], ◌∷◌, ◌++◌, All, map, Option, None, Some, refl, sym, ap, ◌∙◌, subst, arith, append_assoc, inl, inr, ⊎_elim}
+use Rattle.std.proofs.Common.{◌≡◌, ◌≢◌, ◌⊎◌, ℕ, zero, suc, ◌+◌, Bool, false, cond, List, [], ◌∷◌, ◌++◌, All, map, Option, None, Some, refl, sym, ap, ◌∙◌, subst, arith, append_assoc, inl, inr, ⊎_elim}
 use Rattle.std.specs.Prelude.{count_by, sum_by, option_map, slice_index_or}
 use Rattle.std.specs.Option.{option_map_or}
 use Rattle.std.proofs.lemmas.Bool.{cases_eq}
-use Rattle.std.proofs.lemmas.List.{map-append}
+use Rattle.std.proofs.lemmas.List.{append-nil, map-append}
 use Rattle.std.proofs.lemmas.List.Elements.{All-nil, All-push}
 use Rattle.std.proofs.lemmas.List.Sums.{sum_by-append, sum_by-cons}
 use Rattle.connect_codec.specs.declared.answer.Outcome.{Outcome}
@@ -18,6 +18,7 @@ use Rattle.loop_model.specs.Whole.{AsksFairly, AsksOn, ContinuesLoop, GivesUpStr
 use Rattle.gateway_loop.specs.Asking.{AskingState, asked_for}
 use Rattle.gateway_loop.specs.Clients.{HandsNothing, Onward}
 use Rattle.gateway_loop.specs.Loop.{Goes, whole_loop}
+use Rattle.std.specs.declared.net.socket_addr.SocketAddr.{SocketAddr}
 use Rattle.gateway_loop.proofs.GrowLemmas as grow
 
 -- ---- places
@@ -30,29 +31,49 @@ pub record Put (old new : List (Option AskingState)) (i : ℕ) (o : Option Askin
 -- ---- what only grows
 
 asks_same : (x : AskingValue) → AsksOn x x
-asks_same x = record { job = refl; streams = inl (refl, grow.begins_same x.given, grow.begins_same x.got) }
+asks_same x = record {
+  job = refl;
+  found = grow.begins_same x.found;
+  streams = inl record { tried = refl; peer = inr refl; given = grow.begins_same x.given; got = grow.begins_same x.got };
+}
 
 module _ (x y z : AskingValue) where
+  -- where the one has no other peer than the next, and that none than a third
+  same_peer : {o : Option SocketAddr} → (x.peer ≡ None) ⊎ (y.peer ≡ x.peer) → (y.peer ≡ None) ⊎ (o ≡ y.peer) → (x.peer ≡ None) ⊎ (o ≡ x.peer)
+  same_peer p q =
+      ⊎_elim
+      (λ (none : x.peer ≡ None). inl none)
+      (λ (same : y.peer ≡ x.peer). ⊎_elim (λ (none : y.peer ≡ None). inl (sym same ∙ none)) (λ (is : _ ≡ y.peer). inr (is ∙ same)) q)
+      p
+
   keeps_keeps : KeepsStream x y → KeepsStream y z → KeepsStream x z
-  keeps_keeps k l = (l.0 ∙ k.0, grow.begins_then x.given y.given z.given k.1 l.1, grow.begins_then x.got y.got z.got k.2 l.2)
+  keeps_keeps k l = record {
+    tried = l.tried ∙ k.tried;
+    peer = same_peer k.peer l.peer;
+    given = grow.begins_then x.given y.given z.given k.given l.given;
+    got = grow.begins_then x.got y.got z.got k.got l.got;
+  }
 
   keeps_gives : KeepsStream x y → GivesUpStream y z → GivesUpStream x z
   keeps_gives k g = record {
     last = g.last;
     others = g.others;
-    tried_are = g.tried_are ∙ ap (λ (t : List StreamValue). t ++ g.last ∷ g.others) k.0;
-    given = grow.begins_then x.given y.given g.last.given k.1 g.given;
-    got = grow.begins_then x.got y.got g.last.got k.2 g.got;
+    tried_are = g.tried_are ∙ ap (λ (t : List StreamValue). t ++ g.last ∷ g.others) k.tried;
+    peer = ⊎_elim (λ (none : x.peer ≡ None). inl none) (λ (is : Some g.last.peer ≡ x.peer). inr (sym is))
+        (same_peer k.peer (⊎_elim (λ (none : y.peer ≡ None). inl none) (λ (is : y.peer ≡ Some g.last.peer). inr (sym is)) g.peer));
+    given = grow.begins_then x.given y.given g.last.given k.given g.given;
+    got = grow.begins_then x.got y.got g.last.got k.got g.got;
   }
 
   gives_keeps : GivesUpStream x y → KeepsStream y z → GivesUpStream x z
-  gives_keeps g k = record { last = g.last; others = g.others; tried_are = k.0 ∙ g.tried_are; given = g.given; got = g.got }
+  gives_keeps g k = record { last = g.last; others = g.others; tried_are = k.tried ∙ g.tried_are; peer = g.peer; given = g.given; got = g.got }
 
   gives_gives : GivesUpStream x y → GivesUpStream y z → GivesUpStream x z
   gives_gives g h = record {
     last = g.last;
     others = g.others ++ h.last ∷ h.others;
     tried_are = h.tried_are ∙ ap (λ (t : List StreamValue). t ++ h.last ∷ h.others) g.tried_are ∙ append_assoc x.tried (g.last ∷ g.others) (h.last ∷ h.others);
+    peer = g.peer;
     given = g.given;
     got = g.got;
   }
@@ -60,6 +81,7 @@ module _ (x y z : AskingValue) where
   asks_then : AsksOn x y → AsksOn y z → AsksOn x z
   asks_then a b = record {
     job = b.job ∙ a.job;
+    found = grow.begins_then x.found y.found z.found a.found b.found;
     streams = ⊎_elim
         (λ (k : KeepsStream x y). ⊎_elim (λ (l : KeepsStream y z). inl (keeps_keeps k l)) (λ (g : GivesUpStream y z). inr (keeps_gives k g)) b.streams)
         (λ (g : GivesUpStream x y). ⊎_elim (λ (l : KeepsStream y z). inr (gives_keeps g l)) (λ (h : GivesUpStream y z). inr (gives_gives g h)) b.streams)
@@ -339,6 +361,17 @@ keeps_put v old new ended i x y was job put begun a = record {
       let is : sum_by (one_asked p) new ≡ sum_by (one_asked p) old = omega (arith, count, same) in
       a.jobs p ∙ ap (λ n. count_by (λ (e : EndedValue). p e.asking.job) (whole_loop v old ended).ended + n) (shown_count p old ∙ sym is ∙ sym (shown_count p new));
 }
+
+-- where no job waits, nothing was taken
+pub takes_none : (v w : LoopValue) (old new : List (Option AskingState)) (ended : List (AskingState × Option Outcome))
+    → w.results ≡ v.results → w.handed ≡ v.handed ++ [] → new ≡ old → AsksFairly (whole_loop v old ended) → AsksFairly (whole_loop w new ended)
+takes_none v w old new ended same more slots a =
+    subst (λ (now : List (Option AskingState)). AsksFairly (whole_loop w now ended)) (sym slots) record {
+      results = same ∙ a.results;
+      fair = a.fair;
+      begun = a.begun;
+      jobs = λ p. ap (count_by p) (more ∙ append-nil v.handed) ∙ a.jobs p;
+    }
 
 -- a job was taken, and is asked for
 pub takes_job : (v w : LoopValue) (old new : List (Option AskingState)) (ended : List (AskingState × Option Outcome)) (i : ℕ) (y : AskingState) (j : JobValue)

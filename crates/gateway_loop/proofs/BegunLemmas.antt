@@ -1,15 +1,21 @@
 -- What a job that is asked for has begun.
-use Rattle.std.proofs.Common.{◌≡◌, ℕ, Bool, false, List, [], ◌∷◌, ◌++◌, All, map, Option, None, Some, refl, sym, ap, ◌∙◌, subst, append-nil, inl, inr}
+use Rattle.std.proofs.Common.{◌≡◌, ℕ, Bool, true, false, List, [], ◌∷◌, ◌++◌, All, map, Option, None, Some, refl, sym, ap, ◌∙◌, subst, append-nil, inl, inr}
 use Rattle.std.specs.Prelude.{is_some}
-use Rattle.std.proofs.lemmas.List.Elements.{All-nil}
+use Rattle.std.proofs.lemmas.List.Elements.{All-nil, All-push}
+use Rattle.std.proofs.lemmas.List.{map-append}
+use Rattle.http_pieces.specs.ReplyReader.{HasReadReply}
+use Rattle.branch_exchange.specs.declared.exchange_end.Loss.{Loss}
 use Rattle.branch_exchange.specs.declared.exchange_end.ExchangeEnd.{ExchangeEnd}
 use Rattle.branch_exchange.specs.declared.exchange_end.ExchangeEnd.TheVariants as ends
 use Rattle.http_pieces.specs.declared.reply.HttpReply.{HttpReply}
 use Rattle.gateway_theory.specs.Task.{HandedJob}
 use Rattle.gateway_model.specs.Queue.{IsPrefixOf}
-use Rattle.loop_model.specs.Asking.{BeginsRequest, IsUntouched, StreamValue, request_of, stream_value}
+use Rattle.loop_model.specs.Asking.{BeginsRequest, IsAddressOf, IsUntouched, StreamValue, request_of, stream_value}
 use Rattle.loop_model.specs.Whole.{AsksOn}
-use Rattle.gateway_loop.specs.Asking.{Asks, AskingState, AttemptValue, HadRead, HasBegun, HasEnded, HasGrown, IsUntouchedAttempt, asked_for, asking_state}
+use Rattle.std.specs.declared.net.socket_addr.SocketAddr.{SocketAddr}
+use Rattle.gateway_loop.specs.Addresses.{AddressesValue, AreOf, addresses_value, next_of}
+use Rattle.gateway_loop.specs.Asking.{Asks, AskingState, AttemptValue, HadStream, HasBegun, HasEnded, HasGrown, IsUnsent, IsUntouchedAttempt, asked_for, asking_state, attempt_value}
+use Rattle.gateway_loop.proofs.AddressLemmas.{new_are, taken_are, taken_is}
 use Rattle.gateway_loop.proofs.GrowLemmas.{begins_then}
 
 no_reply : (reply : HttpReply) → ends.NoMemory ≡ ends.Reply reply → ⊥
@@ -25,11 +31,17 @@ none_of : (end : Option ExchangeEnd) → is_some end ≡ false → end ≡ None
 none_of None off = refl
 none_of (Some e) off = absurd (let f : ⊥ = cc in f)
 
-module _ {W : Type 0} (given got : W → List ℕ) (job : HandedJob) (x : AttemptValue) where
+no_peer : (a : SocketAddr) → None ≡ Some a → ⊥
+no_peer a e = cc
+
+module _ (job : HandedJob) (addresses : AddressesValue) (x : AttemptValue) where
   -- there is no memory for its request
-  pub starved_begins : (items : List (W × Bool)) → items ≡ [] → IsUntouchedAttempt x → HasBegun (asking_state given got job x (Some ends.NoMemory) items)
-  starved_begins items none fresh = record {
-    untouched = subst (λ (l : List (W × Bool)). All IsUntouched (map (λ (t : W × Bool). stream_value (given t.0) (got t.0)) l)) (sym none) (All-nil IsUntouched);
+  pub starved_begins : (items : List (StreamValue × Bool)) → items ≡ [] → addresses ≡ addresses_value None [] [] → x.peer ≡ None → IsUntouchedAttempt x
+      → HasBegun (asking_state job addresses x (Some ends.NoMemory) items)
+  starved_begins items none new alone fresh = record {
+    untouched = subst (λ (l : List (StreamValue × Bool)). All IsUntouched (map (λ (t : StreamValue × Bool). t.0) l)) (sym none) (All-nil IsUntouched);
+    addressed = record { peer = λ a is. absurd (no_peer a (sym alone ∙ is)); none = λ is. fresh.0 };
+    given = subst (λ (v : AddressesValue). AreOf job.job.address v) (sym new) (new_are job.job.address);
     asks = λ e. absurd (some_none ends.NoMemory e);
     ended = λ end is. record {
       prefix = (request_of job.job, ap (λ (t : List ℕ). t ++ request_of job.job) (sym fresh.0));
@@ -38,27 +50,98 @@ module _ {W : Type 0} (given got : W → List ℕ) (job : HandedJob) (x : Attemp
   }
 
   -- it goes on
-  pub begun_on : (y : AttemptValue) (end : Option ExchangeEnd) (items : List (W × Bool)) → is_some end ≡ false → (Asks (request_of job.job) x → Asks (request_of job.job) y)
-      → HasBegun (asking_state given got job x end items) → HasBegun (asking_state given got job y end items)
-  begun_on y end items off goes b = record {
+  pub begun_on : (y : AttemptValue) (end : Option ExchangeEnd) (items : List (StreamValue × Bool)) → is_some end ≡ false → HasGrown x y
+      → IsUnsent y → (Asks (request_of job.job) x → Asks (request_of job.job) y)
+      → HasBegun (asking_state job addresses x end items) → HasBegun (asking_state job addresses y end items)
+  begun_on y end items off grown unsent goes b = record {
     untouched = b.untouched;
+    addressed = record { peer = λ a is. b.addressed.peer a (sym grown.2 ∙ is); none = unsent };
+    given = b.given;
     asks = λ e. goes (b.asks e);
     ended = λ e is. absurd (some_none e (sym is ∙ none_of end off));
   }
 
   -- it ended
-  pub begun_ends : (y : AttemptValue) (end now : Option ExchangeEnd) (e : ExchangeEnd) (items : List (W × Bool)) → is_some end ≡ false → now ≡ Some e
-      → (Asks (request_of job.job) x → HasEnded (request_of job.job) e y)
-      → HasBegun (asking_state given got job x end items) → HasBegun (asking_state given got job y now items)
-  begun_ends y end now e items off is ends b = record {
+  pub begun_ends : (y : AttemptValue) (end now : Option ExchangeEnd) (e : ExchangeEnd) (items : List (StreamValue × Bool)) → is_some end ≡ false → now ≡ Some e
+      → HasGrown x y → IsUnsent y → (Asks (request_of job.job) x → HasEnded (request_of job.job) e y)
+      → HasBegun (asking_state job addresses x end items) → HasBegun (asking_state job addresses y now items)
+  begun_ends y end now e items off is grown unsent ends b = record {
     untouched = b.untouched;
+    addressed = record { peer = λ a is. b.addressed.peer a (sym grown.2 ∙ is); none = unsent };
+    given = b.given;
     asks = λ none. absurd (some_none e (sym is ∙ none));
     ended = λ f so. subst (λ (t : ExchangeEnd). HasEnded (request_of job.job) t y) (some_end e f (sym is ∙ so)) (ends (b.asks (none_of end off)));
   }
 
+-- where nothing was written since it is lost
+pub lost_ends : (request : List ℕ) (x y : AttemptValue) (loss : Loss) → y.got ≡ x.got → Asks request x → HasEnded request (ends.Lost loss) y
+lost_ends request x y loss same a = record {
+  prefix = (x.exchange.left, sym a.sends ∙ ap (λ (t : List ℕ). t ++ x.exchange.left) (sym same));
+  whole = λ reply is. absurd (not_lost reply is);
+}
+  where
+    not_lost : (reply : HttpReply) → ends.Lost loss ≡ ends.Reply reply → ⊥
+    not_lost reply e = cc
+
+-- its addresses changed
+pub begun_addresses : (job : HandedJob) (x y : AddressesValue) (s : AttemptValue) (end : Option ExchangeEnd) (items : List (StreamValue × Bool))
+    → ((a : SocketAddr) → IsAddressOf job.job.address x.found a → IsAddressOf job.job.address y.found a) → (AreOf job.job.address x → AreOf job.job.address y)
+    → HasBegun (asking_state job x s end items) → HasBegun (asking_state job y s end items)
+begun_addresses job x y s end items more are b = record {
+  untouched = b.untouched;
+  addressed = record { peer = λ a is. more a (b.addressed.peer a is); none = b.addressed.none };
+  given = are b.given;
+  asks = b.asks;
+  ended = b.ended;
+}
+
+-- it goes over a stream to the next of its addresses
+module _ (job : HandedJob) (x y : AddressesValue) (s t : AttemptValue) (address : SocketAddr) where
+  abbrev fresh : AttemptValue
+  fresh = attempt_value s.exchange (Some (stream_value address [] [])) false
+
+  fresh_begins : (end : Option ExchangeEnd) (items later : List (StreamValue × Bool)) → is_some end ≡ false → next_of x ≡ address ∷ next_of y → y.found ≡ x.found
+      → IsUntouchedAttempt s → All IsUntouched (map (λ (u : StreamValue × Bool). u.0) later)
+      → HasBegun (asking_state job x s end items) → HasBegun (asking_state job y fresh end later)
+  fresh_begins end items later off next same touched untouched b = record {
+    untouched = untouched;
+    addressed = record {
+      peer = λ a is. subst (λ (u : SocketAddr). IsAddressOf job.job.address y.found u) (some_peer address a is) (taken_is job.job.address x y address next same b.given);
+      none = λ is. absurd (some_no_peer address is);
+    };
+    given = taken_are job.job.address x y (Some address) next same b.given;
+    asks = λ e. record {
+      sends = subst (λ (g : List ℕ). g ++ s.exchange.left ≡ request_of job.job) touched.0 (b.asks e).sends;
+      reads = subst (λ (g : List ℕ). HasReadReply s.exchange.replies g None) touched.1 (b.asks e).reads;
+    };
+    ended = λ e is. absurd (some_none e (sym is ∙ none_of end off));
+  }
+    where
+      some_peer : (a c : SocketAddr) → Some a ≡ Some c → a ≡ c
+      some_peer a c e = cc
+
+      some_no_peer : (a : SocketAddr) → Some a ≡ None → ⊥
+      some_no_peer a e = cc
+
+  pub begun_connects : (end : Option ExchangeEnd) (items later : List (StreamValue × Bool)) (stream : StreamValue) → is_some end ≡ false → next_of x ≡ address ∷ next_of y
+      → y.found ≡ x.found → IsUntouchedAttempt s → stream ≡ stream_value address [] [] → t ≡ attempt_value s.exchange (Some stream) false
+      → All IsUntouched (map (λ (u : StreamValue × Bool). u.0) later)
+      → HasBegun (asking_state job x s end items) → HasBegun (asking_state job y t end later)
+  begun_connects end items later stream off next same touched is_stream is untouched b =
+      subst (λ (u : AttemptValue). HasBegun (asking_state job y u end later)) (sym (is ∙ ap (λ (r : StreamValue). attempt_value s.exchange (Some r) false) is_stream))
+      (fresh_begins end items later off next same touched untouched b)
+
+-- the stream before is noted
+pub noted_untouched : (items later : List (StreamValue × Bool)) (before : StreamValue) (s : AttemptValue) → later ≡ items ++ (before, true) ∷ [] → HadStream before s
+    → IsUntouchedAttempt s → All IsUntouched (map (λ (u : StreamValue × Bool). u.0) items) → All IsUntouched (map (λ (u : StreamValue × Bool). u.0) later)
+noted_untouched items later before s is had touched all =
+    subst (λ (l : List StreamValue). All IsUntouched l)
+    (sym (ap (λ (l : List (StreamValue × Bool)). map (λ (u : StreamValue × Bool). u.0) l) is ∙ map-append (λ (u : StreamValue × Bool). u.0) items ((before, true) ∷ [])))
+    (All-push IsUntouched (map (λ (u : StreamValue × Bool). u.0) items) before all (had.0 ∙ touched.1, had.1 ∙ touched.0))
+
 -- what was written of it begins its request
 pub begins_request : (x : AskingState) → HasBegun x → BeginsRequest (asked_for x)
-begins_request x b = record { untouched = b.untouched; prefix = by_it x.end refl }
+begins_request x b = record { untouched = b.untouched; prefix = by_it x.end refl; addressed = b.addressed }
   where
     by_it : (end : Option ExchangeEnd) → x.end ≡ end → IsPrefixOf x.attempt.got (request_of x.job.job)
     by_it None is = (x.attempt.exchange.left, sym (b.asks is).sends)
@@ -66,32 +149,47 @@ begins_request x b = record { untouched = b.untouched; prefix = by_it x.end refl
 
 -- ---- what only grows
 
-pub grown_same : (x y : AttemptValue) → y.given ≡ x.given → y.got ≡ x.got → HasGrown x y
-grown_same x y given got = (([], given ∙ sym (append-nil x.given)), ([], got ∙ sym (append-nil x.got)))
+pub grown_same : (x y : AttemptValue) → y.given ≡ x.given → y.got ≡ x.got → y.peer ≡ x.peer → HasGrown x y
+grown_same x y given got peer = (([], given ∙ sym (append-nil x.given)), ([], got ∙ sym (append-nil x.got)), peer)
 
 pub grown_then : (x y z : AttemptValue) → HasGrown x y → HasGrown y z → HasGrown x z
-grown_then x y z a b = (begins_then x.given y.given z.given a.0 b.0, begins_then x.got y.got z.got a.1 b.1)
-
-pub reads_more : (x y : AttemptValue) (more : List ℕ) → y.given ≡ x.given ++ more → y.got ≡ x.got → HasGrown x y
-reads_more x y more given got = ((more, given), ([], got ∙ sym (append-nil x.got)))
-
-pub writes_more : (x y : AttemptValue) (more : List ℕ) → y.given ≡ x.given → y.got ≡ x.got ++ more → HasGrown x y
-writes_more x y more given got = (([], given ∙ sym (append-nil x.given)), (more, got))
+grown_then x y z a b = (begins_then x.given y.given z.given a.0 b.0, begins_then x.got y.got z.got a.1 b.1, b.2 ∙ a.2)
 
 -- it goes over the same stream
-pub asks_on : (x y : AskingState) → y.job ≡ x.job → y.tried ≡ x.tried → HasGrown x.attempt y.attempt → AsksOn (asked_for x) (asked_for y)
-asks_on x y job tried grown = record { job = ap (λ (j : HandedJob). j.job) job; streams = inl (tried, grown.0, grown.1) }
+pub asks_on : (x y : AskingState) → y.job ≡ x.job → IsPrefixOf x.addresses.found y.addresses.found → y.tried ≡ x.tried → HasGrown x.attempt y.attempt
+    → AsksOn (asked_for x) (asked_for y)
+asks_on x y job found tried grown = record {
+  job = ap (λ (j : HandedJob). j.job) job;
+  found = found;
+  streams = inl record { tried = tried; peer = inr grown.2; given = grown.0; got = grown.1 };
+}
 
 -- .. over its first, before which nothing was written or read
-pub asks_first : (x y : AskingState) → y.job ≡ x.job → y.tried ≡ x.tried → IsUntouchedAttempt x.attempt → AsksOn (asked_for x) (asked_for y)
-asks_first x y job tried fresh =
-    asks_on x y job tried
-    ((y.attempt.given, sym (ap (λ (t : List ℕ). t ++ y.attempt.given) fresh.1)), (y.attempt.got, sym (ap (λ (t : List ℕ). t ++ y.attempt.got) fresh.0)))
+pub asks_first : (x y : AskingState) → y.job ≡ x.job → IsPrefixOf x.addresses.found y.addresses.found → y.tried ≡ x.tried → x.attempt.peer ≡ None
+    → IsUntouchedAttempt x.attempt → AsksOn (asked_for x) (asked_for y)
+asks_first x y job found tried alone fresh = record {
+  job = ap (λ (j : HandedJob). j.job) job;
+  found = found;
+  streams = inl record {
+    tried = tried;
+    peer = inl alone;
+    given = (y.attempt.given, sym (ap (λ (t : List ℕ). t ++ y.attempt.given) fresh.1));
+    got = (y.attempt.got, sym (ap (λ (t : List ℕ). t ++ y.attempt.got) fresh.0));
+  };
+}
 
 -- .. over another
-pub asks_over : (x y : AskingState) (before : StreamValue) → y.job ≡ x.job → y.tried ≡ x.tried ++ before ∷ [] → HadRead before.given before.got x.attempt
-    → AsksOn (asked_for x) (asked_for y)
-asks_over x y before job tried had = record {
+pub asks_over : (x y : AskingState) (before : StreamValue) → y.job ≡ x.job → IsPrefixOf x.addresses.found y.addresses.found → y.tried ≡ x.tried ++ before ∷ []
+    → HadStream before x.attempt → AsksOn (asked_for x) (asked_for y)
+asks_over x y before job found tried had = record {
   job = ap (λ (j : HandedJob). j.job) job;
-  streams = inr record { last = before; others = []; tried_are = tried; given = ([], had.0 ∙ sym (append-nil x.attempt.given)); got = ([], had.1 ∙ sym (append-nil x.attempt.got)) };
+  found = found;
+  streams = inr record {
+    last = before;
+    others = [];
+    tried_are = tried;
+    peer = inr had.2;
+    given = ([], had.0 ∙ sym (append-nil x.attempt.given));
+    got = ([], had.1 ∙ sym (append-nil x.attempt.got));
+  };
 }

@@ -4,4 +4,5 @@ pub mod LoopLemmas
 pub mod ServingLemmas
 pub mod GrowLemmas
 pub mod AskLemmas
+pub mod AddressLemmas
 pub mod BegunLemmas

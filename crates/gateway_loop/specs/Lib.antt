@@ -1,4 +1,5 @@
 pub mod Laws
+pub mod Addresses
 pub mod Asking
 pub mod Clients
 pub mod Loop

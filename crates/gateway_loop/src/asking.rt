@@ -3,12 +3,15 @@ ghost use Rattle.std.specs.Option.{option_map_or};
 ghost use Rattle.branch_causes.specs.Causes.{cause_of_end, status_of_end};
 ghost use Rattle.branch_causes.specs.declared.cause.Cause.TheVariants.{NotWanted};
 ghost use Rattle.branch_exchange.specs.Outcomes.{asked_of, outcome_of_asked};
-ghost use Rattle.gateway_loop.specs.Asking.{NotesStream, asked_for};
+ghost use Rattle.gateway_loop.specs.Asking.{Finds, NotesStream, asked_for};
 ghost use Rattle.loop_model.specs.Asking.{BeginsRequest, IsFair, ended_value, request_of};
 ghost use Rattle.loop_model.specs.Whole.{AsksOn};
 
+use crate::addresses::Addresses;
 use crate::attempt::{Attempt, Step};
+use crate::backend::Backend;
 use crate::edges::Edges;
+use crate::network::Network;
 use branch_causes::{Cause, status_of_end};
 use branch_exchange::{ExchangeEnd, Loss, outcome_of};
 use connect_codec::{BranchAsk, Outcome, branch_request};
@@ -16,20 +19,23 @@ use gateway_core::Job;
 use http_pieces::Bytes;
 use http_server::Log;
 use std::alloc::{AllocError, Global};
+use std::collections::VecDeque;
 use std::io::ErrorKind;
 use std::marker::Model;
 use std::mem;
+use std::net::SocketAddr;
 use wires::Wire;
 
 /// A job that is asked for.
 #[derive(Drop)]
 pub(crate) struct Asking<W: Wire> {
     job: Job,
+    addresses: Addresses,
     attempt: Attempt<W>,
     // how it ended, until that is recorded
     end: Option<ExchangeEnd>,
     // for proofs: the streams that were given up before
-    tried: Log<W, bool>,
+    tried: Log<Backend<W>, bool>,
 }
 
 impl<W: Wire> Model for Asking<W> {
@@ -37,9 +43,9 @@ impl<W: Wire> Model for Asking<W> {
 
     ghost Value = { AskingState };
 
-    ghost view = { λ a. asking_state W.given W.got a.job a.attempt a.end a.tried.items };
+    ghost view = { λ a. asking_state a.job a.addresses a.attempt a.end a.tried.items };
 
-    ghost invariant = { λ a. HasBegun (asking_state W.given W.got a.job a.attempt a.end a.tried.items) };
+    ghost invariant = { λ a. HasBegun (asking_state a.job a.addresses a.attempt a.end a.tried.items) };
 }
 
 /// What a step of a job that is asked for came to.
@@ -63,12 +69,14 @@ impl<W: Wire> Asking<W> {
         match request_of(alloc, &job) {
             Ok(request) => Asking {
                 job,
+                addresses: Addresses::new(alloc),
                 attempt: Attempt::new(alloc, request),
                 end: None,
                 tried: Log::new(),
             },
             Err(_) => Asking {
                 job,
+                addresses: Addresses::new(alloc),
                 attempt: Attempt::new(alloc, Bytes::new(alloc)),
                 end: Some(ExchangeEnd::NoMemory),
                 tried: Log::new(),
@@ -119,6 +127,30 @@ impl<W: Wire> Asking<W> {
         let _ = &self.job;
     }
 
+    /// Whether there is an address that is to be tried.
+    pub(crate) fn has_others(&self) -> bool {
+        self.addresses.has_more()
+    }
+
+    /// Whether its job's address is no name. It is to be tried then.
+    pub(crate) fn has_address(&mut self) -> bool
+        ensures job { self.new.job ≡ self.old.job }
+        ensures on { AsksOn (asked_for self.old) (asked_for self.new) }
+    {
+        self.addresses.parse(self.job.address())
+    }
+
+    /// These addresses were found for the name. They are to be tried, if it is that of its job.
+    pub(crate) fn find(&mut self, name: &str, found: VecDeque<SocketAddr>)
+        ensures job { self.new.job ≡ self.old.job }
+        ensures on { AsksOn (asked_for self.old) (asked_for self.new) }
+        ensures found { Finds name.now found.items self.old self.new }
+    {
+        if name == self.job.address() {
+            self.addresses.find(found);
+        }
+    }
+
     /// Writes what can be written of the request, and then reads what can be read of the reply.
     pub(crate) fn step(&mut self, edges: &mut Edges) -> Progress
         ensures job { self.new.job ≡ self.old.job }
@@ -127,7 +159,9 @@ impl<W: Wire> Asking<W> {
         if self.end.is_some() {
             return Progress::Ended;
         }
-        match self.attempt.step(edges) {
+        let step = self.attempt.step(edges);
+        self.attempt.unsent_law();
+        match step {
             Step::Waits => Progress::Waits,
             Step::More => Progress::More,
             Step::Refused(kind) => Progress::Refused(kind),
@@ -172,20 +206,25 @@ impl<W: Wire> Asking<W> {
 }
 
 impl<W: Wire + Drop> Asking<W> {
-    /// It goes over this stream from now on, of which nothing was read or written; unless its stream took a byte.
-    pub(crate) fn connect(&mut self, wire: W)
-        requires given { W.given wire ≡ [] }
-        requires got { W.got wire ≡ [] }
+    /// It goes over a stream to the next of its addresses from now on; unless it ended, or its stream took a byte. False where there is no
+    /// other address.
+    pub(crate) fn connect<N: Network<W>>(&mut self, net: &mut N) -> bool
         ensures job { self.new.job ≡ self.old.job }
         ensures on { AsksOn (asked_for self.old) (asked_for self.new) }
-        ensures notes { NotesStream self.old self.new }
+        ensures notes { NotesStream result self.old self.new }
+        ensures told { N.told net.new ≡ N.told net.old }
     {
         if self.attempt.is_connected() || self.end.is_some() {
-            return;
+            return true;
         }
-        if let Some(before) = self.attempt.connect(wire) {
+        let Some(address) = self.addresses.next() else {
+            return false;
+        };
+        let stream = Backend::connect(net, address, self.attempt.left());
+        if let Some(before) = self.attempt.connect(stream) {
             self.tried = self.tried.and(&before, &true);
         }
+        true
     }
 
     /// The job. Its stream is closed.

@@ -1,7 +1,9 @@
-ghost use Rattle.std.specs.Prelude.{◌≡◌, ℕ, List, [], None, IfSome, IsTrue, IsFalse, is_some, true, false};
-ghost use Rattle.gateway_loop.specs.Asking.{Asks, HadRead, HasGrown, IsUntouchedAttempt, Steps, attempt_value};
+ghost use Rattle.std.specs.Prelude.{◌≡◌, ℕ, List, [], None, Some, IfSome, IsTrue, IsFalse, false};
+ghost use Rattle.loop_model.specs.Asking.{IsUntouched};
+ghost use Rattle.gateway_loop.specs.Asking.{Asks, HadStream, HasGrown, IsUnsent, IsUntouchedAttempt, Steps, attempt_value};
 ghost use Rattle.branch_exchange.specs.Exchange.{exchange_value};
 
+use crate::backend::Backend;
 use crate::edges::Edges;
 use crate::limits::MOST_STEPS;
 use branch_exchange::{Exchange, ExchangeEnd, Loss};
@@ -17,24 +19,21 @@ use wires::{Got, PIECE, Sent, Wire};
 pub(crate) struct Attempt<W: Wire> {
     exchange: Exchange,
     // none while its address is not known
-    wire: Option<W>,
+    stream: Option<Backend<W>>,
     // whether its stream took a byte
     is_connected: bool,
 }
 
 impl<W: Wire> Model for Attempt<W> {
-    ghost use Rattle.std.specs.Prelude.{◌≡◌, [], false, Option, is_some};
-    ghost use Rattle.std.specs.Option.{option_map_or};
+    ghost use Rattle.std.specs.Prelude.{◌≡◌, false};
     ghost use Rattle.gateway_loop.specs.Asking.{AttemptValue, IsUntouchedAttempt, attempt_value};
 
     ghost Value = { AttemptValue };
 
-    ghost view = { λ a. attempt_value a.exchange (option_map_or W.given a.wire []) (option_map_or W.got a.wire [])
-        (is_some a.wire) a.is_connected };
+    ghost view = { λ a. attempt_value a.exchange a.stream a.is_connected };
 
     ghost invariant = { λ a. a.is_connected ≡ false
-        → IsUntouchedAttempt (attempt_value a.exchange (option_map_or W.given a.wire []) (option_map_or W.got a.wire [])
-        (is_some a.wire) a.is_connected) };
+        → IsUntouchedAttempt (attempt_value a.exchange a.stream a.is_connected) };
 }
 
 /// What a step of an exchange came to.
@@ -55,17 +54,18 @@ impl<W: Wire> Attempt<W> {
     pub(crate) fn new(alloc: Global, request: Bytes) -> Attempt<W>
         ensures asks { Asks request result }
         ensures untouched { IsUntouchedAttempt result }
+        ensures alone { result.peer ≡ None }
     {
         Attempt {
             exchange: Exchange::new(alloc, request),
-            wire: None,
+            stream: None,
             is_connected: false,
         }
     }
 
     /// Its stream, once its address is known.
     pub(crate) fn wire(&self) -> Option<&W> {
-        self.wire.as_ref()
+        Some(self.stream.as_ref()?.wire())
     }
 
     /// Whether its stream took a byte.
@@ -74,6 +74,13 @@ impl<W: Wire> Attempt<W> {
         ensures untouched { IsFalse result → IsUntouchedAttempt self.now }
     {
         self.is_connected
+    }
+
+    /// While it has no stream, nothing was written. It does nothing.
+    pub(crate) fn unsent_law(&self)
+        ensures { IsUnsent self.now }
+    {
+        let _ = &self.stream;
     }
 
     /// Whether its request was written whole.
@@ -120,10 +127,10 @@ impl<W: Wire> Attempt<W> {
         if !edges.may_write {
             return Step::Waits;
         }
-        let Some(wire) = &mut self.wire else {
+        let Some(stream) = &mut self.stream else {
             return Step::Waits;
         };
-        match wire.write(self.exchange.request()) {
+        match stream.write(self.exchange.request()) {
             Sent::Bytes(count) => {
                 self.exchange.sent(count);
                 self.is_connected = true;
@@ -149,11 +156,11 @@ impl<W: Wire> Attempt<W> {
         if !edges.may_read {
             return Step::Waits;
         }
-        let Some(wire) = &mut self.wire else {
+        let Some(stream) = &mut self.stream else {
             return Step::Waits;
         };
         let mut piece = [0u8; PIECE];
-        match wire.read(&mut piece) {
+        match stream.read(&mut piece) {
             Got::Bytes(count) => {
                 self.is_connected = true;
                 edges.has_read(count);
@@ -175,15 +182,14 @@ impl<W: Wire> Attempt<W> {
 
 impl<W: Wire + Drop> Attempt<W> {
     /// It goes over this stream from now on, of which nothing was read or written. Answers the one before, if there was one.
-    pub(crate) fn connect(&mut self, wire: W) -> Option<W>
-        requires given { W.given wire ≡ [] }
-        requires got { W.got wire ≡ [] }
-        ensures fresh { self.new ≡ attempt_value self.old.exchange [] [] true false }
-        ensures before { IfSome result (λ before. HadRead (W.given before) (W.got before) self.old) }
-        ensures held { is_some result ≡ self.old.has_stream }
-        ensures first { result ≡ None → IsUntouchedAttempt self.old }
+    pub(crate) fn connect(&mut self, stream: Backend<W>) -> Option<Backend<W>>
+        requires { IsUntouched stream }
+        ensures fresh { self.new ≡ attempt_value self.old.exchange (Some stream) false }
+        ensures before { IfSome result (λ before. HadStream before self.old) }
+        ensures first { result ≡ None → self.old.peer ≡ None }
+        ensures untouched { result ≡ None → IsUntouchedAttempt self.old }
     {
         self.is_connected = false;
-        mem::replace(&mut self.wire, Some(wire))
+        mem::replace(&mut self.stream, Some(stream))
     }
 }

@@ -1,4 +1,4 @@
-ghost use Rattle.std.specs.Prelude.{◌≡◌, []};
+ghost use Rattle.std.specs.Prelude.{◌≡◌};
 ghost use Rattle.gateway_loop.specs.Loop.{Goes, TellsLoop};
 
 use crate::asking::Progress;
@@ -11,7 +11,6 @@ use crate::tokens::{exchange_token, timer_id};
 use branch_exchange::Loss;
 use gateway_core::ReplyHook;
 use std::io::ErrorKind;
-use std::net::SocketAddr;
 use wires::Wire;
 
 impl<H: ReplyHook + Drop, W: Wire + Drop> EventLoop<H, W> {
@@ -23,11 +22,10 @@ impl<H: ReplyHook + Drop, W: Wire + Drop> EventLoop<H, W> {
     {
         let mut loss = loss;
         for _address in 0..MOST_ADDRESSES {
-            let Some(address) = self.next_address(place) else {
+            if !self.connect(net, place) {
                 break;
-            };
-            let wire = net.connect(address, self.left_at(place));
-            match self.go_over(place, wire) {
+            }
+            match self.go_over(place) {
                 Progress::Refused(kind) => loss = Loss::Write(kind),
                 Progress::Ended => return self.end(net, place),
                 Progress::Waits => return self.watch(net, place, false),
@@ -37,33 +35,20 @@ impl<H: ReplyHook + Drop, W: Wire + Drop> EventLoop<H, W> {
         self.lose(net, place, loss);
     }
 
-    /// The next address that is to be tried for the exchange in that place.
-    fn next_address(&mut self, place: usize) -> Option<SocketAddr>
+    /// The exchange in that place goes over a stream to the next of its addresses from now on. False where there is none.
+    fn connect<N: Network<W>>(&mut self, net: &mut N, place: usize) -> bool
+        ensures goes { Goes self.old self.new }
+        ensures told { self.new.side.told ≡ self.old.side.told }
+        ensures same { N.told net.new ≡ N.told net.old }
+    {
+        self.exchanges.connect(net, place)
+    }
+
+    /// The exchange in that place writes its request to its new stream.
+    fn go_over(&mut self, place: usize) -> Progress
         ensures goes { Goes self.old self.new }
         ensures told { self.new.side.told ≡ self.old.side.told }
     {
-        match self.errands.get_mut(place) {
-            Some(errand) => errand.next_address(),
-            None => None,
-        }
-    }
-
-    /// How many bytes are left to be written of the request of the exchange in that place.
-    fn left_at(&self, place: usize) -> usize {
-        match self.exchanges.asking(place) {
-            Some(asking) => asking.attempt().left(),
-            None => 0,
-        }
-    }
-
-    /// The exchange in that place goes over this stream from now on, and writes its request.
-    fn go_over(&mut self, place: usize, wire: W) -> Progress
-        requires given { W.given wire ≡ [] }
-        requires got { W.got wire ≡ [] }
-        ensures goes { Goes self.old self.new }
-        ensures told { self.new.side.told ≡ self.old.side.told }
-    {
-        self.exchanges.connect(place, wire);
         let Some(errand) = self.errands.get_mut(place) else {
             return Progress::Waits;
         };
@@ -140,8 +125,8 @@ impl<H: ReplyHook + Drop, W: Wire + Drop> EventLoop<H, W> {
 
     /// Whether there is another address for the exchange in that place.
     fn has_others(&self, place: usize) -> bool {
-        match self.errands.get(place) {
-            Some(errand) => errand.has_others(),
+        match self.exchanges.asking(place) {
+            Some(asking) => asking.has_others(),
             None => false,
         }
     }

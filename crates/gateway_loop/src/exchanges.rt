@@ -21,7 +21,9 @@ use gateway_core::{ConnId, ReplyHook};
 use http_server::Log;
 use slab::Slab;
 use std::alloc::{AllocError, Global};
+use std::collections::VecDeque;
 use std::marker::Model;
+use std::net::SocketAddr;
 use wires::Wire;
 
 /// A core with its clients, and the jobs that are asked for, by their places. Whatever is done by its functions, each job that was taken
@@ -181,17 +183,44 @@ impl<H: ReplyHook + Drop, W: Wire + Drop> Exchanges<H, W> {
         progress
     }
 
-    /// The exchange in that place goes over this stream from now on, of which nothing was read or written.
-    pub(crate) fn connect(&mut self, place: usize, wire: W)
-        requires given { W.given wire ≡ [] }
-        requires got { W.got wire ≡ [] }
+    /// The exchange in that place goes over a stream to the next of its addresses from now on. False where there is none.
+    pub(crate) fn connect<N: Network<W>>(&mut self, net: &mut N, place: usize) -> bool
+        ensures goes { Goes self.old self.new }
+        ensures told { self.new.side.told ≡ self.old.side.told }
+        ensures same { N.told net.new ≡ N.told net.old }
+    {
+        let Some(mut asking) = self.asking.try_remove(place) else {
+            return false;
+        };
+        let connected = asking.connect(net);
+        asking.begun_law();
+        let _place = self.asking.insert_reserved(asking);
+        connected
+    }
+
+    /// Whether the address of the exchange in that place is no name. It is to be tried then.
+    pub(crate) fn has_address(&mut self, place: usize) -> bool
+        ensures goes { Goes self.old self.new }
+        ensures told { self.new.side.told ≡ self.old.side.told }
+    {
+        let Some(mut asking) = self.asking.try_remove(place) else {
+            return false;
+        };
+        let has_address = asking.has_address();
+        asking.begun_law();
+        let _place = self.asking.insert_reserved(asking);
+        has_address
+    }
+
+    /// These addresses were found for the name. They are to be tried for the exchange in that place.
+    pub(crate) fn find(&mut self, place: usize, name: &str, found: VecDeque<SocketAddr>)
         ensures goes { Goes self.old self.new }
         ensures told { self.new.side.told ≡ self.old.side.told }
     {
         let Some(mut asking) = self.asking.try_remove(place) else {
             return;
         };
-        asking.connect(wire);
+        asking.find(name, found);
         asking.begun_law();
         let _place = self.asking.insert_reserved(asking);
     }

@@ -2,9 +2,11 @@
 //! without waiting. It does no input or output but through a `Network` and its wires.
 #![tactic(auto)]
 
+mod addresses;
 mod admission;
 mod asking;
 mod attempt;
+mod backend;
 mod branch_end;
 mod client;
 mod clients;

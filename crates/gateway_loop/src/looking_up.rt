@@ -65,32 +65,33 @@ impl<H: ReplyHook + Drop, W: Wire + Drop> EventLoop<H, W> {
                 continue;
             };
             for (_, place) in places.iter() {
-                self.go_to(net, *place, looked_up.addresses.as_slice());
+                self.go_to(net, *place, &looked_up);
             }
         }
     }
 
-    /// The exchange in that place has its addresses.
-    fn go_to<N: Network<W>>(&mut self, net: &mut N, place: usize, addresses: &[SocketAddr])
+    /// The name of the exchange in that place was looked up.
+    fn go_to<N: Network<W>>(&mut self, net: &mut N, place: usize, looked_up: &LookedUp)
         ensures goes { Goes self.old self.new }
         ensures told { TellsLoop (N.told net.old) (N.told net.new) self.old self.new }
     {
-        match first_of(self.alloc, addresses) {
+        match first_of(self.alloc, looked_up.addresses.as_slice()) {
             Ok(addresses) => {
-                self.set_addresses(place, addresses);
+                self.find(place, looked_up.name.as_str(), addresses);
                 self.try_next(net, place, Loss::NoAddress);
             }
             Err(_) => self.starve(net, place),
         }
     }
 
-    /// These addresses are to be tried for the exchange in that place.
-    fn set_addresses(&mut self, place: usize, addresses: VecDeque<SocketAddr>)
+    /// These addresses were found for the name, for which the exchange in that place waited. They are to be tried.
+    fn find(&mut self, place: usize, name: &str, found: VecDeque<SocketAddr>)
         ensures goes { Goes self.old self.new }
         ensures told { self.new.side.told ≡ self.old.side.told }
     {
+        self.exchanges.find(place, name, found);
         if let Some(errand) = self.errands.get_mut(place) {
-            errand.set_addresses(addresses);
+            errand.waits = None;
         }
     }
 }

@@ -7,7 +7,6 @@ use crate::limits::MOST_EXCHANGES;
 use crate::network::Network;
 use branch_exchange::Loss;
 use gateway_core::ReplyHook;
-use std::net::SocketAddr;
 use wires::Wire;
 
 impl<H: ReplyHook + Drop, W: Wire + Drop> EventLoop<H, W> {
@@ -40,11 +39,7 @@ impl<H: ReplyHook + Drop, W: Wire + Drop> EventLoop<H, W> {
             return self.drop_new(place);
         };
         let began = self.clients().moment();
-        if self
-            .errands
-            .insert(Errand::new(self.alloc, client, began))
-            .is_err()
-        {
+        if self.errands.insert(Errand::new(client, began)).is_err() {
             self.exchanges.starve(place);
             return self.drop_new(place);
         }
@@ -109,15 +104,6 @@ impl<H: ReplyHook + Drop, W: Wire + Drop> EventLoop<H, W> {
         ensures goes { Goes self.old self.new }
         ensures told { self.new.side.told ≡ self.old.side.told }
     {
-        let Some(asking) = self.exchanges.asking(place) else {
-            return false;
-        };
-        let Ok(address) = asking.job().address().parse::<SocketAddr>() else {
-            return false;
-        };
-        if let Some(errand) = self.errands.get_mut(place) {
-            errand.set_address(address);
-        }
-        true
+        self.exchanges.has_address(place)
     }
 }

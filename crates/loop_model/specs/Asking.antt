@@ -1,5 +1,8 @@
 -- A job that is asked for, and how that ended.
 use Rattle.std.specs.Prelude.{◌≡◌, ◌⊎◌, ℕ, All, List, [], Option, Some, None}
+use Rattle.std.specs.List.{Contains}
+use Rattle.std.specs.Net.Grammar.{IsSocketText}
+use Rattle.std.specs.declared.net.socket_addr.SocketAddr.{SocketAddr}
 use Rattle.connect_codec.specs.BranchRequest.{branch_request}
 use Rattle.connect_codec.specs.Outcome.{outcome_of}
 use Rattle.connect_codec.specs.declared.answer.Outcome.{Outcome}
@@ -9,19 +12,22 @@ use Rattle.http_pieces.specs.Cut.{Complete, IsCut}
 use Rattle.http_pieces.specs.ReplyHead.{reply_kind}
 use Rattle.http_pieces.specs.declared.reply.HttpReply.{HttpReply}
 
--- a stream to a backend: what was read from it, and what was written to it
+-- a stream to a backend: the address that it leads to, what was read from it, and what was written to it
 pub record StreamValue : Type 0 where
+  pub peer : SocketAddr
   pub given : List ℕ
   pub got : List ℕ
 
-abbrev pub stream_value : List ℕ → List ℕ → StreamValue
-stream_value given got = record { given = given; got = got }
+abbrev pub stream_value : SocketAddr → List ℕ → List ℕ → StreamValue
+stream_value peer given got = record { peer = peer; given = given; got = got }
 
--- a job that is asked for: the streams that were given up before, and what was read from the one that it goes over, and written to it;
--- nothing, while there is none
+-- a job that is asked for: the addresses that were found for its name, the streams that were given up before, and the one that it goes
+-- over: the address that it leads to, what was read from it, and what was written to it; nothing, while there is none
 pub record AskingValue : Type 0 where
   pub job : JobValue
+  pub found : List SocketAddr
   pub tried : List StreamValue
+  pub peer : Option SocketAddr
   pub given : List ℕ
   pub got : List ℕ
 
@@ -50,10 +56,21 @@ pub record IsAnswered (x : AskingValue) (o : Outcome) : Type 0 where
   pub begins : IsCut reply_kind x.given (Complete reply rest)
   pub outcome_is : o ≡ outcome_of (Some reply)
 
--- nothing was written to a stream that was given up, and to the one that it goes over some first bytes of the job's request, and no others
+-- the text is that of the address, or it was found for the text
+abbrev pub IsAddressOf : List ℕ → List SocketAddr → SocketAddr → Type 0
+IsAddressOf text found address = IsSocketText text address ⊎ Contains found address
+
+-- the stream that it goes over leads to an address of its job; while there is none, nothing was written
+pub record IsAddressed (x : AskingValue) : Type 0 where
+  pub peer : (address : SocketAddr) → x.peer ≡ Some address → IsAddressOf x.job.address x.found address
+  pub none : x.peer ≡ None → x.got ≡ []
+
+-- nothing was written to a stream that was given up, and to the one that it goes over, which leads to an address of its job, some first
+-- bytes of the job's request, and no others
 pub record BeginsRequest (x : AskingValue) : Type 0 where
   pub untouched : All IsUntouched x.tried
   pub prefix : IsPrefixOf x.got (request_of x.job)
+  pub addressed : IsAddressed x
 
 -- so it began, and its outcome is that of its reply, or of a reply that was lost
 pub record IsFair (e : EndedValue) : Type 0 where

@@ -38,21 +38,26 @@ pub record IsExplainedLoop (w : WholeLoop) : Type 0 where
 
 -- ---- what only grows
 
--- it goes over the same stream, from which more may have been read, and to which more may have been written
-abbrev pub KeepsStream : AskingValue → AskingValue → Type 0
-KeepsStream x y = (y.tried ≡ x.tried) × IsPrefixOf x.given y.given × IsPrefixOf x.got y.got
+-- it goes over the same stream, or over its first, from which more may have been read, and to which more may have been written
+pub record KeepsStream (x y : AskingValue) : Type 0 where
+  pub tried : y.tried ≡ x.tried
+  pub peer : (x.peer ≡ None) ⊎ (y.peer ≡ x.peer)
+  pub given : IsPrefixOf x.given y.given
+  pub got : IsPrefixOf x.got y.got
 
 -- that stream was given up since, with all that had been read from it and written to it
 pub record GivesUpStream (x y : AskingValue) : Type 0 where
   pub last : StreamValue
   pub others : List StreamValue
   pub tried_are : y.tried ≡ x.tried ++ last ∷ others
+  pub peer : (x.peer ≡ None) ⊎ (x.peer ≡ Some last.peer)
   pub given : IsPrefixOf x.given last.given
   pub got : IsPrefixOf x.got last.got
 
--- the same job: nothing that was read or written for it is forgotten
+-- the same job: nothing that was found, read or written for it is forgotten
 pub record AsksOn (x y : AskingValue) : Type 0 where
   pub job : y.job ≡ x.job
+  pub found : IsPrefixOf x.found y.found
   pub streams : KeepsStream x y ⊎ GivesUpStream x y
 
 -- it has ended since

@@ -1,8 +1,8 @@
 -- What is known of each request, and of a job's counts.
-use Rattle.std.proofs.Common.{◌≡◌, ℕ, zero, suc, ◌+◌, Bool, List, [], ◌∷◌, ◌++◌, All, cond, length, Option, Some, None, ap, arith, refl, sym, ◌∙◌}
+use Rattle.std.proofs.Common.{◌≡◌, ℕ, zero, suc, ◌+◌, Bool, List, [], ◌∷◌, ◌++◌, All, cond, length, Option, Some, None, ap, arith, inr, subst, refl, sym, ◌∙◌}
 use Rattle.std.specs.Prelude.{count_by, slice_index_or, take}
 use Rattle.std.proofs.lemmas.List.{length-append}
-use Rattle.std.proofs.lemmas.List.Elements.{All-cons, All-head, All-nil}
+use Rattle.std.proofs.lemmas.List.Elements.{All-cons, All-head, All-nil, Contains-push}
 use Rattle.std.proofs.lemmas.List.Sums.{sum_by-cons}
 use Rattle.connect_codec.specs.Outcome.{outcome_of}
 use Rattle.connect_codec.specs.declared.answer.Outcome.{Outcome}
@@ -14,7 +14,10 @@ use Rattle.connect_codec.specs.BranchRequest.{branch_request}
 use Rattle.connect_codec.specs.Message.{message_bytes}
 use Rattle.gateway_model.specs.Job.{JobValue}
 use Rattle.gateway_model.specs.Queue.{IsPrefixOf}
-use Rattle.loop_model.specs.Asking.{EndedValue, request_of}
+use Rattle.std.specs.List.{Contains}
+use Rattle.std.specs.declared.net.socket_addr.SocketAddr.{SocketAddr}
+use Rattle.loop_model.specs.Asking.{EndedValue, IsAddressed, StreamValue, request_of}
+use Rattle.loop_rows.specs.LoopRows.{asked}
 
 pub some_is : (a b : Outcome) → Some a ≡ Some b → a ≡ b
 some_is a b e = cc
@@ -24,6 +27,19 @@ no_some b e = cc
 
 pub all_one : {X : Type 0} (P : X → Type 0) (x : X) → P x → All P (x ∷ [])
 all_one P x one = All-cons P x [] one (All-nil P)
+
+-- its stream leads to the address that was found
+pub found_first : (a : SocketAddr) (j : JobValue) (tried : List StreamValue) (given got : List ℕ) → IsAddressed (asked a j tried given got)
+found_first a j tried given got = record {
+  peer = λ b is. inr (subst (λ (t : SocketAddr). Contains (a ∷ []) t) (some_host a b is) (Contains-push [] a));
+  none = λ is. absurd (no_host a is);
+}
+  where
+    some_host : (b c : SocketAddr) → Some b ≡ Some c → b ≡ c
+    some_host b c e = cc
+
+    no_host : (b : SocketAddr) → Some b ≡ None → ⊥
+    no_host b e = cc
 
 -- each request begins with POST
 pub begins_with_p : (j : JobValue) → slice_index_or (request_of j) 0 0 ≡ 80

@@ -6,6 +6,7 @@ use Rattle.connect_codec.specs.declared.answer.Outcome.{Outcome}
 use Rattle.gateway_model.specs.Job.{JobValue}
 use Rattle.gateway_model.specs.Queue.{IsPrefixOf}
 use Rattle.gateway_theory.specs.Gateway.{GatewayValue}
+use Rattle.std.specs.declared.net.socket_addr.SocketAddr.{SocketAddr}
 use Rattle.loop_model.specs.Asking.{AskingValue, BeginsRequest, EndedValue, IsUntouched, ended_value, request_of}
 use Rattle.loop_model.specs.Clients.{ClientValue}
 use Rattle.loop_model.specs.Growing.{Continues}
@@ -17,6 +18,12 @@ some_is a b e = cc
 
 pub none_is : (b : AskingValue) → None ≡ Some b → ⊥
 none_is b e = cc
+
+pub one_peer : (a b : SocketAddr) → Some a ≡ Some b → a ≡ b
+one_peer a b e = cc
+
+pub no_peer : (a : SocketAddr) → Some a ≡ None → ⊥
+no_peer a e = cc
 
 none_there : (b : ClientValue) → None ≡ Some b → ⊥
 none_there b e = cc
@@ -58,7 +65,14 @@ nowhere (suc i) y is = none_is y is
 
 -- nothing was done for it yet
 pub begins_at_first : (j : JobValue) → BeginsRequest (asking j)
-begins_at_first j = record { untouched = All-nil IsUntouched; prefix = (request_of j, refl) }
+begins_at_first j = record {
+  untouched = All-nil IsUntouched;
+  prefix = (request_of j, refl);
+  addressed = record { peer = λ a is. absurd (nowhere_to a is); none = λ is. refl };
+}
+  where
+    nowhere_to : (a : SocketAddr) → None ≡ Some a → ⊥
+    nowhere_to a e = cc
 
 -- nothing ended since where nothing has ended
 pub nothing_since : (v w : WholeLoop) (y : AskingValue) → w.ended ≡ [] → HasEndedSince v w y → ⊥

@@ -10,6 +10,7 @@ use Rattle.gateway_model.specs.Queue.{queued}
 use Rattle.gateway_model.specs.Starts.{Placed, occurrences}
 use Rattle.gateway_model.specs.declared.event.Event.TheVariants.{Opening}
 use Rattle.gateway_theory.specs.Gateway.{GatewayValue}
+use Rattle.std.specs.declared.net.socket_addr.SocketAddr.{SocketAddr}
 use Rattle.loop_model.specs.Asking.{AskingValue, EndedValue, StreamValue, ended_value}
 use Rattle.loop_model.specs.Handed.{ResultValue}
 use Rattle.loop_model.specs.Whole.{WholeLoop}
@@ -27,15 +28,19 @@ result_of conn request branch outcome = record { call = call_id conn request; br
 
 -- that job is asked for, and nothing was done for it yet
 abbrev pub asking : JobValue → AskingValue
-asking job = record { job = job; tried = []; given = []; got = [] }
+asking job = record { job = job; found = []; tried = []; peer = None; given = []; got = [] }
 
--- it is asked for so
-abbrev pub asked : JobValue → List StreamValue → List ℕ → List ℕ → AskingValue
-asked job tried given got = record { job = job; tried = tried; given = given; got = got }
+-- it is asked for so, over a stream to this address, which was found for its name
+abbrev pub asked : SocketAddr → JobValue → List StreamValue → List ℕ → List ℕ → AskingValue
+asked a job tried given got = record { job = job; found = a ∷ []; tried = tried; peer = Some a; given = given; got = got }
+
+-- .. over a stream to this address, where these were found for its name
+abbrev pub asked_at_peer : SocketAddr → List SocketAddr → JobValue → AskingValue
+asked_at_peer peer found job = record { job = job; found = found; tried = []; peer = Some peer; given = []; got = [] }
 
 -- it was asked for so, and that was recorded of it
-abbrev pub ended : JobValue → List StreamValue → List ℕ → List ℕ → Option Outcome → EndedValue
-ended job tried given got outcome = ended_value (record { job = job; tried = tried; given = given; got = got }) outcome
+abbrev pub ended : SocketAddr → JobValue → List StreamValue → List ℕ → List ℕ → Option Outcome → EndedValue
+ended a job tried given got outcome = ended_value (asked a job tried given got) outcome
 
 -- a loop without clients
 abbrev pub loop_of : GatewayValue → List (JobValue × Option Outcome) → List JobValue → List (Option AskingValue) → List EndedValue → WholeLoop

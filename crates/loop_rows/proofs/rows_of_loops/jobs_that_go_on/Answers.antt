@@ -6,37 +6,37 @@ use Rattle.loop_rows.proofs.LostLemmas.{alone, same, side_on}
 use Rattle.loop_rows.proofs.rows_of_loops.jobs_that_go_on.Goals as goal
 
 pub returns-clause-more : goal.returns-clause-more
-returns-clause-more c v j given got more =
-    let y : AskingValue = asked j [] given (got ++ more) in record {
+returns-clause-more c h v j given got more =
+    let y : AskingValue = asked h j [] given (got ++ more) in record {
       side = side_on v [] [] (j ∷ []);
       asking = λ i x is.
-          let a = alone i (asked j [] given got) x is in
-          (y, inl (ap (λ n. asked_at n (Some y ∷ [])) a.0), subst (λ t. AsksOn t y) a.1 (record { job = refl; streams = inl (refl, same given, (more, refl)) }));
+          let a = alone i (asked h j [] given got) x is in
+          (y, inl (ap (λ n. asked_at n (Some y ∷ [])) a.0), subst (λ t. AsksOn t y) a.1 (record { job = refl; found = same (h ∷ []); streams = inl record { tried = refl; peer = inr refl; given = same given; got = (more, refl) } }));
       ended = same [];
     }
 
 pub returns-clause-another : goal.returns-clause-another
-returns-clause-another c v j got =
-    let y : AskingValue = asked j (stream_value [] [] ∷ []) [] got in record {
+returns-clause-another c h v j got =
+    let y : AskingValue = asked h j (stream_value h [] [] ∷ []) [] got in record {
       side = side_on v [] [] (j ∷ []);
       asking = λ i x is.
           let a = alone i (asking j) x is in (
             y,
             inl (ap (λ n. asked_at n (Some y ∷ [])) a.0),
-            subst (λ t. AsksOn t y) a.1 (record { job = refl; streams = inr record { last = stream_value [] []; others = []; tried_are = refl; given = same []; got = same [] } }),
+            subst (λ t. AsksOn t y) a.1 (record { job = refl; found = (h ∷ [], refl); streams = inr record { last = stream_value h [] []; others = []; tried_are = refl; peer = inl refl; given = same []; got = same [] } }),
           );
       ended = same [];
     }
 
 pub returns-clause-over : goal.returns-clause-over
-returns-clause-over c v j given got more o =
-    let y : AskingValue = asked j [] (given ++ more) got in record {
+returns-clause-over c h v j given got more o =
+    let y : AskingValue = asked h j [] (given ++ more) got in record {
       side = side_on v [] ((j, o) ∷ []) (j ∷ []);
       asking = λ i x is.
-          let a = alone i (asked j [] given got) x is in (
+          let a = alone i (asked h j [] given got) x is in (
             y,
             inr record { before = []; outcome = o; after = []; ended_are = refl },
-            subst (λ t. AsksOn t y) a.1 (record { job = refl; streams = inl (refl, (more, refl), same got) }),
+            subst (λ t. AsksOn t y) a.1 (record { job = refl; found = same (h ∷ []); streams = inl record { tried = refl; peer = inr refl; given = (more, refl); got = same got } }),
           );
-      ended = (ended j [] (given ++ more) got o ∷ [], refl);
+      ended = (ended h j [] (given ++ more) got o ∷ [], refl);
     }

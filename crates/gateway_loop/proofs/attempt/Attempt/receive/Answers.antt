@@ -1,6 +1,18 @@
-use Rattle.std.proofs.Common.{[], append-nil, sym, ◌∙◌}
+use Rattle.std.proofs.Common.{[], Some, ap, append-nil, sym, ◌∙◌}
+use Rattle.loop_model.specs.Asking.{StreamValue}
+use Rattle.gateway_loop.proofs.BegunLemmas.{lost_ends}
 use Rattle.gateway_loop.proofs.attempt.Attempt.receive.Goals as goal
 
 pub returns-after-received-clause-grows : goal.returns-after-received-clause-grows
 returns-after-received-clause-grows g c =
-    rw (← c.self.view_is) (rw c.in-Some.is ((_, c.in-Bytes.ensures.given.2), ([], c.in-Bytes.ensures.got ∙ sym (append-nil _))))
+    let rest = c.read.ensures.rest in
+    rw (← c.self.view_is)
+    (rw c.in-Some.is ((_, c.in-Bytes.ensures.given.2), ([], ap (λ (s : StreamValue). s.got) rest ∙ sym (append-nil _)), ap (λ (s : StreamValue). Some s.peer) rest))
+
+pub returns-in-End-Some-clause-steps : goal.returns-in-End-Some-clause-steps
+returns-in-End-Some-clause-steps g c =
+    rw (← c.self.view_is) (rw c.in-Some.is (λ request a. lost_ends request _ _ _ (ap (λ (s : StreamValue). s.got) c.read.ensures.rest) a))
+
+pub returns-in-End-None-clause-steps : goal.returns-in-End-None-clause-steps
+returns-in-End-None-clause-steps g c =
+    rw (← c.self.view_is) (rw c.in-Some.is (λ request a. lost_ends request _ _ _ (ap (λ (s : StreamValue). s.got) c.read.ensures.rest) a))

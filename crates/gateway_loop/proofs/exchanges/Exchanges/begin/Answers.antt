@@ -4,7 +4,7 @@ use Rattle.slab.specs.Slab.{Slab}
 use Rattle.gateway_loop.specs.Asking.{AskingState}
 use Rattle.gateway_theory.specs.Task.{HandedJob}
 use Rattle.gateway_loop.specs.Loop.{Goes, whole_loop}
-use Rattle.gateway_loop.proofs.AskLemmas.{Put, goes_begin, goes_side, put_one, takes_job}
+use Rattle.gateway_loop.proofs.AskLemmas.{Put, goes_begin, goes_side, put_one, takes_job, takes_none}
 use Rattle.gateway_loop.proofs.exchanges.Exchanges.begin.Goals as goal
 
 pub invariant_of-self-2 : goal.invariant_of-self-2
@@ -17,6 +17,13 @@ invariant_of-self-2 g c =
     (sym (ap (λ (old : List (Option AskingState)). slice_index_or old put.result None) slots) ∙ put.ensures.was_vacant)
     (subst (λ (old : List (Option AskingState)). Put old put.new.self.slots put.result (Some c.new-asking.result)) slots (put_one c.reserve.new.self put.new.self put.result _ put.ensures.updates))
     c.begun_law.ensures c.self.invariant
+
+pub invariant_of-self-in_default : goal.invariant_of-self-in_default
+invariant_of-self-in_default g c =
+    let i = c.self.inside in
+    let slots : c.reserve.new.self.slots ≡ i.asking.slots = ap (λ (s : Slab AskingState). s.slots) c.reserve.ensures.rest_kept in
+    takes_none i.clients c.take_job.new.self i.asking.slots c.reserve.new.self.slots i.ended.items c.in_default.ensures.results c.in_default.ensures.handed slots
+    c.self.invariant
 
 pub returns-clause-goes : goal.returns-clause-goes
 returns-clause-goes g c =

@@ -6,7 +6,7 @@ pub invariant_of-self-2 : goal.invariant_of-self-2
 invariant_of-self-2 g c =
     let i = c.self.inside in
     let put = c.insert_reserved-place in
-    keeps_put i.clients i.asking.slots put.new.self.slots i.ended.items c.args.place c.in-Some.asking c.connect.new.self (sym c.in-Some.ensures.value) c.connect.ensures.job
+    keeps_put i.clients i.asking.slots put.new.self.slots i.ended.items c.args.place c.in-Some.asking c.connect-connected.new.self (sym c.in-Some.ensures.value) c.connect-connected.ensures.job
     (put_back i.asking c.try_remove.new.self put.new.self c.args.place put.result _ c.try_remove.ensures.updates c.in-Some.ensures.key_is_next put.ensures.key put.ensures.updates) c.begun_law.ensures c.self.invariant
 
 pub returns-clause-goes : goal.returns-clause-goes
@@ -14,5 +14,5 @@ returns-clause-goes g c =
     let i = c.self.inside in
     let put = c.insert_reserved-place in
     rw (← c.self.view_is)
-    (goes_put i.asking.slots put.new.self.slots c.args.place i.clients i.ended.items c.in-Some.asking c.connect.new.self (sym c.in-Some.ensures.value)
-    (put_back i.asking c.try_remove.new.self put.new.self c.args.place put.result _ c.try_remove.ensures.updates c.in-Some.ensures.key_is_next put.ensures.key put.ensures.updates) c.connect.ensures.on)
+    (goes_put i.asking.slots put.new.self.slots c.args.place i.clients i.ended.items c.in-Some.asking c.connect-connected.new.self (sym c.in-Some.ensures.value)
+    (put_back i.asking c.try_remove.new.self put.new.self c.args.place put.result _ c.try_remove.ensures.updates c.in-Some.ensures.key_is_next put.ensures.key put.ensures.updates) c.connect-connected.ensures.on)

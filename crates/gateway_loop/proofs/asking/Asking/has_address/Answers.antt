@@ -1,0 +1,14 @@
+use Rattle.std.proofs.Common.{List, sym, subst}
+use Rattle.std.specs.declared.net.socket_addr.SocketAddr.{SocketAddr}
+use Rattle.loop_model.specs.Asking.{IsAddressOf}
+use Rattle.gateway_loop.proofs.AddressLemmas.{tried_are, tried_found}
+use Rattle.gateway_loop.proofs.BegunLemmas.{begun_addresses}
+use Rattle.gateway_loop.proofs.asking.Asking.has_address.Goals as goal
+
+pub invariant_of-self : goal.invariant_of-self
+invariant_of-self g c =
+    let i = c.self.inside in
+    let same = tried_found c.address.result.now c.parse.result i.addresses c.parse.new.self c.parse.ensures in
+    begun_addresses i.job i.addresses c.parse.new.self i.attempt i.end i.tried.items
+    (λ a is. subst (λ (f : List SocketAddr). IsAddressOf i.job.job.address f a) (sym same) is)
+    (λ are. tried_are i.job.job.address c.address.result.now c.parse.result i.addresses c.parse.new.self c.address.ensures c.parse.ensures are) c.self.invariant

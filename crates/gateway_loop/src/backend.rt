@@ -1,0 +1,60 @@
+ghost use Rattle.std.specs.Prelude.{◌≡◌, []};
+ghost use Rattle.loop_model.specs.Asking.{stream_value};
+ghost use Rattle.wires.specs.Wires.{Gives, Takes};
+
+use crate::network::Network;
+use std::marker::Model;
+use std::net::SocketAddr;
+use wires::{Got, Outbox, PIECE, Sent, Wire};
+
+/// A stream to a backend. Contracts see the address that it was connected to, and what was read from it and written to it.
+#[derive(Drop)]
+pub(crate) struct Backend<W: Wire> {
+    wire: W,
+    peer: SocketAddr,
+}
+
+impl<W: Wire> Model for Backend<W> {
+    ghost use Rattle.loop_model.specs.Asking.{StreamValue, stream_value};
+
+    ghost Value = { StreamValue };
+
+    ghost view = { λ b. stream_value b.peer (W.given b.wire) (W.got b.wire) };
+}
+
+impl<W: Wire> Backend<W> {
+    /// Begins to connect to the address, over which a request of so many bytes will be written.
+    pub(crate) fn connect<N: Network<W>>(
+        net: &mut N,
+        address: SocketAddr,
+        length: usize,
+    ) -> Backend<W>
+        ensures fresh { result ≡ stream_value address [] [] }
+        ensures told { N.told net.new ≡ N.told net.old }
+    {
+        Backend {
+            wire: net.connect(address, length),
+            peer: address,
+        }
+    }
+
+    pub(crate) fn wire(&self) -> &W {
+        &self.wire
+    }
+
+    /// Reads once, into the first places of the piece.
+    pub(crate) fn read(&mut self, piece: &mut [u8; PIECE]) -> Got
+        ensures given { Gives self.old.given self.new.given piece.new result }
+        ensures rest { self.new ≡ stream_value self.old.peer self.new.given self.old.got }
+    {
+        self.wire.read(piece)
+    }
+
+    /// Writes once of what waits, from its first byte on.
+    pub(crate) fn write(&mut self, outbox: &Outbox) -> Sent
+        ensures got { Takes self.old.got self.new.got outbox.now result }
+        ensures rest { self.new ≡ stream_value self.old.peer self.old.given self.new.got }
+    {
+        self.wire.write(outbox)
+    }
+}
