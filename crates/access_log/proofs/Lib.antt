@@ -1,1 +1,2 @@
+mod MembersLemmas
 mod StatusLemmas

@@ -1,14 +1,11 @@
 //! The line of the log for a branch whose backend was asked.
 ghost use Rattle.std.specs.Prelude.{◌≡◌, IfOk, Some, string_bytes};
 ghost use Rattle.serde_json.specs.Read.{read};
-ghost use Rattle.serde_json.specs.View.{view};
 ghost use Rattle.access_log.specs.Branch.{asked_of, branch_document, branch_line, is_told};
-ghost use Rattle.access_log.specs.Line.{number_or_null};
 
-use crate::line::text_or_null;
+use crate::members::{begin, finish, put_number, put_number_or_null, put_text, put_text_or_null};
 use branch_causes::Cause;
 use gateway_model::CallId;
-use serde_json::{Value, json};
 use std::alloc::{AllocError, Global};
 
 /// What came of asking the backend of a branch.
@@ -51,42 +48,26 @@ pub fn branch_line(
     ensures reads_back { IfOk result (λ line.
         read (string_bytes line) ≡ Some (branch_document time worker (asked_of asked.now))) }
 {
-    document(alloc, time, worker, asked)?.to_string(alloc)
+    let mut out = begin(alloc)?;
+    put_text(&mut out, "address", asked.address)?;
+    put_text(&mut out, "branch", asked.branch)?;
+    put_text(&mut out, "cause", asked.cause.name())?;
+    put_number(&mut out, "connection", asked.call.conn.number())?;
+    put_number(&mut out, "ms", asked.took)?;
+    put_text(&mut out, "path", asked.plan)?;
+    put_number(&mut out, "request", asked.call.request)?;
+    put_text_or_null(&mut out, "request_id", asked.request_id)?;
+    put_number_or_null(&mut out, "status", status_of(asked.status))?;
+    put_number(&mut out, "time", time)?;
+    put_number(&mut out, "worker", u64::from(worker))?;
+    finish(alloc, out)
 }
 
-fn document(
-    alloc: Global,
-    time: u64,
-    worker: u32,
-    asked: &BranchAsked<'_>,
-) -> Result<Value, AllocError>
-    ensures { IfOk result (λ value. view value ≡ branch_document time worker (asked_of asked.now)) }
-{
-    let address = Value::try_from_str(alloc, asked.address)?;
-    let branch = Value::try_from_str(alloc, asked.branch)?;
-    let plan = Value::try_from_str(alloc, asked.plan)?;
-    let request_id = text_or_null(alloc, asked.request_id)?;
-    let status = status_or_null(asked.status);
-    json!(in alloc; {
-        "address": address,
-        "branch": branch,
-        "cause": asked.cause.name(),
-        "connection": asked.call.conn.number(),
-        "ms": asked.took,
-        "path": plan,
-        "request": asked.call.request,
-        "request_id": request_id,
-        "status": status,
-        "time": time,
-        "worker": worker
-    })
-}
-
-fn status_or_null(status: Option<u16>) -> Value
-    ensures { view result ≡ number_or_null status }
+fn status_of(status: Option<u16>) -> Option<u64>
+    ensures { result ≡ status }
 {
     match status {
-        Some(status) => Value::from(status),
-        None => Value::Null,
+        Some(status) => Some(u64::from(status)),
+        None => None,
     }
 }

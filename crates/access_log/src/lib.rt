@@ -7,6 +7,7 @@ mod closed;
 mod ending;
 pub mod laws;
 mod line;
+mod members;
 mod standing;
 mod start;
 mod told;

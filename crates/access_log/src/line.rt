@@ -2,15 +2,16 @@ ghost use Rattle.std.specs.Prelude.{◌≡◌, IfOk, Some, option_map, string_by
 ghost use Rattle.std.specs.Option.{option_copied};
 ghost use Rattle.serde_json.specs.Read.{read};
 ghost use Rattle.serde_json.specs.View.{view};
-ghost use Rattle.access_log.specs.Line.{log_document, log_line, number_or_null, text_or_null};
+ghost use Rattle.access_log.specs.Line.{log_document, log_line, text_or_null};
 
+use crate::members::{begin, finish, put_number, put_number_or_null, put_text, put_text_or_null};
 use crate::told;
 use gateway_model::{CallId, ReplyEntry};
-use serde_json::{Value, json};
+use serde_json::Value;
 use std::alloc::{AllocError, Global};
 
-/// The line for a reply by its entry: an object in JSON, with no LF. `time` is when it was written, in milliseconds from
-/// 1970, and `moment` the same in the milliseconds in which the calls' arrivals are told. Each worker counts its
+/// The line for a reply by its entry: an object in JSON, with no LF. `time` is when it was written, in milliseconds
+/// from 1970, and `moment` the same in the milliseconds in which the calls' arrivals are told. Each worker counts its
 /// connections by itself. `request_id` is that of the call, if it is known.
 #[tactic(auto, unfolding(crate::specs::Line::log_line))]
 pub fn log_line(
@@ -28,39 +29,19 @@ pub fn log_line(
         read (string_bytes line)
         ≡ Some (log_document time moment worker id entry.now (option_copied request_id.entry))) }
 {
-    document(alloc, time, moment, worker, id, entry, request_id)?.to_string(alloc)
-}
-
-fn document(
-    alloc: Global,
-    time: u64,
-    moment: u64,
-    worker: u32,
-    id: CallId,
-    entry: &ReplyEntry,
-    request_id: Option<&str>,
-) -> Result<Value, AllocError>
-    ensures { IfOk result (λ value.
-        view value ≡ log_document time moment worker id entry.now (option_copied request_id.entry)) }
-{
-    let request_id = text_or_null(alloc, request_id)?;
-    let branch = text_or_null(alloc, told::branch(entry))?;
-    let code = text_or_null(alloc, told::code_name(entry))?;
-    let path = text_or_null(alloc, told::path(entry))?;
-    let ms = number_or_null(told::taken(moment, entry));
-    json!(in alloc; {
-        "branch": branch,
-        "code": code,
-        "connection": id.conn.number(),
-        "ended": told::ended(entry).name(),
-        "ms": ms,
-        "path": path,
-        "request": id.request,
-        "request_id": request_id,
-        "status": told::status(entry),
-        "time": time,
-        "worker": worker
-    })
+    let mut out = begin(alloc)?;
+    put_text_or_null(&mut out, "branch", told::branch(entry))?;
+    put_text_or_null(&mut out, "code", told::code_name(entry))?;
+    put_number(&mut out, "connection", id.conn.number())?;
+    put_text(&mut out, "ended", told::ended(entry).name())?;
+    put_number_or_null(&mut out, "ms", told::taken(moment, entry))?;
+    put_text_or_null(&mut out, "path", told::path(entry))?;
+    put_number(&mut out, "request", id.request)?;
+    put_text_or_null(&mut out, "request_id", request_id)?;
+    put_number(&mut out, "status", u64::from(told::status(entry)))?;
+    put_number(&mut out, "time", time)?;
+    put_number(&mut out, "worker", u64::from(worker))?;
+    finish(alloc, out)
 }
 
 pub(crate) fn text_or_null(alloc: Global, text: Option<&str>) -> Result<Value, AllocError>
@@ -69,14 +50,5 @@ pub(crate) fn text_or_null(alloc: Global, text: Option<&str>) -> Result<Value, A
     match text {
         Some(text) => Value::try_from_str(alloc, text),
         None => Ok(Value::Null),
-    }
-}
-
-fn number_or_null(number: Option<u64>) -> Value
-    ensures { view result ≡ number_or_null number }
-{
-    match number {
-        Some(number) => Value::from(number),
-        None => Value::Null,
     }
 }
