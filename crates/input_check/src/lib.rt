@@ -18,5 +18,6 @@ mod script_warnings;
 mod served;
 mod spelling;
 mod structure;
+mod warnings;
 
 pub use report::{PlanReport, ScriptReport, plan_report, script_report, too_long};

@@ -32,11 +32,6 @@ impl<'n> Lines<'n> {
             .push(if letter.is_control() { '?' } else { letter })
     }
 
-    /// How many bytes they have.
-    pub(crate) fn len(&self) -> usize {
-        self.text.len()
-    }
-
     pub(crate) fn into_text(self) -> String {
         self.text
     }

@@ -1,10 +1,10 @@
 //! What the gateway takes of a plan and what will not work as it seems to be meant.
 use crate::complaint::Complaint;
 use crate::finding::{Finding, Place};
-use crate::lines::{Lines, push_finding};
 use crate::plan_fault::{MOST_PLANS, branches_of, is_branch_timeout, text_of};
 use crate::spelling::meant_key;
 use crate::structure::repeated_key;
+use crate::warnings::Warnings;
 use serde_json::Value;
 use std::alloc::{AllocError, Global};
 
@@ -29,12 +29,12 @@ const MOST_PORT: u64 = 65_535;
 /// Adds the warnings of an array of plans, of as many as a file may have.
 pub(crate) fn push_plan_warnings(
     alloc: Global,
-    lines: &mut Lines<'_>,
+    warnings: &mut Warnings<'_>,
     plans: &[Value],
 ) -> Result<(), AllocError> {
     for (k, plan) in plans.iter().take(MOST_PLANS).enumerate() {
         if plan.is_object() {
-            push_warnings_of_plan(alloc, lines, Place::Plan(k + 1, plan.get("path")), plan)?;
+            push_warnings_of_plan(alloc, warnings, Place::Plan(k + 1, plan.get("path")), plan)?;
         }
     }
     Ok(())
@@ -42,14 +42,14 @@ pub(crate) fn push_plan_warnings(
 
 fn push_warnings_of_plan<'v>(
     alloc: Global,
-    lines: &mut Lines<'_>,
+    warnings: &mut Warnings<'_>,
     place: Place<'v>,
     plan: &'v Value,
 ) -> Result<(), AllocError> {
-    push_key_warnings(alloc, lines, place, plan, &PLAN_KEYS)?;
-    push_path_warning(alloc, lines, place, plan)?;
+    push_key_warnings(alloc, warnings, place, plan, &PLAN_KEYS)?;
+    push_path_warning(alloc, warnings, place, plan)?;
     let branches = branches_of(plan);
-    push_plan_timeout_warning(alloc, lines, place, plan, branches)?;
+    push_plan_timeout_warning(alloc, warnings, place, plan, branches)?;
     if is_above(plan.get("limit"), branches.len()) {
         let found = Finding::of(
             place,
@@ -57,13 +57,13 @@ fn push_warnings_of_plan<'v>(
             plan.get("limit"),
             Complaint::LimitAboveBranches,
         );
-        push_warning(alloc, lines, &found)?;
+        warnings.add(alloc, &found)?;
     }
     for (k, branch) in branches.iter().enumerate() {
         let place = place.branch(k + 1);
-        push_key_warnings(alloc, lines, place, branch, &BRANCH_KEYS)?;
-        push_address_warnings(alloc, lines, place, branch)?;
-        push_branch_timeout_warning(alloc, lines, place, plan.get("timeout_ms"), branch)?;
+        push_key_warnings(alloc, warnings, place, branch, &BRANCH_KEYS)?;
+        push_address_warnings(alloc, warnings, place, branch)?;
+        push_branch_timeout_warning(alloc, warnings, place, plan.get("timeout_ms"), branch)?;
     }
     Ok(())
 }
@@ -71,7 +71,7 @@ fn push_warnings_of_plan<'v>(
 /// Adds a warning for a path that looks like a pattern.
 fn push_path_warning<'v>(
     alloc: Global,
-    lines: &mut Lines<'_>,
+    warnings: &mut Warnings<'_>,
     place: Place<'v>,
     plan: &'v Value,
 ) -> Result<(), AllocError> {
@@ -80,24 +80,24 @@ fn push_path_warning<'v>(
         return Ok(());
     }
     let found = Finding::of(place, "path", None, Complaint::PathOfPattern);
-    push_warning(alloc, lines, &found)
+    warnings.add(alloc, &found)
 }
 
 /// Adds a warning for a plan whose calls may wait for ever, or don't wait at all.
 fn push_plan_timeout_warning<'v>(
     alloc: Global,
-    lines: &mut Lines<'_>,
+    warnings: &mut Warnings<'_>,
     place: Place<'v>,
     plan: &'v Value,
     branches: &[Value],
 ) -> Result<(), AllocError> {
     let timeout = plan.get("timeout_ms");
     if timeout.is_none() && !have_timeouts(branches) {
-        push_warning(alloc, lines, &Finding::at(place, Complaint::NoTimeout))?;
+        warnings.add(alloc, &Finding::at(place, Complaint::NoTimeout))?;
     }
     if timeout.and_then(Value::as_u64) == Some(0) {
         let found = Finding::of(place, "timeout_ms", timeout, Complaint::ZeroTimeout);
-        push_warning(alloc, lines, &found)?;
+        warnings.add(alloc, &found)?;
     }
     Ok(())
 }
@@ -120,7 +120,7 @@ fn is_above(limit: Option<&Value>, branches: usize) -> bool {
 
 fn push_address_warnings<'v>(
     alloc: Global,
-    lines: &mut Lines<'_>,
+    warnings: &mut Warnings<'_>,
     place: Place<'v>,
     branch: &'v Value,
 ) -> Result<(), AllocError> {
@@ -134,7 +134,7 @@ fn push_address_warnings<'v>(
     ] {
         if is_so {
             let found = Finding::of(place, "address", branch.get("address"), complaint);
-            push_warning(alloc, lines, &found)?;
+            warnings.add(alloc, &found)?;
         }
     }
     Ok(())
@@ -143,7 +143,7 @@ fn push_address_warnings<'v>(
 /// Adds a warning for a branch that expires no sooner than its call by the timeout of its plan.
 fn push_branch_timeout_warning<'v>(
     alloc: Global,
-    lines: &mut Lines<'_>,
+    warnings: &mut Warnings<'_>,
     place: Place<'v>,
     of_plan: Option<&Value>,
     branch: &'v Value,
@@ -153,7 +153,7 @@ fn push_branch_timeout_warning<'v>(
         return Ok(());
     }
     let found = Finding::of(place, "timeout_ms", timeout, Complaint::LateTimeout);
-    push_warning(alloc, lines, &found)
+    warnings.add(alloc, &found)
 }
 
 /// Whether a branch's timeout is one, and not below its plan's.
@@ -182,7 +182,7 @@ fn has_no_port(address: &str) -> bool {
 /// it is near to one.
 pub(crate) fn push_key_warnings<'v>(
     alloc: Global,
-    lines: &mut Lines<'_>,
+    warnings: &mut Warnings<'_>,
     place: Place<'v>,
     object: &'v Value,
     known: &[&'static str],
@@ -194,13 +194,9 @@ pub(crate) fn push_key_warnings<'v>(
         let key = key.as_str();
         if let Some(meant) = meant_key(alloc, key, known)? {
             let found = Finding::of(place, key, None, Complaint::MisspelledKey);
-            push_warning(alloc, lines, &found.meaning(meant))?;
+            warnings.add(alloc, &found.meaning(meant))?;
         } else if !key.starts_with('_') && !known.iter().any(|name| *name == key) {
-            push_warning(
-                alloc,
-                lines,
-                &Finding::of(place, key, None, Complaint::IgnoredKey),
-            )?;
+            warnings.add(alloc, &Finding::of(place, key, None, Complaint::IgnoredKey))?;
         }
     }
     Ok(())
@@ -209,25 +205,15 @@ pub(crate) fn push_key_warnings<'v>(
 /// Adds a warning for the first key of a file's objects that stands twice in its object. The text is JSON.
 pub(crate) fn push_repeated_key(
     alloc: Global,
-    lines: &mut Lines<'_>,
+    warnings: &mut Warnings<'_>,
     text: &[u8],
 ) -> Result<(), AllocError> {
     let Some(found) = repeated_key(alloc, text, &FILE_KEYS)? else {
         return Ok(());
     };
     let place = Place::Text(found.line, found.column);
-    push_warning(
+    warnings.add(
         alloc,
-        lines,
         &Finding::of(place, found.key, None, Complaint::RepeatedKey),
     )
-}
-
-pub(crate) fn push_warning(
-    alloc: Global,
-    lines: &mut Lines<'_>,
-    found: &Finding<'_>,
-) -> Result<(), AllocError> {
-    lines.push_str("warning: ")?;
-    push_finding(alloc, lines, found)
 }

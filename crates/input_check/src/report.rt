@@ -1,7 +1,7 @@
-ghost use Rattle.std.specs.Prelude.{IfOk, string_bytes};
+ghost use Rattle.std.specs.Prelude.{◌≡◌, ◌≢◌, [], true, IfOk, string_bytes};
 ghost use Rattle.call_plan.specs.PlanFile.{plans_in};
 ghost use Rattle.gateway_run.specs.Script.{script_in};
-ghost use Rattle.input_check.specs.Report.{IsApproval, IsRefusal, IsVerdict, Says};
+ghost use Rattle.input_check.specs.Report.{IsApproval, IsRefusal, IsVerdict, Says, Warns};
 
 use crate::complaint::Complaint;
 use crate::event_fault::elements_of;
@@ -13,6 +13,7 @@ use crate::plan_warnings::{push_plan_warnings, push_repeated_key};
 use crate::script_fault::{plans_of, script_fault};
 use crate::script_warnings::push_script_warnings;
 use crate::served::{push_number, push_served};
+use crate::warnings::Warnings;
 use call_plan::{PlanError, Plans, read_plans};
 use gateway_run::{ScriptError, read_script};
 use serde_json::{Error, Value};
@@ -44,23 +45,24 @@ pub struct ScriptReport {
 pub fn plan_report(alloc: Global, name: &str, text: &[u8]) -> Result<PlanReport, AllocError>
     ensures fault { IfOk result (λ report. IsVerdict report.fault (plans_in text.now)) }
     ensures says { IfOk result (λ report. Says report.fault (string_bytes report.text)) }
+    ensures warned { IfOk result (λ report. report.warned ≡ true → Warns (string_bytes report.text)) }
 {
     match read_plans(alloc, text) {
         Ok(plans) => {
-            let lines = fine_plans(alloc, name, &plans, text)?;
+            let found = fine_plans(alloc, name, &plans, text)?;
             Ok(PlanReport {
                 fault: None,
-                warned: lines.warned,
-                text: fine(alloc, &lines.text)?,
+                warned: !found.warnings.is_empty(),
+                text: fine(alloc, &found)?,
             })
         }
         Err(PlanError::Memory) => Err(AllocError),
         Err(fault) => {
-            let lines = refused_plans(alloc, name, text)?;
+            let found = refused_plans(alloc, name, text)?;
             Ok(PlanReport {
                 fault: Some(fault),
-                warned: lines.warned,
-                text: refused(alloc, &lines.text)?,
+                warned: !found.warnings.is_empty(),
+                text: refused(alloc, &found)?,
             })
         }
     }
@@ -70,23 +72,24 @@ pub fn plan_report(alloc: Global, name: &str, text: &[u8]) -> Result<PlanReport,
 pub fn script_report(alloc: Global, name: &str, text: &[u8]) -> Result<ScriptReport, AllocError>
     ensures fault { IfOk result (λ report. IsVerdict report.fault (script_in text.now)) }
     ensures says { IfOk result (λ report. Says report.fault (string_bytes report.text)) }
+    ensures warned { IfOk result (λ report. report.warned ≡ true → Warns (string_bytes report.text)) }
 {
     match read_script(alloc, text) {
         Ok((plans, events)) => {
-            let lines = fine_script(alloc, name, &plans, events.len(), text)?;
+            let found = fine_script(alloc, name, &plans, events.len(), text)?;
             Ok(ScriptReport {
                 fault: None,
-                warned: lines.warned,
-                text: fine(alloc, &lines.text)?,
+                warned: !found.warnings.is_empty(),
+                text: fine(alloc, &found)?,
             })
         }
         Err(ScriptError::Memory) => Err(AllocError),
         Err(fault) => {
-            let lines = refused_script(alloc, name, text)?;
+            let found = refused_script(alloc, name, text)?;
             Ok(ScriptReport {
                 fault: Some(fault),
-                warned: lines.warned,
-                text: refused(alloc, &lines.text)?,
+                warned: !found.warnings.is_empty(),
+                text: refused(alloc, &found)?,
             })
         }
     }
@@ -96,124 +99,123 @@ pub fn script_report(alloc: Global, name: &str, text: &[u8]) -> Result<ScriptRep
 pub fn too_long(alloc: Global, name: &str) -> Result<String, AllocError>
     ensures { IfOk result (λ text. IsRefusal (string_bytes text)) }
 {
-    let mut lines = Lines::new(alloc, name);
-    push_finding(
+    let mut said = Lines::new(alloc, name);
+    let found = Finding::at(Place::File, Complaint::TooLong);
+    push_finding(alloc, &mut said, &found)?;
+    refused(
         alloc,
-        &mut lines,
-        &Finding::at(Place::File, Complaint::TooLong),
-    )?;
-    refused(alloc, &lines.into_text())
-}
-
-fn fine(alloc: Global, lines: &String) -> Result<String, AllocError>
-    ensures { IfOk result (λ text. IsApproval (string_bytes text)) }
-{
-    let mut text = String::from_str(alloc, "fine: ")?;
-    text.push_str(lines.as_str())?;
-    Ok(text)
-}
-
-fn refused(alloc: Global, lines: &String) -> Result<String, AllocError>
-    ensures { IfOk result (λ text. IsRefusal (string_bytes text)) }
-{
-    let mut text = String::from_str(alloc, "refused: ")?;
-    text.push_str(lines.as_str())?;
-    Ok(text)
+        &Found {
+            said: said.into_text(),
+            warnings: Warnings::new(alloc, name),
+        },
+    )
 }
 
 /// What was found.
 #[derive(Drop)]
-struct Found {
-    text: String,
-    warned: bool,
+struct Found<'n> {
+    // what is taken of the file, or why it is refused
+    said: String,
+    warnings: Warnings<'n>,
 }
 
-impl Found {
-    /// These lines, of which the first so many bytes are no warnings.
-    fn of(lines: Lines<'_>, before: usize) -> Found {
-        let warned = lines.len() > before;
-        Found {
-            text: lines.into_text(),
-            warned,
-        }
+/// The text of a file that is fine.
+fn fine(alloc: Global, found: &Found<'_>) -> Result<String, AllocError>
+    ensures approval { IfOk result (λ text. IsApproval (string_bytes text)) }
+    ensures warned { IfOk result (λ text. found.now.warnings ≢ [] → Warns (string_bytes text)) }
+{
+    let mut text = String::from_str(alloc, "fine: ")?;
+    text.push_str(found.said.as_str())?;
+    text.push_str(found.warnings.as_str())?;
+    Ok(text)
+}
+
+/// The text of a file that is refused.
+fn refused(alloc: Global, found: &Found<'_>) -> Result<String, AllocError>
+    ensures refusal { IfOk result (λ text. IsRefusal (string_bytes text)) }
+    ensures warned { IfOk result (λ text. found.now.warnings ≢ [] → Warns (string_bytes text)) }
+{
+    let mut text = String::from_str(alloc, "refused: ")?;
+    text.push_str(found.said.as_str())?;
+    text.push_str(found.warnings.as_str())?;
+    Ok(text)
+}
+
+fn fine_plans<'n>(
+    alloc: Global,
+    name: &'n str,
+    plans: &Plans,
+    text: &[u8],
+) -> Result<Found<'n>, AllocError> {
+    let mut said = Lines::new(alloc, name);
+    let mut warnings = Warnings::new(alloc, name);
+    push_number(&mut said, plans.len(), " plan\n", " plans\n")?;
+    if let Ok(value) = read_value(alloc, text)? {
+        push_served(&mut said, plans, elements_of(&value))?;
+        push_repeated_key(alloc, &mut warnings, text)?;
+        push_plan_warnings(alloc, &mut warnings, elements_of(&value))?;
     }
-}
-
-fn fine_plans(alloc: Global, name: &str, plans: &Plans, text: &[u8]) -> Result<Found, AllocError> {
-    let mut lines = Lines::new(alloc, name);
-    push_number(&mut lines, plans.len(), " plan\n", " plans\n")?;
-    let Ok(value) = read_value(alloc, text)? else {
-        return Ok(Found {
-            text: lines.into_text(),
-            warned: false,
-        });
-    };
-    push_served(&mut lines, plans, elements_of(&value))?;
-    let before = lines.len();
-    push_repeated_key(alloc, &mut lines, text)?;
-    push_plan_warnings(alloc, &mut lines, elements_of(&value))?;
-    Ok(Found::of(lines, before))
-}
-
-fn refused_plans(alloc: Global, name: &str, text: &[u8]) -> Result<Found, AllocError> {
-    let mut lines = Lines::new(alloc, name);
-    match read_value(alloc, text)? {
-        Ok(value) => {
-            push_fault(alloc, &mut lines, plans_fault(&value))?;
-            let before = lines.len();
-            push_repeated_key(alloc, &mut lines, text)?;
-            push_plan_warnings(alloc, &mut lines, elements_of(&value))?;
-            Ok(Found::of(lines, before))
-        }
-        Err(error) => no_json(alloc, name, text, &error),
-    }
-}
-
-/// The line of a text that is no JSON.
-fn no_json(alloc: Global, name: &str, text: &[u8], error: &Error) -> Result<Found, AllocError> {
-    let mut lines = Lines::new(alloc, name);
-    push_finding(alloc, &mut lines, &json_fault(text, error))?;
     Ok(Found {
-        text: lines.into_text(),
-        warned: false,
+        said: said.into_text(),
+        warnings,
     })
 }
 
-fn fine_script(
+fn refused_plans<'n>(alloc: Global, name: &'n str, text: &[u8]) -> Result<Found<'n>, AllocError> {
+    let mut said = Lines::new(alloc, name);
+    let mut warnings = Warnings::new(alloc, name);
+    match read_value(alloc, text)? {
+        Ok(value) => {
+            push_fault(alloc, &mut said, plans_fault(&value))?;
+            push_repeated_key(alloc, &mut warnings, text)?;
+            push_plan_warnings(alloc, &mut warnings, elements_of(&value))?;
+        }
+        // the line of a text that is no JSON
+        Err(error) => push_finding(alloc, &mut said, &json_fault(text, &error))?,
+    }
+    Ok(Found {
+        said: said.into_text(),
+        warnings,
+    })
+}
+
+fn fine_script<'n>(
     alloc: Global,
-    name: &str,
+    name: &'n str,
     plans: &Plans,
     events: usize,
     text: &[u8],
-) -> Result<Found, AllocError> {
-    let mut lines = Lines::new(alloc, name);
-    push_number(&mut lines, plans.len(), " plan, ", " plans, ")?;
-    push_number(&mut lines, events, " event\n", " events\n")?;
-    let Ok(script) = read_value(alloc, text)? else {
-        return Ok(Found {
-            text: lines.into_text(),
-            warned: false,
-        });
-    };
-    push_served(&mut lines, plans, plans_of(&script))?;
-    let before = lines.len();
-    push_repeated_key(alloc, &mut lines, text)?;
-    push_script_warnings(alloc, &mut lines, &script)?;
-    Ok(Found::of(lines, before))
+) -> Result<Found<'n>, AllocError> {
+    let mut said = Lines::new(alloc, name);
+    let mut warnings = Warnings::new(alloc, name);
+    push_number(&mut said, plans.len(), " plan, ", " plans, ")?;
+    push_number(&mut said, events, " event\n", " events\n")?;
+    if let Ok(script) = read_value(alloc, text)? {
+        push_served(&mut said, plans, plans_of(&script))?;
+        push_repeated_key(alloc, &mut warnings, text)?;
+        push_script_warnings(alloc, &mut warnings, &script)?;
+    }
+    Ok(Found {
+        said: said.into_text(),
+        warnings,
+    })
 }
 
-fn refused_script(alloc: Global, name: &str, text: &[u8]) -> Result<Found, AllocError> {
-    let mut lines = Lines::new(alloc, name);
+fn refused_script<'n>(alloc: Global, name: &'n str, text: &[u8]) -> Result<Found<'n>, AllocError> {
+    let mut said = Lines::new(alloc, name);
+    let mut warnings = Warnings::new(alloc, name);
     match read_value(alloc, text)? {
         Ok(script) => {
-            push_fault(alloc, &mut lines, script_fault(&script))?;
-            let before = lines.len();
-            push_repeated_key(alloc, &mut lines, text)?;
-            push_script_warnings(alloc, &mut lines, &script)?;
-            Ok(Found::of(lines, before))
+            push_fault(alloc, &mut said, script_fault(&script))?;
+            push_repeated_key(alloc, &mut warnings, text)?;
+            push_script_warnings(alloc, &mut warnings, &script)?;
         }
-        Err(error) => no_json(alloc, name, text, &error),
+        Err(error) => push_finding(alloc, &mut said, &json_fault(text, &error))?,
     }
+    Ok(Found {
+        said: said.into_text(),
+        warnings,
+    })
 }
 
 /// The value of a text, or what the reader of JSON says of it.

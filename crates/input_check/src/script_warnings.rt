@@ -2,9 +2,9 @@
 use crate::complaint::Complaint;
 use crate::finding::{Finding, Place};
 use crate::form::Form;
-use crate::lines::Lines;
-use crate::plan_warnings::{push_key_warnings, push_plan_warnings, push_warning};
+use crate::plan_warnings::{push_key_warnings, push_plan_warnings};
 use crate::script_fault::{events_of, plans_of};
+use crate::warnings::Warnings;
 use serde_json::Value;
 use std::alloc::{AllocError, Global};
 
@@ -13,15 +13,15 @@ const SCRIPT_KEYS: [&str; 2] = ["plans", "events"];
 /// Adds the warnings of a script.
 pub(crate) fn push_script_warnings(
     alloc: Global,
-    lines: &mut Lines<'_>,
+    warnings: &mut Warnings<'_>,
     script: &Value,
 ) -> Result<(), AllocError> {
-    push_key_warnings(alloc, lines, Place::File, script, &SCRIPT_KEYS)?;
-    push_plan_warnings(alloc, lines, plans_of(script))?;
+    push_key_warnings(alloc, warnings, Place::File, script, &SCRIPT_KEYS)?;
+    push_plan_warnings(alloc, warnings, plans_of(script))?;
     for (k, event) in events_of(script).iter().enumerate() {
         if has_bare_lf(event) {
             let found = Finding::at(Place::FormedEvent(k, Form::Piece), Complaint::BareLf);
-            push_warning(alloc, lines, &found)?;
+            warnings.add(alloc, &found)?;
         }
     }
     Ok(())

@@ -1,8 +1,9 @@
-ghost use Rattle.std.specs.Prelude.{◌≡◌, Err, IfErr, OnOk, string_bytes};
+ghost use Rattle.std.specs.Prelude.{◌≡◌, Err, IfErr, Ok, OnOk, string_bytes, true};
 ghost use Rattle.std.specs.Io.KnownBytes.{Appends};
 ghost use Rattle.script_replay.specs.Fault.{IsOfInput, IsOfPlanInput, IsOfReading};
 ghost use Rattle.script_replay.specs.Input.{ReadsNoPlans, ReadsNoScript};
-ghost use Rattle.input_files.specs.Check.{FindsPlans, FindsScript, WritesApproval, WritesRefusal};
+ghost use Rattle.input_files.specs.Check.{FindsPlans, FindsScript, IsOfChecked};
+ghost use Rattle.input_files.specs.Check.{WritesApproval, WritesRefusal, WritesWarning};
 
 use command_line::{Checked, CheckedFile};
 use input_check::{plan_report, script_report, too_long};
@@ -13,7 +14,9 @@ use std::io::{self, Read, Write};
 
 /// Checks the file that is named, and prints what is to be said of it. With `--strict` a file with warnings ends as a
 /// refused one does.
-pub fn check<R: Print + AllocGlobal + Files>(rt: &R, checked: &Checked) -> Result<(), Fault> {
+pub fn check<R: Print + AllocGlobal + Files>(rt: &R, checked: &Checked) -> Result<(), Fault>
+    ensures { IfErr result (IsOfChecked checked.now.file) }
+{
     let alloc = rt.alloc();
     let mut writer = io::writer(rt);
     let (warned, fault) = match &checked.file {
@@ -50,6 +53,7 @@ pub fn check_plans<R: Read, W: Write>(
     ensures faults { IfErr result IsOfPlanInput }
     ensures fine { OnOk result (FindsPlans (R.remaining reader.old) (R.remaining reader.new)
         × WritesApproval (W.contents writer.old) (W.contents writer.new)) }
+    ensures warned { result ≡ Ok true → WritesWarning (W.contents writer.old) (W.contents writer.new) }
     ensures plans { result ≡ Err Fault.Plans → ReadsNoPlans (R.remaining reader.old) (R.remaining reader.new)
         × WritesRefusal (W.contents writer.old) (W.contents writer.new) }
 {
@@ -76,6 +80,7 @@ pub fn check_script<R: Read, W: Write>(
     ensures faults { IfErr result IsOfInput }
     ensures fine { OnOk result (FindsScript (R.remaining reader.old) (R.remaining reader.new)
         × WritesApproval (W.contents writer.old) (W.contents writer.new)) }
+    ensures warned { result ≡ Ok true → WritesWarning (W.contents writer.old) (W.contents writer.new) }
     ensures script { result ≡ Err Fault.Script → ReadsNoScript (R.remaining reader.old) (R.remaining reader.new)
         × WritesRefusal (W.contents writer.old) (W.contents writer.new) }
 {
