@@ -1,7 +1,7 @@
 use crate::branch_counts::BranchCounts;
 use crate::names::ServedNames;
 use crate::totals::{BranchTotals, ENDINGS, PlanTotals, place_of_ending, place_of_time};
-use access_log::{ended, path, taken};
+use access_log::{ended, taken};
 use branch_causes::Cause;
 use gateway_model::ReplyEntry;
 use std::alloc::{AllocError, Global};
@@ -42,7 +42,7 @@ impl LoopCounts {
 
     /// Counts a reply that was written at that moment, in the milliseconds in which the calls' arrivals are told.
     pub fn count(&self, moment: u64, entry: &ReplyEntry) {
-        let Some(counts) = self.counts.get(self.place_of(entry)) else {
+        let Some(counts) = self.counts.get(self.names.place_of_reply(entry)) else {
             return;
         };
         add(&counts.ended, place_of_ending(ended(entry)), 1);
@@ -52,15 +52,6 @@ impl LoopCounts {
                 .milliseconds
                 .fetch_add(milliseconds, Ordering::SeqCst);
         }
-    }
-
-    /// The place of the plan of the reply's call; the last where it answers no call.
-    fn place_of(&self, entry: &ReplyEntry) -> usize {
-        let found = match path(entry) {
-            Some(path) => self.names.place_of_plan(path),
-            None => None,
-        };
-        found.unwrap_or(self.names.paths.len())
     }
 
     /// Counts what ended the asking for the branch with that number of the plan with that path, after so many

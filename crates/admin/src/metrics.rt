@@ -1,23 +1,13 @@
 use crate::labels::{add_first, add_label, add_number, add_seconds};
 use crate::names::{BranchName, ServedNames};
-use crate::totals::{ALL_CAUSES, BranchTotals, PlanTotals, place_of_ending};
+use crate::totals::{ALL_CAUSES, ALL_ENDINGS, BranchTotals, PlanTotals, place_of_ending};
 use access_log::Ended;
 use branch_causes::Cause;
 use http_pieces::Bytes;
 use std::alloc::{AllocError, Global};
 
-/// The endings of calls, in the order in which they are told.
-const OF_CALLS: [Ended; 6] = [
-    Ended::Answers,
-    Ended::Branch,
-    Ended::BranchDeadline,
-    Ended::Deadline,
-    Ended::HangUp,
-    Ended::Drain,
-];
-
-/// Why there was no call.
-const OF_OTHERS: [Ended; 3] = [Ended::NoCall, Ended::OneTooMany, Ended::Refusal];
+/// So many of the endings are those of calls. The others say why there was no call.
+const OF_CALLS: usize = 6;
 
 /// The bounds of the histogram, in seconds, and the last, above all.
 const BOUNDS: [&str; 14] = [
@@ -71,8 +61,13 @@ fn add_replies(text: &mut Vec<u8>, figures: &Figures<'_>) -> Result<(), AllocErr
     )?;
     for (place, totals) in figures.totals.iter().enumerate() {
         match figures.names.paths.get(place) {
-            Some(path) => add_endings(text, path.as_str().as_bytes(), &OF_CALLS, totals)?,
-            None => add_endings(text, b"", &OF_OTHERS, totals)?,
+            Some(path) => add_endings(
+                text,
+                path.as_str().as_bytes(),
+                &ALL_ENDINGS[..OF_CALLS],
+                totals,
+            )?,
+            None => add_endings(text, b"", &ALL_ENDINGS[OF_CALLS..], totals)?,
         }
     }
     Ok(())

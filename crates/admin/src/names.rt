@@ -1,7 +1,9 @@
 ghost use Rattle.std.specs.Prelude.{◌≡◌, ◌++◌, IfOk, OnOk};
-ghost use Rattle.admin.specs.Names.{branches_at, branches_named, place_of_branch, place_of_plan};
+ghost use Rattle.admin.specs.Names.{branches_at, branches_named, place_of_branch, place_of_plan, place_of_reply};
 
+use access_log::path;
 use call_plan::{Plan, Plans};
+use gateway_model::ReplyEntry;
 use http_pieces::Text;
 use std::alloc::{AllocError, Global};
 
@@ -44,6 +46,19 @@ impl ServedNames {
         ensures { result ≡ place_of_plan path.now self.now.paths.items }
     {
         self.paths.iter().position(|other| other.as_str() == path)
+    }
+
+    /// The place of the plan of the reply's call; the one behind all plans where it answers no call.
+    pub(crate) fn place_of_reply(&self, entry: &ReplyEntry) -> usize
+        ensures { result ≡ place_of_reply entry.now self.now.paths.items }
+    {
+        let Some(path) = path(entry) else {
+            return self.paths.len();
+        };
+        match self.place_of_plan(path) {
+            Some(place) => place,
+            None => self.paths.len(),
+        }
     }
 
     /// The place of the branch with that number of the plan with that path.

@@ -1,5 +1,6 @@
-ghost use Rattle.std.specs.Prelude.{◌≡◌, ◌<◌, slice_index_or};
-ghost use Rattle.admin.specs.declared.totals.TheConstants.{ALL_CAUSES};
+ghost use Rattle.std.specs.Prelude.{◌≡◌, ◌<◌, ◌≤◌, slice_index_or, ℕ};
+ghost use Rattle.access_log.specs.declared.ending.Ended.TheVariants.{Refusal};
+ghost use Rattle.admin.specs.declared.totals.TheConstants.{ALL_CAUSES, ALL_ENDINGS, MOST_MILLISECONDS};
 ghost use Rattle.branch_causes.specs.declared.cause.Cause.TheVariants.{Failed};
 
 use access_log::Ended;
@@ -112,8 +113,24 @@ pub(crate) fn place_of_cause(cause: Cause) -> usize
     }
 }
 
-/// The place of the ending among those that are counted.
-pub(crate) fn place_of_ending(ended: Ended) -> usize {
+/// The endings in the order of their places.
+pub(crate) const ALL_ENDINGS: [Ended; ENDINGS] = [
+    Ended::Answers,
+    Ended::Branch,
+    Ended::BranchDeadline,
+    Ended::Deadline,
+    Ended::HangUp,
+    Ended::Drain,
+    Ended::NoCall,
+    Ended::OneTooMany,
+    Ended::Refusal,
+];
+
+/// The place of the ending among those that are counted: there it is told again.
+pub(crate) fn place_of_ending(ended: Ended) -> usize
+    ensures within { result < 9 }
+    ensures its { slice_index_or ALL_ENDINGS result Refusal ≡ ended }
+{
     match ended {
         Ended::Answers => 0,
         Ended::Branch => 1,
@@ -128,9 +145,14 @@ pub(crate) fn place_of_ending(ended: Ended) -> usize {
 }
 
 /// The place of the first bound that is not below so many milliseconds; the one behind the last where all are.
-pub(crate) fn place_of_time(milliseconds: u64) -> usize {
-    MOST_MILLISECONDS
-        .iter()
-        .take_while(|bound| **bound < milliseconds)
-        .count()
+pub(crate) fn place_of_time(milliseconds: u64) -> usize
+    ensures within { result ≤ 13 }
+    ensures below { (i : ℕ) → i < result → slice_index_or MOST_MILLISECONDS i 0 < milliseconds }
+    ensures first { result < 13 → milliseconds ≤ slice_index_or MOST_MILLISECONDS result 0 }
+{
+    let mut place = 0;
+    while place < MOST_MILLISECONDS.len() && MOST_MILLISECONDS[place] < milliseconds {
+        place += 1;
+    }
+    place
 }

@@ -1,6 +1,8 @@
 -- What the words of the command line ask for.
-use Rattle.std.specs.Prelude.{◌≤◌, ⊤, IfSome}
+use Rattle.std.specs.Prelude.{◌≤◌, ⊤, ℕ, List, [], codes, Option, None, Some, IfSome}
 use Rattle.command_line.specs.declared.task.Admin.{Admin}
+use Rattle.command_line.specs.declared.task.Log.{Log}
+use Rattle.command_line.specs.declared.task.Log.TheVariants.{Off, Failures, All}
 use Rattle.command_line.specs.declared.task.Task.{Task}
 use Rattle.command_line.specs.declared.task.Task.TheVariants.{Replay, Serve, Check, Version}
 use Rattle.script_replay.specs.declared.fault.Fault.{Fault}
@@ -18,6 +20,12 @@ IsInRange Version = ⊤
 IsInRange (Serve service) =
     ((1 ≤ service.workers) × (service.workers ≤ 64)) × IfSome service.connections (λ count. (1 ≤ count) × (count ≤ 1000000))
     × IfSome service.admin AreShort
+
+-- the word of `--log`: none where it is not given, an empty one where it stands alone
+abbrev pub word_of_log : Log → Option (List ℕ)
+word_of_log Off = None
+word_of_log Failures = Some []
+word_of_log All = Some (codes "all")
 
 -- the faults that reading the words may give
 abbrev pub IsOfWords : Fault → Type 0

@@ -1,6 +1,7 @@
-ghost use Rattle.std.specs.Prelude.{◌≡◌, ◌≢◌, ◌≤◌, IfErr, IfOk, IfSome};
+ghost use Rattle.std.specs.Prelude.{◌≡◌, ◌≢◌, ◌≤◌, codes, IfErr, IfOk, IfSome};
+ghost use Rattle.clap.specs.Matches.{first_value, found_of};
 ghost use Rattle.clap.specs.Values.{kind_of};
-ghost use Rattle.command_line.specs.Task.{AreShort, IsInRange, IsOfWords};
+ghost use Rattle.command_line.specs.Task.{AreShort, IsInRange, IsOfWords, word_of_log};
 
 use clap::error::ErrorKind;
 use clap::{Arg, ArgAction, ArgMatches, Command, Error, value_parser};
@@ -187,7 +188,8 @@ fn service_of(alloc: Global, options: &ArgMatches<'_>) -> Result<Task, Fault>
 
 /// What is told on standard error.
 fn log_of(options: &ArgMatches<'_>) -> Result<Log, Fault>
-    ensures { IfErr result IsOfWords }
+    ensures faults { IfErr result IsOfWords }
+    ensures said { IfOk result (λ log. first_value (found_of options.now) (codes "log") ≡ word_of_log log) }
 {
     match options.get_str("log") {
         None => Ok(Log::Off),
