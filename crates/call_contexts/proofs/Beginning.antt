@@ -9,8 +9,8 @@ use Rattle.std.proofs.lemmas.List.Elements.{All-push, All-weaker}
 use Rattle.std.proofs.Math.Bool.{or-false}
 use Rattle.context_tree.specs.declared.node.Kind.{Kind}
 use Rattle.context_tree.specs.declared.node.Kind.TheVariants.{Cancel, Value}
-use Rattle.context_tree.specs.Context.{Id, same, Makes, held}
-use Rattle.context_tree.specs.Tree.{TreeValue, StandsFor, is_among}
+use Rattle.context_tree.specs.Context.{Id, same, Makes, held, handed}
+use Rattle.context_tree.specs.Tree.{IsLawful, TreeValue, StandsFor, is_among}
 use Rattle.after_funcs.specs.declared.callbacks.AfterFuncs.{AfterFuncs}
 use Rattle.after_funcs.specs.declared.error.AfterError.{AfterError}
 use Rattle.after_funcs.specs.declared.error.AfterError.TheVariants.{Exhausted, Memory}
@@ -19,12 +19,13 @@ use Rattle.after_funcs.specs.Stands.{StandsFor as HooksStand}
 use Rattle.call_contexts.specs.declared.life.Life.{Life}
 use Rattle.call_contexts.specs.declared.twig.Twig.{Twig}
 use Rattle.call_contexts.specs.Standing.{cause_in, ended_conn, if_due, seen, seen_conn, seen_call, value_in, is_conn, is_call, is_fresh, seen_branch, opened, begun}
-use Rattle.call_contexts.specs.Sound.{Op, TreeLaws, IsSound, IsLife, IsConn, IsHolder, Touches, kind_of, moment_of, with_call, contexts, hook_of, kept_of, IsTwig, same_ctx, same_holder, owns, is_kept, is_twig}
-use Rattle.call_contexts.proofs.Trees.{same_turned, shown, shown_request, far_one, far_new, touch_made, made_held}
+use Rattle.call_contexts.specs.Sound.{Op, TreeLaws, IsSound, IsLife, IsConn, IsHolder, Touches, kind_of, moment_of, with_call, contexts, hook_of, kept_of, IsTwig, same_ctx, same_holder, owns, is_kept, is_twig, is_row, let_go}
+use Rattle.call_contexts.proofs.Trees.{same_turned, shown, shown_request, far_one, far_new, touch_made, made_held, same_true}
 use Rattle.call_contexts.proofs.Making.{born_ended, or_none, call_new, call_touches, call_held, holder_held, call_ended}
 use Rattle.call_contexts.proofs.Seeing.{seen_as, call_as, ended_found}
 use Rattle.call_contexts.proofs.Lists.{any_map, any_append, none_any, none_kept, life_in, no_two_pushed}
 use Rattle.call_contexts.proofs.Framing.{framed_sound, conns_kept, calls_kept, conns_seen, calls_seen, all_seen, drained_kept, root_new, base_new, conns_new, calls_new, OtherTwig, twigs_kept, twigs_new}
+use Rattle.call_contexts.proofs.Rows.{rows_call}
 
 -- one that was not held is of no connection and no call
 module _ {C V H : Type 0} {f : AfterFuncs H} {base : Id} {conns : List Id} {calls : List Life} {twigs : List Twig} {old : TreeValue C V} (s : IsSound old f twigs base conns calls)
@@ -71,7 +72,7 @@ module _ {C V H : Type 0} (laws : TreeLaws C V) {f : AfterFuncs H} {base : Id} {
       (made_held s.past id (Cancel base) 0))
       (calls_kept laws s (id ∷ []) later new st open_touches (root_new s (id ∷ []) open_far) (base_new s (id ∷ []) open_far) calls (calls_new s (id ∷ []) open_far))
       (twigs_kept laws s (id ∷ []) later new st open_touches (root_new s (id ∷ []) open_far) (base_new s (id ∷ []) open_far) calls twigs (twigs_new s (id ∷ []) open_far))
-      open_else s.distinct s.apart s.twigs_apart s.hook_waits s.none_due
+      open_else s.distinct s.apart s.twigs_apart s.hook_waits s.none_due s.unhanded
 
   pub seen_opened : seen new.slots twigs base (conns ++ id ∷ []) calls ≡ opened id (seen old.slots twigs base conns calls)
   seen_opened =
@@ -126,6 +127,19 @@ module _ {C V H : Type 0} (laws : TreeLaws C V) {f : AfterFuncs H} {base : Id} {
       let four = or_parts (list_any (owns x) calls) (owns x l || false) (sym (any_append (owns x) calls (l ∷ [])) ∙ three.1) in
       begin_touches.held_is x (sym (or-false (owns x l)) ∙ four.1) ∙ s.none_else x (rw (zero.0, one.0, two.0, three.0, four.0) refl)
 
+  handed_begun : (x : Id) (holder : Option Id) (r : Option V) → handed x (with_call l.ctx holder l.conn l.deadline now r s.past) ≡ handed x s.past
+  handed_begun x None r = refl
+  handed_begun x (Some h) None = refl
+  handed_begun x (Some h) (Some r) = refl
+
+  new_unhanded : handed l.ctx s.past ≡ false
+  new_unhanded = by l.holder request_id st.contexts.lawful
+    where
+      by : (holder : Option Id) (r : Option V) → IsLawful (with_call l.ctx holder l.conn l.deadline now r s.past) → handed l.ctx s.past ≡ false
+      by None r lawful = laws.new_unhanded s.past l.ctx (kind_of l.conn l.deadline) (moment_of l.deadline now) lawful
+      by (Some h) None lawful = laws.new_unhanded s.past l.ctx (kind_of h l.deadline) (moment_of l.deadline now) lawful
+      by (Some h) (Some r) lawful = laws.new_unhanded (Makes h (Value l.conn 0 r) 0 ∷ s.past) l.ctx (kind_of h l.deadline) (moment_of l.deadline now) lawful
+
   pub sound_begun : (hook : H) (f' : AfterFuncs H) → HooksStand f' (AfterFunc l.ctx false hook ∷ s.hooks) → l.hook ≡ registered s.hooks → IsSound new f' twigs base conns (calls ++ l ∷ [])
   sound_begun hook f' hs numbered =
       let root_far = root_new s ids begin_far in
@@ -150,6 +164,13 @@ module _ {C V H : Type 0} (laws : TreeLaws C V) {f : AfterFuncs H} {base : Id} {
       ∙ ap (λ n. map kept_of calls ++ (n, l.ctx) ∷ []) (sym numbered)
       ∙ sym (map-append kept_of calls (l ∷ [])))
       s.none_due
+      (λ x row. handed_begun x l.holder request_id ∙ unhanded_then x row)
+    where
+      unhanded_then : (x : Id) → is_row x twigs (calls ++ l ∷ []) ≡ true → handed x s.past ≡ false
+      unhanded_then x row = ⊎_elim
+          (λ (y : same l.ctx x ≡ true). subst (λ z. handed z s.past ≡ false) (same_true l.ctx x y) new_unhanded)
+          (λ (n : same l.ctx x ≡ false). s.unhanded x (sym (rows_call x l twigs calls n) ∙ row))
+          (cases_Bool (same l.ctx x))
 
   request_begun : (holder : Option Id) (r : Option V) → is_some holder ≡ is_some r → (t : StandsFor new (with_call l.ctx holder l.conn l.deadline now r s.past)) → option_and_then (value_in new.slots) holder ≡ r
   request_begun None None same_there t = refl
@@ -204,16 +225,22 @@ module _ {C V H : Type 0} (laws : TreeLaws C V) {f : AfterFuncs H} {base : Id} {
   nothing_far : (x : Id) (kind : Kind C V) → held x s.past ≡ Some kind → is_among x [] ≡ false
   nothing_far x kind is = refl
 
-  pub sound_alike : (f' : AfterFuncs H) → HooksStand f' s.hooks → IsSound new f' twigs base conns calls
-  sound_alike f' hs = framed_sound laws s [] past new st t refl refl f' s.hooks conns calls twigs hs
+  pub sound_alike : ((x : Id) → handed x past ≡ handed x s.past) → (f' : AfterFuncs H) → HooksStand f' s.hooks → IsSound new f' twigs base conns calls
+  sound_alike same_handed f' hs = framed_sound laws s [] past new st t refl refl f' s.hooks conns calls twigs hs
       (conns_kept laws s [] past new st t refl refl conns (conns_new s [] nothing_far))
       (calls_kept laws s [] past new st t refl refl calls (calls_new s [] nothing_far))
       (twigs_kept laws s [] past new st t refl refl calls twigs (twigs_new s [] nothing_far))
       (λ x none. t.held_is x refl ∙ s.none_else x none)
-      s.distinct s.apart s.twigs_apart s.hook_waits s.none_due
+      s.distinct s.apart s.twigs_apart s.hook_waits s.none_due (λ x row. same_handed x ∙ s.unhanded x row)
 
   pub seen_alike : seen new.slots twigs base conns calls ≡ seen old.slots twigs base conns calls
   seen_alike = all_seen laws s [] past new st t refl refl calls conns calls twigs (conns_new s [] nothing_far) (calls_new s [] nothing_far) (twigs_new s [] nothing_far)
+
+pub handed_back : {C V : Type 0} (ctx conn : Id) (at : Option ℕ) (now : ℕ) (past : List (Op C V)) (holder : Option Id) (r : Option V) (x : Id)
+    → handed x (let_go ctx holder (with_call ctx holder conn at now r past)) ≡ handed x past
+handed_back ctx conn at now past None r x = refl
+handed_back ctx conn at now past (Some h) None x = refl
+handed_back ctx conn at now past (Some h) (Some r) x = refl
 
 -- the hook that is refused comes back
 pub given_back : {A H : Type 0} (n : ℕ) (hook : H) (refused : H × AfterError) (answer : Result A (H × AfterError)) → answer ≡ Err refused

@@ -10,7 +10,7 @@ use Rattle.std.proofs.Math.Bool.{or-false}
 use Rattle.std.proofs.lemmas.Option.{same_Some}
 use Rattle.context_tree.specs.declared.node.Kind.{Kind}
 use Rattle.context_tree.specs.declared.node.Kind.TheVariants.{Deadline, Value}
-use Rattle.context_tree.specs.Context.{Id, same, Makes, Releases, HasChild, held}
+use Rattle.context_tree.specs.Context.{Id, same, Makes, Releases, HasChild, held, handed}
 use Rattle.context_tree.specs.Tree.{TreeValue, StandsFor, is_among}
 use Rattle.after_funcs.specs.declared.callbacks.AfterFuncs.{AfterFuncs}
 use Rattle.call_contexts.specs.declared.life.Life.{Life}
@@ -23,6 +23,7 @@ use Rattle.call_contexts.proofs.Apart.{root_far_twig, base_far_twig, conn_far_tw
 use Rattle.call_contexts.proofs.Seeing.{maps_to, seen_as, call_as, branch_as}
 use Rattle.call_contexts.proofs.Lists.{any_append, all_stay, all_none, both_all, no_two_kept, no_two_pushed}
 use Rattle.call_contexts.proofs.Framing.{FarHolder, OtherConn, OtherLife, OtherTwig, framed_sound, conns_kept, calls_kept, twigs_kept, conns_seen, branches_seen, request_seen, shows, drained_kept, root_new, base_new, conns_new, calls_new, twigs_new}
+use Rattle.call_contexts.proofs.Rows.{any_fewer, rows_less, rows_twig}
 
 filter_append : {A : Type 0} (p : A → Bool) (xs ys : List A) → filter p (xs ++ ys) ≡ filter p xs ++ filter p ys
 filter_append p [] ys = refl
@@ -75,6 +76,10 @@ module _ {C V H : Type 0} (laws : TreeLaws C V) {f : AfterFuncs H} {base : Id} {
       (no_two_pushed same_twig twigs t s.twigs_apart (All-weaker (IsTwig s.past calls) (λ u. same_twig u t ≡ false)
       (λ u u_is. far_new t.ctx u.ctx (Deadline u.call u.at None) s.past (laws.new_unheld s.past t.ctx (Deadline t.call t.at None) now st.contexts.lawful) u_is.0) twigs s.twigs_are))
       s.hook_waits s.none_due
+      (λ x row. ⊎_elim
+      (λ (y : same t.ctx x ≡ true). subst (λ z. handed z s.past ≡ false) (same_true t.ctx x y) (laws.new_unhanded s.past t.ctx (Deadline t.call t.at None) now st.contexts.lawful))
+      (λ (n : same t.ctx x ≡ false). s.unhanded x (sym (rows_twig x t twigs calls n) ∙ row))
+      (cases_Bool (same t.ctx x)))
 
   -- it has ended by what had ended its call, or where its deadline is reached
   born : (l : Life) → IsLife s.past base l → l.ctx ≡ t.call → seen_branch new.slots t ≡ record { branch = t.branch; deadline = t.at; ended = option_or (cause_in old.slots l.ctx) (if_due now (Some t.at)) }
@@ -316,6 +321,7 @@ module _ {C V H : Type 0} (laws : TreeLaws C V) {f : AfterFuncs H} {base : Id} {
         (calls_kept laws s (t.ctx ∷ []) (Releases t.ctx ∷ s.past) new st drop_touches root_apart base_apart calls calls_apart)
         (twigs_kept laws s (t.ctx ∷ []) (Releases t.ctx ∷ s.past) new st drop_touches root_apart base_apart calls few twigs_left)
         dropped_else s.distinct s.apart (no_two_kept same_twig (λ u. not (same u.ctx t.ctx)) twigs s.twigs_apart) s.hook_waits s.none_due
+        (λ x row. s.unhanded x (rows_less x twigs few calls calls (λ e. e) (any_fewer (λ u. same u.ctx x) (λ u. not (same u.ctx t.ctx)) twigs) row))
 
     fewer : (l : Life) → IsLife s.past base l → seen_call new.slots (filter (λ u. not (same u.ctx t.ctx)) twigs) l
         ≡ (if same l.ctx call then with_branches (drop_branch n (seen_branches old.slots twigs l.ctx)) (seen_call old.slots twigs l) else seen_call old.slots twigs l)

@@ -1,10 +1,10 @@
 -- What the making and the release of contexts leave of the others.
-use Rattle.std.proofs.Common.{◌≡◌, refl, sym, ◌∙◌, List, [], Option, Some, None, false}
+use Rattle.std.proofs.Common.{◌≡◌, refl, sym, ◌∙◌, List, [], Option, Some, None, false, true}
 use Rattle.std.specs.Prelude.{map, filter, All, option_and_then, unwrap_or}
 use Rattle.std.proofs.lemmas.List.Elements.{All-weaker}
 use Rattle.context_tree.specs.declared.node.Kind.{Kind}
 use Rattle.context_tree.specs.declared.node.Kind.TheVariants.{Background, Cancel, Deadline, Value}
-use Rattle.context_tree.specs.Context.{Id, same, held}
+use Rattle.context_tree.specs.Context.{Id, same, held, handed}
 use Rattle.context_tree.specs.Tree.{TreeValue, StandsFor, is_among}
 use Rattle.after_funcs.specs.declared.callbacks.AfterFuncs.{AfterFuncs}
 use Rattle.after_funcs.specs.Hooks.{Operation, waiting, due}
@@ -12,7 +12,7 @@ use Rattle.after_funcs.specs.Stands.{StandsFor as HooksStand}
 use Rattle.call_contexts.specs.declared.life.Life.{Life}
 use Rattle.call_contexts.specs.declared.twig.Twig.{Twig}
 use Rattle.call_contexts.specs.Standing.{cause_in, seen, seen_conn, seen_call, seen_branch, seen_branches, value_in}
-use Rattle.call_contexts.specs.Sound.{Op, TreeLaws, IsSound, IsLife, IsConn, IsHolder, IsTwig, Touches, kind_of, hook_of, kept_of, NoTwo, same_ctx, same_holder, same_twig, is_kept}
+use Rattle.call_contexts.specs.Sound.{Op, TreeLaws, IsSound, IsLife, IsConn, IsHolder, IsTwig, Touches, kind_of, hook_of, kept_of, NoTwo, same_ctx, same_holder, same_twig, is_kept, is_row}
 use Rattle.call_contexts.proofs.Trees.{shown, shown_request}
 use Rattle.call_contexts.proofs.Seeing.{maps_agree, seen_as, conn_as, call_as, branch_as}
 use Rattle.call_contexts.proofs.Lists.{twigs_of}
@@ -71,8 +71,8 @@ module _ {C V H : Type 0} (laws : TreeLaws C V) {f : AfterFuncs H} {base : Id} {
 
   pub framed_sound : (f' : AfterFuncs H) (hooks' : List (Operation H)) (cs : List Id) (ls : List Life) (ts : List Twig) → HooksStand f' hooks' → All (IsConn base later) cs → All (IsLife later base) ls
       → All (IsTwig later ls) ts → ((x : Id) → is_kept ts s.root base cs ls x ≡ false → held x later ≡ None) → NoTwo same_ctx ls → NoTwo same_holder ls → NoTwo same_twig ts → map hook_of (waiting hooks') ≡ map kept_of ls → due hooks' ≡ []
-      → IsSound new f' ts base cs ls
-  framed_sound f' hooks' cs ls ts hs conns_are calls_are twigs_are else_none distinct apart twigs_apart waits none = record {
+      → ((x : Id) → is_row x ts ls ≡ true → handed x later ≡ false) → IsSound new f' ts base cs ls
+  framed_sound f' hooks' cs ls ts hs conns_are calls_are twigs_are else_none distinct apart twigs_apart waits none unhanded = record {
     laws = laws;
     past = later;
     hooks = hooks';
@@ -90,6 +90,7 @@ module _ {C V H : Type 0} (laws : TreeLaws C V) {f : AfterFuncs H} {base : Id} {
     twigs_apart = twigs_apart;
     hook_waits = waits;
     none_due = none;
+    unhanded = unhanded;
   }
 
   pub drained_kept : cause_in new.slots base ≡ cause_in old.slots base

@@ -8,7 +8,7 @@ use Rattle.std.proofs.lemmas.List.Elements.{All-weaker}
 use Rattle.std.proofs.Math.Bool.{or-false}
 use Rattle.std.proofs.lemmas.Option.{same_Some}
 use Rattle.context_tree.specs.declared.node.Kind.TheVariants.{Cancel, Value}
-use Rattle.context_tree.specs.Context.{Id, same, Releases, HasChild, held, nearest, line}
+use Rattle.context_tree.specs.Context.{Id, same, Releases, HasChild, held, nearest, line, handed}
 use Rattle.context_tree.specs.Tree.{TreeValue, StandsFor, is_among}
 use Rattle.after_funcs.specs.declared.callbacks.AfterFuncs.{AfterFuncs}
 use Rattle.after_funcs.specs.Hooks.{Operation, waiting, due}
@@ -23,6 +23,7 @@ use Rattle.call_contexts.proofs.Apart.{conn_root, conn_base, base_far_conn, root
 use Rattle.call_contexts.proofs.Lists.{any_map, all_stay, all_none, both_all, no_two_kept, found_in, found_any, owns_none, holders_apart, filtered, conns_filtered, among_none, any_other}
 use Rattle.call_contexts.proofs.Hooking.{filter_map_swap}
 use Rattle.call_contexts.proofs.Framing.{FarHolder, OtherConn, OtherLife, OtherTwig, framed_sound, twigs_kept, conns_kept, calls_kept, all_seen}
+use Rattle.call_contexts.proofs.Rows.{any_fewer, rows_less}
 
 pub seen_apart : {C V : Type 0} (slots : _) (twigs : List Twig) (ls : List Life) → NoTwo same_ctx ls → AreApart (map (seen_call {C = C} {V = V} slots twigs) ls)
 seen_apart slots twigs [] distinct = tt
@@ -220,6 +221,11 @@ module _ {C V H : Type 0} (laws : TreeLaws C V) {f : AfterFuncs H} {base : Id} {
         (twigs_kept laws s ids (let_go l.ctx l.holder s.past) new st touches root_far base_far (filter (λ m. not (same m.ctx id)) calls) twigs twigs_far)
         gone_else
         (no_two_kept same_ctx (λ m. not (same m.ctx id)) calls s.distinct) (no_two_kept same_holder (λ m. not (same m.ctx id)) calls s.apart) s.twigs_apart waits none
+        (λ x row. handed_left l.holder x ∙ s.unhanded x (rows_less x twigs twigs calls (filter (λ m. not (same m.ctx id)) calls) (any_fewer (λ m. same m.ctx x) (λ m. not (same m.ctx id)) calls) (λ e. e) row))
+      where
+        handed_left : (holder : Option Id) (x : Id) → handed x (let_go l.ctx holder s.past) ≡ handed x s.past
+        handed_left None x = refl
+        handed_left (Some h) x = refl
 
     pub seen_left : seen new.slots twigs base conns (filter (λ m. not (same m.ctx id)) calls) ≡ without id (seen old.slots twigs base conns calls)
     seen_left = all_seen laws s ids (let_go l.ctx l.holder s.past) new st touches root_far base_far (filter (λ m. not (same m.ctx id)) calls) conns (filter (λ m. not (same m.ctx id)) calls) twigs conns_far others twigs_far
@@ -309,7 +315,7 @@ module _ {C V H : Type 0} (laws : TreeLaws C V) {f : AfterFuncs H} {base : Id} {
         (conns_kept laws s (id ∷ []) (Releases id ∷ s.past) new st close_touches root_apart base_apart (filter (λ c. not (same c id)) conns) conns_left)
         (calls_kept laws s (id ∷ []) (Releases id ∷ s.past) new st close_touches root_apart base_apart calls calls_left)
         (twigs_kept laws s (id ∷ []) (Releases id ∷ s.past) new st close_touches root_apart base_apart calls twigs twigs_left)
-        close_else s.distinct s.apart s.twigs_apart s.hook_waits s.none_due
+        close_else s.distinct s.apart s.twigs_apart s.hook_waits s.none_due s.unhanded
 
     pub seen_closed : seen new.slots twigs base (filter (λ c. not (same c id)) conns) calls ≡ closed id (seen old.slots twigs base conns calls)
     seen_closed = all_seen laws s (id ∷ []) (Releases id ∷ s.past) new st close_touches root_apart base_apart calls (filter (λ c. not (same c id)) conns) calls twigs conns_left calls_left twigs_left

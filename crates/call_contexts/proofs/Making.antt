@@ -138,4 +138,5 @@ made_alike laws conn past mid new h r st goes = record {
   later = Releases h ∷ Makes h (Value conn 0 r) 0 ∷ past;
   stands = goes (new_free laws h (Value conn 0 r) 0 past st.contexts.lawful);
   alike = made_and_released laws h (Value conn 0 r) 0 past st.contexts.lawful;
+  handed_is = λ x. refl;
 }

@@ -150,6 +150,7 @@ module _ {C V : Type 0} (laws : TreeLaws C V) (root base : Id) (t : TreeValue C 
     twigs_apart = tt;
     hook_waits = refl;
     none_due = refl;
+    unhanded = λ x row. absurd (cc);
   }
 
 module _ {C V H : Type 0} (laws : TreeLaws C V) {f : AfterFuncs H} {base : Id} {conns : List Id} {calls : List Life} {twigs : List Twig} {old : TreeValue C V} (s : IsSound old f twigs base conns calls) where
@@ -221,6 +222,7 @@ module _ {C V H : Type 0} (laws : TreeLaws C V) {f : AfterFuncs H} {base : Id} {
       twigs_apart = s.twigs_apart;
       hook_waits = s.hook_waits;
       none_due = s.none_due;
+      unhanded = s.unhanded;
     }
       where
         holder_later : (holder : Option Id) (conn : Id) → IsHolder s.past conn holder → IsHolder (Advances now ∷ s.past) conn holder
@@ -294,6 +296,7 @@ module _ {C V H : Type 0} (laws : TreeLaws C V) {f : AfterFuncs H} {base : Id} {
       twigs_apart = s.twigs_apart;
       hook_waits = s.hook_waits;
       none_due = s.none_due;
+      unhanded = s.unhanded;
     }
       where
         holder_later : (holder : Option Id) (conn : Id) → IsHolder s.past conn holder → IsHolder (Cancels id (Some cause) ∷ s.past) conn holder
@@ -325,6 +328,7 @@ module _ {C V H : Type 0} (laws : TreeLaws C V) {f : AfterFuncs H} {base : Id} {
           twigs_apart = s.twigs_apart;
           hook_waits = s.hook_waits;
           none_due = s.none_due;
+          unhanded = s.unhanded;
         }
 
   -- ---- the base is cancelled

@@ -273,7 +273,7 @@ module _ {C V : Type 0} where
   released_held past x = rw (same_refl x) refl
 
   pub alike : (t : TreeValue C V) (past : List (Op C V)) → StandsFor t past → StandsAlike t past
-  alike t past st = record { later = past; stands = st; alike = touch_nothing past }
+  alike t past st = record { later = past; stands = st; alike = touch_nothing past; handed_is = λ x. refl }
 
   -- what is free is let go of
   pub freed : (id : Id) (past : List (Op C V)) (new : TreeValue C V) (answer : Released) → ((answer ≡ Unknown) ↔ (held id past ≡ None)) → (answer ≡ HasChildren → HasChild id past)

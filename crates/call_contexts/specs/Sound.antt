@@ -1,11 +1,11 @@
 -- How the connections and calls are kept in a tree of contexts and a table of hooks.
-use Rattle.std.specs.Prelude.{◌≡◌, ◌||◌, ◌&&◌, ◌==◌, ℕ, Bool, true, false, is_some, nat_le, not, List, [], ◌∷◌, filter, map, if◌then◌else◌, All, Option, Some, None, option_map, unwrap_or}
+use Rattle.std.specs.Prelude.{◌≡◌, ◌||◌, ◌&&◌, ◌==◌, ℕ, Bool, true, false, is_some, nat_le, not, List, [], ◌∷◌, filter, map, if◌then◌else◌, All, IfNone, IfSome, Option, Some, None, option_map, unwrap_or}
 use Rattle.std.specs.List.{list_any}
 use Rattle.std.specs.Option.{option_map_or}
 use Rattle.context_tree.specs.declared.error.Cause.{Cause}
 use Rattle.context_tree.specs.declared.node.Kind.{Kind}
 use Rattle.context_tree.specs.declared.node.Kind.TheVariants.{Background, Cancel, Deadline, Value}
-use Rattle.context_tree.specs.Context.{Id, TreeOp, Makes, Releases, HasChild, same, held, parent_of, follows, line, chain, has_cancel, ending}
+use Rattle.context_tree.specs.Context.{Id, TreeOp, Makes, Releases, HasChild, same, held, parent_of, follows, line, chain, handed, has_cancel, ending}
 use Rattle.context_tree.specs.Tree.{TreeValue, StandsFor, IsLawful, is_among}
 use Rattle.after_funcs.specs.declared.callbacks.AfterFuncs.{AfterFuncs}
 use Rattle.after_funcs.specs.declared.registration.Registration.{Registration}
@@ -13,7 +13,7 @@ use Rattle.after_funcs.specs.Hooks.{Operation, waiting, due}
 use Rattle.after_funcs.specs.Stands.{StandsFor as HooksStand}
 use Rattle.call_contexts.specs.declared.life.Life.{Life}
 use Rattle.call_contexts.specs.declared.twig.Twig.{Twig}
-use Rattle.call_contexts.specs.Standing.{bare_call, request_id_key, seen}
+use Rattle.call_contexts.specs.Standing.{bare_call, has_ended, is_over, request_id_key, seen, seen_call}
 
 -- an operation on the tree
 abbrev pub Op : Type 0 → Type 0 → Type 0
@@ -35,6 +35,7 @@ pub record TreeLaws (C V : Type 0) : Type 0 where
       → chain x past ≡ (x, kind) ∷ option_map_or (λ p. chain p past) (follows kind) []
   pub ends_with : (past : List (TreeOp C V)) (x t : Id) (kind : Kind C V) → IsLawful past → held x past ≡ Some kind
       → has_cancel t (chain x past) ≡ true → is_some (ending t past) ≡ true → is_some (ending x past) ≡ true
+  pub new_unhanded : (past : List (TreeOp C V)) (id : Id) (kind : Kind C V) (now : ℕ) → IsLawful (Makes id kind now ∷ past) → handed id past ≡ false
 
 -- ---- the contexts of a call
 
@@ -94,6 +95,7 @@ module _ {C V : Type 0} where
     pub later : List (Op C V)
     pub stands : StandsFor t later
     pub alike : Touches [] past later
+    pub handed_is : (x : Id) → handed x later ≡ handed x past
 
   -- a connection's context derives from the base
   abbrev pub IsConn : Id → List (Op C V) → Id → Type 0
@@ -173,6 +175,19 @@ abbrev pub soonest_of : Id → List Twig → Option Twig
 soonest_of call [] = None
 soonest_of call (t ∷ ts) = if same t.call call then Some (sooner_twig t (soonest_of call ts)) else soonest_of call ts
 
+-- the branch of that context
+abbrev pub twig_with : Id → List Twig → Option Twig
+twig_with x [] = None
+twig_with x (t ∷ ts) = if same t.ctx x then Some t else twig_with x ts
+
+-- the call that a context is of, or a branch of it
+abbrev pub owner_of : Id → List Twig → List Life → Option Id
+owner_of x twigs calls = if list_any (λ l. same l.ctx x) calls then Some x else option_map (λ t. t.call) (twig_with x twigs)
+
+-- a context of a call or of a branch
+abbrev pub is_row : Id → List Twig → List Life → Bool
+is_row x twigs calls = list_any (λ l. same l.ctx x) calls || list_any (λ t. same t.ctx x) twigs
+
 -- one of the contexts that are kept
 abbrev pub is_kept : List Twig → Id → Id → List Id → List Life → Id → Bool
 is_kept twigs root base conns calls x = is_twig x twigs || (same x root || (same x base || (is_among x conns || list_any (owns x) calls)))
@@ -203,8 +218,17 @@ module _ {C V H : Type 0} where
     pub twigs_apart : NoTwo same_twig twigs
     pub hook_waits : map hook_of (waiting hooks) ≡ map kept_of calls
     pub none_due : due hooks ≡ []
+    -- what has ended of these is still to be found
+    pub unhanded : (x : Id) → is_row x twigs calls ≡ true → handed x past ≡ false
 
 -- the contexts of the call's branches are gone, and nothing else
 pub record BranchesGo {C V H : Type 0} (call : Id) (old new : TreeValue C V) (f : AfterFuncs H) (twigs : List Twig) (base : Id) (conns : List Id) (calls : List Life) : Type 0 where
   pub sound : IsSound new f (other_twigs call twigs) base conns calls
   pub seen_is : seen new.slots (other_twigs call twigs) base conns calls ≡ bare_call call (seen old.slots twigs base conns calls)
+
+-- nothing else changes, and this call is over, or none is
+pub record FindsEnded {C V H : Type 0} (found : Option Id) (old new : TreeValue C V) (f : AfterFuncs H) (twigs : List Twig) (base : Id) (conns : List Id) (calls : List Life) : Type 0 where
+  pub sound : IsSound new f twigs base conns calls
+  pub seen_is : seen new.slots twigs base conns calls ≡ seen old.slots twigs base conns calls
+  pub its : IfSome found (λ id. list_any (has_ended id) (map (seen_call old.slots twigs) calls) ≡ true)
+  pub none : IfNone found (list_any is_over (map (seen_call old.slots twigs) calls) ≡ false)

@@ -121,6 +121,14 @@ module _ {C V : Type 0} where
   abbrev pub has_deadline : ℕ → Call C V → Bool
   has_deadline at c = (is_none c.ended && option_map_or (λ d. d == at) c.deadline false) || list_any (λ b. is_none b.ended && (b.deadline == at)) c.branches
 
+  -- its context has ended, or that of a branch of it
+  abbrev pub is_over : Call C V → Bool
+  is_over c = is_some c.ended || list_any (λ b. is_some b.ended) c.branches
+
+  -- it is the call of that context, and over
+  abbrev pub has_ended : Id → Call C V → Bool
+  has_ended id c = same c.id id && is_over c
+
   -- of the call of that context the branch that ended before it
   abbrev pub ended_branch : Id → List (Call C V) → Option ℕ
   ended_branch id [] = None

@@ -1,10 +1,11 @@
-ghost use Rattle.std.specs.Prelude.{All, ◌≡◌, ◌∷◌, [], ◌++◌, Some, true, false, is_some, IfOk, IfErr, IfSome, OnErr, map};
+ghost use Rattle.std.specs.Prelude.{All, ◌≡◌, ◌∷◌, [], ◌++◌, Some, true, false, is_some, IfNone, IfOk, IfErr, IfSome, OnErr, map};
 ghost use Rattle.std.specs.List.{list_any};
 ghost use Rattle.std.specs.Option.{option_copied};
 ghost use Rattle.context_tree.specs.Context.{same};
-ghost use Rattle.call_contexts.specs.Standing.{IsNoSooner, AreNoSooner, has_deadline, ended_branch, empty, opened, begun, expired, cancelled, all_ended, closed, gone, with_standing, with_hook, hook_for, request_for, ended_call, branched, unbranched, bare_call, AreApart, is_fresh, is_call, is_conn};
+ghost use Rattle.call_contexts.specs.Standing.{IsNoSooner, AreNoSooner, has_deadline, has_ended, is_over, ended_branch, empty, opened, begun, expired, cancelled, all_ended, closed, gone, with_standing, with_hook, hook_for, request_for, ended_call, branched, unbranched, bare_call, AreApart, is_fresh, is_call, is_conn};
 
 use crate::contexts::{REQUEST_ID, cause_of, free, free_branches, make, release, tree_laws};
+use crate::ends::first_ended;
 use crate::life::Life;
 use crate::twig::Twig;
 use crate::{calls, twigs};
@@ -182,6 +183,15 @@ impl<C: Copy, V: Drop, H: Drop> CallContexts<C, V, H> {
         } else {
             None
         }
+    }
+
+    /// A call that has ended, by its own context or by that of a branch, if one is left.
+    pub fn first_ended(&mut self) -> Option<CtxId>
+        ensures same { self.new ≡ self.old }
+        ensures its { IfSome result (λ id. list_any (has_ended id) self.old.standing.calls ≡ true) }
+        ensures none { IfNone result (list_any is_over self.old.standing.calls ≡ false) }
+    {
+        first_ended(&mut self.tree, &self.hooks, &self.twigs, &self.calls)
     }
 
     /// The least deadline of the calls and their branches that have not ended, if any has one: no moment before it ends one.

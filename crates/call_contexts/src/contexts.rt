@@ -96,6 +96,7 @@ pub(crate) fn free_branches<C: Copy, V: Drop, H>(
     ensures { (base : Id) (conns : List Id) (calls : List Life) → IsSound tree.old hooks.now twigs.now base conns calls
         → BranchesGo call tree.old tree.new hooks.now twigs.now base conns calls }
 {
+    // the clause alone looks at the hooks
     let _ = hooks;
     for twig in twigs {
         if twig.call == call {

@@ -5,6 +5,7 @@
 mod call_contexts;
 mod calls;
 mod contexts;
+mod ends;
 mod life;
 mod twig;
 mod twigs;

@@ -168,18 +168,25 @@ module _ (places : List Place) (v : QueueValue) (first last : Option ℕ) (view 
           rw (first_is, last_is') done
 
   -- the first, where there is one
-  pub first_goes : (slot number : ℕ) (p : Place) (left : List Id) → first ≡ Some slot → p ≡ slice_index_or places slot p → p.number ≡ Some number
-      → ((front back : List Id) (x : Id) → v.items ≡ front ++ x ∷ back → x.1 ≡ slot → left ≡ front ++ back) → v.items ≡ (number, slot) ∷ left
-  first_goes slot number p left first_is read number_is' goes = by_items v.items queue refl
+  pub first_stands : (slot number : ℕ) (p : Place) → first ≡ Some slot → p ≡ slice_index_or places slot p → p.number ≡ Some number
+      → (rest : List Id) × (v.items ≡ (number, slot) ∷ rest)
+  first_stands slot number p first_is read number_is' = by_items v.items queue refl
     where
-      by_items : (xs : List Id) → IsQueue (place_at places) first last xs → v.items ≡ xs → v.items ≡ (number, slot) ∷ left
+      by_items : (xs : List Id) → IsQueue (place_at places) first last xs → v.items ≡ xs → (rest : List Id) × (v.items ≡ (number, slot) ∷ rest)
       by_items [] r is = let bad : None ≡ Some slot = sym r.chain.0 ∙ first_is in cc
       by_items (x ∷ xs) r is =
           let key : x.1 ≡ slot = same_Some x.1 slot (sym r.chain.0 ∙ first_is) in
           let here : is_in slot (keys_of (x ∷ xs)) ≡ true = subst (λ z. is_in z (keys_of (x ∷ xs)) ≡ true) key (in_here x.1 (keys_of xs)) in
           let p_is : p ≡ place_at places slot = read_place places slot p (place_below places slot (r.only slot ∙ here)) read in
           let own : x.0 ≡ number = same_Some x.0 number (sym (number_is (place_at places) [] xs x None first last r.chain) ∙ ap (λ (s : ℕ). (place_at places s).number) key ∙ ap (λ (z : Place). z.number) (sym p_is) ∙ number_is') in
-          is ∙ ap (λ l. x ∷ l) (sym (goes [] xs x is key)) ∙ ap (λ n. (n, x.1) ∷ left) own ∙ ap (λ n. (number, n) ∷ left) key
+          (xs, is ∙ ap (λ n. (n, x.1) ∷ xs) own ∙ ap (λ n. (number, n) ∷ xs) key)
+
+  -- it is taken out
+  pub first_goes : (slot number : ℕ) (p : Place) (left : List Id) → first ≡ Some slot → p ≡ slice_index_or places slot p → p.number ≡ Some number
+      → ((front back : List Id) (x : Id) → v.items ≡ front ++ x ∷ back → x.1 ≡ slot → left ≡ front ++ back) → v.items ≡ (number, slot) ∷ left
+  first_goes slot number p left first_is read number_is' goes =
+      let f = first_stands slot number p first_is read number_is' in
+      f.1 ∙ ap (λ l. (number, slot) ∷ l) (sym (goes [] f.0 (number, slot) f.1 refl))
 
   -- one that waits, by its id
   pub one_goes : (id : Id) (left : List Id) → (place_at places id.1).number ≡ Some id.0

@@ -131,6 +131,11 @@ module _ {C V : Type 0} where
   popped_first None t rest is = tt
   popped_first (Some id) t rest is = λ past s. first_done past id rest (subst (λ d. QueuesDone d past) is s.queue)
 
+  -- what stands in front
+  pub first_waits : (o : Option Id) (t : TreeValue C V) → IfSome o (λ id. (rest : List Id) × (t.done ≡ id ∷ rest)) → IfSome o (λ id. (past : List (TreeOp C V)) → StandsFor t past → IsFirstDone id past)
+  first_waits None t is = tt
+  first_waits (Some id) t is = popped_first (Some id) t is.0 is.1
+
   pub popped_stands : (o : Option Id) (t : TreeValue C V) (rest : List Id) → t.done ≡ option_to_list o ++ rest
       → IfSome o (λ id. (past : List (TreeOp C V)) → StandsFor t past → StandsFor (record t { done = rest }) (HandsOut id ∷ past))
   popped_stands None t rest is = tt

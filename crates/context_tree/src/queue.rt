@@ -1,5 +1,5 @@
 //! The contexts that are ended and wait to be handed out: a list through places, one for each slot.
-ghost use Rattle.std.specs.Prelude.{◌≡◌, ◌≤◌, ◌<◌, ◌^◌, ◌++◌, ◌∷◌, [], ℕ, List, filter, not, length, true, false, is_none, IfNone, OnOk, if◌then◌else◌};
+ghost use Rattle.std.specs.Prelude.{◌≡◌, ◌≤◌, ◌<◌, ◌^◌, ◌++◌, ◌∷◌, [], ℕ, List, filter, not, length, true, false, is_none, IfNone, IfSome, OnOk, if◌then◌else◌};
 ghost use Rattle.std.specs.Option.{option_to_list};
 ghost use Rattle.context_tree.specs.Context.{Id, same};
 ghost use Rattle.context_tree.specs.Walks.{first_key, is_in, keys_of};
@@ -88,6 +88,18 @@ impl Queue {
         join(&mut self.places, self.last, Some(slot));
         self.first = end_past(self.last, self.first, Some(slot));
         self.last = Some(slot);
+    }
+
+    /// The first, if one waits.
+    pub(crate) fn first(&self) -> Option<CtxId>
+        ensures first { IfSome result (λ id. (rest : List Id) × (self.now.items ≡ id ∷ rest)) }
+        ensures none { IfNone result (self.now.items ≡ []) }
+    {
+        let slot = self.first?;
+        let Some(number) = self.places[slot].number else {
+            unreachable!()
+        };
+        Some(CtxId { number, slot })
     }
 
     /// Takes out the first, if one waits.

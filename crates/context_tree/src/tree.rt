@@ -1,4 +1,5 @@
-ghost use Rattle.std.specs.Prelude.{◌≡◌, ◌≤◌, ◌+◌, ◌∷◌, [], List, true, false, Some, None, IfOk, IfErr, IfSome, IfNone, OnOk, OnErr, is_some, option_map, option_copied, ◌↔◌};
+ghost use Rattle.std.specs.Prelude.{◌≡◌, ◌≤◌, ◌+◌, ◌++◌, ◌∷◌, [], List, true, false, Some, None, IfOk, IfErr, IfSome, IfNone, OnOk, OnErr, is_some, option_map, option_copied, ◌↔◌};
+ghost use Rattle.std.specs.Option.{option_to_list};
 ghost use Rattle.std.specs.Result.{result_ok};
 ghost use Rattle.context_tree.specs.declared.node.Kind.{Kind};
 ghost use Rattle.context_tree.specs.declared.node.Kind.TheVariants.{Background, Cancel, Deadline, Value, WithoutCancel};
@@ -217,8 +218,19 @@ impl<C: Copy, V: Drop> Tree<C, V> {
         ensures unchanged { IfNone result (self.new ≡ self.old) }
         ensures keeps { IfNone result (StandsAsBefore self.old self.new) }
         ensures fewer { IfSome result (λ id. left_to_hand_out self.old ≡ left_to_hand_out self.new + 1) }
+        ensures next { self.old.done ≡ option_to_list result ++ self.new.done }
+        ensures empty { IfNone result (self.old.done ≡ []) }
     {
         self.done.pop()
+    }
+
+    /// The context that is handed out next, if one waits for that.
+    pub fn first_done(&self) -> Option<CtxId>
+        ensures first { IfSome result (λ id. (past : List (TreeOp C V)) → StandsFor self.now past → IsFirstDone id past) }
+        ensures next { IfSome result (λ id. (rest : List Id) × (self.now.done ≡ id ∷ rest)) }
+        ensures none { IfNone result ((past : List (TreeOp C V)) → StandsFor self.now past → (x : Id) → is_waiting x past ≡ false) }
+    {
+        self.done.first()
     }
 
     /// Lets go of a context, unless one that is held derives from it. Its id is unknown from then on.

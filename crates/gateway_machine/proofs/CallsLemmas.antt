@@ -1,34 +1,33 @@
 -- The store of calls, as it is told: what a change of one call, one more and one less make of it.
 use Rattle.std.proofs.Common.{◌≡◌, ℕ, zero, suc, ◌+◌, ◌≤◌, ◌<◌, Bool, true, false, List, [], ◌∷◌, ◌++◌, length, map, Option, None, Some, Result, Ok, Err, refl, sym, ap, ◌∙◌, subst, arith, ⊎_elim, inl, inr}
-use Rattle.std.specs.Prelude.{◌==◌, filter, if◌then◌else◌, is_some, not, option_to_list, slice_set, is_err, IfOk, OnErr, OnOk}
+use Rattle.std.specs.Prelude.{◌==◌, ◌&&◌, ◌||◌, ◌⊎◌, All, filter, if◌then◌else◌, not, option_to_list, slice_set, is_err, nat_lt, IfOk}
 use Rattle.std.specs.List.{list_any, remove}
-use Rattle.std.specs.Option.{option_or}
-use Rattle.std.proofs.lemmas.Bool.{cases_Bool, cases_eq, cases_lt, cond_both, or_parts}
+use Rattle.std.proofs.lemmas.Bool.{cases_Bool, cases_eq, cases_lt, cond_both, eq-eqb, eqb-true, le-ltb, lt-ltb, ne_eqb}
+use Rattle.std.proofs.lemmas.Bool.Decides.{nat_tests}
+use Rattle.std.proofs.lemmas.List.Elements.{All-filter, All-push, All-set}
+use Rattle.http_pieces.specs.Request.{most_requests}
 use Rattle.std.proofs.lemmas.List.{get_or-map, get_or-set_same, length-map}
 use Rattle.std.proofs.lemmas.List.Sums.{sum_by-cons, sum_by-set, sum_by_push}
 use Rattle.connect_codec.specs.declared.answer.Outcome.{Outcome}
 use Rattle.gateway_machine.proofs.ResultLemmas.{at_moment, next_waits, waits_then}
-use Rattle.gateway_machine.specs.Calls.{AreTold, Changes, Covers, Finds, IsClosed, is_open, is_open_in}
+use Rattle.gateway_machine.specs.Calls.{AreTold, Changes, Finds}
 use Rattle.gateway_machine.specs.KeptCall.{IsStep}
-use Rattle.gateway_machine.specs.Linked.{ended_with, ends_with}
 use Rattle.gateway_model.specs.CallRecord.{CallRecord}
-use Rattle.gateway_model.specs.declared.call_event.CallEvent.{CallEvent}
-use Rattle.gateway_model.specs.declared.entry.ReplyEntry.{ReplyEntry}
 use Rattle.gateway_model.specs.declared.id.CallId.{CallId}
-use Rattle.gateway_model.specs.Past.{is_call}
-use Rattle.gateway_theory.specs.Ends.{AreApart, unanswered, without_reply}
+use Rattle.gateway_model.specs.Past.{call_id, is_call}
+use Rattle.gateway_theory.specs.Ends.{AreApart}
 use Rattle.gateway_theory.specs.Conn.{next_of}
 use Rattle.gateway_theory.specs.Kept.{KeptValue}
 use Rattle.gateway_theory.specs.Orderly.{IsOrderly}
 use Rattle.gateway_theory.specs.Results.{back_at, back_kept}
 use Rattle.gateway_theory.specs.Step.{Live, has_out, result_on}
 use Rattle.gateway_theory.specs.Task.{TaskValue}
-use Rattle.gateway_theory.specs.Store.{IsFound, MachineValue, broken_at, call_at, conn_at, conn_of, given_up, given_up_if, kept_at, no_call, waiting, waiting_in}
-use Rattle.gateway_theory.specs.lemmas.Cases.{all_stay}
-use Rattle.gateway_theory.specs.lemmas.Concerned.{found_place}
+use Rattle.gateway_theory.specs.Store.{IsFound, MachineValue, broken_at, call_at, conn_at, conn_of, given_up, given_up_if, given_where, kept_at, no_call, waiting, waiting_in}
+use Rattle.gateway_theory.specs.lemmas.Cases.{all_stay, and_false, and_true}
+use Rattle.gateway_theory.specs.lemmas.EndLemmas.{given_more, given_there, map_at, map_each}
 use Rattle.gateway_theory.specs.lemmas.LimitLemmas.{same_call}
 use Rattle.gateway_theory.specs.lemmas.OrderLemmas.{calls_filtered, ids_set}
-use Rattle.gateway_theory.specs.lemmas.StoreLemmas.{call_itself}
+use Rattle.gateway_theory.specs.lemmas.StoreLemmas.{call_apart, call_itself}
 use Rattle.gateway_theory.specs.lemmas.StoreMore.{conn_found}
 
 -- ---- one place for each id
@@ -48,10 +47,6 @@ changed_at id old new i x y R f x_is new_is r = λ j g.
     let here : kept_at i new ≡ y = ap (kept_at i) new_is ∙ get_or-set_same old i y no_call f.0 in
     subst (λ k. (new ≡ slice_set old k (kept_at k new)) × R (kept_at k old) (kept_at k new)) (found_once id old i j f g)
     (new_is ∙ ap (slice_set old i) (sym here), subst (λ z. R z (kept_at i new)) x_is (subst (R x) (sym here) r))
-
--- nothing changes
-pub changed_none : (id : CallId) (old new : List KeptValue) (R : KeptValue → KeptValue → Type 0) → IsFound id old None → Changes id old new R
-changed_none id old new R none = λ i f. absurd (let clash : true ≡ false = sym f.1 ∙ none i f.0 in cc)
 
 pub finds_at : (id : CallId) (items calls : List KeptValue) (x : KeptValue) → items ≡ calls → Finds id items (Some x) → Finds id calls (Some x)
 finds_at id items calls x e f = subst (λ ks. Finds id ks (Some x)) e f
@@ -74,73 +69,6 @@ found_given c id ks i f = (
 pub back_found : (s u : MachineValue) (b : Bool) (n : ℕ) (id : CallId) (i : ℕ) → u ≡ (if b then broken_at n s else s) → IsFound id s.calls (Some i) → IsFound id u.calls (Some i)
 back_found s u true n id i u_is f = subst (λ (m : MachineValue). IsFound id m.calls (Some i)) (sym u_is) (found_given n id s.calls i f)
 back_found s u false n id i u_is f = subst (λ (m : MachineValue). IsFound id m.calls (Some i)) (sym u_is) f
-
--- ---- the ids that are listed
-
-covers_set : (ids : List CallId) (ks : List KeptValue) (i : ℕ) (new : KeptValue) → i < length ks → new.id ≡ (kept_at i ks).id → (IsClosed (kept_at i ks) → IsClosed new)
-    → Covers ids ks → Covers ids (slice_set ks i new)
-covers_set ids [] i new lt same closes c = absurd (omega (arith, lt))
-covers_set ids (k ∷ ks) zero new lt same closes (inl c) = inl (closes c.0, c.1)
-covers_set ids (k ∷ ks) zero new lt same closes (inr c) = inr (c.0, c.1 ∙ ap (λ n. n ∷ c.0) (sym same), c.2)
-covers_set ids (k ∷ ks) (suc i) new lt same closes (inl c) = inl (c.0, covers_set ids ks i new (omega (arith, lt)) same closes c.1)
-covers_set ids (k ∷ ks) (suc i) new lt same closes (inr c) = inr (c.0, c.1, covers_set c.0 ks i new (omega (arith, lt)) same closes c.2)
-
-covers_more : (ids : List CallId) (ks : List KeptValue) (k : KeptValue) → Covers ids ks → Covers (ids ++ k.id ∷ []) (ks ++ k ∷ [])
-covers_more ids [] k c = inr ([], ap (λ x. x ++ k.id ∷ []) c, refl)
-covers_more ids (x ∷ ks) k (inl c) = inl (c.0, covers_more ids ks k c.1)
-covers_more ids (x ∷ ks) k (inr c) = inr (c.0 ++ k.id ∷ [], ap (λ y. y ++ k.id ∷ []) c.1, covers_more c.0 ks k c.2)
-
-covers_kept : (p : CallId → Bool) (ids : List CallId) (ks : List KeptValue) → ((j : ℕ) → j < length ks → p (kept_at j ks).id ≡ false → IsClosed (kept_at j ks))
-    → Covers ids ks → Covers (filter p ids) ks
-covers_kept p ids [] closed c = ap (filter p) c
-covers_kept p ids (k ∷ ks) closed (inl c) = inl (c.0, covers_kept p ids ks (λ j lt. closed (suc j) (omega (arith, lt))) c.1)
-covers_kept p ids (k ∷ ks) closed (inr c) = by (p k.id) refl (covers_kept p c.0 ks (λ j lt. closed (suc j) (omega (arith, lt))) c.2)
-  where
-    by : (b : Bool) → p k.id ≡ b → Covers (filter p c.0) ks → Covers (filter p ids) (k ∷ ks)
-    by true is rest = inr (filter p c.0, ap (filter p) c.1 ∙ rw is refl, rest)
-    by false is rest = inl (closed 0 (omega arith) is, subst (λ x. Covers x ks) (sym (ap (filter p) c.1 ∙ rw is refl)) rest)
-
-covers_fewer : (p : CallId → Bool) (ids : List CallId) (ks : List KeptValue) → Covers ids ks → Covers (filter p ids) (filter (λ (k : KeptValue). p k.id) ks)
-covers_fewer p ids [] c = ap (filter p) c
-covers_fewer p ids (k ∷ ks) (inl d) = by (p k.id) refl (covers_fewer p ids ks d.1)
-  where
-    by : (b : Bool) → p k.id ≡ b → Covers (filter p ids) (filter (λ (x : KeptValue). p x.id) ks) → Covers (filter p ids) (filter (λ (x : KeptValue). p x.id) (k ∷ ks))
-    by true is rest = rw is (inl (d.0, rest))
-    by false is rest = rw is rest
-covers_fewer p ids (k ∷ ks) (inr d) = by (p k.id) refl (covers_fewer p d.0 ks d.2)
-  where
-    by : (b : Bool) → p k.id ≡ b → Covers (filter p d.0) (filter (λ (x : KeptValue). p x.id) ks) → Covers (filter p ids) (filter (λ (x : KeptValue). p x.id) (k ∷ ks))
-    by true is rest = rw is (inr (filter p d.0, ap (filter p) d.1 ∙ rw is refl, rest))
-    by false is rest = rw is (subst (λ x. Covers x (filter (λ (x : KeptValue). p x.id) ks)) (sym (ap (filter p) d.1 ∙ rw is refl)) rest)
-
--- a call that may change is one that can be decided, or has a reply
-pub closed_if : (k : KeptValue) → is_open k ≡ false → IsClosed k
-closed_if k e = let two = or_parts (is_some k.call.live) (is_some k.reply) e in record { live_is = no_live k.call.live two.0; reply_is = no_reply k.reply two.1 }
-  where
-    no_live : (o : Option Live) → is_some o ≡ false → o ≡ None
-    no_live None e = refl
-    no_live (Some l) e = absurd (cc)
-
-    no_reply : (o : Option ReplyEntry) → is_some o ≡ false → o ≡ None
-    no_reply None e = refl
-    no_reply (Some l) e = absurd (cc)
-
-pub open_found : (id : CallId) (ks : List KeptValue) (i : ℕ) → IsFound id ks (Some i) → is_open_in id ks ≡ is_open (kept_at i ks)
-open_found id [] i f = absurd (let lt = f.0 in omega (arith, lt))
-open_found id (k ∷ ks) zero f = rw f.1 refl
-open_found id (k ∷ ks) (suc i) f = rw (f.2 0 (omega arith)) (open_found id ks i (let lt = f.0 in omega (arith, lt), f.1, λ j l. f.2 (suc j) (omega (arith, l))))
-
--- as the code finds it
-pub open_here : (id : CallId) (ks : List KeptValue) (i : ℕ) (x : KeptValue) (b : Bool) → IsFound id ks (Some i) → x ≡ kept_at i ks → b ≡ is_open x → b ≡ is_open_in id ks
-open_here id ks i x b f x_is b_is = b_is ∙ ap (λ k. is_open k) x_is ∙ sym (open_found id ks i f)
-
-not_not : (b : Bool) → not b ≡ false → b ≡ true
-not_not true e = refl
-not_not false e = absurd (cc)
-
-pub open_none : (id : CallId) (ks : List KeptValue) → IsFound id ks None → is_open_in id ks ≡ false
-open_none id [] none = refl
-open_none id (k ∷ ks) none = rw (none 0 (omega arith)) (open_none id ks (λ j lt. none (suc j) (omega (arith, lt))))
 
 -- ---- one call less
 
@@ -193,80 +121,65 @@ apart_more (x ∷ ks) k apart none = λ i j lt within. by
     by rest (suc i) zero lt within = absurd (omega (arith, lt))
     by rest (suc i) (suc j) lt within = rest i j (omega (arith, lt)) (omega (arith, within))
 
-pub told_set : (ks : List KeptValue) (ids : List CallId) (n m i : ℕ) (new : KeptValue) → AreTold ks ids n → i < length ks → new.id ≡ (kept_at i ks).id → (IsClosed (kept_at i ks) → IsClosed new)
-    → m + waiting_in (kept_at i ks) ≡ n + waiting_in new → AreTold (slice_set ks i new) ids m
-told_set ks ids n m i new t lt same closes count = record {
+pub told_set : (ks : List KeptValue) (n m i : ℕ) (new : KeptValue) → AreTold ks n → i < length ks → new.id ≡ (kept_at i ks).id → m + waiting_in (kept_at i ks) ≡ n + waiting_in new
+    → AreTold (slice_set ks i new) m
+told_set ks n m i new t lt same count = record {
   apart = ids_set i new ks lt same t.apart;
-  covered = covers_set ids ks i new lt same closes t.covered;
+  below = All-set (λ (k : KeptValue). k.id.request < most_requests) ks i new (let low = t.below i no_call lt in omega (arith, low, ap (λ (d : CallId). d.request) same)) t.below;
   count_is = omega (arith, count, t.count_is, sum_by-set waiting_in ks i new no_call lt);
 }
 
-pub told_as : (ks ms : List KeptValue) (ids after : List CallId) (n : ℕ) → AreTold ks ids n → ms ≡ ks → after ≡ ids → AreTold ms after n
-told_as ks ms ids after n t ms_is after_is = subst (λ x. AreTold x after n) (sym ms_is) (subst (λ x. AreTold ks x n) (sym after_is) t)
-
-pub given_id : (n : ℕ) (k : KeptValue) → (given_up_if n k).id ≡ k.id
-given_id n k = cond_both (k.id.conn == n) (given_up k) k (λ (x : KeptValue). x.id ≡ k.id) (λ _. refl) (λ _. refl)
-
--- the ids of some closed calls go
-pub told_pruned : (p : CallId → Bool) (ks : List KeptValue) (ids after : List CallId) (n : ℕ) → AreTold ks ids n → ((j : ℕ) → j < length ks → p (kept_at j ks).id ≡ false → IsClosed (kept_at j ks))
-    → after ≡ filter p ids → AreTold ks after n
-told_pruned p ks ids after n t closed after_is = record { apart = t.apart; covered = subst (λ x. Covers x ks) (sym after_is) (covers_kept p ids ks closed t.covered); count_is = t.count_is }
-
--- that of one
-pub told_unlisted : (id : CallId) (ks : List KeptValue) (ids after : List CallId) (n : ℕ) → AreTold ks ids n → ((i : ℕ) → IsFound id ks (Some i) → is_open (kept_at i ks) ≡ false)
-    → after ≡ filter (λ other. not (is_call other id)) ids → AreTold ks after n
-told_unlisted id ks ids after n t closed after_is = told_pruned (λ other. not (is_call other id)) ks ids after n t (λ j lt its.
-    let here : is_call (kept_at j ks).id id ≡ true = not_not (is_call (kept_at j ks).id id) its in
-    closed_if (kept_at j ks) (closed j (subst (λ d. IsFound d ks (Some j)) (same_call (kept_at j ks).id id here) (found_place j ks lt t.apart)))) after_is
-
--- those of a connection's calls, which were given up
-pub told_dropped : (c : ℕ) (old ks : List KeptValue) (ids after : List CallId) (n : ℕ) → AreTold ks ids n → ks ≡ map (given_up_if c) old → after ≡ filter (λ id. not (id.conn == c)) ids → AreTold ks after n
-told_dropped c old ks ids after n t ks_are after_is = told_pruned (λ id. not (id.conn == c)) ks ids after n t (λ j lt its.
-    let within : j < length old = omega (arith, lt, ap length ks_are, length-map old (given_up_if c)) in
-    let at : kept_at j ks ≡ given_up_if c (kept_at j old) = ap (kept_at j) ks_are ∙ get_or-map (given_up_if c) old j no_call no_call within in
-    let own : ((kept_at j old).id.conn == c) ≡ true = ap (λ (d : CallId). d.conn == c) (sym (ap (λ (k : KeptValue). k.id) at ∙ given_id c (kept_at j old))) ∙ not_not ((kept_at j ks).id.conn == c) its in
-    let e : kept_at j ks ≡ given_up (kept_at j old) = at ∙ ap (λ b. if b then given_up (kept_at j old) else kept_at j old) own in
-    subst IsClosed (sym e) (record { live_is = refl; reply_is = refl })) after_is
-
-pub told_more : (ks : List KeptValue) (ids : List CallId) (n m : ℕ) (k : KeptValue) → AreTold ks ids n → IsFound k.id ks None → m ≡ n + waiting_in k
-    → AreTold (ks ++ k ∷ []) (ids ++ k.id ∷ []) m
-told_more ks ids n m k t none count = record {
+pub told_more : (ks : List KeptValue) (n m : ℕ) (k : KeptValue) → AreTold ks n → IsFound k.id ks None → k.id.request < most_requests → m ≡ n + waiting_in k → AreTold (ks ++ k ∷ []) m
+told_more ks n m k t none low count = record {
   apart = apart_more ks k t.apart none;
-  covered = covers_more ids ks k t.covered;
+  below = All-push (λ (x : KeptValue). x.id.request < most_requests) ks k t.below low;
   count_is = omega (arith, count, t.count_is, sum_by_push waiting_in ks k);
 }
 
-pub told_fewer : (ks : List KeptValue) (ids : List CallId) (n m i : ℕ) (id : CallId) → AreTold ks ids n → IsFound id ks (Some i) → m + waiting_in (kept_at i ks) ≡ n
-    → AreTold (filter (λ (k : KeptValue). not (is_call k.id id)) ks) (filter (λ other. not (is_call other id)) ids) m
-told_fewer ks ids n m i id t f count = record {
+pub told_fewer : (ks : List KeptValue) (n m i : ℕ) (id : CallId) → AreTold ks n → IsFound id ks (Some i) → m + waiting_in (kept_at i ks) ≡ n → AreTold (filter (λ (k : KeptValue). not (is_call k.id id)) ks) m
+told_fewer ks n m i id t f count = record {
   apart = calls_filtered (λ (k : KeptValue). not (is_call k.id id)) ks t.apart;
-  covered = covers_fewer (λ other. not (is_call other id)) ids ks t.covered;
+  below = All-filter (λ (k : KeptValue). not (is_call k.id id)) (λ (k : KeptValue). k.id.request < most_requests) ks t.below;
   count_is = omega (arith, count, t.count_is, ap waiting (without_is id ks i f t.apart), waits_without ks i f.0);
 }
 
--- ---- what is closed stays so
+-- ---- the calls of a connection are given up, one after the other
 
-pub closes_back : (branch : ℕ) (k : KeptValue) → IsClosed k → IsClosed (back_kept branch k)
-closes_back branch k c = record { live_is = refl; reply_is = c.reply_is }
+-- those of its requests before this one
+abbrev pub before : ℕ → ℕ → CallId → Bool
+before c n id = (id.conn == c) && nat_lt id.request n
 
-pub closes_given : (n : ℕ) (k : KeptValue) → IsClosed k → IsClosed (given_up_if n k)
-closes_given n k c = cond_both (k.id.conn == n) (given_up k) k IsClosed (λ _. record { live_is = refl; reply_is = refl }) (λ _. c)
+pub none_given : (id : CallId) (ks : List KeptValue) → IsFound id ks None → ks ≡ map (given_where (is_call id)) ks
+none_given id ks none = map_at (given_where (is_call id)) ks (λ j lt. rw (call_apart (kept_at j ks).id id (none j lt)) refl)
 
-pub closes_ended : (e : Option CallEvent) (k : KeptValue) → IsClosed k → IsClosed (ended_with e k)
-closes_ended e k c = record { live_is = ap (λ (o : Option Live). (ends_with e k.call.out o).call.live) c.live_is; reply_is = ap (λ (o : Option Live). option_or (ends_with e k.call.out o).reply k.reply) c.live_is ∙ c.reply_is }
+pub one_given : (id : CallId) (i : ℕ) (ks : List KeptValue) (new : KeptValue) → IsFound id ks (Some i) → AreApart ks → new ≡ given_up (kept_at i ks) → slice_set ks i new ≡ map (given_where (is_call id)) ks
+one_given id i ks new f apart new_is = ap (slice_set ks i) new_is ∙ given_there i ks f.0 apart ∙ ap (λ d. map (given_where (is_call d)) ks) (same_call (kept_at i ks).id id f.1)
 
-pub closes_unanswered : (k : KeptValue) → IsClosed k → IsClosed (unanswered k)
-closes_unanswered k c = record { live_is = refl; reply_is = c.reply_is }
+-- one of them alone makes no difference to them all
+pub given_anyway : (id : CallId) (ks : List KeptValue) → map (given_up_if id.conn) (map (given_where (is_call id)) ks) ≡ map (given_up_if id.conn) ks
+given_anyway id ks = given_more (is_call id) (λ (x : CallId). x.conn == id.conn) (λ (x : CallId). x.conn == id.conn) ks (λ x. ⊎_elim
+    (λ (it : is_call id x ≡ true). rw it (sym (eq-eqb x.conn id.conn (ap (λ (y : CallId). y.conn) (sym (same_call id x it))))))
+    (λ (n : is_call id x ≡ false). rw n refl)
+    (cases_Bool (is_call id x)))
 
-pub closes_told : (k : KeptValue) → IsClosed k → IsClosed (without_reply k)
-closes_told k c = record { live_is = c.live_is; reply_is = refl }
+pub gives_first : (c : ℕ) (ks : List KeptValue) → ks ≡ map (given_where (before c 0)) ks
+gives_first c ks = map_at (given_where (before c 0)) ks (λ j lt. rw (le-ltb (kept_at j ks).id.request 0 (omega arith), and_false ((kept_at j ks).id.conn == c)) refl)
 
-pub closes_step : (moment branch : ℕ) (outcome : Outcome) (k m : KeptValue) (decided : Option CallRecord) (next : Option TaskValue)
-    → IsStep moment k m decided next (result_on moment branch outcome (slice_set k.call.out branch false) k.call.live) → IsClosed k → IsClosed m
-closes_step moment branch outcome k m decided next h c = record {
-  live_is = ap (λ (x : KeptValue). x.call.live) h.new_is ∙ ap (λ (o : Option Live). (result_on moment branch outcome (slice_set k.call.out branch false) o).call.live) c.live_is;
-  reply_is = ap (λ (x : KeptValue). x.reply) h.new_is ∙ c.reply_is;
-}
+pub gives_next : (c n : ℕ) (old new after : List KeptValue) → new ≡ map (given_where (before c n)) old → after ≡ map (given_where (is_call (call_id c n))) new → after ≡ map (given_where (before c (n + 1))) old
+gives_next c n old new after new_is after_is = after_is ∙ ap (map (given_where (is_call (call_id c n)))) new_is ∙ given_more (before c n) (is_call (call_id c n)) (before c (n + 1)) old (λ id. by id (cases_Bool (id.conn == c)))
+  where
+    by : (id : CallId) → ((id.conn == c) ≡ true) ⊎ ((id.conn == c) ≡ false) → (before c n id || is_call (call_id c n) id) ≡ before c (n + 1) id
+    by id (inl its) = rw (its, eq-eqb c id.conn (sym (eqb-true id.conn c its))) (at id.request)
+      where
+        at : (m : ℕ) → (nat_lt m n || (n == m)) ≡ nat_lt m (n + 1)
+        at m = grind (arith, nat_tests)
+    by id (inr far) = rw (far, ne_eqb c id.conn (λ same. let clash : true ≡ false = sym (eq-eqb id.conn c (sym same)) ∙ far in cc)) refl
+
+pub gives_last : (c n : ℕ) (old new : List KeptValue) → All (λ (k : KeptValue). k.id.request < most_requests) old → most_requests ≤ n → new ≡ map (given_where (before c n)) old → new ≡ map (given_up_if c) old
+gives_last c n old new low all new_is = new_is ∙ map_each (given_where (before c n)) (given_up_if c) old (λ j lt.
+    let less = low j no_call lt in
+    ap (λ b. if ((kept_at j old).id.conn == c) && b then given_up (kept_at j old) else kept_at j old) (lt-ltb (kept_at j old).id.request n (omega (arith, less, all)))
+    ∙ ap (λ b. if b then given_up (kept_at j old) else kept_at j old) (and_true ((kept_at j old).id.conn == c)))
 
 -- ---- the branches that wait, counted anew
 
@@ -275,11 +188,6 @@ part_waits ks i lt = omega (arith, waits_without ks i lt)
 
 pub dead_waits : (k : KeptValue) → k.call.live ≡ None → waiting_in k ≡ 0
 dead_waits k e = rw e refl
-
--- it ended, or ended unanswered
-pub ended_or : {T E : Type 0} (r : Result T E) (A : Type 0) (e : Option CallEvent) (x y : KeptValue) → OnOk r (y ≡ ended_with e x) → OnErr r (A × (y ≡ unanswered x)) → (y.id ≡ x.id) × (IsClosed x → IsClosed y)
-ended_or (Ok t) A e x y ok err = (ap (λ (k : KeptValue). k.id) ok, λ c. subst IsClosed (sym ok) (closes_ended e x c))
-ended_or (Err t) A e x y ok err = (ap (λ (k : KeptValue). k.id) err.1, λ c. subst IsClosed (sym err.1) (closes_unanswered x c))
 
 -- ---- as the machine takes it
 

@@ -24,13 +24,13 @@ pub begun_at : (v : MachineValue) (i : ℕ) (id : CallId) (a : ArrivedCall) (cal
     → machine_value v.moment v.drained (slice_set v.conns i (added None was)) (v.calls ++ call ∷ []) (v.jobs ++ map (job_at v.moment) first) ≡ entered_at i (begins v.moment None id a) v
 begun_at v i id a call first was lt its b was_is =
     let conn : was ≡ conn_at i v.conns = was_is ∙ get_or_default v.conns i was no_conn lt in
-    let made : call ≡ record { id = next_of (conn_at i v.conns); call = call_state (first_out a) (Some (begun_live v.moment id a)); reply = None } =
+    let made : call ≡ record { id = next_of (conn_at i v.conns); call = call_state (first_out a) (Some (begun_live v.moment id a)) } =
     b.call_is ∙ ap (λ (n : CallId). with_id n) its in
     ap (λ k. machine_value v.moment v.drained (slice_set v.conns i (added None k)) (v.calls ++ call ∷ []) (v.jobs ++ map (job_at v.moment) first)) conn
     ∙ ap (λ k. machine_value v.moment v.drained (slice_set v.conns i (added None (conn_at i v.conns))) (v.calls ++ k ∷ []) (v.jobs ++ map (job_at v.moment) first)) made
     ∙ ap (λ js. machine_value v.moment v.drained (slice_set v.conns i (added None (conn_at i v.conns)))
-    (v.calls ++ record { id = next_of (conn_at i v.conns); call = call_state (first_out a) (Some (begun_live v.moment id a)); reply = None } ∷ []) (v.jobs ++ js))
+    (v.calls ++ record { id = next_of (conn_at i v.conns); call = call_state (first_out a) (Some (begun_live v.moment id a)) } ∷ []) (v.jobs ++ js))
     (first_queued v.moment id a first b.first_are)
   where
     with_id : CallId → KeptValue
-    with_id n = record { id = n; call = call_state (first_out a) (Some (begun_live v.moment id a)); reply = None }
+    with_id n = record { id = n; call = call_state (first_out a) (Some (begun_live v.moment id a)) }

@@ -107,7 +107,7 @@ begun_kept moment id a n first out g tasks events deadlines n_is first_is out_is
 pub is_begun : (moment : ℕ) (id : CallId) (a asked : ArrivedCall) (n first : ℕ) (out : List Bool) (g : Tasks) (tasks : List TaskValue) (events : List CallEvent) (deadlines : List (Option ℕ)) → asked ≡ a → n ≡ length a.plan.branches
     → first ≡ min n a.plan.limit → out ≡ map (λ i. nat_lt i first) (range_with_len 0 n) → HasGone id a n g tasks → events ≡ []
     → deadlines ≡ map (λ (t : TaskValue). deadline_from moment t.asked.plan t.branch) tasks
-    → IsBegun moment id a (kept_value id out g.queue (Some (live_value asked events deadlines)) None) tasks
+    → IsBegun moment id a (kept_value id out g.queue (Some (live_value asked events deadlines))) tasks
 is_begun moment id a asked n first out g tasks events deadlines asked_is n_is first_is out_is k events_are times_are =
     let ones : min n a.plan.limit ≡ first_ones a = omega (arith, n_is) in
     let first_one : first ≡ first_ones a = omega (arith, first_is, ones) in

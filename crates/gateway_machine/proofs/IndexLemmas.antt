@@ -1,33 +1,27 @@
 -- The two maps behind the calls: the calls by number, and their numbers by connection and request.
-use Rattle.std.proofs.Common.{◌≡◌, ℕ, zero, suc, ◌+◌, ◌-◌, ◌<◌, ◌≤◌, Bool, true, false, List, [], ◌∷◌, ◌++◌, length, Option, None, Some, Result, Ok, Err, refl, sym, ap, ◌∙◌, subst, arith, ⊎_elim, inl, inr}
-use Rattle.std.specs.Prelude.{◌⊎◌, ◌==◌, ◌&&◌, OnErr, OnOk, cond, filter, if◌then◌else◌, not, slice_set}
+use Rattle.std.proofs.Common.{◌≡◌, ℕ, zero, suc, ◌+◌, ◌-◌, ◌<◌, ◌≤◌, Bool, true, false, List, [], ◌∷◌, ◌++◌, length, Option, None, Some, refl, sym, ap, ◌∙◌, subst, arith, ⊎_elim, inl, inr}
+use Rattle.std.specs.Prelude.{◌⊎◌, ◌==◌, ◌&&◌, cond, filter, if◌then◌else◌, not, slice_set}
 use Rattle.std.specs.BTreeMap.{BTreeMap, get, insert_entry, is_at}
 use Rattle.std.specs.List.{AllByRecursion, remove}
-use Rattle.std.specs.Option.{option_map_or}
 use Rattle.std.specs.List.Sorted.{IsStrictlySortedBy}
 use Rattle.std.specs.Map.{keys_of, lookup, remove_entry, set_value, values_of}
 use Rattle.std.specs.Ordering.{is_eq, nat_cmp, ordering_then}
 use Rattle.std.specs.declared.cmp.Ordering.{Ordering}
 use Rattle.std.specs.declared.cmp.Ordering.TheVariants.{Equal, Greater, Less}
-use Rattle.std.proofs.lemmas.Bool.{cases_Bool, or_parts}
+use Rattle.std.proofs.lemmas.Bool.{cases_Bool}
 use Rattle.std.proofs.lemmas.Bool.Decides.{nat_tests}
 use Rattle.std.proofs.lemmas.List.Sums.{sum_by-set}
 use Rattle.std.proofs.lemmas.Map.{keys-set_value}
 use Rattle.std.proofs.lemmas.Map.Keys.{sorted_head, sorted_tail}
-use Rattle.gateway_machine.specs.Calls.{AreTold, Changes, Finds, IsClosed, IsIndexed, Numbered, concerns, is_open_by, is_open_in, key_cmp, key_of, number_in, stays}
-use Rattle.gateway_machine.proofs.CallsLemmas.{changed_at, closed_if, open_found, open_here, open_none, part_waits, told_as, told_fewer, told_pruned, told_set, without_is}
-use Rattle.gateway_machine.specs.Linked.{ended_with, ends_with}
-use Rattle.gateway_model.specs.declared.call_event.CallEvent.{CallEvent}
+use Rattle.gateway_machine.specs.Calls.{AreTold, Changes, Finds, IsIndexed, Numbered, key_cmp, key_of, number_in}
+use Rattle.gateway_machine.proofs.CallsLemmas.{changed_at, found_once, part_waits, told_fewer, told_set, without_is}
 use Rattle.gateway_model.specs.declared.id.CallId.{CallId}
 use Rattle.gateway_model.specs.Past.{is_call}
-use Rattle.gateway_theory.specs.declared.trigger.Trigger.{Trigger}
-use Rattle.gateway_theory.specs.Ends.{AreApart, unanswered}
+use Rattle.gateway_theory.specs.Ends.{AreApart}
 use Rattle.gateway_theory.specs.Kept.{KeptValue}
-use Rattle.gateway_theory.specs.Step.{Live}
 use Rattle.gateway_theory.specs.Store.{IsFound, call_at, kept_at, no_call, waiting, waiting_in}
-use Rattle.gateway_theory.specs.lemmas.Concerned.{found_place}
 use Rattle.gateway_theory.specs.lemmas.LimitLemmas.{same_call}
-use Rattle.gateway_theory.specs.lemmas.StoreLemmas.{call_found, call_itself}
+use Rattle.gateway_theory.specs.lemmas.StoreLemmas.{call_apart, call_found, call_itself}
 
 -- ---- numbers and keys
 
@@ -56,12 +50,6 @@ at_above n m e = grind (arith, nat_tests)
 
 above_is : (n m : ℕ) → m < n → nat_cmp n m ≡ Greater
 above_is n m lt = grind (arith, nat_tests)
-
-call_apart : (a b : CallId) → is_call a b ≡ false → is_call b a ≡ false
-call_apart a b e = ⊎_elim
-    (λ (t : is_call b a ≡ true). let clash : true ≡ false = sym (call_itself a) ∙ ap (is_call a) (sym (same_call b a t)) ∙ e in absurd (cc))
-    (λ (f : is_call b a ≡ false). f)
-    (cases_Bool (is_call b a))
 
 -- ---- the number of a call, and where the call stands
 
@@ -134,15 +122,6 @@ indexed_at numbers es next id n h is = number_at id n es (sym (h.found id) ∙ s
 
 indexed_none : (numbers : BTreeMap (ℕ × ℕ) ℕ) (es : List Numbered) (next : ℕ) (id : CallId) → IsIndexed numbers es next → None ≡ get key_cmp numbers (key_of id) → IsFound id (values_of es) None
 indexed_none numbers es next id h is = none_at id es (sym (h.found id) ∙ sym is)
-
-open_by : (numbers : BTreeMap (ℕ × ℕ) ℕ) (es : List Numbered) (next : ℕ) (id : CallId) → IsIndexed numbers es next → is_open_by (get key_cmp numbers (key_of id)) es ≡ is_open_in id (values_of es)
-open_by numbers es next id h = by (get key_cmp numbers (key_of id)) refl
-  where
-    by : (o : Option ℕ) → o ≡ get key_cmp numbers (key_of id) → is_open_by o es ≡ is_open_in id (values_of es)
-    by None is = sym (open_none id (values_of es) (indexed_none numbers es next id h is))
-    by (Some n) is =
-        let a = indexed_at numbers es next id n h is in
-        open_here id (values_of es) a.place (kept_at a.place (values_of es)) (is_open_by (Some n) es) a.found refl (rw a.looked refl)
 
 pub indexed_as : (numbers after : BTreeMap (ℕ × ℕ) ℕ) (es fs : List Numbered) (next : ℕ) → IsIndexed numbers es next → after.entries ≡ numbers.entries → fs ≡ es → IsIndexed after fs next
 indexed_as numbers after es fs next h after_is fs_is = subst (λ gs. IsIndexed after gs next) (sym fs_is) (record {
@@ -286,40 +265,39 @@ changed_written : (id : CallId) (n : ℕ) (es fs : List Numbered) (x y : KeptVal
 changed_written id n es fs x y R a is fs_is r = changed_at id (values_of es) (values_of fs) a.place x y R a.found (looked_is id n es x a is) (written_is id n es fs y a fs_is) r
 
 -- so many branches wait then
-told_then : (id : CallId) (n : ℕ) (es fs : List Numbered) (ids : List CallId) (count new : ℕ) (x y : KeptValue) → AreTold (values_of es) ids count → (a : IsAt id n es) → Some x ≡ lookup (is_at (nat_cmp n)) es
-    → fs ≡ set_value (is_at (nat_cmp n)) es y → y.id ≡ x.id → (IsClosed x → IsClosed y) → new + waiting_in x ≡ count + waiting_in y → AreTold (values_of fs) ids new
-told_then id n es fs ids count new x y t a is fs_is same closes counts =
+told_then : (id : CallId) (n : ℕ) (es fs : List Numbered) (count new : ℕ) (x y : KeptValue) → AreTold (values_of es) count → (a : IsAt id n es) → Some x ≡ lookup (is_at (nat_cmp n)) es
+    → fs ≡ set_value (is_at (nat_cmp n)) es y → y.id ≡ x.id → new + waiting_in x ≡ count + waiting_in y → AreTold (values_of fs) new
+told_then id n es fs count new x y t a is fs_is same counts =
     let here : x ≡ kept_at a.place (values_of es) = looked_is id n es x a is in
-    told_as (slice_set (values_of es) a.place y) (values_of fs) ids ids new
-    (told_set (values_of es) ids count new a.place y t a.found.0 (same ∙ ap (λ (k : KeptValue). k.id) here) (λ c. closes (subst IsClosed (sym here) c)) (omega (arith, counts, ap waiting_in here)))
-    (written_is id n es fs y a fs_is) refl
+    subst (λ ks. AreTold ks new) (sym (written_is id n es fs y a fs_is))
+    (told_set (values_of es) count new a.place y t a.found.0 (same ∙ ap (λ (k : KeptValue). k.id) here) (omega (arith, counts, ap waiting_in here)))
 
-pub at_most : (id : CallId) (n : ℕ) (es : List Numbered) (ids : List CallId) (count : ℕ) (x : KeptValue) → AreTold (values_of es) ids count → IsAt id n es → Some x ≡ lookup (is_at (nat_cmp n)) es → waiting_in x ≤ count
-at_most id n es ids count x t a is = omega (arith, part_waits (values_of es) a.place a.found.0, ap waiting_in (looked_is id n es x a is), t.count_is)
+pub at_most : (id : CallId) (n : ℕ) (es : List Numbered) (count : ℕ) (x : KeptValue) → AreTold (values_of es) count → IsAt id n es → Some x ≡ lookup (is_at (nat_cmp n)) es → waiting_in x ≤ count
+at_most id n es count x t a is = omega (arith, part_waits (values_of es) a.place a.found.0, ap waiting_in (looked_is id n es x a is), t.count_is)
 
-told_written : (id : CallId) (n : ℕ) (es fs : List Numbered) (ids : List CallId) (count a b : ℕ) (x y : KeptValue) → AreTold (values_of es) ids count → IsAt id n es → Some x ≡ lookup (is_at (nat_cmp n)) es
-    → fs ≡ set_value (is_at (nat_cmp n)) es y → y.id ≡ x.id → (IsClosed x → IsClosed y) → a ≡ waiting_in x → b ≡ waiting_in y → AreTold (values_of fs) ids (count - a + b)
-told_written id n es fs ids count a b x y t at is fs_is same closes a_is b_is =
-    told_then id n es fs ids count (count - a + b) x y t at is fs_is same closes (omega (arith, a_is, b_is, at_most id n es ids count x t at is))
+told_written : (id : CallId) (n : ℕ) (es fs : List Numbered) (count a b : ℕ) (x y : KeptValue) → AreTold (values_of es) count → IsAt id n es → Some x ≡ lookup (is_at (nat_cmp n)) es
+    → fs ≡ set_value (is_at (nat_cmp n)) es y → y.id ≡ x.id → a ≡ waiting_in x → b ≡ waiting_in y → AreTold (values_of fs) (count - a + b)
+told_written id n es fs count a b x y t at is fs_is same a_is b_is =
+    told_then id n es fs count (count - a + b) x y t at is fs_is same (omega (arith, a_is, b_is, at_most id n es count x t at is))
 
 -- no more and no fewer wait
-told_kept : (id : CallId) (n : ℕ) (es fs : List Numbered) (ids : List CallId) (count : ℕ) (x y : KeptValue) → AreTold (values_of es) ids count → IsAt id n es → Some x ≡ lookup (is_at (nat_cmp n)) es
-    → fs ≡ set_value (is_at (nat_cmp n)) es y → y.id ≡ x.id → (IsClosed x → IsClosed y) → waiting_in x ≡ waiting_in y → AreTold (values_of fs) ids count
-told_kept id n es fs ids count x y t at is fs_is same closes waits = told_then id n es fs ids count count x y t at is fs_is same closes (omega (arith, waits))
+told_kept : (id : CallId) (n : ℕ) (es fs : List Numbered) (count : ℕ) (x y : KeptValue) → AreTold (values_of es) count → IsAt id n es → Some x ≡ lookup (is_at (nat_cmp n)) es
+    → fs ≡ set_value (is_at (nat_cmp n)) es y → y.id ≡ x.id → waiting_in x ≡ waiting_in y → AreTold (values_of fs) count
+told_kept id n es fs count x y t at is fs_is same waits = told_then id n es fs count count x y t at is fs_is same (omega (arith, waits))
 
 -- ---- as the store's functions take it
 
--- what `Calls` keeps true of its two maps, its list of ids and its count
-abbrev pub IsStore : BTreeMap (ℕ × ℕ) ℕ → List Numbered → ℕ → List CallId → ℕ → Type 0
-IsStore numbers es next ids count = AreTold (values_of es) ids count × IsIndexed numbers es next
+-- what `Calls` keeps true of its two maps and its count
+abbrev pub IsStore : BTreeMap (ℕ × ℕ) ℕ → List Numbered → ℕ → ℕ → Type 0
+IsStore numbers es next count = AreTold (values_of es) count × IsIndexed numbers es next
 
-pub store_at : (numbers : BTreeMap (ℕ × ℕ) ℕ) (es : List Numbered) (next : ℕ) (ids : List CallId) (count : ℕ) (id : CallId) (n : ℕ) → IsStore numbers es next ids count → Some n ≡ get key_cmp numbers (key_of id)
+pub store_at : (numbers : BTreeMap (ℕ × ℕ) ℕ) (es : List Numbered) (next count : ℕ) (id : CallId) (n : ℕ) → IsStore numbers es next count → Some n ≡ get key_cmp numbers (key_of id)
     → IsAt id n es
-store_at numbers es next ids count id n s is = indexed_at numbers es next id n s.1 is
+store_at numbers es next count id n s is = indexed_at numbers es next id n s.1 is
 
-pub store_none : (numbers : BTreeMap (ℕ × ℕ) ℕ) (es : List Numbered) (next : ℕ) (ids : List CallId) (count : ℕ) (id : CallId) (items : List KeptValue) → IsStore numbers es next ids count → values_of es ≡ items
+pub store_none : (numbers : BTreeMap (ℕ × ℕ) ℕ) (es : List Numbered) (next count : ℕ) (id : CallId) (items : List KeptValue) → IsStore numbers es next count → values_of es ≡ items
     → None ≡ get key_cmp numbers (key_of id) → IsFound id items None
-store_none numbers es next ids count id items s items_are is = subst (λ ks. IsFound id ks None) items_are (indexed_none numbers es next id s.1 is)
+store_none numbers es next count id items s items_are is = subst (λ ks. IsFound id ks None) items_are (indexed_none numbers es next id s.1 is)
 
 pub finds_value : (id : CallId) (n : ℕ) (es : List Numbered) (items : List KeptValue) (o : Option KeptValue) → IsAt id n es → values_of es ≡ items → o ≡ lookup (is_at (nat_cmp n)) es → Finds id items o
 finds_value id n es items o a items_are is =
@@ -330,41 +308,41 @@ pub state_is : (id : CallId) (n : ℕ) (es : List Numbered) (items : List KeptVa
 state_is id n es items x a items_are is =
     ap (λ (k : KeptValue). k.call) (looked_is id n es x a is) ∙ sym (call_found id (values_of es) a.place a.found) ∙ ap (call_at id) items_are
 
+pub store_here : (numbers : BTreeMap (ℕ × ℕ) ℕ) (es : List Numbered) (next count : ℕ) (id : CallId) (n : ℕ) (items : List KeptValue) (x : KeptValue) → IsStore numbers es next count → Some n ≡ get key_cmp numbers (key_of id)
+    → values_of es ≡ items → Some x ≡ lookup (is_at (nat_cmp n)) es → (x.id ≡ id) × ((i : ℕ) → IsFound id items (Some i) → x ≡ kept_at i items)
+store_here numbers es next count id n items x s is items_are looked =
+    let a = store_at numbers es next count id n s is in
+    let f : Finds id items (Some x) = finds_value id n es items (Some x) a items_are looked in (
+      ap (λ (k : KeptValue). k.id) f.2 ∙ same_call (kept_at f.0 items).id id f.1.1,
+      λ i g. f.2 ∙ ap (λ (j : ℕ). kept_at j items) (found_once id items f.0 i f.1 g),
+    )
+
 pub store_changes : (id : CallId) (n : ℕ) (es fs : List Numbered) (items : List KeptValue) (x y : KeptValue) (R : KeptValue → KeptValue → Type 0) → IsAt id n es → values_of es ≡ items → Some x ≡ lookup (is_at (nat_cmp n)) es
     → fs ≡ set_value (is_at (nat_cmp n)) es y → R x y → Changes id items (values_of fs) R
 store_changes id n es fs items x y R a items_are is fs_is r = subst (λ ks. Changes id ks (values_of fs) R) items_are (changed_written id n es fs x y R a is fs_is r)
 
-pub store_written : (numbers : BTreeMap (ℕ × ℕ) ℕ) (es fs : List Numbered) (next : ℕ) (ids : List CallId) (count : ℕ) (id : CallId) (n a b : ℕ) (x y : KeptValue) → IsStore numbers es next ids count → IsAt id n es
-    → Some x ≡ lookup (is_at (nat_cmp n)) es → fs ≡ set_value (is_at (nat_cmp n)) es y → y.id ≡ x.id → (IsClosed x → IsClosed y) → a ≡ waiting_in x → b ≡ waiting_in y → IsStore numbers fs next ids (count - a + b)
-store_written numbers es fs next ids count id n a b x y s at is fs_is same closes a_is b_is =
-    (told_written id n es fs ids count a b x y s.0 at is fs_is same closes a_is b_is, indexed_set numbers es fs next n x y s.1 is same fs_is)
+pub store_written : (numbers : BTreeMap (ℕ × ℕ) ℕ) (es fs : List Numbered) (next count : ℕ) (id : CallId) (n a b : ℕ) (x y : KeptValue) → IsStore numbers es next count → IsAt id n es
+    → Some x ≡ lookup (is_at (nat_cmp n)) es → fs ≡ set_value (is_at (nat_cmp n)) es y → y.id ≡ x.id → a ≡ waiting_in x → b ≡ waiting_in y → IsStore numbers fs next (count - a + b)
+store_written numbers es fs next count id n a b x y s at is fs_is same a_is b_is =
+    (told_written id n es fs count a b x y s.0 at is fs_is same a_is b_is, indexed_set numbers es fs next n x y s.1 is same fs_is)
 
-pub store_kept : (numbers : BTreeMap (ℕ × ℕ) ℕ) (es fs : List Numbered) (next : ℕ) (ids : List CallId) (count : ℕ) (id : CallId) (n : ℕ) (x y : KeptValue) → IsStore numbers es next ids count → IsAt id n es
-    → Some x ≡ lookup (is_at (nat_cmp n)) es → fs ≡ set_value (is_at (nat_cmp n)) es y → y.id ≡ x.id → (IsClosed x → IsClosed y) → waiting_in x ≡ waiting_in y → IsStore numbers fs next ids count
-store_kept numbers es fs next ids count id n x y s at is fs_is same closes waits =
-    (told_kept id n es fs ids count x y s.0 at is fs_is same closes waits, indexed_set numbers es fs next n x y s.1 is same fs_is)
-
--- of the calls that it concerned the ids of those that may still change without a result are left
-pub store_pruned : (trigger : Trigger) (numbers : BTreeMap (ℕ × ℕ) ℕ) (es : List Numbered) (next : ℕ) (ids after : List CallId) (count : ℕ) → IsStore numbers es next ids count
-    → after ≡ filter (λ id. stays trigger (get key_cmp numbers (key_of id)) es id) ids → AreTold (values_of es) after count
-store_pruned trigger numbers es next ids after count s after_is =
-    told_pruned (λ id. stays trigger (get key_cmp numbers (key_of id)) es id) (values_of es) ids after count s.0 (λ j lt none.
-    let k : KeptValue = kept_at j (values_of es) in
-    let open_not = (or_parts (not (concerns trigger k.id)) (is_open_by (get key_cmp numbers (key_of k.id)) es) none).1 in
-    closed_if k (sym (open_found k.id (values_of es) j (found_place j (values_of es) lt s.0.apart)) ∙ sym (open_by numbers es next k.id s.1) ∙ open_not)) after_is
+pub store_kept : (numbers : BTreeMap (ℕ × ℕ) ℕ) (es fs : List Numbered) (next count : ℕ) (id : CallId) (n : ℕ) (x y : KeptValue) → IsStore numbers es next count → IsAt id n es
+    → Some x ≡ lookup (is_at (nat_cmp n)) es → fs ≡ set_value (is_at (nat_cmp n)) es y → y.id ≡ x.id → waiting_in x ≡ waiting_in y → IsStore numbers fs next count
+store_kept numbers es fs next count id n x y s at is fs_is same waits =
+    (told_kept id n es fs count x y s.0 at is fs_is same waits, indexed_set numbers es fs next n x y s.1 is same fs_is)
 
 pub fewer_is : (id : CallId) (n : ℕ) (es fs : List Numbered) → IsAt id n es → fs ≡ remove_entry (is_at (nat_cmp n)) es → AreApart (values_of es) → values_of fs ≡ filter (λ (k : KeptValue). not (is_call k.id id)) (values_of es)
 fewer_is id n es fs a fs_is apart = ap (λ gs. values_of gs) fs_is ∙ a.removed ∙ sym (without_is id (values_of es) a.place a.found apart)
 
 -- the call of that id goes out of both maps
-pub store_fewer : (numbers after : BTreeMap (ℕ × ℕ) ℕ) (es fs : List Numbered) (next : ℕ) (ids : List CallId) (count : ℕ) (id : CallId) (n m : ℕ) (x : KeptValue) → IsStore numbers es next ids count
+pub store_fewer : (numbers after : BTreeMap (ℕ × ℕ) ℕ) (es fs : List Numbered) (next count : ℕ) (id : CallId) (n m : ℕ) (x : KeptValue) → IsStore numbers es next count
     → Some n ≡ get key_cmp numbers (key_of id) → Puts id None numbers after → Some x ≡ lookup (is_at (nat_cmp n)) es → fs ≡ remove_entry (is_at (nat_cmp n)) es → IsStrictlySortedBy nat_cmp (keys_of fs) → m ≡ waiting_in x
-    → IsStore after fs next (filter (λ other. not (is_call other id)) ids) (count - m)
-store_fewer numbers after es fs next ids count id n m x s is takes looked fs_is sorted m_is =
+    → IsStore after fs next (count - m)
+store_fewer numbers after es fs next count id n m x s is takes looked fs_is sorted m_is =
     let a = indexed_at numbers es next id n s.1 is in
     let here : x ≡ kept_at a.place (values_of es) = looked_is id n es x a looked in (
-      subst (λ ks. AreTold ks (filter (λ other. not (is_call other id)) ids) (count - m)) (sym (fewer_is id n es fs a fs_is s.0.apart))
-          (told_fewer (values_of es) ids count (count - m) a.place id s.0 a.found (omega (arith, m_is, ap waiting_in here, at_most id n es ids count x s.0 a looked))),
+      subst (λ ks. AreTold ks (count - m)) (sym (fewer_is id n es fs a fs_is s.0.apart))
+          (told_fewer (values_of es) count (count - m) a.place id s.0 a.found (omega (arith, m_is, ap waiting_in here, at_most id n es count x s.0 a looked))),
       indexed_fewer numbers after es fs next n id s.1 s.0.apart is takes fs_is sorted,
     )
 
@@ -377,25 +355,3 @@ written_waits id n es fs items x y a items_are is fs_is =
 pub store_waits : (id : CallId) (n : ℕ) (es fs : List Numbered) (items : List KeptValue) (x y : KeptValue) → IsAt id n es → values_of es ≡ items → Some x ≡ lookup (is_at (nat_cmp n)) es → fs ≡ set_value (is_at (nat_cmp n)) es y
     → waiting_in y ≤ waiting_in x → waiting (values_of fs) ≤ waiting items
 store_waits id n es fs items x y a items_are is fs_is less = omega (arith, less, written_waits id n es fs items x y a items_are is fs_is)
-
-pub store_waits_same : (id : CallId) (n : ℕ) (es fs : List Numbered) (items : List KeptValue) (x y : KeptValue) → IsAt id n es → values_of es ≡ items → Some x ≡ lookup (is_at (nat_cmp n)) es → fs ≡ set_value (is_at (nat_cmp n)) es y
-    → waiting_in x ≡ waiting_in y → waiting (values_of fs) ≡ waiting items
-store_waits_same id n es fs items x y a items_are is fs_is same = omega (arith, same, written_waits id n es fs items x y a items_are is fs_is)
-
-ended_waits : (e : Option CallEvent) (out : List Bool) (o : Option Live) → option_map_or (λ (l : Live). length l.waiting) (ends_with e out o).call.live 0 ≤ option_map_or (λ (l : Live). length l.waiting) o 0
-ended_waits e out None = omega arith
-ended_waits None out (Some l) = omega arith
-ended_waits (Some e) out (Some l) = omega arith
-
--- it ended, or ended unanswered
-pub waits_or : {T E : Type 0} (r : Result T E) (A : Type 0) (e : Option CallEvent) (x y : KeptValue) → OnOk r (y ≡ ended_with e x) → OnErr r (A × (y ≡ unanswered x)) → waiting_in y ≤ waiting_in x
-waits_or (Ok t) A e x y ok err = omega (arith, ap waiting_in ok, ended_waits e x.call.out x.call.live)
-waits_or (Err t) A e x y ok err = omega (arith, ap waiting_in err.1)
-
-pub both_ok : {T E : Type 0} (r : Result T E) (A B C : Type 0) → (A → B → C) → OnOk r A → OnOk r B → OnOk r C
-both_ok (Ok t) A B C f a b = f a b
-both_ok (Err t) A B C f a b = tt
-
-pub both_err : {T E : Type 0} (r : Result T E) (A B C : Type 0) → (A → B → C) → OnErr r A → OnErr r B → OnErr r C
-both_err (Ok t) A B C f a b = tt
-both_err (Err t) A B C f a b = f a b

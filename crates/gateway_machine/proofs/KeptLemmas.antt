@@ -8,7 +8,6 @@ use Rattle.std.proofs.lemmas.List.Sums.{sum_by-set}
 use Rattle.std.proofs.Math.ListN.{get_or-eq_default}
 use Rattle.connect_codec.specs.declared.answer.Outcome.{Outcome}
 use Rattle.connect_codec.specs.declared.answer.Outcome.TheVariants.{Answer}
-use Rattle.gateway_model.specs.declared.entry.ReplyEntry.{ReplyEntry}
 use Rattle.err_group.specs.GroupState.{GroupState, Finishes, freed_by}
 use Rattle.gateway_model.specs.declared.call_event.CallEvent.{CallEvent}
 use Rattle.gateway_model.specs.declared.call_event.CallEvent.TheVariants.{Answer as Answered}
@@ -232,31 +231,31 @@ first_its moment id k a queue e = subst (λ q. All (λ (j : JobValue). j.call �
     of_range (n ∷ ns) (suc j) d lt = absurd (omega (arith, lt))
 
 pub last_step : (moment : ℕ) (old : KeptValue) (id : CallId) (out : List Bool) (i : ℕ) (body : List ℕ) (g h : GroupState TaskValue (Unit {0})) (was new : Option LiveValue) (l : LiveValue)
-    (reply : Option ReplyEntry) (decided : CallRecord) (next : Option TaskValue) (outcome : Outcome)
-    → kept_value id out g.queue was reply ≡ old → IsKept id out g was → was ≡ Some l → slice_index_or out i false ≡ true → outcome ≡ Answer body → IsLawful l.asked.plan
+    (decided : CallRecord) (next : Option TaskValue) (outcome : Outcome)
+    → kept_value id out g.queue was ≡ old → IsKept id out g was → was ≡ Some l → slice_index_or out i false ≡ true → outcome ≡ Answer body → IsLawful l.asked.plan
     → (length l.events + 1 == length l.asked.plan.branches) ≡ true → decided ≡ record_of l.asked (l.deadlines ++ deadlines_next moment (option_to_list next)) (l.events ++ Answered i body ∷ []) → next ≡ (freed_by (Ok tt) g).next → new ≡ None
-    → IsStep moment old (kept_value id (slice_set out i false) h.queue new reply) (Some decided) next (result_on moment i outcome (slice_set old.call.out i false) old.call.live)
-last_step moment old id out i body g h was new l reply decided next outcome old_is k was_is it outcome_is lawful last decided_is next_as new_is =
+    → IsStep moment old (kept_value id (slice_set out i false) h.queue new) (Some decided) next (result_on moment i outcome (slice_set old.call.out i false) old.call.live)
+last_step moment old id out i body g h was new l decided next outcome old_is k was_is it outcome_is lawful last decided_is next_as new_is =
     let live : IsKept id out g (Some l) = subst (λ x. IsKept id out g x) was_is k in
     let none : g.queue ≡ [] = last_waits_none id out g.queue l live.live_is lawful (eqb-true (length l.events + 1) (length l.asked.plan.branches) last) in
     let next_none : next ≡ None = next_is id out i g was next (Ok tt) k it next_as ∙ ap (λ q. slice_get q 0) none in
-    subst (λ x. IsStep moment x (kept_value id (slice_set out i false) h.queue new reply) (Some decided) next (result_on moment i outcome (slice_set x.call.out i false) x.call.live)) old_is
+    subst (λ x. IsStep moment x (kept_value id (slice_set out i false) h.queue new) (Some decided) next (result_on moment i outcome (slice_set x.call.out i false) x.call.live)) old_is
     (rw (was_is, outcome_is, none, last, decided_is, next_none, new_is) (record { new_is = refl; reply_is = refl; jobs_are = refl; alone = inr refl; its = λ j d lt. absurd (omega (arith, lt)) }))
 
 pub going_step : (moment : ℕ) (old : KeptValue) (id : CallId) (out after : List Bool) (i : ℕ) (body : List ℕ) (g h : GroupState TaskValue (Unit {0})) (was : Option LiveValue) (l later : LiveValue)
-    (reply : Option ReplyEntry) (next : Option TaskValue) (outcome : Outcome)
-    → kept_value id out g.queue was reply ≡ old → IsKept id out g was → was ≡ Some l → slice_index_or out i false ≡ true → outcome ≡ Answer body
+    (next : Option TaskValue) (outcome : Outcome)
+    → kept_value id out g.queue was ≡ old → IsKept id out g was → was ≡ Some l → slice_index_or out i false ≡ true → outcome ≡ Answer body
     → (length l.events + 1 == length l.asked.plan.branches) ≡ false → next ≡ (freed_by (Ok tt) g).next → (0 < g.active → Finishes g h (Ok tt))
     → after ≡ next_out (option_to_list next) (slice_set out i false) → later ≡ live_value l.asked (l.events ++ Answered i body ∷ []) (l.deadlines ++ deadlines_next moment (option_to_list next))
-    → IsStep moment old (kept_value id after h.queue (Some later) reply) None next (result_on moment i outcome (slice_set old.call.out i false) old.call.live)
-going_step moment old id out after i body g h was l later reply next outcome old_is k was_is it outcome_is last next_as finishes after_is later_is =
+    → IsStep moment old (kept_value id after h.queue (Some later)) None next (result_on moment i outcome (slice_set old.call.out i false) old.call.live)
+going_step moment old id out after i body g h was l later next outcome old_is k was_is it outcome_is last next_as finishes after_is later_is =
     let live : IsKept id out g (Some l) = subst (λ x. IsKept id out g x) was_is k in
     let n : next ≡ slice_get g.queue 0 = next_is id out i g was next (Ok tt) k it next_as in
     let f : Finishes g h (Ok tt) = finishes (some_active id out i g was k it) in
     let out_is : after ≡ next_out g.queue (slice_set out i false) =
     after_is ∙ ap (λ m. next_out (option_to_list m) (slice_set out i false)) n ∙ outs_next g.queue (slice_set out i false) in
     let times : deadlines_next moment (option_to_list next) ≡ deadlines_next moment g.queue = ap (λ m. deadlines_next moment (option_to_list m)) n ∙ times_next moment g.queue in
-    subst (λ x. IsStep moment x (kept_value id after h.queue (Some later) reply) None next (result_on moment i outcome (slice_set x.call.out i false) x.call.live)) old_is
+    subst (λ x. IsStep moment x (kept_value id after h.queue (Some later)) None next (result_on moment i outcome (slice_set x.call.out i false) x.call.live)) old_is
     (rw (was_is, outcome_is, last) (record {
       new_is = rw (out_is, later_is, times, f.queue, rest_next g.queue) refl;
       reply_is = refl;

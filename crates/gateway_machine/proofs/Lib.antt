@@ -10,10 +10,10 @@ pub mod GroupLemmas
 pub mod ResultLemmas
 pub mod EnterLemmas
 pub mod QuietLemmas
-pub mod LeastLemmas
+mod LeastLemmas
 pub mod StockLemmas
 pub mod CallsLemmas
 pub mod IndexLemmas
-pub mod ListedLemmas
 pub mod EndingLemmas
 pub mod BackLemmas
+pub mod FoundLemmas

@@ -6,14 +6,12 @@ use Rattle.std.proofs.lemmas.Bool.{cases_Bool, eq-eqb}
 use Rattle.std.proofs.lemmas.List.Elements.{All-head, All-tail, filter-append}
 use Rattle.std.proofs.lemmas.List.Folds.{list_any-append}
 use Rattle.std.specs.Prelude.{All}
-use Rattle.gateway_model.specs.declared.entry.ReplyEntry.{ReplyEntry}
 use Rattle.gateway_model.specs.declared.id.CallId.{CallId}
-use Rattle.gateway_model.specs.declared.call_event.CallEvent.{CallEvent}
 use Rattle.gateway_theory.specs.Conn.{ConnValue, next_of}
 use Rattle.gateway_replies.specs.Contexts.{ContextsValue, Ended, KeepsOthers, LifeValue, LivesApart, PeerValue, closed, contexts_value, is_life, others, without}
-use Rattle.gateway_theory.specs.Ends.{AreApart, settled_at, unanswered, without_reply}
+use Rattle.gateway_theory.specs.Ends.{AreApart}
 use Rattle.gateway_theory.specs.Kept.{KeptValue}
-use Rattle.gateway_machine.specs.Linked.{Over, ended_with, ends_with, linked_by, linked_calls, life_in, linked_conns, lives_in}
+use Rattle.gateway_machine.specs.Linked.{Over, linked_by, linked_calls, life_in, linked_conns, lives_in}
 use Rattle.gateway_theory.specs.Orderly.{ConnsApart, IsInOrder, IsOrderly}
 use Rattle.gateway_model.specs.Past.{is_call}
 use Rattle.gateway_machine.proofs.TimedLemmas.{mapped, none_mapped}
@@ -21,21 +19,21 @@ use Rattle.gateway_theory.specs.Step.{Live}
 use Rattle.gateway_theory.specs.Store.{MachineValue, IsFound, broken_at, broken_if, conn_at, conn_of, given_up, given_up_if, kept_at}
 use Rattle.gateway_theory.specs.lemmas.Cases.{all_stay, or_true}
 use Rattle.gateway_theory.specs.lemmas.LimitLemmas.{same_call}
-use Rattle.gateway_theory.specs.lemmas.StoreLemmas.{call_itself}
-use Rattle.gateway_machine.proofs.PeerLemmas.{conns_broken, conns_filled_in}
+use Rattle.gateway_theory.specs.lemmas.StoreLemmas.{call_apart, call_itself}
+use Rattle.gateway_machine.proofs.PeerLemmas.{conns_broken}
 
 -- ---- calls, of which these are over
 
 module _ (over : Over) where
-  its_others : (c : ℕ) (id : CallId) (o : Option Live) (out : List Bool) (r : Option ReplyEntry) → (id.conn == c) ≡ true
-      → others c (lives_in over (record { id = id; call = record { out = out; live = o }; reply = r })) ≡ []
-  its_others c id None out r its = refl
-  its_others c id (Some l) out r its = rw its refl
+  its_others : (c : ℕ) (id : CallId) (o : Option Live) (out : List Bool) → (id.conn == c) ≡ true
+      → others c (lives_in over (record { id = id; call = record { out = out; live = o } })) ≡ []
+  its_others c id None out its = refl
+  its_others c id (Some l) out its = rw its refl
 
-  far_others : (c : ℕ) (id : CallId) (o : Option Live) (out : List Bool) (r : Option ReplyEntry) → (id.conn == c) ≡ false
-      → others c (lives_in over (record { id = id; call = record { out = out; live = o }; reply = r })) ≡ lives_in over (record { id = id; call = record { out = out; live = o }; reply = r })
-  far_others c id None out r far = refl
-  far_others c id (Some l) out r far = rw far refl
+  far_others : (c : ℕ) (id : CallId) (o : Option Live) (out : List Bool) → (id.conn == c) ≡ false
+      → others c (lives_in over (record { id = id; call = record { out = out; live = o } })) ≡ lives_in over (record { id = id; call = record { out = out; live = o } })
+  far_others c id None out far = refl
+  far_others c id (Some l) out far = rw far refl
 
   pub calls_given_up : (c : ℕ) (ks : List KeptValue) → linked_calls over (map (given_up_if c) ks) ≡ others c (linked_calls over ks)
   calls_given_up c [] = refl
@@ -43,8 +41,8 @@ module _ (over : Over) where
     where
       by : linked_calls over (map (given_up_if c) ks) ≡ others c (linked_calls over ks) → (b : Bool) → (k.id.conn == c) ≡ b
           → lives_in over (if k.id.conn == c then given_up k else k) ++ linked_calls over (map (given_up_if c) ks) ≡ others c (lives_in over k) ++ others c (linked_calls over ks)
-      by rest true its = rw (its, its_others c k.id k.call.live k.call.out k.reply its) rest
-      by rest false far = rw (far, far_others c k.id k.call.live k.call.out k.reply far) (ap (λ ls. lives_in over k ++ ls) rest)
+      by rest true its = rw (its, its_others c k.id k.call.live k.call.out its) rest
+      by rest false far = rw (far, far_others c k.id k.call.live k.call.out far) (ap (λ ls. lives_in over k ++ ls) rest)
 
   pub live_life : (k : KeptValue) (l : Live) → k.call.live ≡ Some l → lives_in over k ≡ life_in over k.id k.call.out l ∷ []
   live_life k l is = rw is refl
@@ -114,17 +112,6 @@ module _ (over : Over) where
           (cases_Bool (is_call k.id (kept_at i ks).id)) in
           rw (live_life k m o_is, off) (ap (λ ls. life_in over k.id k.call.out m ∷ ls) (rest two.1))
 
-  -- of a call of the connection the others know nothing
-  pub set_others : (c : ℕ) (ks : List KeptValue) (i : ℕ) (y : KeptValue) → i < length ks → ((kept_at i ks).id.conn == c) ≡ true → y.call.live ≡ None
-      → others c (linked_calls over (slice_set ks i y)) ≡ others c (linked_calls over ks)
-  set_others c [] i y lt its dead = refl
-  set_others c (k ∷ ks) zero y lt its dead =
-      rw (dead_life y dead) (sym (filter-append (λ (l : LifeValue). not (l.id.conn == c)) (lives_in over k) (linked_calls over ks) ∙ rw (its_others c k.id k.call.live k.call.out k.reply its) refl))
-  set_others c (k ∷ ks) (suc i) y lt its dead =
-      filter-append (λ (l : LifeValue). not (l.id.conn == c)) (lives_in over k) (linked_calls over (slice_set ks i y))
-      ∙ ap (λ ls. others c (lives_in over k) ++ ls) (set_others c ks i y (omega (arith, lt)) its dead)
-      ∙ sym (filter-append (λ (l : LifeValue). not (l.id.conn == c)) (lives_in over k) (linked_calls over ks))
-
   pub calls_append : (ks ls : List KeptValue) → linked_calls over (ks ++ ls) ≡ linked_calls over ks ++ linked_calls over ls
   calls_append [] ls = refl
   calls_append (k ∷ ks) ls = ap (λ ms. lives_in over k ++ ms) (calls_append ks ls) ∙ sym (Rattle.std.proofs.lemmas.List.append_assoc (lives_in over k) (linked_calls over ks) (linked_calls over ls))
@@ -136,50 +123,17 @@ life_if_live k (Some l) o_is some = (l, o_is)
 -- ---- the machine, of which these calls are over
 
 module _ (e : ℕ → Ended) (over : Over) where
-  -- the context of a call that this event ends is gone, and else nothing
-  pub ended_linked : (event : Option CallEvent) (ks : List KeptValue) (i : ℕ) (x y : KeptValue) (c d : ContextsValue) (b : Bool) (ns : List PeerValue) → i < length ks → x ≡ kept_at i ks → y ≡ ended_with event x
-      → d ≡ (if is_some (ends_with event x.call.out x.call.live).reply then without x.id c else c) → c ≡ contexts_value b ns (linked_calls over ks) → LivesApart c.calls
-      → d ≡ contexts_value b ns (linked_calls over (slice_set ks i y))
-  ended_linked event ks i x y c d b ns lt x_is y_is d_is c_is apart =
-      by (kept_at i ks).call.live refl event refl (y_is ∙ ap (ended_with event) x_is) (d_is ∙ ap (λ (k : KeptValue). if is_some (ends_with event k.call.out k.call.live).reply then without k.id c else c) x_is)
-    where
-      lives : LivesApart (linked_calls over ks)
-      lives = subst (λ (z : ContextsValue). LivesApart z.calls) c_is apart
-
-      by : (o : Option Live) → (kept_at i ks).call.live ≡ o → (q : Option CallEvent) → event ≡ q → y ≡ ended_with event (kept_at i ks)
-          → d ≡ (if is_some (ends_with event (kept_at i ks).call.out (kept_at i ks).call.live).reply then without (kept_at i ks).id c else c) → d ≡ contexts_value b ns (linked_calls over (slice_set ks i y))
-      by None o_is q q_is e f =
-          let dead : y.call.live ≡ None = ap (λ (k : KeptValue). k.call.live) e ∙ rw o_is refl in
-          let same : d ≡ c = f ∙ rw o_is refl in
-          same ∙ c_is ∙ ap (contexts_value b ns) (sym (set_alike over ks i y lt (dead_life over y dead ∙ sym (dead_life over (kept_at i ks) o_is))))
-      by (Some l) o_is None q_is e f =
-          let same : d ≡ c = f ∙ rw (o_is, q_is) refl in
-          same ∙ c_is ∙ ap (contexts_value b ns) (sym (set_alike over ks i y lt (ap (lives_in over) e ∙ rw (o_is, q_is) refl)))
-      by (Some l) o_is (Some ev) q_is e f =
-          let dead : y.call.live ≡ None = ap (λ (k : KeptValue). k.call.live) e ∙ rw (o_is, q_is) refl in
-          let gone : d ≡ without (kept_at i ks).id c = f ∙ rw (o_is, q_is) refl in
-          gone ∙ ap (without (kept_at i ks).id) c_is ∙ ap (contexts_value b ns) (sym (set_dead over ks i y l lives lt o_is dead))
+  -- the context of a call that ended is gone
+  pub ended_linked : (ks : List KeptValue) (i : ℕ) (y : KeptValue) (l : Live) (c d : ContextsValue) (b : Bool) (ns : List PeerValue) → i < length ks → (kept_at i ks).call.live ≡ Some l → y.call.live ≡ None
+      → d ≡ without (kept_at i ks).id c → c ≡ contexts_value b ns (linked_calls over ks) → LivesApart c.calls → d ≡ contexts_value b ns (linked_calls over (slice_set ks i y))
+  ended_linked ks i y l c d b ns lt live dead d_is c_is apart =
+      d_is ∙ ap (without (kept_at i ks).id) c_is
+      ∙ ap (contexts_value b ns) (sym (set_dead over ks i y l (subst (λ (z : ContextsValue). LivesApart z.calls) c_is apart) lt live dead))
 
   pub live_has_life : (ks : List KeptValue) (i : ℕ) (x : KeptValue) → x ≡ kept_at i ks → is_some x.call.live ≡ true → is_life x.id (linked_calls over ks) ≡ true
   live_has_life ks i x x_is some =
       let live = life_if_live (kept_at i ks) (kept_at i ks).call.live refl (ap (λ (k : KeptValue). is_some k.call.live) (sym x_is) ∙ some) in
       ap (λ (k : KeptValue). is_life k.id (linked_calls over ks)) x_is ∙ live_linked over ks i live.0 live.1
-
-  -- of a call that ended, and has no reply
-  pub refused_linked : (v w : MachineValue) (i : ℕ) (x y : KeptValue) (n : ℕ) (c d : ContextsValue) → i < length v.calls → x ≡ kept_at i v.calls → y ≡ unanswered x → n ≡ x.id.conn
-      → KeepsOthers x.id.conn c d → c ≡ linked_by e over v → w.drained ≡ v.drained → w.conns ≡ v.conns → w.calls ≡ slice_set v.calls i y → KeepsOthers n (linked_by e over w) d
-  refused_linked v w i x y n c d lt x_is y_is n_is keeps c_is drained_is conns_are calls_are = subst (λ m. KeepsOthers m (linked_by e over w) d) (sym n_is) (record {
-    drained_is = keeps.drained_is ∙ ap (λ (z : ContextsValue). z.drained) c_is ∙ sym drained_is;
-    conns_are = keeps.conns_are ∙ ap (λ (z : ContextsValue). z.conns) c_is ∙ ap (linked_conns e) (sym conns_are);
-    others_are = keeps.others_are ∙ ap (λ (z : ContextsValue). others x.id.conn z.calls) c_is
-        ∙ sym (set_others over x.id.conn v.calls i y lt (ap (λ (k : KeptValue). k.id.conn == x.id.conn) (sym x_is) ∙ eq-eqb x.id.conn x.id.conn refl) (ap (λ (k : KeptValue). k.call.live) y_is))
-        ∙ ap (λ ks. others x.id.conn (linked_calls over ks)) (sym calls_are);
-  })
-
-  pub settled_linked : (i : ℕ) (v : MachineValue) → i < length v.calls → linked_by e over (settled_at i v) ≡ linked_by e over v
-  settled_linked i v lt =
-      ap (λ ns. contexts_value v.drained ns (linked_calls over (slice_set v.calls i (without_reply (kept_at i v.calls))))) (conns_filled_in e _ v.conns)
-      ∙ ap (contexts_value v.drained (linked_conns e v.conns)) (set_alike over v.calls i (without_reply (kept_at i v.calls)) lt refl)
 
   -- a call in the place of another, of which no more can be decided, and no less
   pub alike_linked : (v w : MachineValue) (i : ℕ) (y : KeptValue) → i < length v.calls → lives_in over y ≡ lives_in over (kept_at i v.calls) → w.drained ≡ v.drained
@@ -204,15 +158,9 @@ module _ (e : ℕ → Ended) (over : Over) where
       let here : is_call k.id id ≡ true = found.1 in
       rw (here, dead_life over k dead) (ap (linked_calls over) (all_stay (λ (m : KeptValue). is_call m.id id) ks (none ks (λ j lt. ap (λ d. is_call d (kept_at j ks).id) (sym (same_call k.id id here)) ∙ apart 0 (suc j) (omega arith) (omega (arith, lt))))))
     where
-      turned : (a b : CallId) → is_call a b ≡ false → is_call b a ≡ false
-      turned a b n = ⊎_elim
-          (λ (e : is_call b a ≡ true). let clash : true ≡ false = sym (call_itself a) ∙ ap (is_call a) (sym (same_call b a e)) ∙ n in cc)
-          (λ (f : is_call b a ≡ false). f)
-          (cases_Bool (is_call b a))
-
       none : (ms : List KeptValue) → ((j : ℕ) → j < length ms → is_call id (kept_at j ms).id ≡ false) → list_any (λ (m : KeptValue). is_call m.id id) ms ≡ false
       none [] far = refl
-      none (m ∷ ms) far = rw (turned id m.id (far 0 (omega arith))) (none ms (λ j lt. far (suc j) (omega (arith, lt))))
+      none (m ∷ ms) far = rw (call_apart id m.id (far 0 (omega arith))) (none ms (λ j lt. far (suc j) (omega (arith, lt))))
   forgot_linked id (k ∷ ks) (suc i) found apart dead =
       let off : is_call k.id id ≡ false = found.2 0 (omega arith) in
       rw off (ap (λ ls. lives_in over k ++ ls) (forgot_linked id ks i (let lt = found.0 in omega (arith, lt), found.1, λ j l. found.2 (suc j) (omega (arith, l)))

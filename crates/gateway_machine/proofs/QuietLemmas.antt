@@ -1,22 +1,19 @@
 -- A moment that has reached no deadline ends no call.
-use Rattle.std.proofs.Common.{◌≡◌, ℕ, ◌+◌, ◌<◌, zero, suc, arith, refl, sym, ap, ◌∙◌, List, [], ◌∷◌, Option, Some, None, Bool, true, false, subst, map, length}
+use Rattle.std.proofs.Common.{◌≡◌, ℕ, suc, refl, sym, ap, ◌∙◌, List, [], ◌∷◌, Option, Some, None, Bool, true, false, subst}
 use Rattle.std.specs.Prelude.{All, if◌then◌else◌, nat_le}
-use Rattle.std.specs.Option.{option_or}
 use Rattle.std.proofs.lemmas.List.Elements.{All-cons, All-head, All-nil, All-tail}
 use Rattle.gateway_model.specs.declared.id.CallId.{CallId}
-use Rattle.gateway_model.specs.declared.entry.ReplyEntry.{ReplyEntry}
-use Rattle.gateway_model.specs.Past.{call_id, is_call}
+use Rattle.gateway_model.specs.Past.{is_call}
 use Rattle.gateway_theory.specs.declared.trigger.Trigger.{Trigger}
 use Rattle.gateway_theory.specs.declared.trigger.Trigger.TheVariants.{Reached}
-use Rattle.gateway_theory.specs.Conn.{ConnValue}
-use Rattle.gateway_theory.specs.Ends.{CallsEnd, IsSettled, MayEnd, caused, ended_below, ended_call, ended_if, is_broken_in, without_reply}
+use Rattle.gateway_theory.specs.Ends.{AreApart, CallsEnd, IsSettled, caused, ended_call, ended_if}
 use Rattle.gateway_theory.specs.Kept.{KeptValue}
-use Rattle.gateway_theory.specs.Machine.{slot_at}
 use Rattle.gateway_theory.specs.Step.{Live, Step, call_state, deadlines_in, kept}
-use Rattle.gateway_theory.specs.Store.{MachineValue, call_at, conn_of, kept_at}
+use Rattle.gateway_theory.specs.Store.{MachineValue, call_at}
 use Rattle.gateway_replies.specs.Contexts.{ContextsValue, IsNotDue, TimedBranch}
 use Rattle.gateway_model.specs.Past.{due_by, is_due, least_of, smaller}
 use Rattle.gateway_theory.specs.lemmas.Deadlines.{due_smaller}
+use Rattle.gateway_theory.specs.lemmas.EndLemmas.{ends_all, ends_start}
 use Rattle.gateway_machine.specs.Linked.{EndsNone, IsLinked, life_in, linked_calls, none_over, timed}
 use Rattle.gateway_theory.specs.lemmas.LimitLemmas.{same_call}
 
@@ -31,15 +28,6 @@ left_call trigger k left = by k.call.live left refl
     by None left o_is = ap (λ o. kept (call_state k.call.out o)) (sym o_is)
     by (Some l) left o_is = rw (left l refl) (ap (λ o. kept (call_state k.call.out o)) (sym o_is))
 
-map_same : (f : KeptValue → KeptValue) (ks : List KeptValue) → ((j : ℕ) → j < length ks → f (kept_at j ks) ≡ kept_at j ks) → ks ≡ map f ks
-map_same f [] same = refl
-map_same f (k ∷ ks) same = ap (λ l. k ∷ l) (map_same f ks (λ j lt. same (suc j) (omega (arith, lt)))) ∙ ap (λ x. x ∷ map f ks) (sym (same 0 (omega arith)))
-
-all_at : (P : KeptValue → Type 0) (ks : List KeptValue) (j : ℕ) → j < length ks → All P ks → P (kept_at j ks)
-all_at P [] j lt all = absurd (omega (arith, lt))
-all_at P (k ∷ ks) zero lt all = All-head P k ks all
-all_at P (k ∷ ks) (suc j) lt all = all_at P ks j (omega (arith, lt)) (All-tail P k ks all)
-
 -- a call that is not kept is not ended
 none_replied : (trigger : Trigger) (id : CallId) (ks : List KeptValue) → All (IsLeft trigger) ks → (ended_call trigger id (call_at id ks)).reply ≡ None
 none_replied trigger id [] all = refl
@@ -50,40 +38,8 @@ none_replied trigger id (k ∷ ks) all = by (is_call k.id id) refl (none_replied
     by false far rest = rest
 
 -- what is ended by nothing stays
-pub none_end : (trigger : Trigger) (v : MachineValue) → All (IsLeft trigger) v.calls → IsSettled v → CallsEnd trigger v v
-none_end trigger v left settled = record {
-  moment_is = refl;
-  drained_is = refl;
-  jobs_are = refl;
-  calls_are = map_same (λ k. without_reply (ended_below trigger (is_broken_in k.id.conn v.conns) true k)) v.calls (λ j lt. one j lt (is_broken_in (kept_at j v.calls).id.conn v.conns) refl);
-  numbers_are = refl;
-  conns_are = λ c. same (conn_of c v.conns);
-  breaks_are = λ c now before. let clash : true ≡ false = sym now ∙ before in absurd (cc);
-}
-  where
-    -- of a call that is settled nothing waits for its slot
-    rests : (k : KeptValue) → k.reply ≡ None → without_reply k ≡ k
-    rests k none = ap (λ r. record { id = k.id; call = k.call; reply = r }) (sym none)
-
-    one : (j : ℕ) → j < length v.calls → (b : Bool) → is_broken_in (kept_at j v.calls).id.conn v.conns ≡ b → without_reply (ended_below trigger b true (kept_at j v.calls)) ≡ kept_at j v.calls
-    one j lt true broken = ap (λ o. record { id = (kept_at j v.calls).id; call = call_state (kept_at j v.calls).call.out o; reply = None }) (sym (settled.none_live j broken)) ∙ rests (kept_at j v.calls) (settled.no_reply j)
-    one j lt false going = ap (λ (s : Step). record { id = (kept_at j v.calls).id; call = s.call; reply = None }) (left_call trigger (kept_at j v.calls) (all_at (IsLeft trigger) v.calls j lt left)) ∙ rests (kept_at j v.calls) (settled.no_reply j)
-
-    or_none : (o : Option ReplyEntry) (b : Bool) (r : Option ReplyEntry) → r ≡ None → o ≡ option_or o (if b then None else r)
-    or_none (Some e) b r none = refl
-    or_none None true r none = refl
-    or_none None false r none = sym none
-
-    same : (o : Option ConnValue) → MayEnd trigger v.calls o o
-    same None = tt
-    same (Some k) = record {
-      number_is = refl;
-      taken_is = refl;
-      hung_is = refl;
-      stays_broken = λ b. b;
-      size_is = refl;
-      each = λ j lt. or_none (slot_at j k.slots) k.broken _ (none_replied trigger (call_id k.number (k.taken + j)) v.calls left);
-    }
+none_end : (trigger : Trigger) (v : MachineValue) → All (IsLeft trigger) v.calls → IsSettled v → AreApart v.calls → CallsEnd trigger v v
+none_end trigger v left settled apart = ends_all trigger [] v v v (ends_start trigger v settled) apart (λ id. none_replied trigger id v.calls left) refl
 
 -- of branches of which none is due the least is not
 least_left : (moment : ℕ) (id : CallId) (call : Option ℕ) (k : ℕ) (ds : List (Option ℕ))

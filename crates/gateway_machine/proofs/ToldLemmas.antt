@@ -12,14 +12,14 @@ use Rattle.gateway_theory.specs.declared.trigger.Trigger.TheVariants.{Reached, H
 use Rattle.gateway_model.specs.declared.call_event.CallEvent.{CallEvent}
 use Rattle.gateway_model.specs.declared.call_event.CallEvent.TheVariants.{HungUp as HungUpNow}
 use Rattle.gateway_replies.specs.Contexts.{ContextsValue, Ended, LifeValue, LivesApart, TimedBranch, by_deadline, by_drain, by_hang_up, contexts_value, ending_at, ending_life, ends_life, expires_life, ends_of, event_of, is_life, told}
-use Rattle.gateway_theory.specs.Ends.{caused, ended_below, ended_call, ended_if, ended_kept, noted, without_reply}
+use Rattle.gateway_theory.specs.Ends.{caused, ended_call, ended_if, ended_kept, kept_after, noted}
 use Rattle.gateway_theory.specs.Kept.{KeptValue}
-use Rattle.gateway_machine.specs.Linked.{IsNow, Over, ended_with, ends_with, event_for, linked, linked_by, linked_calls, life_in, linked_conns, lives_in, none_over, over_by, timed}
+use Rattle.gateway_machine.specs.Linked.{IsNow, Over, ends_with, event_for, linked, linked_by, linked_calls, life_in, linked_conns, lives_in, none_over, over_by, timed}
 use Rattle.gateway_model.specs.Past.{due_by, expiry, is_call, is_due, least_of, smaller}
 use Rattle.call_contexts.specs.Standing.{branch_before, ends_branch, expires_branch}
 use Rattle.gateway_theory.specs.lemmas.Deadlines.{due_smaller}
 use Rattle.gateway_machine.proofs.DueLemmas.{least_first, moment_event}
-use Rattle.gateway_theory.specs.Step.{Live, Step, deadlines_in, ended_by}
+use Rattle.gateway_theory.specs.Step.{Live, deadlines_in, ended_by}
 use Rattle.gateway_theory.specs.Store.{MachineValue, hung_if, kept_at}
 use Rattle.gateway_theory.specs.lemmas.Cases.{sym_eqb}
 use Rattle.gateway_theory.specs.lemmas.LimitLemmas.{same_call}
@@ -152,9 +152,6 @@ ends_as trigger event k its = by k.call.live its
     by None its = refl
     by (Some l) its = ap (λ q. ended_by q l k.call.out) (its l refl)
 
-pub ended_as : (trigger : Trigger) (event : Option CallEvent) (k : KeptValue) → ((l : Live) → k.call.live ≡ Some l → event ≡ caused trigger k.id l.asked (deadlines_in k.call.out l.deadlines)) → ended_with event k ≡ ended_kept trigger k
-ended_as trigger event k its = ap (λ (t : Step). record { id = k.id; call = t.call; reply = option_or t.reply k.reply }) (ends_as trigger event k its)
-
 -- the event that its context tells of a call at a place
 pub event_at : (trigger : Trigger) (moment : ℕ) (e : ℕ → Ended) (v : MachineValue) (c : ContextsValue) (i : ℕ) (x : KeptValue) → x ≡ kept_at i v.calls → IsNow trigger moment → LivesApart c.calls
     → c ≡ linked_by e (over_by trigger) v → (l : Live) → x.call.live ≡ Some l → event_for moment x.id c ≡ caused trigger x.id l.asked (deadlines_in x.call.out l.deadlines)
@@ -206,21 +203,21 @@ not_caused Drained id out l none = cc
 
 -- of those that can be decided still, none has ended by it
 ended_one : (trigger : Trigger) (broken : Bool) (k : KeptValue)
-    → lives_in (over_by trigger) (without_reply (ended_below trigger broken true k)) ≡ lives_in none_over (without_reply (ended_below trigger broken true k))
+    → lives_in (over_by trigger) (kept_after trigger broken k) ≡ lives_in none_over (kept_after trigger broken k)
 ended_one trigger true k = refl
 ended_one trigger false k = by k.call.live refl
   where
-    by : (o : Option Live) → k.call.live ≡ o → lives_in (over_by trigger) (without_reply (ended_kept trigger k)) ≡ lives_in none_over (without_reply (ended_kept trigger k))
+    by : (o : Option Live) → k.call.live ≡ o → lives_in (over_by trigger) (ended_kept trigger k) ≡ lives_in none_over (ended_kept trigger k)
     by None o_is = rw o_is refl
     by (Some l) o_is = on (caused trigger k.id l.asked (deadlines_in k.call.out l.deadlines)) refl
       where
-        on : (q : Option CallEvent) → caused trigger k.id l.asked (deadlines_in k.call.out l.deadlines) ≡ q → lives_in (over_by trigger) (without_reply (ended_kept trigger k)) ≡ lives_in none_over (without_reply (ended_kept trigger k))
+        on : (q : Option CallEvent) → caused trigger k.id l.asked (deadlines_in k.call.out l.deadlines) ≡ q → lives_in (over_by trigger) (ended_kept trigger k) ≡ lives_in none_over (ended_kept trigger k)
         on None q_is = rw (o_is, q_is) (ap (λ x. x ∷ []) (not_caused trigger k.id k.call.out l q_is))
         on (Some e) q_is = rw (o_is, q_is) refl
 
 pub not_over : (trigger : Trigger) (breaks : CallId → Bool) (ks : List KeptValue)
-    → linked_calls (over_by trigger) (map (λ k. without_reply (ended_below trigger (breaks k.id) true k)) ks) ≡ linked_calls none_over (map (λ k. without_reply (ended_below trigger (breaks k.id) true k)) ks)
+    → linked_calls (over_by trigger) (map (λ k. kept_after trigger (breaks k.id) k) ks) ≡ linked_calls none_over (map (λ k. kept_after trigger (breaks k.id) k) ks)
 not_over trigger breaks [] = refl
 not_over trigger breaks (k ∷ ks) =
-    ap (λ ls. ls ++ linked_calls (over_by trigger) (map (λ (m : KeptValue). without_reply (ended_below trigger (breaks m.id) true m)) ks)) (ended_one trigger (breaks k.id) k)
-    ∙ ap (λ ls. lives_in none_over (without_reply (ended_below trigger (breaks k.id) true k)) ++ ls) (not_over trigger breaks ks)
+    ap (λ ls. ls ++ linked_calls (over_by trigger) (map (λ (m : KeptValue). kept_after trigger (breaks m.id) m) ks)) (ended_one trigger (breaks k.id) k)
+    ∙ ap (λ ls. lives_in none_over (kept_after trigger (breaks k.id) k) ++ ls) (not_over trigger breaks ks)

@@ -2,7 +2,6 @@
 use Rattle.std.specs.Prelude.{◌≡◌, ◌⊎◌, ℕ, ◌+◌, ◌-◌, ◌≤◌, min, Bool, false, All, List, [], map, length, slice_index_or, Option, None, Some, option_map, option_to_list}
 use Rattle.std.specs.List.{count_by, range_with_len}
 use Rattle.err_group.specs.GroupState.{GroupState}
-use Rattle.gateway_model.specs.declared.entry.ReplyEntry.{ReplyEntry}
 use Rattle.gateway_model.specs.declared.entry.ReplyEntry.TheVariants.{Call as Calling}
 use Rattle.gateway_model.specs.declared.call_event.CallEvent.{CallEvent}
 use Rattle.gateway_model.specs.declared.id.CallId.{CallId}
@@ -27,8 +26,8 @@ live_value asked events deadlines = record { asked = asked; events = events; dea
 abbrev pub live_of : List TaskValue → LiveValue → Live
 live_of waiting l = record { asked = l.asked; events = l.events; deadlines = l.deadlines; waiting = waiting }
 
-abbrev pub kept_value : CallId → List Bool → List TaskValue → Option LiveValue → Option ReplyEntry → KeptValue
-kept_value id out waiting live reply = record { id = id; call = call_state out (option_map (live_of waiting) live); reply = reply }
+abbrev pub kept_value : CallId → List Bool → List TaskValue → Option LiveValue → KeptValue
+kept_value id out waiting live = record { id = id; call = call_state out (option_map (live_of waiting) live) }
 
 -- how many branches have started: those below the limit, and one more for each answer
 abbrev pub started_of : LiveValue → ℕ
@@ -59,7 +58,7 @@ pub record IsKept (id : CallId) (out : List Bool) (group : GroupState TaskValue 
 
 -- the call made this step at a moment: its record, if it was decided by it, and the branch that starts; both at once never come
 pub record IsStep (moment : ℕ) (old new : KeptValue) (decided : Option CallRecord) (next : Option TaskValue) (step : Step) : Type 0 where
-  pub new_is : new ≡ record { id = old.id; call = step.call; reply = old.reply }
+  pub new_is : new ≡ record { id = old.id; call = step.call }
   pub reply_is : option_map Calling decided ≡ step.reply
   pub jobs_are : map (job_at moment) (option_to_list next) ≡ step.jobs
   pub alone : (decided ≡ None) ⊎ (next ≡ None)
@@ -67,7 +66,7 @@ pub record IsStep (moment : ℕ) (old new : KeptValue) (decided : Option CallRec
 
 -- the call as it begins at a moment, and the branches that start at once
 pub record IsBegun (moment : ℕ) (id : CallId) (a : ArrivedCall) (call : KeptValue) (first : List TaskValue) : Type 0 where
-  pub call_is : call ≡ record { id = id; call = call_state (first_out a) (Some (begun_live moment id a)); reply = None }
+  pub call_is : call ≡ record { id = id; call = call_state (first_out a) (Some (begun_live moment id a)) }
   pub first_are : first ≡ map (task_of id a) (range_with_len 0 (first_ones a))
 
 -- so many of the call's branches were given to its group: as many as its limit allows have started, and the others wait

@@ -3,7 +3,7 @@ use Rattle.std.specs.Prelude.{◌≡◌, ◌≤◌, ◌+◌, ⊤, ◌==◌, ℕ,
 use Rattle.std.specs.Option.{option_or}
 use Rattle.gateway_model.specs.declared.call_event.CallEvent.{CallEvent}
 use Rattle.gateway_theory.specs.declared.trigger.Trigger.TheVariants.{Reached, HungUp, Drained}
-use Rattle.gateway_theory.specs.Ends.{CallsEnd, IsSettled, noted}
+use Rattle.gateway_theory.specs.Ends.{AreApart, CallsEnd, IsSettled, noted}
 use Rattle.gateway_theory.specs.Gateway.{is_listening}
 use Rattle.gateway_model.specs.declared.id.CallId.{CallId}
 use Rattle.gateway_machine.specs.declared.machine.arriving.Arriving.{Arriving}
@@ -54,9 +54,6 @@ event_for moment id c = ending_life moment id c.calls
 abbrev pub ends_with : Option CallEvent → List Bool → Option Live → Step
 ends_with e out None = kept (call_state out None)
 ends_with e out (Some l) = ended_by e l out
-
-abbrev pub ended_with : Option CallEvent → KeptValue → KeptValue
-ended_with e k = record { id = k.id; call = (ends_with e k.call.out k.call.live).call; reply = option_or (ends_with e k.call.out k.call.live).reply k.reply }
 
 -- the branches of a call of that deadline which have one of their own: these, numbered from k on
 abbrev pub timed : Over → CallId → Option ℕ → ℕ → List (Option ℕ) → List TimedBranch
@@ -145,4 +142,4 @@ pub record IsLinked (c : ContextsValue) (v : MachineValue) : Type 0 where
 -- it ends no call, and nothing is to be noted
 pub record EndsNone (trigger : Trigger) (v : MachineValue) : Type 0 where
   pub noted_is : noted trigger v ≡ v
-  pub none_ends : IsSettled v → CallsEnd trigger v v
+  pub none_ends : IsSettled v → AreApart v.calls → CallsEnd trigger v v

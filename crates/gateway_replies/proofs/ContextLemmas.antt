@@ -1,19 +1,20 @@
 -- The contexts of calls, beside those of the tree.
 use Rattle.std.proofs.Common.{◌≡◌, ℕ, ◌+◌, ◌≤◌, ◌<◌, zero, suc, refl, sym, ap, ◌∙◌, List, [], ◌∷◌, ◌++◌, Option, Some, None, Bool, true, false, inl, inr, ⊎_elim, subst, length, arith}
-use Rattle.std.specs.Prelude.{◌⊎◌, ◌||◌, ◌==◌, is_some, not, if◌then◌else◌, filter, option_map, slice_set, slice_index_or}
+use Rattle.std.specs.Prelude.{◌⊎◌, ◌&&◌, ◌||◌, ◌==◌, is_some, not, if◌then◌else◌, filter, option_map, slice_set, slice_index_or}
 use Rattle.std.specs.List.{list_any}
 use Rattle.std.specs.Option.{option_or}
-use Rattle.std.proofs.lemmas.Bool.{cases_Bool, eq-eqb}
+use Rattle.std.proofs.lemmas.Bool.{cases_Bool, eq-eqb, or_parts}
+use Rattle.std.proofs.Math.Bool.{or-false}
 use Rattle.std.proofs.lemmas.List.{map_push}
 use Rattle.std.proofs.lemmas.Option.{same_Some}
 use Rattle.context_tree.specs.Context.{Id, same}
-use Rattle.call_contexts.specs.Standing.{AreApart, if_due, is_conn, is_fresh, opened as standing_opened, begun as standing_begun, without as standing_without, closed as standing_closed, is_call as is_standing}
+use Rattle.call_contexts.specs.Standing.{AreApart, if_due, is_conn, is_fresh, opened as standing_opened, begun as standing_begun, without as standing_without, closed as standing_closed, is_call as is_standing, has_ended as standing_ended, is_over as is_standing_over}
 use Rattle.gateway_model.specs.declared.id.CallId.{CallId}
 use Rattle.gateway_model.specs.Past.{ArrivedCall, is_call}
 use Rattle.gateway_replies.specs.declared.contexts.life.Life.{Life}
 use Rattle.gateway_replies.specs.declared.contexts.peer.Peer.{Peer}
 use Rattle.gateway_replies.specs.Ties.{life_tie, life_ties, peer_tie, peer_ties}
-use Rattle.gateway_replies.specs.Contexts.{AllContexts, AreTied, CallContext, ConnContext, LivesApart, PeerValue, by_deadline, by_drain, begun, contexts_of, ContextsValue, IsTied, KeepsOthers, LifeValue, Lives, NoTwo, Peers, closed, contexts_value, ctx_for, ctx_of, ends_of, first_life, first_of, is_life, is_peer, peer, peers_of, life_with, lives_of, opened, others, same_id, same_context, same_number, without, without_calls}
+use Rattle.gateway_replies.specs.Contexts.{AllContexts, AreTied, CallContext, ConnContext, LivesApart, PeerValue, by_deadline, by_drain, begun, contexts_of, ContextsValue, IsTied, KeepsOthers, LifeValue, Lives, NoTwo, Peers, closed, contexts_value, ctx_for, ctx_of, ends_of, first_life, first_of, call_with, has_ended, is_over, is_life, is_peer, peer, peers_of, life_with, lives_of, opened, others, same_id, same_context, same_number, without, without_calls}
 use Rattle.gateway_theory.specs.lemmas.Cases.{all_stay, or_true}
 use Rattle.gateway_theory.specs.lemmas.LimitLemmas.{same_call}
 use Rattle.gateway_theory.specs.lemmas.StoreLemmas.{call_itself}
@@ -365,3 +366,35 @@ module _ {V : Type 0} where
       ∙ ap (λ ns. contexts_value (is_some v.drained) ns (lives_of text lives v.calls)) (peers_pushed (peer_ties peers) v.conns (peer_tie p) (record { id = p.ctx; ended = v.drained }) tied.conns_are)
       ∙ ap (λ e. contexts_value (is_some v.drained) (peers_of (peer_ties peers) v.conns ++ peer p.number e ∷ []) (lives_of text lives v.calls)) tied.drained_is
       ∙ ap (opened p.number) u_is
+
+-- ---- what is over
+
+module _ {V : Type 0} where
+  -- the call of a context that is over is found, and over
+  pub over_found : (text : V → List ℕ) (ps : Peers) (ls : Lives) (cs : List (CallContext V)) (x : Id) → AreTied ps ls cs → AreApart cs → list_any (standing_ended x) cs ≡ true
+      → (id : CallId) × (call_with x ls ≡ Some id) × (list_any (has_ended id) (lives_of text ls cs) ≡ true)
+  over_found text ps [] [] x tied apart any = absurd (cc)
+  over_found text ps [] (c ∷ cs) x tied apart any = absurd tied
+  over_found text ps (l ∷ ls) [] x tied apart any = absurd tied
+  over_found text ps (l ∷ ls) (c ∷ cs) x tied apart any = ⊎_elim
+      (λ (y : same c.id x ≡ true).
+      let here : same l.1 x ≡ true = ap (λ z. same z x) (sym tied.0) ∙ y in
+      let none : list_any (standing_ended x) cs ≡ false = no_more cs (subst (λ z. is_standing z cs ≡ false) (same_true c.id x y) apart.0) in
+      let over : is_standing_over c ≡ true = sym (or-false (is_standing_over c)) ∙ ap (λ b. is_standing_over c || b) (sym none) ∙ rw y at any in
+      (l.0, rw here refl, rw (call_itself l.0, over) refl))
+      (λ (n : same c.id x ≡ false).
+      let there : same l.1 x ≡ false = ap (λ z. same z x) (sym tied.0) ∙ n in
+      let r = over_found text ps ls cs x tied.2 apart.1 (rw n at any) in
+      (r.0, rw there r.1, ap (λ b. has_ended r.0 (life_with text l.0 c) || b) r.2 ∙ or_true (has_ended r.0 (life_with text l.0 c))))
+      (cases_Bool (same c.id x))
+    where
+      no_more : (ds : List (CallContext V)) → is_standing x ds ≡ false → list_any (standing_ended x) ds ≡ false
+      no_more [] none = refl
+      no_more (d ∷ ds) none = let two = or_parts (same d.id x) (is_standing x ds) none in rw two.0 (no_more ds two.1)
+
+  pub none_over : (text : V → List ℕ) (ps : Peers) (ls : Lives) (cs : List (CallContext V)) → AreTied ps ls cs → list_any is_standing_over cs ≡ false → list_any is_over (lives_of text ls cs) ≡ false
+  none_over text ps [] cs tied none = refl
+  none_over text ps (l ∷ ls) [] tied none = refl
+  none_over text ps (l ∷ ls) (c ∷ cs) tied none =
+      let two = or_parts (is_standing_over c) (list_any is_standing_over cs) none in
+      ap (λ b. b || list_any is_over (lives_of text ls cs)) two.0 ∙ none_over text ps ls cs tied.2 two.1

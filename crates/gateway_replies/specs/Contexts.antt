@@ -100,6 +100,14 @@ pub record IsNotDue (moment : ℕ) (l : LifeValue) : Type 0 where
   pub call : l.ended ≡ None → is_due moment l.deadline ≡ false
   pub each : All (λ (b : TimedBranch). b.ended ≡ None → nat_le b.deadline moment ≡ false) l.branches
 
+-- its context has ended, or that of a branch of it
+abbrev pub is_over : LifeValue → Bool
+is_over l = is_some l.ended || list_any (λ (b : TimedBranch). is_some b.ended) l.branches
+
+-- it is that of the call, and over
+abbrev pub has_ended : CallId → LifeValue → Bool
+has_ended id l = is_call l.id id && is_over l
+
 -- the calls of other connections
 abbrev pub others : ℕ → List LifeValue → List LifeValue
 others number calls = filter (λ l. not (l.id.conn == number)) calls
@@ -203,6 +211,11 @@ ctx_of number (p ∷ ps) = if p.0 == number then Some p.1 else ctx_of number ps
 abbrev pub ctx_for : CallId → Lives → Option Id
 ctx_for id [] = None
 ctx_for id (l ∷ ls) = if is_call l.0 id then Some l.1 else ctx_for id ls
+
+-- the call of that context
+abbrev pub call_with : Id → Lives → Option CallId
+call_with x [] = None
+call_with x (l ∷ ls) = if same l.1 x then Some l.0 else call_with x ls
 
 -- the first call of the connection
 abbrev pub first_of : ℕ → Lives → Option CallId

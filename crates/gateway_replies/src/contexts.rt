@@ -5,10 +5,10 @@ mod deadline;
 mod life;
 mod peer;
 
-ghost use Rattle.std.specs.Prelude.{All, ◌≡◌, ◌==◌, [], IfErr, IfOk, None as Nothing, OnErr, OnOk, Some as Just, filter, false, not, option_map, true};
+ghost use Rattle.std.specs.Prelude.{All, ◌≡◌, ◌==◌, [], IfErr, IfNone, IfOk, IfSome, None as Nothing, OnErr, OnOk, Some as Just, filter, false, not, option_map, true};
 ghost use Rattle.std.specs.Arc.{arc_value};
 ghost use Rattle.std.specs.List.{list_any};
-ghost use Rattle.gateway_replies.specs.Contexts.{IsNotDue, KeepsOthers, LivesApart, begun, closed, ctx_for, ctx_of, ending_life, event_of, finished, first_life, first_of, has_due, is_life, is_peer, no_contexts, opened, started, told, without, without_calls};
+ghost use Rattle.gateway_replies.specs.Contexts.{IsNotDue, KeepsOthers, LivesApart, begun, call_with, closed, ctx_for, ctx_of, ending_life, event_of, finished, first_life, first_of, has_due, has_ended, is_life, is_over, is_peer, no_contexts, opened, started, told, without, without_calls};
 ghost use Rattle.gateway_model.specs.Duty.{MeetsDuty};
 ghost use Rattle.gateway_model.specs.Past.{is_call};
 ghost use Rattle.gateway_model.specs.declared.id.CallId.{CallId as AnyCall};
@@ -162,6 +162,20 @@ impl<H: ReplyHook + Drop> Contexts<H> {
         let ended = self.contexts.ended(ctx);
         let branch = self.contexts.ended_branch(ctx);
         event_of(ended, branch, moment)
+    }
+
+    /// A call that has ended, by its own context or by that of a branch, if one is left.
+    pub fn first_ended(&mut self) -> Option<CallId>
+        ensures same { self.new ≡ self.old }
+        ensures its { IfSome result (λ id. list_any (has_ended id) self.old.standing.calls ≡ true) }
+        ensures none { IfNone result (list_any is_over self.old.standing.calls ≡ false) }
+    {
+        self.contexts.apart_law();
+        let ctx = self.contexts.first_ended()?;
+        let Some(id) = call_of(&self.lives, ctx) else {
+            unreachable!();
+        };
+        Some(id)
     }
 
     /// A branch of the call that has a timeout starts at this moment: its context ends at `at`, or with its call's.
@@ -334,6 +348,18 @@ fn ctx_for(lives: &[Life], id: &CallId) -> Option<CtxId>
     for life in lives {
         if life.id == *id {
             return Some(life.ctx);
+        }
+    }
+    None
+}
+
+/// The call of that context.
+fn call_of(lives: &[Life], ctx: CtxId) -> Option<CallId>
+    ensures { result ≡ call_with ctx (life_ties lives.now) }
+{
+    for life in lives {
+        if life.ctx == ctx {
+            return Some(life.id);
         }
     }
     None

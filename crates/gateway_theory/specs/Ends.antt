@@ -1,5 +1,6 @@
--- Calls that end at a moment, a hang-up or the drain: each is ended and its reply made, or its connection breaks; then the replies go into their slots.
-use Rattle.std.specs.Prelude.{◌≡◌, ◌⊎◌, ⊤, ℕ, ◌+◌, ◌<◌, max, ◌||◌, Bool, true, false, if◌then◌else◌, ◌==◌, nat_lt, List, [], ◌∷◌, map, take, length, Option, None, Some, is_some, slice_set, option_map}
+-- Calls that end at a moment, a hang-up or the drain: each is given up as its reply is made, or its connection breaks; then the
+-- replies go into their slots.
+use Rattle.std.specs.Prelude.{◌≡◌, ◌⊎◌, ⊤, ℕ, ◌+◌, ◌<◌, max, ◌||◌, Bool, true, false, if◌then◌else◌, ◌==◌, List, [], ◌∷◌, ◌++◌, map, length, Option, None, Some, is_some, slice_set}
 use Rattle.std.specs.Option.{option_or, option_map_or}
 use Rattle.gateway_model.specs.declared.entry.ReplyEntry.{ReplyEntry}
 use Rattle.gateway_model.specs.declared.id.CallId.{CallId}
@@ -13,8 +14,8 @@ use Rattle.gateway_theory.specs.Step.{CallState, Live, Step, call_state, deadlin
 use Rattle.gateway_theory.specs.Kept.{KeptValue}
 use Rattle.gateway_theory.specs.Conn.{ConnValue}
 use Rattle.gateway_theory.specs.Machine.{ConnState, is_coming, slot_at, starting}
-use Rattle.gateway_theory.specs.Replies.{reply_with}
-use Rattle.gateway_theory.specs.Store.{MachineValue, machine, machine_value, call_at, conn_of, kept_at, given_up, broken_at, filled_in, hung_at, numbers}
+use Rattle.gateway_theory.specs.Replies.{ReplyValue, reply_with}
+use Rattle.gateway_theory.specs.Store.{MachineValue, machine, machine_value, call_at, conn_of, kept_at, given_up, given_where, broken_at, fill_first, hung_at, numbers}
 
 -- the event by which this ends a call of which the branches that are out have these deadlines
 abbrev pub caused : Trigger → CallId → ArrivedCall → List (Option ℕ) → Option CallEvent
@@ -30,29 +31,9 @@ ended_if trigger id out (Some l) = ended_by (caused trigger id l.asked (deadline
 abbrev pub ended_call : Trigger → CallId → CallState → Step
 ended_call trigger id c = ended_if trigger id c.out c.live
 
--- a call that this has ended, if it does, whose reply is not in its slot yet
+-- a call that this has ended, if it does
 abbrev pub ended_kept : Trigger → KeptValue → KeptValue
-ended_kept trigger k = record { id = k.id; call = (ended_call trigger k.id k.call).call; reply = option_or (ended_call trigger k.id k.call).reply k.reply }
-
--- a call that ended, and has no reply
-abbrev pub unanswered : KeptValue → KeptValue
-unanswered k = record { id = k.id; call = call_state k.call.out None; reply = k.reply }
-
--- the call at a place was ended, or its connection broke as it ended
-abbrev pub EndedAt : Trigger → ℕ → MachineValue → MachineValue → Type 0
-EndedAt trigger i s t =
-    (t ≡ record s { calls = slice_set s.calls i (ended_kept trigger (kept_at i s.calls)) })
-    ⊎ ((is_some (ended_call trigger (kept_at i s.calls).id (kept_at i s.calls).call).reply ≡ true) × (t ≡ broken_at (kept_at i s.calls).id.conn s))
-
--- the reply of the call at a place went into its slot
-abbrev pub without_reply : KeptValue → KeptValue
-without_reply k = record { id = k.id; call = k.call; reply = None }
-
-abbrev pub settled_at : ℕ → MachineValue → MachineValue
-settled_at i s = record s {
-  calls = slice_set s.calls i (without_reply (kept_at i s.calls));
-  conns = filled_in (option_map (reply_with (kept_at i s.calls).id) (kept_at i s.calls).reply) s.conns;
-}
+ended_kept trigger k = record { id = k.id; call = (ended_call trigger k.id k.call).call }
 
 -- ---- all calls
 
@@ -60,11 +41,10 @@ settled_at i s = record s {
 abbrev pub is_broken_in : ℕ → List ConnValue → Bool
 is_broken_in c conns = option_map_or (λ k. k.broken) (conn_of c conns) false
 
--- a call whose connection broke is given up; another is ended, once it was passed
-abbrev pub ended_below : Trigger → Bool → Bool → KeptValue → KeptValue
-ended_below trigger true passed k = given_up k
-ended_below trigger false true k = ended_kept trigger k
-ended_below trigger false false k = k
+-- a call whose connection broke is given up; another is ended
+abbrev pub kept_after : Trigger → Bool → KeptValue → KeptValue
+kept_after trigger true k = given_up k
+kept_after trigger false k = ended_kept trigger k
 
 -- the connection stays as it is, but that it may break
 abbrev pub MayBreak : Option ConnValue → Option ConnValue → Type 0
@@ -80,21 +60,9 @@ pub record EndsOn (trigger : Trigger) (c : ℕ) (calls : List KeptValue) : Type 
   pub its : (kept_at place calls).id.conn ≡ c
   pub ends : is_some (ended_call trigger (kept_at place calls).id (kept_at place calls).call).reply ≡ true
 
--- the machine, of which the calls before this place have ended
-pub record EndedBelow (trigger : Trigger) (i : ℕ) (v u : MachineValue) : Type 0 where
-  pub moment_is : u.moment ≡ v.moment
-  pub drained_is : u.drained ≡ v.drained
-  pub jobs_are : u.jobs ≡ v.jobs
-  pub numbers_are : numbers u.conns ≡ numbers v.conns
-  pub conns_are : (c : ℕ) → MayBreak (conn_of c v.conns) (conn_of c u.conns)
-  pub size_is : length u.calls ≡ length v.calls
-  pub calls_are : (j : ℕ) → kept_at j u.calls ≡ ended_below trigger (is_broken_in (kept_at j v.calls).id.conn u.conns) (nat_lt j i) (kept_at j v.calls)
-  pub breaks_are : (c : ℕ) → is_broken_in c u.conns ≡ true → is_broken_in c v.conns ≡ false → EndsOn trigger c v.calls
-
--- between two occurrences: no reply waits for its slot, no call of a broken connection can be decided, and each call that can be
--- decided has its connection
+-- between two occurrences: no call of a broken connection can be decided, and each call that can be decided has its
+-- connection
 pub record IsSettled (v : MachineValue) : Type 0 where
-  pub no_reply : (j : ℕ) → (kept_at j v.calls).reply ≡ None
   pub none_live : (j : ℕ) → is_broken_in (kept_at j v.calls).id.conn v.conns ≡ true → (kept_at j v.calls).call.live ≡ None
   pub has_conn : (j : ℕ) → is_some (kept_at j v.calls).call.live ≡ true → is_some (conn_of (kept_at j v.calls).id.conn v.conns) ≡ true
 
@@ -102,35 +70,57 @@ pub record IsSettled (v : MachineValue) : Type 0 where
 abbrev pub AreApart : List KeptValue → Type 0
 AreApart calls = (i j : ℕ) → i < j → j < length calls → is_call (kept_at i calls).id (kept_at j calls).id ≡ false
 
--- the reply that waits for the slot of that request
-abbrev pub reply_in : CallId → List KeptValue → Option ReplyEntry
-reply_in id [] = None
-reply_in id (k ∷ calls) = option_or (if is_call k.id id then k.reply else None) (reply_in id calls)
+-- ---- one after the other, as the code ends them
 
--- a connection, into whose slots these replies went
-pub record TakesIn (calls : List KeptValue) (k l : ConnValue) : Type 0 where
+-- of these replies the one to that call
+abbrev pub reply_for : CallId → List ReplyValue → Option ReplyEntry
+reply_for id [] = None
+reply_for id (r ∷ made) = option_or (reply_for id made) (if is_call r.id id then Some r.entry else None)
+
+-- the call's reply was made, or its connection broke
+abbrev pub has_gone : List ReplyValue → List ConnValue → CallId → Bool
+has_gone made conns id = is_broken_in id.conn conns || is_some (reply_for id made)
+
+-- the machine of which some calls have ended, in whatever order: their replies were made, or their connections broke
+pub record SomeEnded (trigger : Trigger) (made : List ReplyValue) (v u : MachineValue) : Type 0 where
+  pub moment_is : u.moment ≡ v.moment
+  pub drained_is : u.drained ≡ v.drained
+  pub jobs_are : u.jobs ≡ v.jobs
+  pub numbers_are : numbers u.conns ≡ numbers v.conns
+  pub conns_are : (c : ℕ) → MayBreak (conn_of c v.conns) (conn_of c u.conns)
+  pub calls_are : u.calls ≡ map (given_where (has_gone made u.conns)) v.calls
+  pub made_are : (id : CallId) (e : ReplyEntry) → reply_for id made ≡ Some e → (ended_call trigger id (call_at id v.calls)).reply ≡ Some e
+  pub breaks_are : (c : ℕ) → is_broken_in c u.conns ≡ true → is_broken_in c v.conns ≡ false → EndsOn trigger c v.calls
+
+-- the call at a place, which this ends, was ended and its reply made, or its connection broke as it ended
+pub record EndedAt (trigger : Trigger) (i : ℕ) (made more : List ReplyValue) (s t : MachineValue) : Type 0 where
+  pub ends : is_some (ended_call trigger (kept_at i s.calls).id (kept_at i s.calls).call).reply ≡ true
+  pub either : ((e : ReplyEntry) × ((ended_call trigger (kept_at i s.calls).id (kept_at i s.calls).call).reply ≡ Some e)
+      × (more ≡ made ++ reply_with (kept_at i s.calls).id e ∷ []) × (t ≡ record s { calls = slice_set s.calls i (given_up (kept_at i s.calls)) }))
+      ⊎ ((more ≡ made) × (t ≡ broken_at (kept_at i s.calls).id.conn s))
+
+-- a reply goes into its slot, unless its connection is broken
+abbrev pub fill_whole : ReplyValue → List ConnValue → List ConnValue
+fill_whole r conns = if is_broken_in r.id.conn conns then conns else fill_first r conns
+
+abbrev pub fill_all : List ReplyValue → List ConnValue → List ConnValue
+fill_all [] conns = conns
+fill_all (r ∷ made) conns = fill_whole r (fill_all made conns)
+
+-- a connection, into whose slots these replies went, unless it is broken
+pub record TakesIn (made : List ReplyValue) (k l : ConnValue) : Type 0 where
   pub number_is : l.number ≡ k.number
   pub taken_is : l.taken ≡ k.taken
   pub broken_is : l.broken ≡ k.broken
   pub hung_is : l.hung_up ≡ k.hung_up
   pub size_is : length l.slots ≡ length k.slots
-  pub each : (j : ℕ) → j < length k.slots → slot_at j l.slots ≡ option_or (slot_at j k.slots) (reply_in (call_id k.number (k.taken + j)) calls)
+  pub each : (j : ℕ) → j < length k.slots → slot_at j l.slots ≡ option_or (slot_at j k.slots) (if k.broken then None else reply_for (call_id k.number (k.taken + j)) made)
 
-abbrev pub MayTakeIn : List KeptValue → Option ConnValue → Option ConnValue → Type 0
-MayTakeIn calls None None = ⊤
-MayTakeIn calls None (Some l) = ⊥
-MayTakeIn calls (Some k) None = ⊥
-MayTakeIn calls (Some k) (Some l) = TakesIn calls k l
-
--- the machine, of which the replies of the calls before this place went into their slots
-pub record SettledBelow (i : ℕ) (u w : MachineValue) : Type 0 where
-  pub moment_is : w.moment ≡ u.moment
-  pub drained_is : w.drained ≡ u.drained
-  pub jobs_are : w.jobs ≡ u.jobs
-  pub numbers_are : numbers w.conns ≡ numbers u.conns
-  pub conns_are : (c : ℕ) → MayTakeIn (take i u.calls) (conn_of c u.conns) (conn_of c w.conns)
-  pub size_is : length w.calls ≡ length u.calls
-  pub calls_are : (j : ℕ) → kept_at j w.calls ≡ (if nat_lt j i then without_reply (kept_at j u.calls) else kept_at j u.calls)
+abbrev pub MayTakeIn : List ReplyValue → Option ConnValue → Option ConnValue → Type 0
+MayTakeIn made None None = ⊤
+MayTakeIn made None (Some l) = ⊥
+MayTakeIn made (Some k) None = ⊥
+MayTakeIn made (Some k) (Some l) = TakesIn made k l
 
 -- a connection, of which these calls have ended, or which broke
 pub record ConnEnds (trigger : Trigger) (calls : List KeptValue) (k l : ConnValue) : Type 0 where
@@ -154,7 +144,7 @@ pub record CallsEnd (trigger : Trigger) (v w : MachineValue) : Type 0 where
   pub moment_is : w.moment ≡ v.moment
   pub drained_is : w.drained ≡ v.drained
   pub jobs_are : w.jobs ≡ v.jobs
-  pub calls_are : w.calls ≡ map (λ k. without_reply (ended_below trigger (is_broken_in k.id.conn w.conns) true k)) v.calls
+  pub calls_are : w.calls ≡ map (λ k. kept_after trigger (is_broken_in k.id.conn w.conns) k) v.calls
   pub numbers_are : numbers w.conns ≡ numbers v.conns
   pub conns_are : (c : ℕ) → MayEnd trigger v.calls (conn_of c v.conns) (conn_of c w.conns)
   pub breaks_are : (c : ℕ) → is_broken_in c w.conns ≡ true → is_broken_in c v.conns ≡ false → EndsOn trigger c v.calls

@@ -27,7 +27,7 @@ arriving_at i x v = arrive v.moment v.drained (is_full (conn_at i v.conns).slots
 -- a call that begins is kept
 abbrev pub kept_now : CallId → Step → Option Live → List KeptValue
 kept_now id s None = []
-kept_now id s (Some l) = record { id = id; call = s.call; reply = None } ∷ []
+kept_now id s (Some l) = record { id = id; call = s.call } ∷ []
 
 -- on the connection at that place something came that makes this step: its slot, its call and its jobs
 abbrev pub entered_at : ℕ → Step → MachineValue → MachineValue

@@ -11,8 +11,6 @@ ConnsApart conns = (i j : ℕ) → i < j → j < length conns → ((conn_at i co
 
 -- a call that is kept, beside these connections
 pub record IsInOrder (conns : List ConnValue) (k : KeptValue) : Type 0 where
-  -- its reply is in its slot, once it is there
-  pub no_reply : k.reply ≡ None
   -- a call that can be decided has its connection, which is not broken
   pub on_unbroken : is_some k.call.live ≡ true → (c : ConnValue) × (conn_of k.id.conn conns ≡ Some c) × (c.broken ≡ false)
   -- it came on its connection

@@ -20,7 +20,7 @@ abbrev pub result_at : ℕ → ℕ → Outcome → MachineValue → Step
 result_at i branch outcome v = result_on v.moment branch outcome (slice_set (kept_at i v.calls).call.out branch false) (kept_at i v.calls).call.live
 
 abbrev pub stepped_kept : Step → KeptValue → KeptValue
-stepped_kept s k = record { id = k.id; call = s.call; reply = k.reply }
+stepped_kept s k = record { id = k.id; call = s.call }
 
 -- the call at that place made the step
 abbrev pub stepped_at : ℕ → Step → MachineValue → MachineValue
@@ -66,7 +66,7 @@ NoneSpent id calls = (i : ℕ) → IsFound id calls (Some i) → is_spent (kept_
 
 -- a branch of a call that can't be decided any more comes back
 abbrev pub back_kept : ℕ → KeptValue → KeptValue
-back_kept branch k = record { id = k.id; call = call_state (slice_set k.call.out branch false) None; reply = k.reply }
+back_kept branch k = record { id = k.id; call = call_state (slice_set k.call.out branch false) None }
 
 abbrev pub back_at : ℕ → ℕ → MachineValue → MachineValue
 back_at i branch v = record v { calls = slice_set v.calls i (back_kept branch (kept_at i v.calls)) }

@@ -46,7 +46,7 @@ machine closed v = record { moment = v.moment; drained = v.drained; conns = conn
 -- ---- places
 
 abbrev pub no_call : KeptValue
-no_call = record { id = record { conn = 0; request = 0 }; call = gone; reply = None }
+no_call = record { id = record { conn = 0; request = 0 }; call = gone }
 
 abbrev pub kept_at : ℕ → List KeptValue → KeptValue
 kept_at i calls = slice_index_or calls i no_call
@@ -75,9 +75,12 @@ waiting_in k = option_map_or (λ (l : Live). length l.waiting) k.call.live 0
 abbrev pub waiting : List KeptValue → ℕ
 waiting calls = sum_by waiting_in calls
 
--- the calls of a connection are given up
+-- calls are given up: those of these ids, or of a connection
 abbrev pub given_up : KeptValue → KeptValue
-given_up k = record { id = k.id; call = call_state k.call.out None; reply = None }
+given_up k = record { id = k.id; call = call_state k.call.out None }
+
+abbrev pub given_where : (CallId → Bool) → KeptValue → KeptValue
+given_where over k = if over k.id then given_up k else k
 
 abbrev pub given_up_if : ℕ → KeptValue → KeptValue
 given_up_if c k = if k.id.conn == c then given_up k else k

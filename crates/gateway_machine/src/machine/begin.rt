@@ -46,7 +46,6 @@ pub fn begin(
             out,
             group,
             live,
-            reply: None,
         },
         first,
     ))

@@ -1,24 +1,27 @@
 //! The calls that are kept, found by their ids.
-ghost use Rattle.std.specs.Prelude.{[], ◌≡◌, ◌==◌, ◌+◌, ◌<◌, ◌≤◌, ◌^◌, ◌++◌, ◌∷◌, ℕ, false, None as Nothing, Some as Just, OnErr, OnOk, true, filter, is_some, length, map, not, option_map, slice_get, slice_set};
+ghost use Rattle.std.specs.Prelude.{All, [], ◌≡◌, ◌==◌, ◌+◌, ◌<◌, ◌≤◌, ◌^◌, ◌++◌, ◌∷◌, ℕ, false, None as Nothing, Some as Just, IfOk, OnErr, OnOk, true, filter, length, map, not, option_map, slice_get, slice_set};
 ghost use Rattle.std.specs.BTreeMap.{get, values};
-ghost use Rattle.gateway_machine.specs.Calls.{Changes, Covers, EndsAs, EndsUnanswered, Finds, IsIndexed, calls_value, concerns, is_open, is_open_by, key_cmp, key_of, stays};
+ghost use Rattle.gateway_machine.specs.Calls.{Changes, Ends, Finds, IsIndexed, calls_value, ending_reply, key_cmp, key_of};
 ghost use Rattle.gateway_machine.specs.KeptCall.{IsStep};
-ghost use Rattle.gateway_model.specs.Past.{is_call};
-ghost use Rattle.gateway_replies.specs.Contexts.{is_life};
-ghost use Rattle.gateway_theory.specs.Ends.{AreApart, ended_kept, without_reply};
-ghost use Rattle.gateway_theory.specs.Replies.{reply_with};
+ghost use Rattle.http_pieces.specs.Request.{most_requests};
+ghost use Rattle.gateway_model.specs.Past.{call_id, is_call};
+ghost use Rattle.gateway_theory.specs.Kept.{KeptValue};
+ghost use Rattle.gateway_replies.specs.Contexts.{KeepsOthers, is_life, without};
+ghost use Rattle.gateway_theory.specs.Ends.{AreApart};
 ghost use Rattle.gateway_theory.specs.Results.{back_kept};
 ghost use Rattle.gateway_theory.specs.Step.{has_out, result_on};
-ghost use Rattle.gateway_theory.specs.Store.{IsFound, call_at, given_up_if, kept_at, waiting, waiting_in};
+ghost use Rattle.gateway_theory.specs.Store.{IsFound, call_at, given_up, given_up_if, given_where, kept_at, waiting, waiting_in};
 
 use crate::machine::kept::{AfterResult, Kept};
 use connect_codec::Outcome;
 use gateway_model::CallId;
 use gateway_replies::{Contexts, Reply, ReplyHook};
-use gateway_theory::Trigger;
 use std::alloc::{AllocError, Global};
 use std::collections::BTreeMap;
 use std::marker::Model;
+
+/// No connection brings more requests.
+const MOST_REQUESTS: u64 = 100;
 
 /// The calls that are kept, by beginning. Many may stay whose connections closed, until their last results come, so none is
 /// searched for and none is moved: a call is found down two maps.
@@ -30,9 +33,6 @@ pub struct Calls {
     numbers: BTreeMap<(u64, u64), u64>,
     /// Above all numbers.
     next: u64,
-    /// The ids of those that may change without a result, by beginning: each that can be decided, and each whose reply is not in
-    /// its slot.
-    listed: Vec<CallId>,
     /// How many branches of all of them wait for their start.
     waiting: usize,
 }
@@ -43,21 +43,20 @@ impl Model for Calls {
 
     ghost Value = { CallsValue };
 
-    ghost view = { λ c. calls_value (values c.kept) c.listed.items };
+    ghost view = { λ c. calls_value (values c.kept) };
 
-    ghost invariant = { λ c. AreTold (values c.kept) c.listed.items c.waiting × IsIndexed c.numbers c.kept.entries c.next };
+    ghost invariant = { λ c. AreTold (values c.kept) c.waiting × IsIndexed c.numbers c.kept.entries c.next };
 }
 
 impl Calls {
     /// No call.
     pub fn new(alloc: Global) -> Calls
-        ensures { result ≡ calls_value [] [] }
+        ensures { result ≡ calls_value [] }
     {
         Calls {
             kept: BTreeMap::new(alloc),
             numbers: BTreeMap::new(alloc),
             next: 0,
-            listed: Vec::new(alloc),
             waiting: 0,
         }
     }
@@ -77,59 +76,27 @@ impl Calls {
         self.kept.get(&number)
     }
 
-    /// Whether this may end the call of that id. A call that it does not end is not looked at for longer.
-    pub fn may_end(&self, trigger: &Trigger, id: &CallId) -> bool
-        ensures { result ≡ false → (i : ℕ) → IsFound id.now self.now.items (Just i)
-            → ended_kept trigger.now (kept_at i self.now.items) ≡ kept_at i self.now.items }
+    /// No two calls have one id. It does nothing.
+    pub fn apart_law(&self)
+        ensures { AreApart self.now.items }
     {
-        match trigger {
-            Trigger::Reached(moment) => match self.find(id) {
-                Some(call) => call.is_due(*moment),
-                None => false,
-            },
-            Trigger::HungUp(_) | Trigger::Drained => concerns(trigger, id),
-        }
-    }
-
-    /// How many ids of open calls are listed.
-    pub fn listed_len(&self) -> usize
-        ensures { result ≡ length self.now.listed }
-    {
-        self.listed.len()
-    }
-
-    /// The id at that place of the list of open calls.
-    pub fn listed_at(&self, index: usize) -> CallId
-        requires { index < length self.now.listed }
-        ensures { slice_get self.now.listed index ≡ Just result }
-    {
-        self.listed[index]
-    }
-
-    /// Each call that may change without a result is listed, in its order; no two calls have one id. It does nothing.
-    pub fn covers_law(&self)
-        ensures covers { Covers self.now.listed self.now.items }
-        ensures apart { AreApart self.now.items }
-    {
-        let _ = &self.listed;
+        let _ = &self.kept;
     }
 
     /// Keeps a call more, as the last. Where memory is refused nothing changes.
     pub fn push(&mut self, call: Kept) -> Result<(), AllocError>
         requires fresh { IsFound call.id self.old.items Nothing }
+        requires below { call.id.request < most_requests }
         requires room { waiting self.old.items + waiting_in call < 2 ^ 64 }
         ensures ok { OnOk result (self.new.items ≡ self.old.items ++ call ∷ []) }
         ensures err { OnErr result (self.new.items ≡ self.old.items) }
     {
         // no number is used twice, so that the calls stand by beginning
         let next = self.next.checked_add(1).ok_or(AllocError)?;
-        self.listed.reserve(1)?;
-        let id = call.id();
         let waiting = call.waiting();
         keep(&mut self.kept, &mut self.numbers, self.next, call)?;
         self.next = next;
         self.waiting += waiting;
-        self.listed.push_reserved(id);
         Ok(())
     }
 
@@ -144,7 +111,6 @@ impl Calls {
             unreachable!();
         };
         self.waiting -= call.waiting();
-        unlist(&mut self.listed, id);
     }
 
     /// A result of a branch of the call that is out, at this moment. It needs no memory.
@@ -187,98 +153,64 @@ impl Calls {
         call.give_back(branch);
     }
 
-    /// Ends the call, if its context has ended by this moment, and makes its reply. Where memory is refused to that, it has none.
+    /// Ends the call, whose context has ended by this moment, and makes its reply.
     pub fn end<H: ReplyHook + Drop>(
         &mut self,
         alloc: Global,
         contexts: &mut Contexts<H>,
         id: &CallId,
         moment: u64,
-    ) -> Result<(), AllocError>
-        requires { (i : ℕ) → IsFound id.now self.old.items (Just i) → is_some (kept_at i self.old.items).call.live ≡ true
-            → is_life (kept_at i self.old.items).id contexts.old.standing.calls ≡ true }
-        ensures ok { OnOk result (Changes id.now self.old.items self.new.items (EndsAs moment contexts.old.standing contexts.new.standing)) }
-        ensures err { OnErr result (Changes id.now self.old.items self.new.items (EndsUnanswered moment contexts.old.standing contexts.new.standing)) }
-        ensures listed { self.new.listed ≡ self.old.listed }
+    ) -> Result<Reply, AllocError>
+        requires known { is_life id.now contexts.old.standing.calls ≡ true }
+        requires ends { Ends moment contexts.old.standing id.now self.old.items }
+        ensures given { Changes id.now self.old.items self.new.items (λ old new. new ≡ given_up old) }
+        ensures made { (i : ℕ) → IsFound id.now self.old.items (Just i) → IfOk result (λ reply. ending_reply moment contexts.old.standing (kept_at i self.old.items) ≡ Just reply) }
+        ensures gone { OnOk result (contexts.new.standing ≡ without id.now contexts.old.standing) }
+        ensures others { OnErr result (KeepsOthers id.now.conn contexts.old.standing contexts.new.standing) }
         ensures waits { waiting self.new.items ≤ waiting self.old.items }
         ensures stocks { contexts.new.stocks ≡ contexts.old.stocks }
     {
         let Some(number) = number_of(&self.numbers, id) else {
-            return Ok(());
+            unreachable!();
         };
         let Some(call) = self.kept.get_mut(&number) else {
             unreachable!();
         };
         let waited = call.waiting();
-        let ended = call.end(alloc, contexts, moment);
+        let reply = call.end(alloc, contexts, moment);
         self.waiting = self.waiting - waited + call.waiting();
-        ended
+        reply
     }
 
-    /// Gives the reply of the call, to go into its slot.
-    pub fn take_reply(&mut self, id: &CallId) -> Option<Reply>
-        ensures taken { Changes id.now self.old.items self.new.items (λ old new. (result ≡ option_map (reply_with old.id) old.reply) × (new ≡ without_reply old)) }
-        ensures listed { self.new.listed ≡ self.old.listed }
-        ensures waits { waiting self.new.items ≡ waiting self.old.items }
-    {
-        let number = number_of(&self.numbers, id)?;
-        let Some(call) = self.kept.get_mut(&number) else {
-            unreachable!();
-        };
-        call.take_reply()
-    }
-
-    /// Gives up the calls of the connection, and leaves the ids of others.
-    pub fn drop_conn(&mut self, number: u64)
+    /// Gives up the calls of the connection: those of all requests that can come on it.
+    pub fn give_up(&mut self, number: u64)
         ensures { self.new.items ≡ map (given_up_if number) self.old.items }
     {
-        self.give_up(number);
-        unlist_conn(&mut self.listed, number);
-    }
-
-    /// Leaves the other ids: the call changes no more without a result.
-    pub fn unlist(&mut self, id: &CallId)
-        requires { (i : ℕ) → IsFound id.now self.old.items (Just i) → is_open (kept_at i self.old.items) ≡ false }
-        ensures { self.new.items ≡ self.old.items }
-    {
-        unlist(&mut self.listed, id);
-    }
-
-    /// Of the calls that this concerned, leaves the ids of those that may still change without a result.
-    pub fn prune(&mut self, trigger: &Trigger)
-        ensures { self.new.items ≡ self.old.items }
-    {
-        prune(&mut self.listed, &self.kept, &self.numbers, trigger);
-    }
-
-    /// Gives up the calls of the connection.
-    pub fn give_up(&mut self, number: u64)
-        ensures items { self.new.items ≡ map (given_up_if number) self.old.items }
-        ensures listed { self.new.listed ≡ self.old.listed }
-    {
-        self.covers_law();
-        for index in 0..self.listed_len() {
-            let id = self.listed_at(index);
-            self.give_up_if(&id, number);
+        self.below_law();
+        for request in 0..MOST_REQUESTS {
+            self.give_up_one(number, request);
         }
     }
 
-    /// Gives up the call, if it is one of the connection.
-    fn give_up_if(&mut self, id: &CallId, number: u64)
-        ensures items { Changes id.now self.old.items self.new.items (λ old new. new ≡ given_up_if number old) }
-        ensures listed { self.new.listed ≡ self.old.listed }
+    /// None is past the last request of its connection. It does nothing.
+    fn below_law(&self)
+        ensures { All (λ (k : KeptValue). k.id.request < most_requests) self.now.items }
     {
-        if id.conn.number() != number {
-            return;
-        }
-        let Some(place) = number_of(&self.numbers, id) else {
+        let _ = &self.kept;
+    }
+
+    /// Gives up the call of that request of the connection, if it is kept.
+    fn give_up_one(&mut self, number: u64, request: u64)
+        ensures { self.new.items ≡ map (given_where (is_call (call_id number request))) self.old.items }
+    {
+        let Some(place) = number_at(&self.numbers, (number, request)) else {
             return;
         };
         let Some(call) = self.kept.get_mut(&place) else {
             unreachable!();
         };
         let waited = call.waiting();
-        call.give_up_if(number);
+        call.give_up();
         self.waiting = self.waiting - waited + call.waiting();
     }
 }
@@ -294,7 +226,14 @@ fn key_of(id: &CallId) -> (u64, u64)
 fn number_of(numbers: &BTreeMap<(u64, u64), u64>, id: &CallId) -> Option<u64>
     ensures { result ≡ get key_cmp numbers.now (key_of id.now) }
 {
-    numbers.get(&key_of(id)).copied()
+    number_at(numbers, key_of(id))
+}
+
+/// The number of the call of that key, if it is kept.
+fn number_at(numbers: &BTreeMap<(u64, u64), u64>, key: (u64, u64)) -> Option<u64>
+    ensures { result ≡ get key_cmp numbers.now key }
+{
+    numbers.get(&key).copied()
 }
 
 /// Keeps the call in both maps, as the last. Where memory is refused to one of them nothing changes.
@@ -321,53 +260,4 @@ fn keep(
             Err(AllocError)
         }
     }
-}
-
-/// Whether this may end the call: a hang-up ends those of its connection alone.
-pub(crate) fn concerns(trigger: &Trigger, id: &CallId) -> bool
-    ensures { result ≡ concerns trigger.now id.now }
-{
-    match trigger {
-        Trigger::HungUp(number) => *number == id.conn.number(),
-        Trigger::Reached(_) | Trigger::Drained => true,
-    }
-}
-
-/// Leaves the ids of calls that this does not concern, and of those that may change without a result.
-fn prune(
-    listed: &mut Vec<CallId>,
-    kept: &BTreeMap<u64, Kept>,
-    numbers: &BTreeMap<(u64, u64), u64>,
-    trigger: &Trigger,
-)
-    ensures { listed.new.items ≡ filter (λ id. stays trigger.now (get key_cmp numbers.now (key_of id)) kept.now.entries id) listed.old.items }
-{
-    listed.retain(|id| !concerns(trigger, id) || is_open(kept, numbers, id));
-}
-
-/// Whether the call may change without a result: it can be decided, or its reply is not in its slot.
-fn is_open(kept: &BTreeMap<u64, Kept>, numbers: &BTreeMap<(u64, u64), u64>, id: &CallId) -> bool
-    ensures { result ≡ is_open_by (get key_cmp numbers.now (key_of id.now)) kept.now.entries }
-{
-    let Some(number) = number_of(numbers, id) else {
-        return false;
-    };
-    match kept.get(&number) {
-        Some(call) => call.is_open(),
-        None => false,
-    }
-}
-
-/// Leaves the ids of other connections' calls.
-fn unlist_conn(listed: &mut Vec<CallId>, number: u64)
-    ensures { listed.new.items ≡ filter (λ id. not (id.conn == number)) listed.old.items }
-{
-    listed.retain(|id| id.conn.number() != number);
-}
-
-/// Leaves the other ids.
-fn unlist(listed: &mut Vec<CallId>, id: &CallId)
-    ensures { listed.new.items ≡ filter (λ other. not (is_call other id.now)) listed.old.items }
-{
-    listed.retain(|other| *other != *id);
 }

@@ -1,18 +1,19 @@
-ghost use Rattle.std.specs.Prelude.{◌≡◌, ◌≤◌, ℕ, Bool, Some as Just, length};
-ghost use Rattle.gateway_machine.specs.Calls.{HasMadeOnly, rooms};
-ghost use Rattle.gateway_machine.specs.Linked.{IsNow, Over, linked, linked_by, over_by};
-ghost use Rattle.gateway_replies.specs.Contexts.{Ended, ends_of};
+ghost use Rattle.std.specs.Prelude.{◌≡◌, ◌≤◌, ◌<◌, ℕ, IfOk, OnErr, OnOk, None as Nothing, Some as Just, length, map, true};
+ghost use Rattle.std.specs.List.{list_any};
+ghost use Rattle.std.specs.Vec.{vec_capacity};
+ghost use Rattle.gateway_machine.specs.Calls.{Changes, Ends, ending_reply};
+ghost use Rattle.gateway_machine.specs.Linked.{IsNow, linked, linked_by, over_by};
+ghost use Rattle.gateway_replies.specs.Contexts.{Ended, KeepsOthers, ends_of, has_ended, is_life, without};
 ghost use Rattle.gateway_replies.specs.Hooks.{StocksStay};
-ghost use Rattle.gateway_theory.specs.Ends.{AreApart, CallsEnd, EndedAt, EndedBelow, IsSettled, settled_at, SettledBelow};
-ghost use Rattle.gateway_theory.specs.Store.{IsFound, waiting};
+ghost use Rattle.gateway_theory.specs.Ends.{AreApart, CallsEnd, EndedAt, IsSettled, SomeEnded, ended_call, fill_all, fill_whole};
+ghost use Rattle.gateway_theory.specs.Store.{IsFound, call_at, given_up, given_up_if, kept_at, waiting};
 
-use crate::machine::calls::{Calls, concerns};
-use crate::machine::conn::Conn;
-use crate::machine::store::{Machine, break_in, fill_in};
+use crate::machine::calls::Calls;
+use crate::machine::store::Machine;
 use gateway_model::CallId;
-use gateway_replies::{Contexts, ReplyHook};
+use gateway_replies::{Contexts, Reply, ReplyHook};
 use gateway_theory::Trigger;
-use std::alloc::Global;
+use std::alloc::{AllocError, Global};
 
 impl Machine {
     /// Ends all calls whose contexts have ended: their replies go into their slots. Where memory is refused to one of them, its
@@ -31,108 +32,106 @@ impl Machine {
         ensures linked { contexts.new.standing ≡ linked contexts.old.standing self.new }
         ensures stocks { StocksStay contexts.old contexts.new }
     {
-        end_listed(
-            alloc,
-            contexts,
-            &mut self.conns,
-            &mut self.calls,
-            trigger,
-            self.moment,
-        );
-        settle_listed(&mut self.conns, &mut self.calls, trigger);
-        self.calls.prune(trigger);
+        let made = self.end_found(alloc, contexts, trigger);
+        self.fill_all(made);
+    }
+
+    /// Ends the calls whose contexts have ended, in the order of their endings, and gives their replies. Where memory is refused
+    /// to that of one, its connection breaks.
+    fn end_found<H: ReplyHook + Drop>(
+        &mut self,
+        alloc: Global,
+        contexts: &mut Contexts<H>,
+        trigger: &Trigger,
+    ) -> Vec<Reply>
+        requires now { IsNow trigger.now self.old.moment }
+        requires settled { IsSettled self.old }
+        requires apart { AreApart self.old.calls }
+        requires linked { contexts.old.standing ≡ linked_by (ends_of contexts.old.standing) (over_by trigger.now) self.old }
+        ensures ended { SomeEnded trigger.now result.items self.old self.new }
+        ensures none { (id : CallId) → (ended_call trigger.now id (call_at id self.new.calls)).reply ≡ Nothing }
+        ensures linked { contexts.new.standing ≡ linked_by (ends_of contexts.old.standing) (over_by trigger.now) self.new }
+        ensures stocks { StocksStay contexts.old contexts.new }
+    {
+        let mut made = Vec::new(alloc);
+        while let Some(id) = contexts.first_ended() {
+            self.end_call(alloc, contexts, &mut made, &id, trigger);
+        }
+        contexts.apart_law();
+        made
+    }
+
+    /// Ends the call, whose context has ended; its connection breaks where memory is refused to its reply.
+    fn end_call<H: ReplyHook + Drop>(
+        &mut self,
+        alloc: Global,
+        contexts: &mut Contexts<H>,
+        made: &mut Vec<Reply>,
+        id: &CallId,
+        trigger: &Trigger,
+    )
+        requires now { IsNow trigger.now self.old.moment }
+        requires over { list_any (has_ended id.now) contexts.old.standing.calls ≡ true }
+        requires linked { (ends : ℕ → Ended) × (contexts.old.standing ≡ linked_by ends (over_by trigger.now) self.old) }
+        ensures ended { (i : ℕ) × (i < length self.old.calls) × EndedAt trigger.now i made.old.items made.new.items self.old self.new }
+        ensures linked { (ends : ℕ → Ended) → contexts.old.standing ≡ linked_by ends (over_by trigger.now) self.old
+            → contexts.new.standing ≡ linked_by ends (over_by trigger.now) self.new }
+        ensures fewer { length contexts.new.standing.calls < length contexts.old.standing.calls }
+        ensures stocks { StocksStay contexts.old contexts.new }
+    {
+        // the clauses alone look at what ended them
+        let _ = trigger;
+        contexts.apart_law();
+        self.calls.apart_law();
+        match make_reply(alloc, contexts, &mut self.calls, made, id, self.moment) {
+            Ok(reply) => made.push_reserved(reply),
+            Err(_) => self.break_conn(contexts, id.conn.number()),
+        }
+    }
+
+    /// Puts replies into their slots, but for those of connections that are broken.
+    fn fill_all(&mut self, replies: Vec<Reply>)
+        ensures { self.new ≡ record self.old { conns = fill_all replies.items self.old.conns } }
+    {
+        let mut left = replies;
+        while let Some(reply) = left.pop() {
+            self.fill_whole(reply);
+        }
+    }
+
+    /// Puts a reply into its slot, unless its connection is broken.
+    fn fill_whole(&mut self, reply: Reply)
+        ensures { self.new ≡ record self.old { conns = fill_whole reply self.old.conns } }
+    {
+        if self.is_broken(reply.id().conn.number()) {
+            return;
+        }
+        self.fill(Some(reply));
     }
 }
 
-/// Ends the calls whose contexts have ended at this moment. Where memory is refused to the reply of one, its connection breaks.
-fn end_listed<H: ReplyHook + Drop>(
+/// Ends the call, whose context has ended by this moment, and makes its reply, for which there is room then.
+fn make_reply<H: ReplyHook + Drop>(
     alloc: Global,
     contexts: &mut Contexts<H>,
-    conns: &mut Vec<Conn>,
     calls: &mut Calls,
-    trigger: &Trigger,
-    moment: u64,
-)
-    requires now { IsNow trigger.now moment }
-    requires settled { IsSettled (rooms moment contexts.old.standing.drained conns.old.items calls.old.items) }
-    requires linked { contexts.old.standing
-        ≡ linked_by (ends_of contexts.old.standing) (over_by trigger.now) (rooms moment contexts.old.standing.drained conns.old.items calls.old.items) }
-    ensures ended { EndedBelow trigger.now (length calls.old.items) (rooms moment contexts.old.standing.drained conns.old.items calls.old.items)
-        (rooms moment contexts.old.standing.drained conns.new.items calls.new.items) }
-    ensures linked { contexts.new.standing
-        ≡ linked_by (ends_of contexts.old.standing) (over_by trigger.now) (rooms moment contexts.old.standing.drained conns.new.items calls.new.items) }
-    ensures waits { waiting calls.new.items ≤ waiting calls.old.items }
-    ensures stocks { StocksStay contexts.old contexts.new }
-{
-    calls.covers_law();
-    for index in 0..calls.listed_len() {
-        let id = calls.listed_at(index);
-        end_call(alloc, contexts, conns, calls, &id, trigger, moment);
-    }
-}
-
-/// Ends the call, if its context has ended at this moment; its connection breaks where memory is refused to its reply.
-fn end_call<H: ReplyHook + Drop>(
-    alloc: Global,
-    contexts: &mut Contexts<H>,
-    conns: &mut Vec<Conn>,
-    calls: &mut Calls,
+    made: &mut Vec<Reply>,
     id: &CallId,
-    trigger: &Trigger,
     moment: u64,
-)
-    requires now { IsNow trigger.now moment }
-    requires linked { (ends : ℕ → Ended) × (drained : Bool) × (contexts.old.standing ≡ linked_by ends (over_by trigger.now) (rooms moment drained conns.old.items calls.old.items)) }
-    ensures ended { (ends : ℕ → Ended) (drained : Bool) (i : ℕ) → IsFound id.now calls.old.items (Just i)
-        → contexts.old.standing ≡ linked_by ends (over_by trigger.now) (rooms moment drained conns.old.items calls.old.items)
-        → EndedAt trigger.now i (rooms moment drained conns.old.items calls.old.items) (rooms moment drained conns.new.items calls.new.items) }
-    ensures linked { (ends : ℕ → Ended) (drained : Bool) (i : ℕ) → IsFound id.now calls.old.items (Just i)
-        → contexts.old.standing ≡ linked_by ends (over_by trigger.now) (rooms moment drained conns.old.items calls.old.items)
-        → contexts.new.standing ≡ linked_by ends (over_by trigger.now) (rooms moment drained conns.new.items calls.new.items) }
-    ensures listed { calls.new.listed ≡ calls.old.listed }
+) -> Result<Reply, AllocError>
+    requires known { is_life id.now contexts.old.standing.calls ≡ true }
+    requires ends { Ends moment contexts.old.standing id.now calls.old.items }
+    ensures given { OnOk result (Changes id.now calls.old.items calls.new.items (λ old new. new ≡ given_up old)) }
+    ensures made { (i : ℕ) → IsFound id.now calls.old.items (Just i) → IfOk result (λ reply. ending_reply moment contexts.old.standing (kept_at i calls.old.items) ≡ Just reply) }
+    ensures gone { OnOk result (contexts.new.standing ≡ without id.now contexts.old.standing) }
+    ensures others { OnErr result (KeepsOthers id.now.conn contexts.old.standing contexts.new.standing) }
+    ensures left { OnErr result (map (given_up_if id.now.conn) calls.new.items ≡ map (given_up_if id.now.conn) calls.old.items) }
     ensures waits { waiting calls.new.items ≤ waiting calls.old.items }
-    ensures stocks { StocksStay contexts.old contexts.new }
+    ensures stocks { contexts.new.stocks ≡ contexts.old.stocks }
+    ensures same { made.new.items ≡ made.old.items }
+    ensures room { OnOk result (length made.new.items < vec_capacity made.new) }
 {
-    if !calls.may_end(trigger, id) {
-        return;
-    }
-    contexts.apart_law();
-    if calls.end(alloc, contexts, id, moment).is_err() {
-        let number = id.conn.number();
-        contexts.close(number);
-        calls.give_up(number);
-        break_in(conns, number);
-    }
-}
-
-/// Puts the replies that were made into their slots: those of calls that this concerned.
-fn settle_listed(conns: &mut Vec<Conn>, calls: &mut Calls, trigger: &Trigger)
-    requires { HasMadeOnly trigger.now calls.old.items }
-    ensures settled { (moment : ℕ) (drained : Bool) → SettledBelow (length calls.old.items) (rooms moment drained conns.old.items calls.old.items)
-        (rooms moment drained conns.new.items calls.new.items) }
-    ensures linked { (ends : ℕ → Ended) (over : Over) (moment : ℕ) (drained : Bool) → linked_by ends over (rooms moment drained conns.new.items calls.new.items)
-        ≡ linked_by ends over (rooms moment drained conns.old.items calls.old.items) }
-    ensures waits { waiting calls.new.items ≡ waiting calls.old.items }
-{
-    calls.covers_law();
-    for index in 0..calls.listed_len() {
-        let id = calls.listed_at(index);
-        settle(conns, calls, &id, trigger);
-    }
-}
-
-/// Puts the reply of the call into its slot, if it has one.
-fn settle(conns: &mut Vec<Conn>, calls: &mut Calls, id: &CallId, trigger: &Trigger)
-    requires { HasMadeOnly trigger.now calls.old.items }
-    ensures settled { (moment : ℕ) (drained : Bool) (i : ℕ) → IsFound id.now calls.old.items (Just i)
-        → rooms moment drained conns.new.items calls.new.items ≡ settled_at i (rooms moment drained conns.old.items calls.old.items) }
-    ensures listed { calls.new.listed ≡ calls.old.listed }
-    ensures waits { waiting calls.new.items ≡ waiting calls.old.items }
-{
-    if !concerns(trigger, id) {
-        return;
-    }
-    if let Some(reply) = calls.take_reply(id) {
-        fill_in(conns, reply);
-    }
+    calls.apart_law();
+    made.reserve(1)?;
+    calls.end(alloc, contexts, id, moment)
 }

@@ -1,15 +1,11 @@
-ghost use Rattle.std.specs.Prelude.{◌≡◌, ◌≤◌, ◌^◌, ℕ, OnOk, OnErr, true, false, if◌then◌else◌, is_some, None as Nothing, Some, option_map, option_to_list, slice_set};
+ghost use Rattle.std.specs.Prelude.{◌≡◌, ◌≤◌, ◌^◌, ℕ, IfOk, OnOk, OnErr, true, false, if◌then◌else◌, is_some, None as Nothing, Some, option_to_list, slice_set};
 ghost use Rattle.std.specs.List.{count_by, list_any};
 ghost use Rattle.gateway_replies.specs.Contexts.{KeepsOthers, is_life, without};
-ghost use Rattle.gateway_machine.specs.Calls.{is_open};
+ghost use Rattle.gateway_machine.specs.Calls.{ending_reply};
 ghost use Rattle.gateway_machine.specs.KeptCall.{GoesOn, IsStep};
-ghost use Rattle.gateway_theory.specs.Ends.{unanswered, without_reply};
-ghost use Rattle.gateway_machine.specs.Linked.{ended_with, ends_with, event_for, passed_on};
-ghost use Rattle.gateway_model.specs.Past.{is_due};
-ghost use Rattle.gateway_theory.specs.Least.{deadline_of};
-ghost use Rattle.gateway_theory.specs.Replies.{reply_with};
+ghost use Rattle.gateway_machine.specs.Linked.{passed_on};
 ghost use Rattle.gateway_theory.specs.Results.{back_kept, is_spent};
-ghost use Rattle.gateway_theory.specs.Store.{given_up_if, waiting_in};
+ghost use Rattle.gateway_theory.specs.Store.{given_up, waiting_in};
 ghost use Rattle.gateway_model.specs.declared.seen.Seen.{Seen};
 ghost use Rattle.gateway_theory.specs.Step.{Live as Going, has_out, next_out, result_on};
 
@@ -32,8 +28,6 @@ pub struct Kept {
     /// Its branches as a group: those that are out are active, and those that wait for their start are queued.
     pub(crate) group: Group<Task, ()>,
     pub(crate) live: Option<Live>,
-    /// Its reply, while that is not in its slot yet.
-    pub(crate) reply: Option<Reply>,
 }
 
 /// What comes of a result of a branch.
@@ -46,16 +40,14 @@ pub struct AfterResult {
 }
 
 impl Model for Kept {
-    ghost use Rattle.std.specs.Prelude.{◌≡◌, IfSome};
-    ghost use Rattle.gateway_theory.specs.Conn.{entry_in};
     ghost use Rattle.gateway_theory.specs.Kept.{KeptValue};
     ghost use Rattle.gateway_machine.specs.KeptCall.{kept_value, IsKept};
 
     ghost Value = { KeptValue };
 
-    ghost view = { λ c. kept_value c.id c.out.items c.group.queue c.live (entry_in c.reply) };
+    ghost view = { λ c. kept_value c.id c.out.items c.group.queue c.live };
 
-    ghost invariant = { λ c. IsKept c.id c.out.items c.group c.live × IfSome c.reply (λ r. r.id ≡ c.id) };
+    ghost invariant = { λ c. IsKept c.id c.out.items c.group c.live };
 }
 
 impl Kept {
@@ -64,23 +56,6 @@ impl Kept {
         ensures { result ≡ is_some self.now.call.live }
     {
         self.live.is_some()
-    }
-
-    /// Whether it may change without a result: it can be decided, or its reply is not in its slot.
-    pub(crate) fn is_open(&self) -> bool
-        ensures { result ≡ is_open self.now }
-    {
-        self.live.is_some() || self.reply.is_some()
-    }
-
-    /// Whether the moment ends it: it has reached its deadline, or that of a branch of it which is out.
-    pub(crate) fn is_due(&self, moment: u64) -> bool
-        ensures { result ≡ is_due moment (deadline_of self.now) }
-    {
-        match &self.live {
-            Some(live) => live.is_due(&self.out, moment),
-            None => false,
-        }
     }
 
     /// Whether no branch of it is out, and it can't be decided any more.
@@ -219,52 +194,36 @@ impl Kept {
         self.id
     }
 
-    /// Ends the call, if its context has ended by this moment, and makes its reply. Where memory is refused to that, it has none.
+    /// Ends the call, whose context has ended by this moment, and makes its reply.
     pub(crate) fn end<H: ReplyHook + Drop>(
         &mut self,
         alloc: Global,
         contexts: &mut Contexts<H>,
         moment: u64,
-    ) -> Result<(), AllocError>
-        requires { is_some self.old.call.live ≡ true → is_life self.old.id contexts.old.standing.calls ≡ true }
-        ensures ended { OnOk result (self.new ≡ ended_with (event_for moment self.old.id contexts.old.standing) self.old) }
-        ensures gone { OnOk result (contexts.new.standing
-            ≡ (if is_some (ends_with (event_for moment self.old.id contexts.old.standing) self.old.call.out self.old.call.live).reply then without self.old.id contexts.old.standing else contexts.old.standing)) }
+    ) -> Result<Reply, AllocError>
+        requires known { is_life self.old.id contexts.old.standing.calls ≡ true }
+        requires ends { is_some (ending_reply moment contexts.old.standing self.old) ≡ true }
+        ensures given { self.new ≡ given_up self.old }
+        ensures made { IfOk result (λ reply. ending_reply moment contexts.old.standing self.old ≡ Some reply) }
+        ensures gone { OnOk result (contexts.new.standing ≡ without self.old.id contexts.old.standing) }
         ensures others { OnErr result (KeepsOthers self.old.id.conn contexts.old.standing contexts.new.standing) }
-        ensures refused { OnErr result ((is_some (ends_with (event_for moment self.old.id contexts.old.standing) self.old.call.out self.old.call.live).reply ≡ true)
-            × (self.new ≡ unanswered self.old)) }
         ensures stocks { contexts.new.stocks ≡ contexts.old.stocks }
     {
         let Some(live) = self.live.take() else {
-            return Ok(());
+            unreachable!();
         };
         let Some(event) = contexts.ending(&self.id, moment) else {
-            self.live = Some(live);
-            return Ok(());
+            unreachable!();
         };
         self.group.clear_queue();
-        let reply = reply_to(alloc, contexts, self.id, live.end(event))?;
-        self.reply = Some(reply);
-        Ok(())
+        reply_to(alloc, contexts, self.id, live.end(event))
     }
 
-    /// Gives its reply, to go into its slot.
-    pub(crate) fn take_reply(&mut self) -> Option<Reply>
-        ensures gives { result ≡ option_map (reply_with self.old.id) self.old.reply }
-        ensures rest { self.new ≡ without_reply self.old }
+    /// Gives the call up: it can't be decided any more.
+    pub(crate) fn give_up(&mut self)
+        ensures { self.new ≡ given_up self.old }
     {
-        self.reply.take()
-    }
-
-    /// Gives the call up, if it is one of that connection: it can't be decided any more.
-    pub(crate) fn give_up_if(&mut self, conn: u64)
-        ensures { self.new ≡ given_up_if conn self.old }
-    {
-        if self.id.conn.number() != conn {
-            return;
-        }
         self.live = None;
-        self.reply = None;
         self.group.clear_queue();
     }
 }

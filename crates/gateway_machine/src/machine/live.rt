@@ -1,9 +1,9 @@
-ghost use Rattle.std.specs.Prelude.{◌≡◌, ◌<◌, ◌≤◌, ◌+◌, ◌^◌, ◌++◌, ◌∷◌, [], ◌==◌, IfSome, None as Nothing, length, option_to_list, slice_index_or};
+ghost use Rattle.std.specs.Prelude.{◌≡◌, ◌<◌, ◌≤◌, ◌+◌, ◌^◌, ◌++◌, ◌∷◌, [], ◌==◌, IfSome, length, option_to_list};
 ghost use Rattle.call_plan.specs.Plan.{IsLawful};
 ghost use Rattle.gateway_machine.specs.KeptCall.{live_value};
-ghost use Rattle.gateway_model.specs.Past.{deadline_from, is_due, least_of, smaller};
+ghost use Rattle.gateway_model.specs.Past.{deadline_from};
 ghost use Rattle.gateway_model.specs.Queue.{record_of};
-ghost use Rattle.gateway_theory.specs.Step.{deadlines_in, deadlines_next};
+ghost use Rattle.gateway_theory.specs.Step.{deadlines_next};
 
 use crate::machine::task::Task;
 use crate::machine::times::deadline_of;
@@ -47,21 +47,6 @@ impl Live {
         ensures lawful { IsLawful self.now.asked.plan }
     {
         self.events.len() + 1 == self.plan.branches().len()
-    }
-
-    /// Whether the moment has reached its deadline, or that of a branch of it which is out.
-    pub(crate) fn is_due(&self, out: &Vec<bool>, moment: u64) -> bool
-        ensures { result ≡ is_due moment (smaller self.now.asked.deadline (least_of (deadlines_in out.now.items self.now.deadlines))) }
-    {
-        if has_come(self.asked.deadline, moment) {
-            return true;
-        }
-        for index in 0..out.len() {
-            if comes_at(out, &self.deadlines, index, moment) {
-                return true;
-            }
-        }
-        false
     }
 
     /// Keeps the deadline of the branch that starts at this moment, if one does.
@@ -109,29 +94,5 @@ impl Live {
             branch_deadlines: self.deadlines,
             events,
         }
-    }
-}
-
-/// Whether the branch at that place is out, and the moment has reached its deadline.
-fn comes_at(out: &Vec<bool>, deadlines: &Vec<Option<u64>>, index: usize, moment: u64) -> bool
-    requires { index < length out.now.items }
-    ensures { result ≡ is_due moment (slice_index_or (deadlines_in out.now.items deadlines.now.items) index Nothing) }
-{
-    if !out[index] {
-        return false;
-    }
-    if index >= deadlines.len() {
-        return false;
-    }
-    has_come(deadlines[index], moment)
-}
-
-/// Whether the moment has reached that deadline.
-fn has_come(deadline: Option<u64>, moment: u64) -> bool
-    ensures { result ≡ is_due moment deadline }
-{
-    match deadline {
-        Some(at) => at <= moment,
-        None => false,
     }
 }

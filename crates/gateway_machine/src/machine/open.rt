@@ -45,7 +45,7 @@ impl Machine {
         ensures stocks { StocksStay contexts.old contexts.new }
     {
         contexts.close(number);
-        self.calls.drop_conn(number);
+        self.calls.give_up(number);
         close_in(&mut self.conns, number);
     }
 

@@ -167,7 +167,7 @@ impl Machine {
         }
     }
 
-    /// Forgets the call, if it can't be decided any more and no branch of it is out. Once it can't be decided nothing looks at it.
+    /// Forgets the call, if it can't be decided any more and no branch of it is out.
     fn forget(&mut self, id: &CallId)
         requires { AreApart self.old.calls }
         ensures forgets { Forgets id.now self.old self.new }
@@ -179,8 +179,6 @@ impl Machine {
         };
         if call.is_spent() {
             self.calls.forget(id);
-        } else if !call.is_open() {
-            self.calls.unlist(id);
         }
     }
 

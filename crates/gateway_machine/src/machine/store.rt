@@ -158,7 +158,7 @@ impl Machine {
         ensures stocks { StocksStay contexts.old contexts.new }
     {
         contexts.close(number);
-        self.calls.drop_conn(number);
+        self.calls.give_up(number);
         break_in(&mut self.conns, number);
     }
 

@@ -1,25 +1,26 @@
--- Many calls end at one occurrence, in the order of the store, or their connections break.
-use Rattle.std.proofs.Common.{◌≡◌, ℕ, suc, ◌+◌, ◌-◌, ◌≤◌, ◌<◌, Bool, true, false, List, [], ◌∷◌, ◌++◌, map, length, take, Option, None, Some, refl, sym, ap, ◌∙◌, subst, arith, ⊎_elim, inl, inr}
-use Rattle.std.specs.Prelude.{◌⊎◌, ⊤, is_some, if◌then◌else◌, ◌==◌, nat_lt, option_map, slice_set}
+-- Many calls end at one occurrence, in whatever order, or their connections break.
+use Rattle.std.proofs.Common.{◌≡◌, ℕ, zero, suc, ◌+◌, ◌-◌, ◌<◌, Bool, true, false, List, [], ◌∷◌, ◌++◌, map, length, Option, None, Some, refl, sym, ap, ◌∙◌, subst, arith, ⊎_elim, inl, inr}
+use Rattle.std.specs.Prelude.{◌⊎◌, ◌||◌, ⊤, is_some, if◌then◌else◌, ◌==◌, nat_lt, option_map, slice_set}
 use Rattle.std.specs.Option.{option_or, option_map_or}
-use Rattle.std.proofs.lemmas.Bool.{cond_both, cases_Bool, cases_eq, cases_lt, lt-ltb, le-ltb, eq-eqb, ne_eqb, eqb-true}
-use Rattle.std.proofs.lemmas.List.{get_or-set_same, get_or-set_other, length-set, length-map, get_or-map, ext_get_or, take_more, take_all}
-use Rattle.std.proofs.Math.ListN.{get_or-eq_default}
+use Rattle.std.proofs.lemmas.Bool.{cond_both, cases_Bool, eq-eqb, ne_eqb, eqb-true}
+use Rattle.std.proofs.lemmas.List.{get_or-map, length-map}
 use Rattle.gateway_model.specs.declared.entry.ReplyEntry.{ReplyEntry}
 use Rattle.gateway_model.specs.declared.call_event.CallEvent.{CallEvent}
 use Rattle.gateway_model.specs.declared.id.CallId.{CallId}
 use Rattle.gateway_theory.specs.declared.trigger.Trigger.{Trigger}
 use Rattle.gateway_model.specs.Past.{call_id, is_call}
-use Rattle.gateway_theory.specs.Step.{deadlines_in, CallState, Live, call_state, ended_by}
+use Rattle.gateway_theory.specs.Step.{deadlines_in, CallState, Live, Step, call_state, ended_by, kept}
 use Rattle.gateway_theory.specs.Machine.{slot_at}
 use Rattle.gateway_theory.specs.Kept.{KeptValue}
 use Rattle.gateway_theory.specs.Conn.{ConnValue, fill_at, filled}
 use Rattle.gateway_theory.specs.Replies.{ReplyValue, reply_with}
-use Rattle.gateway_theory.specs.Store.{MachineValue, call_at, conn_of, kept_at, no_call, given_up, given_up_if, broken_conn, broken_if, broken_at, fill_first, filled_in, numbers}
-use Rattle.gateway_theory.specs.Ends.{caused, ended_if, ended_call, ended_kept, EndedAt, without_reply, settled_at, is_broken_in, ended_below, MayBreak, EndsOn, EndedBelow, IsSettled, AreApart, reply_in, MayTakeIn, SettledBelow, MayEnd, CallsEnd}
+use Rattle.gateway_theory.specs.Store.{IsFound, MachineValue, call_at, conn_of, kept_at, no_call, given_up, given_where, broken_conn, broken_if, broken_at, fill_first, filled_in, numbers}
+use Rattle.gateway_theory.specs.Ends.{caused, ended_if, ended_call, ended_kept, EndedAt, has_gone, is_broken_in, kept_after, MayBreak, EndsOn, SomeEnded, IsSettled, AreApart, reply_for, fill_all, fill_whole, MayTakeIn, MayEnd, CallsEnd}
 use Rattle.gateway_theory.specs.lemmas.Cases.{or_none}
 use Rattle.gateway_theory.specs.lemmas.LimitLemmas.{same_call}
-use Rattle.gateway_theory.specs.lemmas.StoreLemmas.{conn_broken, conn_filled, Fills, untouched, filled_fills}
+use Rattle.gateway_theory.specs.lemmas.OrderLemmas.{ids_mapped}
+use Rattle.std.proofs.Math.Bool.{or-false, or-true}
+use Rattle.gateway_theory.specs.lemmas.StoreLemmas.{call_apart, call_found, call_given, call_itself, conn_broken, conn_filled, Fills, untouched, filled_fills}
 
 -- ---- one call
 
@@ -31,21 +32,41 @@ pub out_same : (trigger : Trigger) (id : CallId) (out : List Bool) (live : Optio
 out_same trigger id out None = refl
 out_same trigger id out (Some l) = out_ended (caused trigger id l.asked (deadlines_in out l.deadlines)) l out
 
-given_ended : (trigger : Trigger) (k : KeptValue) → given_up (ended_kept trigger k) ≡ given_up k
-given_ended trigger k = ap (λ o. record { id = k.id; call = call_state o None; reply = None }) (out_same trigger k.id k.call.out k.call.live)
-
--- a call that was given up does not end
-ended_given : (trigger : Trigger) (k : KeptValue) → ended_kept trigger (given_up k) ≡ given_up k
-ended_given trigger k = refl
-
 not_live : (trigger : Trigger) (id : CallId) (out : List Bool) (live : Option Live) → is_some (ended_if trigger id out live).reply ≡ true → is_some live ≡ true
 not_live trigger id out None e = absurd (cc)
 not_live trigger id out (Some l) e = refl
 
-pub id_below : (trigger : Trigger) (broken passed : Bool) (k : KeptValue) → (ended_below trigger broken passed k).id ≡ k.id
-id_below trigger true passed k = refl
-id_below trigger false true k = refl
-id_below trigger false false k = refl
+pub same_after : (trigger : Trigger) (broken : Bool) (k : KeptValue) → (kept_after trigger broken k).id ≡ k.id
+same_after trigger true k = refl
+same_after trigger false k = refl
+
+-- a call that ends is given up
+ends_up : (trigger : Trigger) (k : KeptValue) (e : ReplyEntry) → (ended_call trigger k.id k.call).reply ≡ Some e → given_up k ≡ ended_kept trigger k
+ends_up trigger k e e_is = by k.call.live refl
+  where
+    by : (o : Option Live) → k.call.live ≡ o → given_up k ≡ ended_kept trigger k
+    by None o_is = absurd (let bad : None ≡ Some e = sym (ap (λ o. (ended_if trigger k.id k.call.out o).reply) o_is) ∙ e_is in cc)
+    by (Some l) o_is = ap (λ c. record { id = k.id; call = c }) (sym (ap (λ o. (ended_if trigger k.id k.call.out o).call) o_is ∙ on (caused trigger k.id l.asked (deadlines_in k.call.out l.deadlines)) refl))
+      where
+        on : (q : Option CallEvent) → caused trigger k.id l.asked (deadlines_in k.call.out l.deadlines) ≡ q → (ended_if trigger k.id k.call.out (Some l)).call ≡ call_state k.call.out None
+        on None q_is = absurd (let bad : None ≡ Some e = sym (ap (λ o. (ended_if trigger k.id k.call.out o).reply) o_is ∙ ap (λ q. (ended_by q l k.call.out).reply) q_is) ∙ e_is in cc)
+        on (Some q) q_is = ap (λ q. (ended_by q l k.call.out).call) q_is
+
+-- another stays
+rests : (trigger : Trigger) (k : KeptValue) → (ended_call trigger k.id k.call).reply ≡ None → k ≡ ended_kept trigger k
+rests trigger k none = by k.call.live refl
+  where
+    by : (o : Option Live) → k.call.live ≡ o → k ≡ ended_kept trigger k
+    by None o_is = ap (λ o. record { id = k.id; call = call_state k.call.out o }) o_is ∙ ap (λ o. record { id = k.id; call = (ended_if trigger k.id k.call.out o).call }) (sym o_is)
+    by (Some l) o_is =
+        ap (λ o. record { id = k.id; call = call_state k.call.out o }) o_is
+        ∙ ap (λ c. record { id = k.id; call = c }) (sym (ap (λ o. (ended_if trigger k.id k.call.out o).call) o_is ∙ on (caused trigger k.id l.asked (deadlines_in k.call.out l.deadlines)) refl))
+      where
+        on : (q : Option CallEvent) → caused trigger k.id l.asked (deadlines_in k.call.out l.deadlines) ≡ q → (ended_if trigger k.id k.call.out (Some l)).call ≡ call_state k.call.out (Some l)
+        on None q_is = ap (λ q. (ended_by q l k.call.out).call) q_is
+        on (Some q) q_is = absurd (
+            let bad : is_some (ended_by (Some q) l k.call.out).reply ≡ false =
+            ap (λ q. is_some (ended_by q l k.call.out).reply) (sym q_is) ∙ ap (λ o. is_some (ended_if trigger k.id k.call.out o).reply) (sym o_is) ∙ ap (λ r. is_some r) none in cc)
 
 -- ---- connections
 
@@ -110,177 +131,175 @@ pub numbers_filled : (id : CallId) (reply : Option ReplyEntry) (conns : List Con
 numbers_filled id None conns = refl
 numbers_filled id (Some e) conns = fill_numbers (reply_with id e) conns
 
--- ---- the first loop
+-- ---- the calls end
 
-kept_past : (calls : List KeptValue) (j : ℕ) → length calls ≤ j → kept_at j calls ≡ no_call
-kept_past calls j ge = get_or-eq_default calls no_call {n = j} ge
+given_same : (k : KeptValue) → k.call.live ≡ None → given_up k ≡ k
+given_same k none = ap (λ o. record { id = k.id; call = call_state k.call.out o }) (sym none)
 
-abbrev made : CallId → CallState → Option ReplyEntry → KeptValue
-made id c r = record { id = id; call = c; reply = r }
+pub map_at : (f : KeptValue → KeptValue) (ks : List KeptValue) → ((j : ℕ) → j < length ks → f (kept_at j ks) ≡ kept_at j ks) → ks ≡ map f ks
+map_at f [] same = refl
+map_at f (k ∷ ks) same = ap (λ l. k ∷ l) (map_at f ks (λ j lt. same (suc j) (omega (arith, lt)))) ∙ ap (λ x. x ∷ map f ks) (sym (same 0 (omega arith)))
 
-given_same : (k : KeptValue) → k.reply ≡ None → k.call.live ≡ None → k ≡ given_up k
-given_same k no_reply none = by_parts k.call k.reply no_reply none
-  where
-    by_parts : (c : CallState) (r : Option ReplyEntry) → r ≡ None → c.live ≡ None → made k.id c r ≡ made k.id (call_state c.out None) None
-    by_parts c r r_is l_is = ap (made k.id c) r_is ∙ ap (λ (x : Option Live). made k.id (call_state c.out x) None) l_is
-
-pub ends_start : (trigger : Trigger) (v : MachineValue) → IsSettled v → EndedBelow trigger 0 v v
+pub ends_start : (trigger : Trigger) (v : MachineValue) → IsSettled v → SomeEnded trigger [] v v
 ends_start trigger v s = record {
   moment_is = refl;
   drained_is = refl;
   jobs_are = refl;
   numbers_are = refl;
   conns_are = λ c. stays_same (conn_of c v.conns);
-  size_is = refl;
-  calls_are = λ j. rw (le-ltb j 0 (omega arith)) (by_broken j (is_broken_in (kept_at j v.calls).id.conn v.conns) refl);
+  calls_are = map_at (given_where (has_gone [] v.conns)) v.calls (λ j lt. by j (is_broken_in (kept_at j v.calls).id.conn v.conns) refl);
+  made_are = λ id e none. absurd (cc);
   breaks_are = λ c yes_now no_before. absurd (let clash : true ≡ false = sym yes_now ∙ no_before in cc);
 }
   where
-    by_broken : (j : ℕ) (b : Bool) → is_broken_in (kept_at j v.calls).id.conn v.conns ≡ b → kept_at j v.calls ≡ ended_below trigger b false (kept_at j v.calls)
-    by_broken j true b_is = given_same (kept_at j v.calls) (s.no_reply j) (s.none_live j b_is)
-    by_broken j false b_is = refl
+    by : (j : ℕ) (b : Bool) → is_broken_in (kept_at j v.calls).id.conn v.conns ≡ b → given_where (has_gone [] v.conns) (kept_at j v.calls) ≡ kept_at j v.calls
+    by j true b_is = rw b_is (given_same (kept_at j v.calls) (s.none_live j b_is))
+    by j false b_is = rw b_is refl
 
-lt_more : (i j : ℕ) → (j ≡ i → ⊥) → nat_lt j i ≡ nat_lt j (i + 1)
-lt_more i j ne =
-    ⊎_elim (λ (l : j < i). lt-ltb j i l ∙ sym (lt-ltb j (i + 1) (omega (arith, l))))
-    (λ (ge : i ≤ j). le-ltb j i ge ∙ sym (le-ltb j (i + 1) (omega (arith, ge, ne))))
-    (cases_lt j i)
+own_call : (i : ℕ) (ks : List KeptValue) → i < length ks → AreApart ks → call_at (kept_at i ks).id ks ≡ (kept_at i ks).call
+own_call i ks lt apart = call_found (kept_at i ks).id ks i (lt, call_itself (kept_at i ks).id, λ j less. apart j i less lt)
 
--- the call at the place, as the loop finds it
-at_place : (trigger : Trigger) (b : Bool) (k : KeptValue) → ended_kept trigger (ended_below trigger b false k) ≡ ended_below trigger b true k
-at_place trigger true k = ended_given trigger k
-at_place trigger false k = refl
-
-given_below : (trigger : Trigger) (b passed : Bool) (k : KeptValue) → given_up (ended_below trigger b passed k) ≡ given_up k
-given_below trigger true passed k = refl
-given_below trigger false true k = given_ended trigger k
-given_below trigger false false k = refl
-
-ended_one : (trigger : Trigger) (i : ℕ) (v u t : MachineValue) → EndedBelow trigger i v u → i < length u.calls
-    → t ≡ record u { calls = slice_set u.calls i (ended_kept trigger (kept_at i u.calls)) } → EndedBelow trigger (i + 1) v t
-ended_one trigger i v u t h lt t_is = subst (λ x. EndedBelow trigger (i + 1) v x) (sym t_is) (record {
-  moment_is = h.moment_is;
-  drained_is = h.drained_is;
-  jobs_are = h.jobs_are;
-  numbers_are = h.numbers_are;
-  conns_are = h.conns_are;
-  size_is = length-set u.calls i (ended_kept trigger (kept_at i u.calls)) ∙ h.size_is;
-  calls_are = λ j. ⊎_elim (λ (here : j ≡ i).
-      subst (λ n. kept_at n (slice_set u.calls i (ended_kept trigger (kept_at i u.calls))) ≡ ended_below trigger (is_broken_in (kept_at n v.calls).id.conn u.conns) (nat_lt n (i + 1)) (kept_at n v.calls))
-      (sym here)
-      (get_or-set_same u.calls i (ended_kept trigger (kept_at i u.calls)) no_call lt
-      ∙ ap (ended_kept trigger) (h.calls_are i ∙ ap (λ b. ended_below trigger (is_broken_in (kept_at i v.calls).id.conn u.conns) b (kept_at i v.calls)) (le-ltb i i (omega arith)))
-      ∙ at_place trigger (is_broken_in (kept_at i v.calls).id.conn u.conns) (kept_at i v.calls)
-      ∙ ap (λ b. ended_below trigger (is_broken_in (kept_at i v.calls).id.conn u.conns) b (kept_at i v.calls)) (sym (lt-ltb i (i + 1) (omega arith)))))
-      (λ (ne : j ≡ i → ⊥).
-      get_or-set_other u.calls i j (ended_kept trigger (kept_at i u.calls)) no_call ne ∙ h.calls_are j
-      ∙ ap (λ b. ended_below trigger (is_broken_in (kept_at j v.calls).id.conn u.conns) b (kept_at j v.calls)) (lt_more i j ne))
-      (cases_eq j i);
-  breaks_are = h.breaks_are;
-})
-
-given_at : (c j : ℕ) (calls : List KeptValue) → kept_at j (map (given_up_if c) calls) ≡ given_up_if c (kept_at j calls)
-given_at c j calls =
-    ⊎_elim (λ (lt : j < length calls). get_or-map (given_up_if c) calls j no_call no_call lt)
-    (λ (ge : length calls ≤ j).
-    kept_past (map (given_up_if c) calls) j (omega (arith, ge, length-map calls (given_up_if c)))
-    ∙ sym (ap (given_up_if c) (kept_past calls j ge) ∙ cond_both (0 == c) (given_up no_call) no_call (λ x. x ≡ no_call) (λ _. refl) (λ _. refl)))
-    (cases_lt j (length calls))
-
-broke_one : (trigger : Trigger) (i : ℕ) (v u t : MachineValue) → EndedBelow trigger i v u → IsSettled v → i < length u.calls
-    → is_some (ended_call trigger (kept_at i u.calls).id (kept_at i u.calls).call).reply ≡ true → t ≡ broken_at (kept_at i u.calls).id.conn u
-    → EndedBelow trigger (i + 1) v t
-broke_one trigger i v u t h s lt ends t_is = subst (λ x. EndedBelow trigger (i + 1) v x) (sym t_is) (record {
-  moment_is = h.moment_is;
-  drained_is = h.drained_is;
-  jobs_are = h.jobs_are;
-  numbers_are = numbers_broken c u.conns ∙ h.numbers_are;
-  conns_are = λ d. breaks_then (conn_of d v.conns) (conn_of d u.conns) (conn_of d (map (broken_if c) u.conns)) (h.conns_are d) (break_one d c u.conns);
-  size_is = length-map u.calls (given_up_if c) ∙ h.size_is;
-  calls_are = λ j. given_at c j u.calls ∙ by_conn j (cases_Bool ((kept_at j v.calls).id.conn == c));
-  breaks_are = λ d now_so before_not. by_which d now_so before_not (cases_Bool (d == c));
-})
+-- those that were given up, and more
+pub given_more : (p q r : CallId → Bool) (ks : List KeptValue) → ((id : CallId) → (p id || q id) ≡ r id) → map (given_where q) (map (given_where p) ks) ≡ map (given_where r) ks
+given_more p q r [] or = refl
+given_more p q r (k ∷ ks) or = ap (λ l. given_where q (given_where p k) ∷ l) (given_more p q r ks or) ∙ ap (λ x. x ∷ map (given_where r) ks) (by (p k.id) refl (q k.id) refl)
   where
-    c : ℕ
-    c = (kept_at i u.calls).id.conn
+    by : (a : Bool) → p k.id ≡ a → (b : Bool) → q k.id ≡ b → given_where q (given_where p k) ≡ given_where r k
+    by true a_is true b_is = rw (a_is, b_is, sym (or k.id) ∙ ap (λ a. a || q k.id) a_is) refl
+    by true a_is false b_is = rw (a_is, b_is, sym (or k.id) ∙ ap (λ a. a || q k.id) a_is) refl
+    by false a_is true b_is = rw (a_is, b_is, sym (or k.id) ∙ ap (λ a. a || q k.id) a_is ∙ b_is) refl
+    by false a_is false b_is = rw (a_is, b_is, sym (or k.id) ∙ ap (λ a. a || q k.id) a_is ∙ b_is) refl
 
-    k : KeptValue
-    k = kept_at i v.calls
+-- the one at a place, which is the only one of its id
+pub given_there : (i : ℕ) (ks : List KeptValue) → i < length ks → AreApart ks → slice_set ks i (given_up (kept_at i ks)) ≡ map (given_where (is_call (kept_at i ks).id)) ks
+given_there i [] lt apart = absurd (omega (arith, lt))
+given_there zero (k ∷ ks) lt apart = rw (call_itself k.id) (ap (λ l. given_up k ∷ l) (map_at (given_where (is_call k.id)) ks (λ j less. rw (apart 0 (suc j) (omega arith) (omega (arith, less))) refl)))
+given_there (suc i) (k ∷ ks) lt apart =
+    let far : is_call (kept_at i ks).id k.id ≡ false = call_apart k.id (kept_at i ks).id (apart 0 (suc i) (omega arith) (omega (arith, lt))) in
+    rw far (ap (λ l. k ∷ l) (given_there i ks (omega (arith, lt)) (λ a b less most. apart (suc a) (suc b) (omega (arith, less)) (omega (arith, most)))))
 
-    id_is : (j : ℕ) → (kept_at j u.calls).id ≡ (kept_at j v.calls).id
-    id_is j = ap (λ (x : KeptValue). x.id) (h.calls_are j) ∙ id_below trigger (is_broken_in (kept_at j v.calls).id.conn u.conns) (nat_lt j i) (kept_at j v.calls)
+or_assoc : (a b c : Option ReplyEntry) → option_or (option_or a b) c ≡ option_or a (option_or b c)
+or_assoc None b c = refl
+or_assoc (Some e) b c = refl
 
-    -- it was not broken, since it ends
-    going : is_broken_in k.id.conn u.conns ≡ false
-    going = by_it (is_broken_in k.id.conn u.conns) refl
+-- one more reply
+reply_more : (id : CallId) (made : List ReplyValue) (r : ReplyValue) → reply_for id (made ++ r ∷ []) ≡ option_or (if is_call r.id id then Some r.entry else None) (reply_for id made)
+reply_more id [] r = sym (or_none (if is_call r.id id then Some r.entry else None))
+reply_more id (x ∷ made) r = ap (λ o. option_or o (if is_call x.id id then Some x.entry else None)) (reply_more id made r)
+    ∙ or_assoc (if is_call r.id id then Some r.entry else None) (reply_for id made) (if is_call x.id id then Some x.entry else None)
+
+some_or : (a b : Option ReplyEntry) → is_some (option_or a b) ≡ (is_some b || is_some a)
+some_or None None = refl
+some_or None (Some y) = refl
+some_or (Some x) None = refl
+some_or (Some x) (Some y) = refl
+
+or_last : (a b c : Bool) → ((a || b) || c) ≡ (a || (b || c))
+or_last true b c = refl
+or_last false b c = refl
+
+module _ (trigger : Trigger) (made more : List ReplyValue) (v u t : MachineValue) (h : SomeEnded trigger made v u) (apart : AreApart v.calls) (s : IsSettled v) (i : ℕ) (lt : i < length v.calls) where
+  abbrev k : KeptValue
+  k = kept_at i u.calls
+
+  u_apart : AreApart u.calls
+  u_apart = subst AreApart (sym h.calls_are) (ids_mapped (given_where (has_gone made u.conns)) v.calls
+      (λ x. cond_both (has_gone made u.conns x.id) (given_up x) x (λ (y : KeptValue). y.id ≡ x.id) (λ _. refl) (λ _. refl)) apart)
+
+  size : length u.calls ≡ length v.calls
+  size = ap (λ l. length l) h.calls_are ∙ length-map v.calls (given_where (has_gone made u.conns))
+
+  was : k ≡ given_where (has_gone made u.conns) (kept_at i v.calls)
+  was = ap (kept_at i) h.calls_are ∙ get_or-map (given_where (has_gone made u.conns)) v.calls i no_call no_call lt
+
+  module _ (ends : is_some (ended_call trigger k.id k.call).reply ≡ true) where
+    -- it was not given up, since it ends
+    on : has_gone made u.conns (kept_at i v.calls).id ≡ false
+    on = by (has_gone made u.conns (kept_at i v.calls).id) refl
       where
-        by_it : (b : Bool) → is_broken_in k.id.conn u.conns ≡ b → is_broken_in k.id.conn u.conns ≡ false
-        by_it false b_is = b_is
-        by_it true b_is = absurd (let given : kept_at i u.calls ≡ given_up k = h.calls_are i ∙ ap (λ b. ended_below trigger b (nat_lt i i) k) b_is in
+        by : (b : Bool) → has_gone made u.conns (kept_at i v.calls).id ≡ b → has_gone made u.conns (kept_at i v.calls).id ≡ false
+        by false b_is = b_is
+        by true b_is = absurd (
+            let given : k ≡ given_up (kept_at i v.calls) = was ∙ ap (λ b. if b then given_up (kept_at i v.calls) else kept_at i v.calls) b_is in
             let clash : false ≡ true = sym (ap (λ (x : KeptValue). is_some (ended_call trigger x.id x.call).reply) given) ∙ ends in cc)
 
-    as_was : kept_at i u.calls ≡ k
-    as_was = h.calls_are i ∙ ap (λ b. ended_below trigger b (nat_lt i i) k) going ∙ ap (λ b. ended_below trigger false b k) (le-ltb i i (omega arith))
+    as_was : k ≡ kept_at i v.calls
+    as_was = was ∙ ap (λ b. if b then given_up (kept_at i v.calls) else kept_at i v.calls) on
 
-    ends_then : is_some (ended_call trigger k.id k.call).reply ≡ true
-    ends_then = ap (λ (x : KeptValue). is_some (ended_call trigger x.id x.call).reply) (sym as_was) ∙ ends
+    ended_one : (e : ReplyEntry) → (ended_call trigger k.id k.call).reply ≡ Some e → more ≡ made ++ reply_with k.id e ∷ []
+        → t ≡ record u { calls = slice_set u.calls i (given_up k) } → SomeEnded trigger more v t
+    ended_one e e_is more_is t_is = subst (λ x. SomeEnded trigger x v t) (sym more_is) (subst (SomeEnded trigger (made ++ reply_with k.id e ∷ []) v) (sym t_is) (record {
+      moment_is = h.moment_is;
+      drained_is = h.drained_is;
+      jobs_are = h.jobs_are;
+      numbers_are = h.numbers_are;
+      conns_are = h.conns_are;
+      calls_are = given_there i u.calls (omega (arith, lt, size)) u_apart ∙ ap (map (given_where (is_call k.id))) h.calls_are
+          ∙ given_more (has_gone made u.conns) (is_call k.id) (has_gone (made ++ reply_with k.id e ∷ []) u.conns) v.calls (λ id. or_last (is_broken_in id.conn u.conns) (is_some (reply_for id made)) (is_call k.id id)
+          ∙ ap (λ b. is_broken_in id.conn u.conns || b) (sym (ap (λ o. is_some o) (reply_more id made (reply_with k.id e)) ∙ some_or (if is_call k.id id then Some e else None) (reply_for id made)
+          ∙ ap (λ b. is_some (reply_for id made) || b) (cond_both (is_call k.id id) (Some e) None (λ o. is_some o ≡ is_call k.id id) (λ y. sym y) (λ n. sym n)))));
+      made_are = λ id x x_is. ⊎_elim
+          (λ (it : is_call k.id id ≡ true).
+          let same : k.id ≡ id = same_call k.id id it in
+          let x_so : Some e ≡ Some x = sym (reply_more id made (reply_with k.id e) ∙ ap (λ b. option_or (if b then Some e else None) (reply_for id made)) it) ∙ x_is in
+          ap (λ d. (ended_call trigger d (call_at d v.calls)).reply) (sym same) ∙ its ∙ x_so)
+          (λ (ne : is_call k.id id ≡ false).
+          h.made_are id x (sym (reply_more id made (reply_with k.id e) ∙ ap (λ b. option_or (if b then Some e else None) (reply_for id made)) ne) ∙ x_is))
+          (cases_Bool (is_call k.id id));
+      breaks_are = h.breaks_are;
+    }))
+      where
+        its : (ended_call trigger k.id (call_at k.id v.calls)).reply ≡ Some e
+        its = ap (λ (x : KeptValue). (ended_call trigger x.id (call_at x.id v.calls)).reply) as_was ∙ ap (λ c. (ended_call trigger (kept_at i v.calls).id c).reply) (own_call i v.calls lt apart)
+            ∙ ap (λ (x : KeptValue). (ended_call trigger x.id x.call).reply) (sym as_was) ∙ e_is
 
-    c_is : k.id.conn ≡ c
-    c_is = ap (λ (x : KeptValue). x.id.conn) (sym as_was)
+    broke_one : more ≡ made → t ≡ broken_at k.id.conn u → SomeEnded trigger more v t
+    broke_one more_is t_is = subst (λ x. SomeEnded trigger x v t) (sym more_is) (subst (SomeEnded trigger made v) (sym t_is) (record {
+      moment_is = h.moment_is;
+      drained_is = h.drained_is;
+      jobs_are = h.jobs_are;
+      numbers_are = numbers_broken c u.conns ∙ h.numbers_are;
+      conns_are = λ d. breaks_then (conn_of d v.conns) (conn_of d u.conns) (conn_of d (map (broken_if c) u.conns)) (h.conns_are d) (break_one d c u.conns);
+      calls_are = ap (map (given_where (λ (id : CallId). id.conn == c))) h.calls_are
+          ∙ given_more (has_gone made u.conns) (λ (id : CallId). id.conn == c) (has_gone made (map (broken_if c) u.conns)) v.calls (λ id. by id (cases_Bool (id.conn == c)));
+      made_are = h.made_are;
+      breaks_are = λ d now_so before_not. by_which d now_so before_not (cases_Bool (d == c));
+    }))
+      where
+        c : ℕ
+        c = k.id.conn
 
-    there : is_some (conn_of c u.conns) ≡ true
-    there = ap (λ n. is_some (conn_of n u.conns)) (sym c_is)
-        ∙ some_still (conn_of k.id.conn v.conns) (conn_of k.id.conn u.conns) (h.conns_are k.id.conn) (s.has_conn i (not_live trigger k.id k.call.out k.call.live ends_then))
+        c_is : (kept_at i v.calls).id.conn ≡ c
+        c_is = ap (λ (x : KeptValue). x.id.conn) (sym as_was)
 
-    by_conn : (j : ℕ) → (((kept_at j v.calls).id.conn == c) ≡ true) ⊎ (((kept_at j v.calls).id.conn == c) ≡ false)
-        → given_up_if c (kept_at j u.calls) ≡ ended_below trigger (is_broken_in (kept_at j v.calls).id.conn (map (broken_if c) u.conns)) (nat_lt j (i + 1)) (kept_at j v.calls)
-    by_conn j (inl it) =
-        let here : is_some (conn_of (kept_at j v.calls).id.conn u.conns) ≡ true = ap (λ n. is_some (conn_of n u.conns)) (eqb-true (kept_at j v.calls).id.conn c it) ∙ there in
-        let breaks : is_broken_in (kept_at j v.calls).id.conn (map (broken_if c) u.conns) ≡ true = just_broken (kept_at j v.calls).id.conn c u.conns it here in
-        ap (λ b. if b then given_up (kept_at j u.calls) else kept_at j u.calls) (ap (λ (x : CallId). x.conn == c) (id_is j) ∙ it)
-        ∙ ap given_up (h.calls_are j) ∙ given_below trigger (is_broken_in (kept_at j v.calls).id.conn u.conns) (nat_lt j i) (kept_at j v.calls)
-        ∙ ap (λ b. ended_below trigger b (nat_lt j (i + 1)) (kept_at j v.calls)) (sym breaks)
-    by_conn j (inr ne) =
-        let other : j ≡ i → ⊥ = λ same. let clash : true ≡ false = sym (eq-eqb (kept_at j v.calls).id.conn c (ap (λ n. (kept_at n v.calls).id.conn) same ∙ c_is)) ∙ ne in cc in
-        ap (λ b. if b then given_up (kept_at j u.calls) else kept_at j u.calls) (ap (λ (x : CallId). x.conn == c) (id_is j) ∙ ne)
-        ∙ h.calls_are j
-        ∙ ap (λ b. ended_below trigger b (nat_lt j i) (kept_at j v.calls)) (sym (broken_then (kept_at j v.calls).id.conn c u.conns ne))
-        ∙ ap (λ b. ended_below trigger (is_broken_in (kept_at j v.calls).id.conn (map (broken_if c) u.conns)) b (kept_at j v.calls)) (lt_more i j other)
+        ends_then : is_some (ended_call trigger (kept_at i v.calls).id (kept_at i v.calls).call).reply ≡ true
+        ends_then = ap (λ (x : KeptValue). is_some (ended_call trigger x.id x.call).reply) (sym as_was) ∙ ends
 
-    by_which : (d : ℕ) → is_broken_in d (map (broken_if c) u.conns) ≡ true → is_broken_in d v.conns ≡ false → ((d == c) ≡ true) ⊎ ((d == c) ≡ false) → EndsOn trigger d v.calls
-    by_which d now_so before_not (inl it) =
-        record { place = i; within = omega (arith, lt, h.size_is); its = c_is ∙ sym (eqb-true d c it); ends = ends_then }
-    by_which d now_so before_not (inr ne) = h.breaks_are d (sym (broken_then d c u.conns ne) ∙ now_so) before_not
+        there : is_some (conn_of c u.conns) ≡ true
+        there = ap (λ n. is_some (conn_of n u.conns)) (sym c_is)
+            ∙ some_still (conn_of (kept_at i v.calls).id.conn v.conns) (conn_of (kept_at i v.calls).id.conn u.conns) (h.conns_are (kept_at i v.calls).id.conn)
+            (s.has_conn i (not_live trigger (kept_at i v.calls).id (kept_at i v.calls).call.out (kept_at i v.calls).call.live ends_then))
 
-pub ends_next : (trigger : Trigger) (i : ℕ) (v u t : MachineValue) → EndedBelow trigger i v u → IsSettled v → i < length u.calls → EndedAt trigger i u t → EndedBelow trigger (i + 1) v t
-ends_next trigger i v u t h s lt (inl t_is) = ended_one trigger i v u t h lt t_is
-ends_next trigger i v u t h s lt (inr broke) = broke_one trigger i v u t h s lt broke.0 broke.1
+        by : (id : CallId) → ((id.conn == c) ≡ true) ⊎ ((id.conn == c) ≡ false) → (has_gone made u.conns id || (id.conn == c)) ≡ has_gone made (map (broken_if c) u.conns) id
+        by id (inl it) =
+            let breaks : is_broken_in id.conn (map (broken_if c) u.conns) ≡ true = just_broken id.conn c u.conns it (ap (λ n. is_some (conn_of n u.conns)) (eqb-true id.conn c it) ∙ there) in
+            ap (λ b. has_gone made u.conns id || b) it ∙ or-true (has_gone made u.conns id) ∙ sym (ap (λ b. b || is_some (reply_for id made)) breaks)
+        by id (inr ne) =
+            ap (λ b. has_gone made u.conns id || b) ne ∙ or-false (has_gone made u.conns id) ∙ ap (λ b. b || is_some (reply_for id made)) (sym (broken_then id.conn c u.conns ne))
 
--- ---- the second loop
+        by_which : (d : ℕ) → is_broken_in d (map (broken_if c) u.conns) ≡ true → is_broken_in d v.conns ≡ false → ((d == c) ≡ true) ⊎ ((d == c) ≡ false) → EndsOn trigger d v.calls
+        by_which d now_so before_not (inl it) = record { place = i; within = lt; its = c_is ∙ sym (eqb-true d c it); ends = ends_then }
+        by_which d now_so before_not (inr ne) = h.breaks_are d (sym (broken_then d c u.conns ne) ∙ now_so) before_not
 
-pub settles_start : (u : MachineValue) → SettledBelow 0 u u
-settles_start u = record {
-  moment_is = refl;
-  drained_is = refl;
-  jobs_are = refl;
-  numbers_are = refl;
-  conns_are = λ c. by_conn (conn_of c u.conns);
-  size_is = refl;
-  calls_are = λ j. rw (le-ltb j 0 (omega arith)) refl;
-}
-  where
-    by_conn : (o : Option ConnValue) → MayTakeIn (take 0 u.calls) o o
-    by_conn None = tt
-    by_conn (Some k) = record { number_is = refl; taken_is = refl; broken_is = refl; hung_is = refl; size_is = refl; each = λ j lt. sym (or_none (slot_at j k.slots)) }
+pub ends_next : (trigger : Trigger) (made more : List ReplyValue) (i : ℕ) (v u t : MachineValue) → SomeEnded trigger made v u → AreApart v.calls → IsSettled v → i < length u.calls
+    → EndedAt trigger i made more u t → SomeEnded trigger more v t
+ends_next trigger made more i v u t h apart s lt ended =
+    let within : i < length v.calls = omega (arith, lt, ap (λ l. length l) h.calls_are, length-map v.calls (given_where (has_gone made u.conns))) in ⊎_elim
+    (λ it. ended_one trigger made more v u t h apart s i within ended.ends it.0 it.1 it.2 it.3)
+    (λ broke. broke_one trigger made more v u t h apart s i within ended.ends broke.0 broke.1)
+    ended.either
 
-reply_more : (id : CallId) (calls : List KeptValue) (k : KeptValue) → reply_in id (calls ++ k ∷ []) ≡ option_or (reply_in id calls) (if is_call k.id id then k.reply else None)
-reply_more id [] k = or_none (if is_call k.id id then k.reply else None)
-reply_more id (x ∷ calls) k = ap (λ o. option_or (if is_call x.id id then x.reply else None) o) (reply_more id calls k)
-    ∙ or_assoc (if is_call x.id id then x.reply else None) (reply_in id calls) (if is_call k.id id then k.reply else None)
-  where
-    or_assoc : (a b c : Option ReplyEntry) → option_or a (option_or b c) ≡ option_or (option_or a b) c
-    or_assoc None b c = refl
-    or_assoc (Some e) b c = refl
+-- ---- the replies go into their slots
 
 -- a reply goes into its slot
 abbrev pub MayFill : CallId → Option ReplyEntry → Option ConnValue → Option ConnValue → Type 0
@@ -318,172 +337,184 @@ fills_in id (Some e) conns d =
         let clash : true ≡ false = sym (eq-eqb d id.conn (sym (open_number d conns k o_is) ∙ sym same)) ∙ ne in cc) in
         rw ne (untouched id (Some e) k (λ j lt. rw apart refl))
 
-takes_more : (id : CallId) (reply : Option ReplyEntry) (calls : List KeptValue) (k : KeptValue) (a b c : Option ConnValue) → k.id ≡ id → k.reply ≡ reply
-    → MayTakeIn calls a b → MayFill id reply b c → MayTakeIn (calls ++ k ∷ []) a c
-takes_more id reply calls k None None None id_is r_is p q = tt
-takes_more id reply calls k None None (Some z) id_is r_is p q = absurd q
-takes_more id reply calls k None (Some y) c id_is r_is p q = absurd p
-takes_more id reply calls k (Some x) None c id_is r_is p q = absurd p
-takes_more id reply calls k (Some x) (Some y) None id_is r_is p q = absurd q
-takes_more id reply calls k (Some x) (Some y) (Some z) id_is r_is p q = record {
+none_there : (r : ReplyValue) (c : ℕ) (conns : List ConnValue) → (r.id.conn == c) ≡ false → MayFill r.id (Some r.entry) (conn_of c conns) (conn_of c conns)
+none_there r c conns ne = by (conn_of c conns) refl
+  where
+    by : (o : Option ConnValue) → conn_of c conns ≡ o → MayFill r.id (Some r.entry) o o
+    by None o_is = tt
+    by (Some k) o_is =
+        let apart : (r.id.conn == k.number) ≡ false = ap (λ n. r.id.conn == n) (open_number c conns k o_is) ∙ ne in
+        untouched r.id (Some r.entry) k (λ j lt. rw apart refl)
+
+-- a reply, unless its connection is broken
+whole_fills : (r : ReplyValue) (conns : List ConnValue) (c : ℕ) → MayFill r.id (if is_broken_in c conns then None else Some r.entry) (conn_of c conns) (conn_of c (fill_whole r conns))
+whole_fills r conns c = by (is_broken_in r.id.conn conns) refl (is_broken_in c conns) refl
+  where
+    other : (a b : Bool) → is_broken_in r.id.conn conns ≡ a → is_broken_in c conns ≡ b → (a ≡ b → ⊥) → (r.id.conn == c) ≡ false
+    other a b a_is b_is differ = ne_eqb r.id.conn c (λ same. differ (sym a_is ∙ ap (λ n. is_broken_in n conns) same ∙ b_is))
+
+    by : (a : Bool) → is_broken_in r.id.conn conns ≡ a → (b : Bool) → is_broken_in c conns ≡ b
+        → MayFill r.id (if is_broken_in c conns then None else Some r.entry) (conn_of c conns) (conn_of c (fill_whole r conns))
+    by true a_is true b_is = rw (a_is, b_is) (none_fills r.id (conn_of c conns))
+    by true a_is false b_is = rw (a_is, b_is) (none_there r c conns (other true false a_is b_is (λ e. cc)))
+    by false a_is false b_is = rw (a_is, b_is) (fills_in r.id (Some r.entry) conns c)
+    by false a_is true b_is = rw (a_is, b_is) (subst (MayFill r.id None (conn_of c conns)) (sym (conn_filled c r conns ∙ ap (λ b. if b then option_map (filled r.id.request r.entry) (conn_of c conns) else conn_of c conns) far))
+        (none_fills r.id (conn_of c conns)))
+      where
+        far : (c == r.id.conn) ≡ false
+        far = ne_eqb c r.id.conn (λ same. let clash : true ≡ false = sym b_is ∙ ap (λ n. is_broken_in n conns) same ∙ a_is in cc)
+
+abbrev is_broken_there : Option ConnValue → Bool
+is_broken_there o = option_map_or (λ (k : ConnValue). k.broken) o false
+
+takes_more : (r : ReplyValue) (made : List ReplyValue) (a b c : Option ConnValue)
+    → MayTakeIn made a b → MayFill r.id (if is_broken_there b then None else Some r.entry) b c → MayTakeIn (r ∷ made) a c
+takes_more r made None None None p q = tt
+takes_more r made None None (Some z) p q = absurd q
+takes_more r made None (Some y) c p q = absurd p
+takes_more r made (Some x) None c p q = absurd p
+takes_more r made (Some x) (Some y) None p q = absurd q
+takes_more r made (Some x) (Some y) (Some z) p q = record {
   number_is = q.number_is ∙ p.number_is;
   taken_is = q.taken_is ∙ p.taken_is;
   broken_is = q.broken_is ∙ p.broken_is;
   hung_is = q.hung_is ∙ p.hung_is;
   size_is = q.size_is ∙ p.size_is;
   each = λ j lt.
-      let here : CallId = call_id x.number (x.taken + j) in
       q.each j (omega (arith, lt, p.size_is))
-      ∙ ap (λ o. option_or o (if is_call id (call_id y.number (y.taken + j)) then reply else None)) (p.each j lt)
-      ∙ ap (λ n. option_or (option_or (slot_at j x.slots) (reply_in here calls)) (if is_call id (call_id n (y.taken + j)) then reply else None)) p.number_is
-      ∙ ap (λ n. option_or (option_or (slot_at j x.slots) (reply_in here calls)) (if is_call id (call_id x.number (n + j)) then reply else None)) p.taken_is
-      ∙ ap (λ n. option_or (option_or (slot_at j x.slots) (reply_in here calls)) (if is_call n here then reply else None)) (sym id_is)
-      ∙ ap (λ r. option_or (option_or (slot_at j x.slots) (reply_in here calls)) (if is_call k.id here then r else None)) (sym r_is)
-      ∙ or_assoc_back (slot_at j x.slots) (reply_in here calls) (if is_call k.id here then k.reply else None)
-      ∙ ap (λ o. option_or (slot_at j x.slots) o) (sym (reply_more here calls k));
+      ∙ ap (λ o. option_or o (its j y.number y.taken y.broken)) (p.each j lt)
+      ∙ ap (λ n. option_or (before j) (its j n y.taken y.broken)) p.number_is
+      ∙ ap (λ n. option_or (before j) (its j x.number n y.broken)) p.taken_is
+      ∙ ap (λ b. option_or (before j) (its j x.number x.taken b)) p.broken_is
+      ∙ or_assoc (slot_at j x.slots) (if x.broken then None else reply_for (call_id x.number (x.taken + j)) made) (its j x.number x.taken x.broken)
+      ∙ ap (λ o. option_or (slot_at j x.slots) o) (by j x.broken);
 }
   where
-    or_assoc_back : (a b c : Option ReplyEntry) → option_or (option_or a b) c ≡ option_or a (option_or b c)
-    or_assoc_back None b c = refl
-    or_assoc_back (Some e) b c = refl
+    its : ℕ → ℕ → ℕ → Bool → Option ReplyEntry
+    its j number taken broken = if is_call r.id (call_id number (taken + j)) then (if broken then None else Some r.entry) else None
 
-pub settles_next : (i : ℕ) (u t w : MachineValue) → SettledBelow i u t → i < length t.calls → w ≡ settled_at i t → SettledBelow (i + 1) u w
-settles_next i u t w h lt w_is = subst (λ x. SettledBelow (i + 1) u x) (sym w_is) (record {
-  moment_is = h.moment_is;
-  drained_is = h.drained_is;
-  jobs_are = h.jobs_are;
-  numbers_are = numbers_filled k.id k.reply t.conns ∙ h.numbers_are;
-  conns_are = λ d.
-      subst (λ calls. MayTakeIn calls (conn_of d u.conns) (conn_of d (settled_at i t).conns)) (sym (take_more u.calls i no_call (omega (arith, lt, h.size_is))))
-      (takes_more k.id k.reply (take i u.calls) (kept_at i u.calls) (conn_of d u.conns) (conn_of d t.conns) (conn_of d (settled_at i t).conns)
-      (ap (λ (x : KeptValue). x.id) (sym same)) (ap (λ (x : KeptValue). x.reply) (sym same)) (h.conns_are d) (fills_in k.id k.reply t.conns d));
-  size_is = length-set t.calls i (without_reply k) ∙ h.size_is;
-  calls_are = λ j. ⊎_elim (λ (here : j ≡ i).
-      subst (λ n. kept_at n (slice_set t.calls i (without_reply k)) ≡ (if nat_lt n (i + 1) then without_reply (kept_at n u.calls) else kept_at n u.calls)) (sym here)
-      (get_or-set_same t.calls i (without_reply k) no_call lt ∙ ap without_reply same ∙ ap (λ b. if b then without_reply (kept_at i u.calls) else kept_at i u.calls) (sym (lt-ltb i (i + 1) (omega arith)))))
-      (λ (ne : j ≡ i → ⊥).
-      get_or-set_other t.calls i j (without_reply k) no_call ne ∙ h.calls_are j ∙ ap (λ b. if b then without_reply (kept_at j u.calls) else kept_at j u.calls) (lt_more i j ne))
-      (cases_eq j i);
-})
+    before : ℕ → Option ReplyEntry
+    before j = option_or (slot_at j x.slots) (if x.broken then None else reply_for (call_id x.number (x.taken + j)) made)
+
+    by : (j : ℕ) (b : Bool) → option_or (if b then None else reply_for (call_id x.number (x.taken + j)) made) (its j x.number x.taken b)
+        ≡ (if b then None else reply_for (call_id x.number (x.taken + j)) (r ∷ made))
+    by j true = cond_both (is_call r.id (call_id x.number (x.taken + j))) None None (λ o. o ≡ None) (λ _. refl) (λ _. refl)
+    by j false = refl
+
+takes_all : (made : List ReplyValue) (conns : List ConnValue) (c : ℕ) → MayTakeIn made (conn_of c conns) (conn_of c (fill_all made conns))
+takes_all [] conns c = by (conn_of c conns)
   where
-    k : KeptValue
-    k = kept_at i t.calls
-
-    same : k ≡ kept_at i u.calls
-    same = h.calls_are i ∙ ap (λ b. if b then without_reply (kept_at i u.calls) else kept_at i u.calls) (le-ltb i i (omega arith))
-
--- ---- both loops
-
-no_others : (id : CallId) (calls : List KeptValue) (f : KeptValue → KeptValue) → ((k : KeptValue) → (f k).id ≡ k.id)
-    → ((j : ℕ) → j < length calls → is_call (kept_at j calls).id id ≡ false) → reply_in id (map f calls) ≡ None
-no_others id [] f ids none = refl
-no_others id (k ∷ calls) f ids none =
-    let not_it : is_call (f k).id id ≡ false = ap (λ x. is_call x id) (ids k) ∙ none 0 (omega arith) in
-    rw not_it (no_others id calls f ids (λ j lt. none (suc j) (omega (arith, lt))))
-
--- the reply of a call that ends, unless its connection broke
-reply_of : (trigger : Trigger) (b : Bool) (k : KeptValue) → k.reply ≡ None
-    → (ended_below trigger b true k).reply ≡ (if b then None else (ended_call trigger k.id k.call).reply)
-reply_of trigger true k none = refl
-reply_of trigger false k none = ap (λ r. option_or (ended_call trigger k.id k.call).reply r) none ∙ or_none (ended_call trigger k.id k.call).reply
-
-replies_are : (trigger : Trigger) (breaks : ℕ → Bool) (id : CallId) (calls : List KeptValue) → AreApart calls → ((j : ℕ) → (kept_at j calls).reply ≡ None)
-    → reply_in id (map (λ k. ended_below trigger (breaks k.id.conn) true k) calls) ≡ (if breaks id.conn then None else (ended_call trigger id (call_at id calls)).reply)
-replies_are trigger breaks id [] apart none = cond_both (breaks id.conn) None None (λ x. None ≡ x) (λ _. refl) (λ _. refl)
-replies_are trigger breaks id (k ∷ calls) apart none =
-    ap (λ x. option_or (if is_call x id then (f k).reply else None) (reply_in id (map f calls))) (ids k)
-    ∙ by_it (replies_are trigger breaks id calls (λ i j lt le. apart (suc i) (suc j) (omega (arith, lt)) (omega (arith, le))) (λ j. none (suc j))) (is_call k.id id) refl
-  where
-    f : KeptValue → KeptValue
-    f k = ended_below trigger (breaks k.id.conn) true k
-
-    ids : (k : KeptValue) → (f k).id ≡ k.id
-    ids k = id_below trigger (breaks k.id.conn) true k
-
-    by_it : reply_in id (map f calls) ≡ (if breaks id.conn then None else (ended_call trigger id (call_at id calls)).reply) → (b : Bool) → is_call k.id id ≡ b
-        → option_or (if is_call k.id id then (f k).reply else None) (reply_in id (map f calls))
-        ≡ (if breaks id.conn then None else (ended_call trigger id (if is_call k.id id then k.call else call_at id calls)).reply)
-    by_it rec true b_is =
-        let same : k.id ≡ id = same_call k.id id b_is in
-        let others : reply_in id (map f calls) ≡ None = no_others id calls f ids (λ j lt.
-        ⊎_elim (λ (it : is_call (kept_at j calls).id id ≡ true). absurd (
-        let there : (kept_at j calls).id ≡ id = same_call (kept_at j calls).id id it in
-        let clash : true ≡ false = sym b_is ∙ ap (λ x. is_call k.id x) (sym there) ∙ apart 0 (suc j) (omega arith) (omega (arith, lt)) in cc))
-        (λ (e : is_call (kept_at j calls).id id ≡ false). e) (cases_Bool (is_call (kept_at j calls).id id))) in
-        rw (b_is, others) (or_none (f k).reply ∙ reply_of trigger (breaks k.id.conn) k (none 0)
-        ∙ ap (λ (x : CallId). if breaks x.conn then None else (ended_call trigger x k.call).reply) same)
-    by_it rec false b_is = rw b_is rec
-
-abbrev is_broken_there : Option ConnValue → Bool
-is_broken_there o = option_map_or (λ (k : ConnValue). k.broken) o false
-
-takes_broken : (calls : List KeptValue) (a b : Option ConnValue) → MayTakeIn calls a b → is_broken_there b ≡ is_broken_there a
-takes_broken calls None None m = refl
-takes_broken calls None (Some l) m = absurd m
-takes_broken calls (Some k) None m = absurd m
-takes_broken calls (Some k) (Some l) m = m.broken_is
-
-conn_ends : (trigger : Trigger) (calls ended : List KeptValue) (a b c : Option ConnValue) → MayBreak a b → MayTakeIn ended b c
-    → ((k l : ConnValue) (j : ℕ) → a ≡ Some k → c ≡ Some l → reply_in (call_id k.number (k.taken + j)) ended
-    ≡ (if l.broken then None else (ended_call trigger (call_id k.number (k.taken + j)) (call_at (call_id k.number (k.taken + j)) calls)).reply))
-    → MayEnd trigger calls a c
-conn_ends trigger calls ended None None None p q r = tt
-conn_ends trigger calls ended None None (Some z) p q r = absurd q
-conn_ends trigger calls ended None (Some y) c p q r = absurd p
-conn_ends trigger calls ended (Some x) None c p q r = absurd p
-conn_ends trigger calls ended (Some x) (Some y) None p q r = absurd q
-conn_ends trigger calls ended (Some x) (Some y) (Some z) p q r =
-    let same : y ≡ record x { broken = y.broken } = p.0 in
-    let slots : y.slots ≡ x.slots = ap (λ (k : ConnValue). k.slots) same in
-    let number : y.number ≡ x.number = ap (λ (k : ConnValue). k.number) same in
-    let taken : y.taken ≡ x.taken = ap (λ (k : ConnValue). k.taken) same in
-    record {
-      number_is = q.number_is ∙ number;
-      taken_is = q.taken_is ∙ taken;
-      hung_is = q.hung_is ∙ ap (λ (k : ConnValue). k.hung_up) same;
-      stays_broken = λ e. q.broken_is ∙ p.1 e;
-      size_is = q.size_is ∙ ap (λ s. length s) slots;
-      each = λ j lt.
-          q.each j (omega (arith, lt, ap (λ (s : List (Option ReplyEntry)). length s) slots))
-          ∙ ap (λ s. option_or (slot_at j s) (reply_in (call_id y.number (y.taken + j)) ended)) slots
-          ∙ ap (λ n. option_or (slot_at j x.slots) (reply_in (call_id n (y.taken + j)) ended)) number
-          ∙ ap (λ n. option_or (slot_at j x.slots) (reply_in (call_id x.number (n + j)) ended)) taken
-          ∙ ap (λ e. option_or (slot_at j x.slots) e) (r x z j refl refl);
+    by : (o : Option ConnValue) → MayTakeIn [] o o
+    by None = tt
+    by (Some k) = record {
+      number_is = refl;
+      taken_is = refl;
+      broken_is = refl;
+      hung_is = refl;
+      size_is = refl;
+      each = λ j lt. sym (cond_both k.broken None None (λ o. option_or (slot_at j k.slots) o ≡ slot_at j k.slots) (λ _. or_none (slot_at j k.slots)) (λ _. or_none (slot_at j k.slots)));
     }
+takes_all (r ∷ made) conns c =
+    takes_more r made (conn_of c conns) (conn_of c (fill_all made conns)) (conn_of c (fill_whole r (fill_all made conns))) (takes_all made conns c) (whole_fills r (fill_all made conns) c)
 
-pub ends_all : (trigger : Trigger) (i n : ℕ) (v u w : MachineValue) → IsSettled v → AreApart v.calls → EndedBelow trigger i v u → length u.calls ≤ i → SettledBelow n u w → length w.calls ≤ n
-    → CallsEnd trigger v w
-ends_all trigger i n v u w s apart h all g done = record {
-  moment_is = g.moment_is ∙ h.moment_is;
-  drained_is = g.drained_is ∙ h.drained_is;
-  jobs_are = g.jobs_are ∙ h.jobs_are;
-  calls_are = ext_get_or no_call w.calls (map (λ k. without_reply (ended_below trigger (is_broken_in k.id.conn w.conns) true k)) v.calls)
-      (g.size_is ∙ h.size_is ∙ sym (length-map v.calls (λ k. without_reply (ended_below trigger (is_broken_in k.id.conn w.conns) true k))))
-      (λ j lt. g.calls_are j ∙ ap (λ b. if b then without_reply (kept_at j u.calls) else kept_at j u.calls) (lt-ltb j n (omega (arith, lt, done)))
-      ∙ ap without_reply (at_end j (omega (arith, lt, g.size_is)))
-      ∙ ap (λ b. without_reply (ended_below trigger b true (kept_at j v.calls))) (sym (breaks (kept_at j v.calls).id.conn))
-      ∙ sym (get_or-map (λ k. without_reply (ended_below trigger (is_broken_in k.id.conn w.conns) true k)) v.calls j no_call no_call (omega (arith, lt, g.size_is, h.size_is))));
-  numbers_are = g.numbers_are ∙ h.numbers_are;
-  conns_are = λ c. conn_ends trigger v.calls u.calls (conn_of c v.conns) (conn_of c u.conns) (conn_of c w.conns) (h.conns_are c) (takes c)
-      (λ k l j k_is l_is.
-      let here : k.number ≡ c = open_number c v.conns k k_is in
-      ap (λ calls. reply_in (call_id k.number (k.taken + j)) calls) ended
-      ∙ replies_are trigger (λ d. is_broken_in d u.conns) (call_id k.number (k.taken + j)) v.calls apart s.no_reply
-      ∙ ap (λ b. if b then None else (ended_call trigger (call_id k.number (k.taken + j)) (call_at (call_id k.number (k.taken + j)) v.calls)).reply)
-      (ap (λ d. is_broken_in d u.conns) here ∙ sym (breaks c) ∙ ap (λ o. is_broken_there o) l_is));
-  breaks_are = λ c now_so before_not. h.breaks_are c (sym (breaks c) ∙ now_so) before_not;
+numbers_all : (made : List ReplyValue) (conns : List ConnValue) → numbers (fill_all made conns) ≡ numbers conns
+numbers_all [] conns = refl
+numbers_all (r ∷ made) conns =
+    cond_both (is_broken_in r.id.conn (fill_all made conns)) (fill_all made conns) (fill_first r (fill_all made conns)) (λ x. numbers x ≡ numbers (fill_all made conns))
+    (λ _. refl) (λ _. fill_numbers r (fill_all made conns))
+    ∙ numbers_all made conns
+
+-- they are taken from the end
+pub fill_last : (r : ReplyValue) (made : List ReplyValue) (conns : List ConnValue) → fill_all (made ++ r ∷ []) conns ≡ fill_all made (fill_whole r conns)
+fill_last r [] conns = refl
+fill_last r (x ∷ made) conns = ap (fill_whole x) (fill_last r made conns)
+
+-- ---- both
+
+takes_broken : (made : List ReplyValue) (a b : Option ConnValue) → MayTakeIn made a b → is_broken_there b ≡ is_broken_there a
+takes_broken made None None m = refl
+takes_broken made None (Some l) m = absurd m
+takes_broken made (Some k) None m = absurd m
+takes_broken made (Some k) (Some l) m = m.broken_is
+
+conn_ends : (trigger : Trigger) (calls : List KeptValue) (made : List ReplyValue) (a b c : Option ConnValue) → MayBreak a b → MayTakeIn made b c
+    → ((x y : ConnValue) (j : ℕ) → a ≡ Some x → b ≡ Some y → y.broken ≡ false → reply_for (call_id x.number (x.taken + j)) made
+    ≡ (ended_call trigger (call_id x.number (x.taken + j)) (call_at (call_id x.number (x.taken + j)) calls)).reply)
+    → MayEnd trigger calls a c
+conn_ends trigger calls made None None None p q r = tt
+conn_ends trigger calls made None None (Some z) p q r = absurd q
+conn_ends trigger calls made None (Some y) c p q r = absurd p
+conn_ends trigger calls made (Some x) None c p q r = absurd p
+conn_ends trigger calls made (Some x) (Some y) None p q r = absurd q
+conn_ends trigger calls made (Some x) (Some y) (Some z) p q r = record {
+  number_is = q.number_is ∙ ap (λ (k : ConnValue). k.number) p.0;
+  taken_is = q.taken_is ∙ ap (λ (k : ConnValue). k.taken) p.0;
+  hung_is = q.hung_is ∙ ap (λ (k : ConnValue). k.hung_up) p.0;
+  stays_broken = λ e. q.broken_is ∙ p.1 e;
+  size_is = q.size_is ∙ ap (λ (k : ConnValue). length k.slots) p.0;
+  each = λ j lt.
+      q.each j (omega (arith, lt, ap (λ (k : ConnValue). length k.slots) p.0))
+      ∙ ap (λ (k : ConnValue). option_or (slot_at j k.slots) (if y.broken then None else reply_for (call_id k.number (k.taken + j)) made)) p.0
+      ∙ ap (λ b. option_or (slot_at j x.slots) (if b then None else reply_for (call_id x.number (x.taken + j)) made)) (sym q.broken_is)
+      ∙ ap (λ e. option_or (slot_at j x.slots) e) (by j z.broken refl);
 }
   where
-    takes : (c : ℕ) → MayTakeIn u.calls (conn_of c u.conns) (conn_of c w.conns)
-    takes c = subst (λ calls. MayTakeIn calls (conn_of c u.conns) (conn_of c w.conns)) (take_all n u.calls (omega (arith, done, g.size_is))) (g.conns_are c)
+    by : (j : ℕ) (b : Bool) → z.broken ≡ b → (if z.broken then None else reply_for (call_id x.number (x.taken + j)) made)
+        ≡ (if z.broken then None else (ended_call trigger (call_id x.number (x.taken + j)) (call_at (call_id x.number (x.taken + j)) calls)).reply)
+    by j true b_is = rw b_is refl
+    by j false b_is = rw b_is (r x y j refl refl (sym q.broken_is ∙ b_is))
 
-    breaks : (c : ℕ) → is_broken_in c w.conns ≡ is_broken_in c u.conns
-    breaks c = takes_broken u.calls (conn_of c u.conns) (conn_of c w.conns) (takes c)
+pub map_each : (f g : KeptValue → KeptValue) (ks : List KeptValue) → ((j : ℕ) → j < length ks → f (kept_at j ks) ≡ g (kept_at j ks)) → map f ks ≡ map g ks
+map_each f g [] same = refl
+map_each f g (k ∷ ks) same = ap (λ l. f k ∷ l) (map_each f g ks (λ j lt. same (suc j) (omega (arith, lt)))) ∙ ap (λ x. x ∷ map g ks) (same 0 (omega arith))
 
-    at_end : (j : ℕ) → j < length u.calls → kept_at j u.calls ≡ ended_below trigger (is_broken_in (kept_at j v.calls).id.conn u.conns) true (kept_at j v.calls)
-    at_end j lt = h.calls_are j ∙ ap (λ b. ended_below trigger (is_broken_in (kept_at j v.calls).id.conn u.conns) b (kept_at j v.calls)) (lt-ltb j i (omega (arith, lt, all)))
+module _ (trigger : Trigger) (made : List ReplyValue) (v u w : MachineValue) (h : SomeEnded trigger made v u) (apart : AreApart v.calls)
+    (none : (id : CallId) → (ended_call trigger id (call_at id u.calls)).reply ≡ None) (w_is : w ≡ record u { conns = fill_all made u.conns }) where
+  takes : (c : ℕ) → MayTakeIn made (conn_of c u.conns) (conn_of c w.conns)
+  takes c = subst (λ (m : MachineValue). MayTakeIn made (conn_of c u.conns) (conn_of c m.conns)) (sym w_is) (takes_all made u.conns c)
 
-    ended : u.calls ≡ map (λ k. ended_below trigger (is_broken_in k.id.conn u.conns) true k) v.calls
-    ended = ext_get_or no_call u.calls (map (λ k. ended_below trigger (is_broken_in k.id.conn u.conns) true k) v.calls)
-        (h.size_is ∙ sym (length-map v.calls (λ k. ended_below trigger (is_broken_in k.id.conn u.conns) true k)))
-        (λ j lt. at_end j lt ∙ sym (get_or-map (λ k. ended_below trigger (is_broken_in k.id.conn u.conns) true k) v.calls j no_call no_call (omega (arith, lt, h.size_is))))
+  breaks : (c : ℕ) → is_broken_in c w.conns ≡ is_broken_in c u.conns
+  breaks c = takes_broken made (conn_of c u.conns) (conn_of c w.conns) (takes c)
+
+  -- the replies are those of the calls that end, unless their connections broke
+  reply_is : (id : CallId) → is_broken_in id.conn u.conns ≡ false → reply_for id made ≡ (ended_call trigger id (call_at id v.calls)).reply
+  reply_is id whole = by (reply_for id made) refl
+    where
+      by : (o : Option ReplyEntry) → reply_for id made ≡ o → reply_for id made ≡ (ended_call trigger id (call_at id v.calls)).reply
+      by (Some e) o_is = o_is ∙ sym (h.made_are id e o_is)
+      by None o_is =
+          let stays : has_gone made u.conns id ≡ false = ap (λ b. b || is_some (reply_for id made)) whole ∙ ap (λ o. is_some o) o_is in
+          let same : call_at id u.calls ≡ call_at id v.calls = ap (call_at id) h.calls_are ∙ call_given id (has_gone made u.conns) v.calls
+          ∙ ap (λ b. if b then call_state (call_at id v.calls).out None else call_at id v.calls) stays in
+          o_is ∙ sym (ap (λ c. (ended_call trigger id c).reply) (sym same) ∙ none id)
+
+  call_is : (j : ℕ) → j < length v.calls → given_where (has_gone made u.conns) (kept_at j v.calls) ≡ kept_after trigger (is_broken_in (kept_at j v.calls).id.conn w.conns) (kept_at j v.calls)
+  call_is j lt = by (is_broken_in k.id.conn u.conns) refl (ended_call trigger k.id k.call).reply refl
+    where
+      k : KeptValue
+      k = kept_at j v.calls
+
+      its : is_broken_in k.id.conn u.conns ≡ false → reply_for k.id made ≡ (ended_call trigger k.id k.call).reply
+      its whole = reply_is k.id whole ∙ ap (λ c. (ended_call trigger k.id c).reply) (own_call j v.calls lt apart)
+
+      by : (b : Bool) → is_broken_in k.id.conn u.conns ≡ b → (o : Option ReplyEntry) → (ended_call trigger k.id k.call).reply ≡ o
+          → given_where (has_gone made u.conns) k ≡ kept_after trigger (is_broken_in k.id.conn w.conns) k
+      by true b_is o o_is = ap (λ b. if (b || is_some (reply_for k.id made)) then given_up k else k) b_is ∙ sym (ap (λ b. kept_after trigger b k) (breaks k.id.conn ∙ b_is))
+      by false b_is None o_is = ap (λ b. if (b || is_some (reply_for k.id made)) then given_up k else k) b_is ∙ ap (λ o. if is_some o then given_up k else k) (its b_is ∙ o_is)
+          ∙ rests trigger k o_is ∙ sym (ap (λ b. kept_after trigger b k) (breaks k.id.conn ∙ b_is))
+      by false b_is (Some e) o_is = ap (λ b. if (b || is_some (reply_for k.id made)) then given_up k else k) b_is ∙ ap (λ o. if is_some o then given_up k else k) (its b_is ∙ o_is)
+          ∙ ends_up trigger k e o_is ∙ sym (ap (λ b. kept_after trigger b k) (breaks k.id.conn ∙ b_is))
+
+  pub ends_all : CallsEnd trigger v w
+  ends_all = record {
+    moment_is = ap (λ (m : MachineValue). m.moment) w_is ∙ h.moment_is;
+    drained_is = ap (λ (m : MachineValue). m.drained) w_is ∙ h.drained_is;
+    jobs_are = ap (λ (m : MachineValue). m.jobs) w_is ∙ h.jobs_are;
+    calls_are = ap (λ (m : MachineValue). m.calls) w_is ∙ h.calls_are
+        ∙ map_each (given_where (has_gone made u.conns)) (λ k. kept_after trigger (is_broken_in k.id.conn w.conns) k) v.calls call_is;
+    numbers_are = ap (λ (m : MachineValue). numbers m.conns) w_is ∙ numbers_all made u.conns ∙ h.numbers_are;
+    conns_are = λ c. conn_ends trigger v.calls made (conn_of c v.conns) (conn_of c u.conns) (conn_of c w.conns) (h.conns_are c) (takes c)
+        (λ x y j x_is y_is whole. reply_is (call_id x.number (x.taken + j))
+        (ap (λ n. is_broken_in n u.conns) (open_number c v.conns x x_is) ∙ ap is_broken_there y_is ∙ whole));
+    breaks_are = λ c now_so before_not. h.breaks_are c (sym (breaks c) ∙ now_so) before_not;
+  }

@@ -8,7 +8,7 @@ use Rattle.gateway_model.specs.declared.id.CallId.{CallId}
 use Rattle.gateway_theory.specs.declared.trigger.Trigger.{Trigger}
 use Rattle.gateway_theory.specs.Breaks.{is_broken_after, CallStays, ConnStays, CallAfter, ConnOn, AfterBreaks}
 use Rattle.gateway_theory.specs.Conn.{ConnValue, state_of}
-use Rattle.gateway_theory.specs.Ends.{ended_if, ended_call, without_reply, is_broken_in, ended_below, ConnEnds, MayEnd, CallsEnd}
+use Rattle.gateway_theory.specs.Ends.{ended_if, ended_call, is_broken_in, kept_after, ConnEnds, MayEnd, CallsEnd}
 use Rattle.gateway_theory.specs.Breaks.{starting_conn}
 use Rattle.gateway_theory.specs.Kept.{KeptValue}
 use Rattle.gateway_theory.specs.Machine.{ConnState, MachineState, ConnAfter, slot_at, step_of, starting}
@@ -17,7 +17,7 @@ use Rattle.gateway_model.specs.Past.{call_id, is_call, shuts, is_drain, is_resul
 use Rattle.gateway_theory.specs.Step.{CallState, Step, call_state, gone, has_out, step}
 use Rattle.gateway_theory.specs.Store.{MachineValue, machine_value, machine, call_at, conn_of, HasBroken}
 use Rattle.gateway_theory.specs.lemmas.Cases.{and_true, or_none}
-use Rattle.gateway_theory.specs.lemmas.EndLemmas.{id_below, out_same, open_number}
+use Rattle.gateway_theory.specs.lemmas.EndLemmas.{same_after, out_same, open_number}
 use Rattle.gateway_theory.specs.lemmas.LimitLemmas.{same_call}
 
 -- ---- the calls
@@ -26,7 +26,7 @@ use Rattle.gateway_theory.specs.lemmas.LimitLemmas.{same_call}
 abbrev after_of : Trigger → Bool → CallId → CallState → CallState
 after_of trigger breaks id c = if breaks then call_state c.out None else (ended_call trigger id c).call
 
-call_below : (trigger : Trigger) (b : Bool) (k : KeptValue) → (without_reply (ended_below trigger b true k)).call ≡ after_of trigger b k.id k.call
+call_below : (trigger : Trigger) (b : Bool) (k : KeptValue) → (kept_after trigger b k).call ≡ after_of trigger b k.id k.call
 call_below trigger true k = refl
 call_below trigger false k = refl
 
@@ -35,17 +35,17 @@ after_gone trigger true id = refl
 after_gone trigger false id = refl
 
 pub call_ended : (trigger : Trigger) (breaks : ℕ → Bool) (id : CallId) (calls : List KeptValue)
-    → call_at id (map (λ k. without_reply (ended_below trigger (breaks k.id.conn) true k)) calls) ≡ after_of trigger (breaks id.conn) id (call_at id calls)
+    → call_at id (map (λ k. kept_after trigger (breaks k.id.conn) k) calls) ≡ after_of trigger (breaks id.conn) id (call_at id calls)
 call_ended trigger breaks id [] = after_gone trigger (breaks id.conn) id
 call_ended trigger breaks id (k ∷ calls) =
-    ap (λ x. if is_call x id then (f k).call else call_at id (map f calls)) (id_below trigger (breaks k.id.conn) true k)
+    ap (λ x. if is_call x id then (f k).call else call_at id (map f calls)) (same_after trigger (breaks k.id.conn) k)
     ∙ ⊎_elim (λ (here : is_call k.id id ≡ true).
     rw here (call_below trigger (breaks k.id.conn) k ∙ ap (λ (x : CallId). after_of trigger (breaks x.conn) x k.call) (same_call k.id id here)))
     (λ (there : is_call k.id id ≡ false). rw there (call_ended trigger breaks id calls))
     (cases_Bool (is_call k.id id))
   where
     f : KeptValue → KeptValue
-    f k = without_reply (ended_below trigger (breaks k.id.conn) true k)
+    f k = kept_after trigger (breaks k.id.conn) k
 
 outs_after : (trigger : Trigger) (b : Bool) (id : CallId) (c : CallState) (i : ℕ) → has_out (after_of trigger b id c) i ≡ has_out c i
 outs_after trigger true id c i = refl

@@ -6,13 +6,13 @@ use Rattle.gateway_model.specs.declared.id.CallId.{CallId}
 use Rattle.gateway_theory.specs.declared.trigger.Trigger.{Trigger}
 use Rattle.gateway_theory.specs.declared.trigger.Trigger.TheVariants.{Reached, HungUp as HangsUp, Drained}
 use Rattle.gateway_theory.specs.Conn.{ConnValue}
-use Rattle.gateway_theory.specs.Ends.{CallsEnd, EndsBy, MayEnd, ended_below, ended_if, is_broken_in, without_reply}
+use Rattle.gateway_theory.specs.Ends.{CallsEnd, EndsBy, MayEnd, kept_after, ended_if, is_broken_in}
 use Rattle.gateway_theory.specs.Kept.{KeptValue}
 use Rattle.gateway_theory.specs.Machine.{ConnState}
 use Rattle.gateway_model.specs.Occurrence.{Occurrence, HangUp, Moment, Drain}
 use Rattle.gateway_theory.specs.Step.{CallState, Live, ended_live, moment_after}
 use Rattle.gateway_theory.specs.Store.{MachineValue, machine_value, conn_of}
-use Rattle.gateway_theory.specs.lemmas.EndLemmas.{id_below}
+use Rattle.gateway_theory.specs.lemmas.EndLemmas.{same_after}
 use Rattle.gateway_theory.specs.lemmas.GatewaySteps.{Goes, NoCallOf, WasBefore}
 use Rattle.gateway_theory.specs.lemmas.OrderLemmas.{some_same}
 use Rattle.gateway_theory.specs.lemmas.ServingLemmas.{still_none}
@@ -83,8 +83,8 @@ goes_ended trigger v w e = record {
 
     calls : (c : ℕ) → NoCallOf c v.calls → NoCallOf c w.calls
     calls c all = subst (NoCallOf c) (sym e.calls_are)
-        (All-map (λ (k : KeptValue). (k.id.conn == c) ≡ false) (λ k. without_reply (ended_below trigger (is_broken_in k.id.conn w.conns) true k)) v.calls
-        (λ j d lt. ap (λ (x : CallId). x.conn == c) (id_below trigger (is_broken_in (slice_index_or v.calls j d).id.conn w.conns) true (slice_index_or v.calls j d)) ∙ all j d lt))
+        (All-map (λ (k : KeptValue). (k.id.conn == c) ≡ false) (λ k. kept_after trigger (is_broken_in k.id.conn w.conns) k) v.calls
+        (λ j d lt. ap (λ (x : CallId). x.conn == c) (same_after trigger (is_broken_in (slice_index_or v.calls j d).id.conn w.conns) (slice_index_or v.calls j d)) ∙ all j d lt))
 
 -- the same of the machine to which what ends them was not told yet
 pub goes_told : (told v w : MachineValue) → told.conns ≡ v.conns → told.calls ≡ v.calls → Goes told w → Goes v w

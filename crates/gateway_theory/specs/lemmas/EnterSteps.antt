@@ -40,7 +40,7 @@ arrive_gone moment drained false id (Request q (Asks plan timeout rid)) none =
 -- the calls after a step of one that was not kept
 call_kept : (next id : CallId) (s : Step) (l : Option Live) (calls : List KeptValue) → s.call.live ≡ l → (s.call.live ≡ None → s.call ≡ gone) → IsFound next calls None
     → call_at id (calls ++ kept_now next s l) ≡ (if is_call next id then s.call else call_at id calls)
-call_kept next id s (Some l) calls l_is none_gone f = call_added (record { id = next; call = s.call; reply = None }) id calls f
+call_kept next id s (Some l) calls l_is none_gone f = call_added (record { id = next; call = s.call }) id calls f
 call_kept next id s None calls l_is none_gone f = ap (call_at id) (append-nil calls) ∙ ⊎_elim
     (λ (its : is_call next id ≡ true).
     ap (λ x. call_at x calls) (sym (same_call next id its)) ∙ call_missing next calls f ∙ sym (none_gone l_is) ∙ sym (ap (λ b. if b then s.call else call_at id calls) its))

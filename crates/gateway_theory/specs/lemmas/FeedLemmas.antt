@@ -105,9 +105,9 @@ module _ (i : ℕ) (x : Coming) (v w : MachineValue) (lt : i < length v.conns) (
     where
       one : (l : Option Live) → All (λ (c : KeptValue). (c.id.conn == d) ≡ false) (v.calls ++ kept_now (next_of k) (arriving_at i x v) l)
       one None = subst (All (λ (c : KeptValue). (c.id.conn == d) ≡ false)) (sym (append-nil v.calls)) all
-      one (Some l) = All-append (λ (c : KeptValue). (c.id.conn == d) ≡ false) v.calls (record { id = next_of k; call = (arriving_at i x v).call; reply = None } ∷ []) all at_once
+      one (Some l) = All-append (λ (c : KeptValue). (c.id.conn == d) ≡ false) v.calls (record { id = next_of k; call = (arriving_at i x v).call } ∷ []) all at_once
         where
-          at_once : All (λ (c : KeptValue). (c.id.conn == d) ≡ false) (record { id = next_of k; call = (arriving_at i x v).call; reply = None } ∷ [])
+          at_once : All (λ (c : KeptValue). (c.id.conn == d) ≡ false) (record { id = next_of k; call = (arriving_at i x v).call } ∷ [])
           at_once zero dflt within = eqb_sym k.number d ∙ ne
           at_once (suc j) dflt within = absurd (omega (arith, within))
 

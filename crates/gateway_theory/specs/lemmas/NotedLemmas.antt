@@ -23,7 +23,6 @@ use Rattle.gateway_theory.specs.lemmas.StoreMore.{broken_hung, conn_hung}
 pub noted_settled : (trigger : Trigger) (v : MachineValue) → IsSettled v → IsSettled (noted trigger v)
 noted_settled (Reached now) v h = h
 noted_settled (HungUp n) v h = record {
-  no_reply = h.no_reply;
   none_live = λ j broken. h.none_live j (sym (broken_hung n v.conns (kept_at j v.calls).id.conn) ∙ broken);
   has_conn = λ j live. ap (λ o. is_some o) (conn_hung (kept_at j v.calls).id.conn n v.conns) ∙ still (conn_of (kept_at j v.calls).id.conn v.conns) ∙ h.has_conn j live;
 }
@@ -31,7 +30,7 @@ noted_settled (HungUp n) v h = record {
     still : (o : Option ConnValue) → is_some (option_map (hung_if n) o) ≡ is_some o
     still None = refl
     still (Some k) = refl
-noted_settled Drained v h = record { no_reply = h.no_reply; none_live = h.none_live; has_conn = h.has_conn }
+noted_settled Drained v h = record { none_live = h.none_live; has_conn = h.has_conn }
 
 pub noted_apart : (trigger : Trigger) (v : MachineValue) → AreApart v.calls → AreApart (noted trigger v).calls
 noted_apart (Reached now) v h = h

@@ -184,9 +184,8 @@ given_order n conns new k back same h = by_it (k.id.conn == n) refl
         omega (arith, less, size, gone_by)
 
     by_it : (b : Bool) → (k.id.conn == n) ≡ b → IsInOrder new (given_up_if n k)
-    by_it true e = rw e (record { no_reply = refl; on_unbroken = λ f. absurd (cc); came = low })
+    by_it true e = rw e (record { on_unbroken = λ f. absurd (cc); came = low })
     by_it false e = rw e (record {
-      no_reply = h.no_reply;
       on_unbroken = λ live. let c = h.on_unbroken live in (c.0, same k.id.conn e ∙ c.1, c.2);
       came = low;
     })
@@ -229,7 +228,6 @@ opened_order n v w none new w_is h = subst IsOrderly (sym w_is) (record {
   where
     still : (k : KeptValue) → (k.id.conn == n) ≡ false → IsInOrder v.conns k → IsInOrder (v.conns ++ conn_value n 0 [] false false ∷ []) k
     still k ne o = record {
-      no_reply = o.no_reply;
       on_unbroken = λ live. let c = o.on_unbroken live in (c.0, same ∙ c.1, c.2);
       came = λ c e. o.came c (sym same ∙ e);
     }
@@ -270,7 +268,6 @@ entered_order i s v w lt unbroken w_is h = subst IsOrderly (sym w_is) (record {
       where
         by_it : (b : Bool) → (x.id.conn == k.number) ≡ b → IsInOrder conns x
         by_it true e = record {
-          no_reply = o.no_reply;
           on_unbroken = λ live. (added s.reply k, now, unbroken);
           came = λ c f.
               let same : added s.reply k ≡ c = some_same (sym now ∙ f) in
@@ -282,7 +279,6 @@ entered_order i s v w lt unbroken w_is h = subst IsOrderly (sym w_is) (record {
             now : conn_of x.id.conn conns ≡ Some (added s.reply k)
             now = conn_is x.id.conn ∙ ap (λ b. if b then Some (added s.reply k) else conn_of x.id.conn v.conns) e
         by_it false e = record {
-          no_reply = o.no_reply;
           on_unbroken = λ live. let c = o.on_unbroken live in (c.0, now ∙ c.1, c.2);
           came = λ c f. o.came c (sym now ∙ f);
         }
@@ -293,9 +289,8 @@ entered_order i s v w lt unbroken w_is h = subst IsOrderly (sym w_is) (record {
     here : conn_of k.number conns ≡ Some (added s.reply k)
     here = conn_is k.number ∙ ap (λ b. if b then Some (added s.reply k) else conn_of k.number v.conns) (eq-eqb k.number k.number refl)
 
-    newborn : (r : Option ReplyEntry) → r ≡ None → (c : CallState) → IsInOrder conns (record { id = next_of k; call = c; reply = None })
-    newborn r r_is c = record {
-      no_reply = refl;
+    newborn : (c : CallState) → IsInOrder conns (record { id = next_of k; call = c })
+    newborn c = record {
       on_unbroken = λ live. (added s.reply k, here, unbroken);
       came = λ x f. subst (λ (y : ConnValue). k.taken + length k.slots < y.taken + length y.slots) (some_same (sym here ∙ f))
           (let size : length (k.slots ++ s.reply ∷ []) ≡ length k.slots + 1 = length-append k.slots (s.reply ∷ []) in omega (arith, size));
@@ -306,16 +301,16 @@ entered_order i s v w lt unbroken w_is h = subst IsOrderly (sym w_is) (record {
 
     by_live : (l : Option Live) → s.call.live ≡ l → All (IsInOrder conns) (v.calls ++ kept_now (next_of k) s l)
     by_live None e = subst (All (IsInOrder conns)) (sym (append-nil v.calls)) old
-    by_live (Some l) e = All-append (IsInOrder conns) v.calls (record { id = next_of k; call = s.call; reply = None } ∷ []) old
+    by_live (Some l) e = All-append (IsInOrder conns) v.calls (record { id = next_of k; call = s.call } ∷ []) old
         (λ j d within. one j d within)
       where
-        one : (j : ℕ) (d : KeptValue) → j < 1 → IsInOrder conns (slice_index_or (record { id = next_of k; call = s.call; reply = None } ∷ []) j d)
-        one zero d within = newborn None refl s.call
+        one : (j : ℕ) (d : KeptValue) → j < 1 → IsInOrder conns (slice_index_or (record { id = next_of k; call = s.call } ∷ []) j d)
+        one zero d within = newborn s.call
         one (suc j) d within = absurd (omega (arith, within))
 
     ids_live : (l : Option Live) → AreApart (v.calls ++ kept_now (next_of k) s l)
     ids_live None = subst AreApart (sym (append-nil v.calls)) h.apart
-    ids_live (Some l) = calls_more (record { id = next_of k; call = s.call; reply = None }) v.calls h.apart (λ j within. fresh_next i v lt h j within)
+    ids_live (Some l) = calls_more (record { id = next_of k; call = s.call }) v.calls h.apart (λ j within. fresh_next i v lt h j within)
 
 -- ---- a reply is taken
 
@@ -344,7 +339,6 @@ taken_order i v w lt some w_is h = subst IsOrderly (sym w_is) (record {
 
         by_it : (b : Bool) → (x.id.conn == k.number) ≡ b → IsInOrder conns x
         by_it true e = record {
-          no_reply = o.no_reply;
           on_unbroken = λ live. let c = o.on_unbroken live in
               (without_first k, now, ap (λ (y : ConnValue). y.broken) (some_same (sym at_k ∙ c.1)) ∙ c.2);
           came = λ c f. subst (λ (y : ConnValue). x.id.request < y.taken + length y.slots) (some_same (sym now ∙ f))
@@ -358,7 +352,6 @@ taken_order i v w lt some w_is h = subst IsOrderly (sym w_is) (record {
             at_k : conn_of x.id.conn v.conns ≡ Some k
             at_k = ap (λ n. conn_of n v.conns) (eqb-true x.id.conn k.number e) ∙ found
         by_it false e = record {
-          no_reply = o.no_reply;
           on_unbroken = λ live. let c = o.on_unbroken live in (c.0, now ∙ c.1, c.2);
           came = λ c f. o.came c (sym now ∙ f);
         }

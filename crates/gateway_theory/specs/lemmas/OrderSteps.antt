@@ -10,7 +10,7 @@ use Rattle.gateway_model.specs.declared.id.CallId.{CallId}
 use Rattle.gateway_theory.specs.declared.trigger.Trigger.{Trigger}
 use Rattle.gateway_model.specs.declared.entry.ReplyEntry.{ReplyEntry}
 use Rattle.gateway_theory.specs.Conn.{ConnValue}
-use Rattle.gateway_theory.specs.Ends.{AreApart, CallsEnd, MayEnd, ended_below, ended_if, is_broken_in, without_reply}
+use Rattle.gateway_theory.specs.Ends.{AreApart, CallsEnd, MayEnd, kept_after, ended_if, is_broken_in}
 use Rattle.gateway_theory.specs.Kept.{KeptValue}
 use Rattle.gateway_model.specs.Occurrence.{Occurrence}
 use Rattle.gateway_theory.specs.Orderly.{ConnsApart, BrokenAre, IsInOrder, IsOrderly}
@@ -19,7 +19,7 @@ use Rattle.gateway_theory.specs.Replies.{reply_with}
 use Rattle.gateway_theory.specs.Results.{back_at, back_kept, Forgets, result_at, ResultTaken, Starved, StepsAt, stepped_at, stepped_kept}
 use Rattle.gateway_theory.specs.Step.{Live, Step, result_on}
 use Rattle.gateway_theory.specs.Store.{MachineValue, conn_of, kept_at, no_call, no_conn, given_up, given_up_if, broken_at, filled_in, numbers}
-use Rattle.gateway_theory.specs.lemmas.EndLemmas.{id_below, MayFill, fills_in, numbers_filled}
+use Rattle.gateway_theory.specs.lemmas.EndLemmas.{same_after, MayFill, fills_in, numbers_filled}
 use Rattle.gateway_theory.specs.lemmas.OrderLemmas.{broken_order, ids_mapped, ids_set, same_numbers, calls_filtered, some_same}
 
 pub by_numbers : (new conns : List ConnValue) → numbers new ≡ numbers conns → ConnsApart conns → ConnsApart new
@@ -38,15 +38,14 @@ by_numbers new conns same apart = same_numbers new conns size
 end_order : (trigger : Trigger) (breaks : Bool) (conns new : List ConnValue) (k : KeptValue)
     → ((l : ConnValue) → conn_of k.id.conn new ≡ Some l → (x : ConnValue) × (conn_of k.id.conn conns ≡ Some x) × (l.taken ≡ x.taken) × (length l.slots ≡ length x.slots))
     → ((x : ConnValue) → conn_of k.id.conn conns ≡ Some x → breaks ≡ false → (l : ConnValue) × (conn_of k.id.conn new ≡ Some l) × (l.broken ≡ false))
-    → IsInOrder conns k → IsInOrder new (without_reply (ended_below trigger breaks true k))
+    → IsInOrder conns k → IsInOrder new (kept_after trigger breaks k)
 end_order trigger breaks conns new k back on h = record {
-  no_reply = refl;
   on_unbroken = λ live. by_broken breaks refl live;
   came = λ l e.
-      let same : (ended_below trigger breaks true k).id ≡ k.id = id_below trigger breaks true k in
+      let same : (kept_after trigger breaks k).id ≡ k.id = same_after trigger breaks k in
       let x = back l (ap (λ (y : CallId). conn_of y.conn new) (sym same) ∙ e) in
       let low : k.id.request < x.0.taken + length x.0.slots = h.came x.0 x.1 in
-      let at_it : (ended_below trigger breaks true k).id.request ≡ k.id.request = ap (λ (y : CallId). y.request) same in
+      let at_it : (kept_after trigger breaks k).id.request ≡ k.id.request = ap (λ (y : CallId). y.request) same in
       let taken_is : l.taken ≡ x.0.taken = x.2 in
       let size : length l.slots ≡ length x.0.slots = x.3 in
       omega (arith, low, at_it, taken_is, size);
@@ -56,13 +55,13 @@ end_order trigger breaks conns new k back on h = record {
     live_before id out None e = absurd (cc)
     live_before id out (Some l) e = refl
 
-    by_broken : (b : Bool) → breaks ≡ b → is_some (without_reply (ended_below trigger breaks true k)).call.live ≡ true
-        → (c : ConnValue) × (conn_of (ended_below trigger breaks true k).id.conn new ≡ Some c) × (c.broken ≡ false)
-    by_broken true e live = absurd (let clash : is_some (given_up k).call.live ≡ true = ap (λ b. is_some (without_reply (ended_below trigger b true k)).call.live) (sym e) ∙ live in cc)
+    by_broken : (b : Bool) → breaks ≡ b → is_some (kept_after trigger breaks k).call.live ≡ true
+        → (c : ConnValue) × (conn_of (kept_after trigger breaks k).id.conn new ≡ Some c) × (c.broken ≡ false)
+    by_broken true e live = absurd (let clash : is_some (given_up k).call.live ≡ true = ap (λ b. is_some (kept_after trigger b k).call.live) (sym e) ∙ live in cc)
     by_broken false e live =
-        let c = h.on_unbroken (live_before k.id k.call.out k.call.live (ap (λ b. is_some (without_reply (ended_below trigger b true k)).call.live) (sym e) ∙ live)) in
+        let c = h.on_unbroken (live_before k.id k.call.out k.call.live (ap (λ b. is_some (kept_after trigger b k).call.live) (sym e) ∙ live)) in
         let l = on c.0 c.1 e in
-        (l.0, ap (λ (y : CallId). conn_of y.conn new) (id_below trigger breaks true k) ∙ l.1, l.2)
+        (l.0, ap (λ (y : CallId). conn_of y.conn new) (same_after trigger breaks k) ∙ l.1, l.2)
 
 pub ends_order : (trigger : Trigger) (v w : MachineValue) → CallsEnd trigger v w → IsOrderly v → IsOrderly w
 ends_order trigger v w e h = record {
@@ -71,12 +70,12 @@ ends_order trigger v w e h = record {
       (λ l l_is. back (conn_of (slice_index_or v.calls j d).id.conn v.conns) (conn_of (slice_index_or v.calls j d).id.conn w.conns) l l_is (e.conns_are (slice_index_or v.calls j d).id.conn))
       (λ x x_is on. goes (conn_of (slice_index_or v.calls j d).id.conn v.conns) (conn_of (slice_index_or v.calls j d).id.conn w.conns) x x_is on (e.conns_are (slice_index_or v.calls j d).id.conn))
       (h.calls_are j d lt)));
-  apart = subst AreApart (sym e.calls_are) (ids_mapped f v.calls (λ k. id_below trigger (is_broken_in k.id.conn w.conns) true k) h.apart);
+  apart = subst AreApart (sym e.calls_are) (ids_mapped f v.calls (λ k. same_after trigger (is_broken_in k.id.conn w.conns) k) h.apart);
   conns_apart = by_numbers w.conns v.conns e.numbers_are h.conns_apart;
 }
   where
     f : KeptValue → KeptValue
-    f k = without_reply (ended_below trigger (is_broken_in k.id.conn w.conns) true k)
+    f k = kept_after trigger (is_broken_in k.id.conn w.conns) k
 
     back : (a b : Option ConnValue) (l : ConnValue) → b ≡ Some l → MayEnd trigger v.calls a b → (x : ConnValue) × (a ≡ Some x) × (l.taken ≡ x.taken) × (length l.slots ≡ length x.slots)
     back None None l l_is m = absurd (cc)
@@ -119,7 +118,6 @@ filled_on id reply (Some z) (Some y) x m x_is = (y, refl, m.broken_is ∙ ap (λ
 
 filled_still : (id : CallId) (reply : Option ReplyEntry) (conns : List ConnValue) (k : KeptValue) → IsInOrder conns k → IsInOrder (filled_in (option_map (reply_with id) reply) conns) k
 filled_still id reply conns k h = record {
-  no_reply = h.no_reply;
   on_unbroken = λ live.
       let c = h.on_unbroken live in
       let l = filled_on id reply (conn_of k.id.conn conns) (conn_of k.id.conn (filled_in (option_map (reply_with id) reply) conns)) c.0 (fills_in id reply conns k.id.conn) c.1 in
@@ -141,9 +139,9 @@ filled_order id reply v w calls_is conns_is h = record {
 }
 
 -- a call at its place is another of its id, which goes on only if it did
-pub set_order : (i : ℕ) (new : KeptValue) (v w : MachineValue) → i < length v.calls → new.id ≡ (kept_at i v.calls).id → new.reply ≡ None
+pub set_order : (i : ℕ) (new : KeptValue) (v w : MachineValue) → i < length v.calls → new.id ≡ (kept_at i v.calls).id
     → (is_some new.call.live ≡ true → is_some (kept_at i v.calls).call.live ≡ true) → w.calls ≡ slice_set v.calls i new → w.conns ≡ v.conns → IsOrderly v → IsOrderly w
-set_order i new v w lt same no_reply live calls_is conns_is h = record {
+set_order i new v w lt same live calls_is conns_is h = record {
   calls_are = subst (λ ks. All (IsInOrder w.conns) ks) (sym calls_is) (subst (λ cs. All (IsInOrder cs) (slice_set v.calls i new)) (sym conns_is)
       (All-set (IsInOrder v.conns) v.calls i new now h.calls_are));
   apart = subst AreApart (sym calls_is) (ids_set i new v.calls lt same h.apart);
@@ -155,7 +153,6 @@ set_order i new v w lt same no_reply live calls_is conns_is h = record {
 
     now : IsInOrder v.conns new
     now = record {
-      no_reply = no_reply;
       on_unbroken = λ l. let c = old.on_unbroken (live l) in (c.0, ap (λ (x : CallId). conn_of x.conn v.conns) same ∙ c.1, c.2);
       came = λ c c_is.
           let low : (kept_at i v.calls).id.request < c.taken + length c.slots = old.came c (ap (λ (x : CallId). conn_of x.conn v.conns) (sym same) ∙ c_is) in
@@ -175,7 +172,7 @@ result_order id branch outcome v w took (inr (i, f, out, seen, its, steps)) h = 
     s = result_at i branch outcome v
 
     stepped : IsOrderly (stepped_at i s v)
-    stepped = set_order i (stepped_kept s (kept_at i v.calls)) v (stepped_at i s v) f.0 refl (h.calls_are i no_call f.0).no_reply
+    stepped = set_order i (stepped_kept s (kept_at i v.calls)) v (stepped_at i s v) f.0 refl
         (live_after v.moment branch outcome (slice_set (kept_at i v.calls).call.out branch false) (kept_at i v.calls).call.live) refl refl h
 
     by_step : StepsAt i s v w took.broke → IsOrderly w
@@ -199,8 +196,8 @@ starved_order id branch v w took (inr (i, f, out, seen, broke, w_is)) h = by_liv
         (w_is ∙ ap (λ b. back_at i branch (if b then broken_at id.conn v else v)) e)
       where
         back : (u : MachineValue) → IsOrderly u → i < length u.calls → w ≡ back_at i branch u → IsOrderly w
-        back u o lt e = set_order i (back_kept branch (kept_at i u.calls)) u w lt refl (o.calls_are i no_call lt).no_reply (λ x. absurd (cc))
+        back u o lt e = set_order i (back_kept branch (kept_at i u.calls)) u w lt refl (λ x. absurd (cc))
             (ap (λ (x : MachineValue). x.calls) e) (ap (λ (x : MachineValue). x.conns) e) o
-    by_live false e = set_order i (back_kept branch (kept_at i v.calls)) v w f.0 refl (h.calls_are i no_call f.0).no_reply (λ x. absurd (cc))
+    by_live false e = set_order i (back_kept branch (kept_at i v.calls)) v w f.0 refl (λ x. absurd (cc))
         (ap (λ (x : MachineValue). x.calls) (w_is ∙ ap (λ b. back_at i branch (if b then broken_at id.conn v else v)) e))
         (ap (λ (x : MachineValue). x.conns) (w_is ∙ ap (λ b. back_at i branch (if b then broken_at id.conn v else v)) e)) h

@@ -8,7 +8,7 @@ use Rattle.gateway_theory.specs.declared.fault.StepFault.{StepFault}
 use Rattle.gateway_model.specs.declared.id.CallId.{CallId}
 use Rattle.gateway_theory.specs.declared.trigger.Trigger.TheVariants.{HungUp}
 use Rattle.gateway_theory.specs.Conn.{ConnValue}
-use Rattle.gateway_theory.specs.Ends.{CallsEnd, MayEnd, ended_below, ended_call, is_broken_in, without_reply}
+use Rattle.gateway_theory.specs.Ends.{CallsEnd, MayEnd, kept_after, ended_call, is_broken_in}
 use Rattle.gateway_model.specs.Concerns.{can_break, concerns}
 use Rattle.gateway_model.specs.Events.{Before, hung_up, is_hang_up_of, is_open, listens, once, stream}
 use Rattle.gateway_model.specs.declared.event.Event.TheVariants.{HangUp}
@@ -57,12 +57,12 @@ module _ (n : ℕ) (s : MachineValue) (h : IsOrderly s) (broken : is_broken_in n
       by_live None = refl
       by_live (Some l) = rw ne refl
 
-  call_still : (k : KeptValue) → IsInOrder s.conns k → without_reply (ended_below (HungUp n) (is_broken_in k.id.conn s.conns) true k) ≡ k
+  call_still : (k : KeptValue) → IsInOrder s.conns k → kept_after (HungUp n) (is_broken_in k.id.conn s.conns) k ≡ k
   call_still k o = by_broken (is_broken_in k.id.conn s.conns) refl k.call.live refl
     where
-      by_broken : (b : Bool) → is_broken_in k.id.conn s.conns ≡ b → (l : Option Live) → k.call.live ≡ l → without_reply (ended_below (HungUp n) b true k) ≡ k
+      by_broken : (b : Bool) → is_broken_in k.id.conn s.conns ≡ b → (l : Option Live) → k.call.live ≡ l → kept_after (HungUp n) b k ≡ k
       by_broken true x None l_is =
-          ap (λ l. record { id = k.id; call = call_state k.call.out l; reply = None }) (sym l_is) ∙ ap (λ r. record { id = k.id; call = k.call; reply = r }) (sym o.no_reply)
+          ap (λ l. record { id = k.id; call = call_state k.call.out l }) (sym l_is)
       by_broken true x (Some l) l_is = absurd (
           let c = o.on_unbroken (ap (λ y. is_some y) l_is) in
           let clash : true ≡ false = sym x ∙ ap (λ y. option_map_or (λ (z : ConnValue). z.broken) y false) c.1 ∙ c.2 in cc)
@@ -70,20 +70,20 @@ module _ (n : ℕ) (s : MachineValue) (h : IsOrderly s) (broken : is_broken_in n
           let ne : (n == k.id.conn) ≡ false = ne_eqb n k.id.conn (λ same. let clash : true ≡ false = sym broken ∙ ap (λ m. is_broken_in m s.conns) same ∙ x in absurd (cc)) in
           by_live ne l l_is
         where
-          by_live : (n == k.id.conn) ≡ false → (l : Option Live) → k.call.live ≡ l → without_reply (ended_below (HungUp n) false true k) ≡ k
+          by_live : (n == k.id.conn) ≡ false → (l : Option Live) → k.call.live ≡ l → kept_after (HungUp n) false k ≡ k
           by_live ne None l_is =
-              ap (λ y. record { id = k.id; call = (ended_call (HungUp n) k.id (call_state k.call.out y)).call; reply = None }) l_is
-              ∙ ap (λ y. record { id = k.id; call = call_state k.call.out y; reply = None }) (sym l_is) ∙ ap (λ r. record { id = k.id; call = k.call; reply = r }) (sym o.no_reply)
+              ap (λ y. record { id = k.id; call = (ended_call (HungUp n) k.id (call_state k.call.out y)).call }) l_is
+              ∙ ap (λ y. record { id = k.id; call = call_state k.call.out y }) (sym l_is)
           by_live ne (Some l) l_is =
-              ap (λ y. record { id = k.id; call = (ended_call (HungUp n) k.id (call_state k.call.out y)).call; reply = None }) l_is
-              ∙ rw ne (ap (λ y. record { id = k.id; call = call_state k.call.out y; reply = None }) (sym l_is) ∙ ap (λ r. record { id = k.id; call = k.call; reply = r }) (sym o.no_reply))
+              ap (λ y. record { id = k.id; call = (ended_call (HungUp n) k.id (call_state k.call.out y)).call }) l_is
+              ∙ rw ne (ap (λ y. record { id = k.id; call = call_state k.call.out y }) (sym l_is))
 
   quiet_hang_up : CallsEnd (HungUp n) s s
   quiet_hang_up = record {
     moment_is = refl;
     drained_is = refl;
     jobs_are = refl;
-    calls_are = sym (map_still (λ k. without_reply (ended_below (HungUp n) (is_broken_in k.id.conn s.conns) true k)) s.calls (λ j d lt. call_still (slice_index_or s.calls j d) (h.calls_are j d lt)));
+    calls_are = sym (map_still (λ k. kept_after (HungUp n) (is_broken_in k.id.conn s.conns) k) s.calls (λ j d lt. call_still (slice_index_or s.calls j d) (h.calls_are j d lt)));
     numbers_are = refl;
     conns_are = λ c. by_conn c (conn_of c s.conns) refl;
     breaks_are = λ c a b. absurd (let clash : true ≡ false = sym a ∙ b in cc);

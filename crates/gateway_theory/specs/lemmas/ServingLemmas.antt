@@ -14,7 +14,7 @@ use Rattle.gateway_model.specs.declared.id.CallId.{CallId}
 use Rattle.gateway_theory.specs.declared.tally.Tally.{Tally}
 use Rattle.gateway_theory.specs.declared.trigger.Trigger.{Trigger}
 use Rattle.gateway_theory.specs.Conn.{ConnValue, added, conn_value, without_first}
-use Rattle.gateway_theory.specs.Ends.{CallsEnd, ended_below, is_broken_in, without_reply}
+use Rattle.gateway_theory.specs.Ends.{CallsEnd, kept_after, is_broken_in}
 use Rattle.gateway_theory.specs.Enters.{Enters, arriving_at}
 use Rattle.http_pieces.specs.Reader.{HasRead, Partial, reader_value}
 use Rattle.gateway_model.specs.Past.{most_calls}
@@ -33,7 +33,7 @@ use Rattle.gateway_theory.specs.Replies.{ReplyValue}
 use Rattle.gateway_theory.specs.Results.{Forgets, result_at, ResultTaken, Starved, StepsAt}
 use Rattle.gateway_theory.specs.Store.{MachineValue, broken_at, conn_at, conn_of, given_up_if, hung_at, hung_if, kept_at, numbers}
 use Rattle.gateway_theory.specs.lemmas.BroughtLemmas.{brought_entered, brought_go, brought_opened, brought_set}
-use Rattle.gateway_theory.specs.lemmas.EndLemmas.{id_below, numbers_broken, numbers_filled}
+use Rattle.gateway_theory.specs.lemmas.EndLemmas.{same_after, numbers_broken, numbers_filled}
 use Rattle.gateway_theory.specs.lemmas.FeedLemmas.{calls_kept, stream_found}
 use Rattle.gateway_theory.specs.lemmas.FewCalls.{few_broken, few_closed, few_ended, few_entered, few_forgotten, few_opened, few_result, few_same, few_starved, few_taken}
 use Rattle.gateway_theory.specs.lemmas.GatewaySteps.{Goes, goes_broken, goes_forgotten, goes_listens, goes_result, goes_starved}
@@ -164,7 +164,6 @@ keeps_hung n v = record {
   where
     in_order : (k : KeptValue) → IsInOrder v.conns k → IsInOrder (hung_at n v).conns k
     in_order k o = record {
-      no_reply = o.no_reply;
       on_unbroken = λ live.
           let c = o.on_unbroken live in
           (hung_if n c.0, conn_hung k.id.conn n v.conns ∙ ap (option_map (hung_if n)) c.1, cond_both (c.0.number == n) (record c.0 { hung_up = true }) c.0 (λ x. x.broken ≡ false) (λ _. c.2) (λ _. c.2));
@@ -200,8 +199,8 @@ keeps_ended trigger v w e = record {
   orderly = ends_order trigger v w e;
   numbers_are = e.numbers_are;
   no_call = λ h c none all. subst (NoCallOf c) (sym e.calls_are)
-      (All-map (λ (k : KeptValue). (k.id.conn == c) ≡ false) (λ k. without_reply (ended_below trigger (is_broken_in k.id.conn w.conns) true k)) v.calls
-      (λ j d lt. ap (λ (x : CallId). x.conn == c) (id_below trigger (is_broken_in (slice_index_or v.calls j d).id.conn w.conns) true (slice_index_or v.calls j d)) ∙ all j d lt));
+      (All-map (λ (k : KeptValue). (k.id.conn == c) ≡ false) (λ k. kept_after trigger (is_broken_in k.id.conn w.conns) k) v.calls
+      (λ j d lt. ap (λ (x : CallId). x.conn == c) (same_after trigger (is_broken_in (slice_index_or v.calls j d).id.conn w.conns) (slice_index_or v.calls j d)) ∙ all j d lt));
   few = λ h. few_ended trigger v w e;
 }
 

@@ -13,13 +13,19 @@ use Rattle.gateway_theory.specs.Machine.{slot_at}
 use Rattle.gateway_theory.specs.Kept.{KeptValue}
 use Rattle.gateway_theory.specs.Conn.{ConnValue, conn_value, entry_in, fill_at, filled}
 use Rattle.gateway_theory.specs.Replies.{ReplyValue}
-use Rattle.gateway_theory.specs.Ends.{is_broken_in, unanswered}
-use Rattle.gateway_theory.specs.Store.{MachineValue, machine_value, broken_at, call_at, conn_at, conn_of, kept_at, no_conn, IsFound, given_up, given_up_if, broken_conn, broken_if, fill_first, waiting_in, waiting}
+use Rattle.gateway_theory.specs.Ends.{is_broken_in}
+use Rattle.gateway_theory.specs.Store.{MachineValue, call_at, conn_at, conn_of, kept_at, no_conn, IsFound, given_up, given_up_if, given_where, broken_conn, broken_if, fill_first, waiting_in, waiting}
 use Rattle.gateway_theory.specs.lemmas.LimitLemmas.{same_call}
 use Rattle.gateway_theory.specs.lemmas.Cases.{and_false, or_none}
 
 pub call_itself : (id : CallId) → is_call id id ≡ true
 call_itself id = rw (eq-eqb id.conn id.conn refl, eq-eqb id.request id.request refl) refl
+
+pub call_apart : (a b : CallId) → is_call a b ≡ false → is_call b a ≡ false
+call_apart a b e = ⊎_elim
+    (λ (t : is_call b a ≡ true). let clash : true ≡ false = sym (call_itself a) ∙ ap (is_call a) (sym (same_call b a t)) ∙ e in absurd (cc))
+    (λ (f : is_call b a ≡ false). f)
+    (cases_Bool (is_call b a))
 
 -- ---- the store of calls
 
@@ -58,22 +64,25 @@ call_set id other (c ∷ calls) (suc i) new f same =
         (λ (there : is_call c.id other ≡ false). rw there h)
         (cases_Bool (is_call c.id other))
 
--- the call of that id, where the calls of a connection were given up
-pub call_given_up : (id : CallId) (c : ℕ) (calls : List KeptValue) → call_at id (map (given_up_if c) calls) ≡ (if id.conn == c then call_state (call_at id calls).out None else call_at id calls)
-call_given_up id c [] = cond_both (id.conn == c) (call_state [] None) gone (λ x. gone ≡ x) (λ _. refl) (λ _. refl)
-call_given_up id c (k ∷ calls) =
-    ap (λ i. if is_call i id then (given_up_if c k).call else call_at id (map (given_up_if c) calls)) its
+-- the call of that id, where calls were given up
+pub call_given : (id : CallId) (over : CallId → Bool) (calls : List KeptValue) → call_at id (map (given_where over) calls) ≡ (if over id then call_state (call_at id calls).out None else call_at id calls)
+call_given id over [] = cond_both (over id) (call_state [] None) gone (λ x. gone ≡ x) (λ _. refl) (λ _. refl)
+call_given id over (k ∷ calls) =
+    ap (λ i. if is_call i id then (given_where over k).call else call_at id (map (given_where over) calls)) its
     ∙ ⊎_elim (λ (here : is_call k.id id ≡ true).
-    rw here (ap (λ b. (if b then given_up k else k).call) (ap (λ x. x.conn == c) (same_call k.id id here)) ∙ pick (id.conn == c)))
-    (λ (there : is_call k.id id ≡ false). rw there (call_given_up id c calls))
+    rw here (ap (λ b. (if b then given_up k else k).call) (ap over (same_call k.id id here)) ∙ pick (over id)))
+    (λ (there : is_call k.id id ≡ false). rw there (call_given id over calls))
     (cases_Bool (is_call k.id id))
   where
-    its : (given_up_if c k).id ≡ k.id
-    its = cond_both (k.id.conn == c) (given_up k) k (λ x. x.id ≡ k.id) (λ _. refl) (λ _. refl)
+    its : (given_where over k).id ≡ k.id
+    its = cond_both (over k.id) (given_up k) k (λ x. x.id ≡ k.id) (λ _. refl) (λ _. refl)
 
     pick : (b : Bool) → (if b then given_up k else k).call ≡ (if b then call_state k.call.out None else k.call)
     pick true = refl
     pick false = refl
+
+pub call_given_up : (id : CallId) (c : ℕ) (calls : List KeptValue) → call_at id (map (given_up_if c) calls) ≡ (if id.conn == c then call_state (call_at id calls).out None else call_at id calls)
+call_given_up id c calls = call_given id (λ (x : CallId). x.conn == c) calls
 
 -- ---- the store of connections
 
@@ -214,13 +223,6 @@ waiting_less c [] = omega arith
 waiting_less c (k ∷ calls) =
     omega (arith, waiting_given_up c k, waiting_less c calls, sum_by-cons waiting_in k calls, sum_by-cons waiting_in (given_up_if c k) (map (given_up_if c) calls))
 
--- the calls of a connection are given up whatever stands of one of them
-pub given_set : (c : ℕ) (calls : List KeptValue) (i : ℕ) (x : KeptValue) → i < length calls → given_up_if c x ≡ given_up_if c (kept_at i calls)
-    → map (given_up_if c) (slice_set calls i x) ≡ map (given_up_if c) calls
-given_set c [] i x lt same = absurd (omega (arith, lt))
-given_set c (k ∷ calls) zero x lt same = ap (λ y. y ∷ map (given_up_if c) calls) same
-given_set c (k ∷ calls) (suc i) x lt same = ap (λ ks. given_up_if c k ∷ ks) (given_set c calls i x (omega (arith, lt)) same)
-
 -- ---- a slot, as the code fills it
 
 pub fill_view : (number taken : ℕ) (broken hung_up : Bool) (slots : List (Option ReplyValue)) (k : ℕ) (r : ReplyValue) (x : Option ReplyValue) → taken ≤ k → k - taken < length slots
@@ -236,16 +238,6 @@ fill_view number taken broken hung_up slots k r x le lt x_is none =
     none_in : (x : Option ReplyValue) → is_none x ≡ true → is_none (entry_in x) ≡ true
     none_in None e = refl
     none_in (Some r) e = absurd (cc)
-
--- the connection broke as the call at that place ended
-pub broke_at : (s : MachineValue) (i n : ℕ) (x new : KeptValue) → i < length s.calls → x ≡ kept_at i s.calls → new ≡ unanswered x → n ≡ x.id.conn
-    → broken_at n (record s { calls = slice_set s.calls i new }) ≡ broken_at (kept_at i s.calls).id.conn s
-broke_at s i n x new lt x_is new_is n_is =
-    let here : n ≡ (kept_at i s.calls).id.conn = n_is ∙ ap (λ (k : KeptValue). k.id.conn) x_is in
-    let new_so : new ≡ unanswered (kept_at i s.calls) = new_is ∙ ap unanswered x_is in
-    ap (λ m. broken_at m (record s { calls = slice_set s.calls i new })) here
-    ∙ ap (λ ks. machine_value s.moment s.drained (map (broken_if (kept_at i s.calls).id.conn) s.conns) ks s.jobs)
-    (given_set (kept_at i s.calls).id.conn s.calls i new lt (ap (given_up_if (kept_at i s.calls).id.conn) new_so ∙ rw (eq-eqb (kept_at i s.calls).id.conn (kept_at i s.calls).id.conn refl) refl))
 
 pub on_ok : {T E : Type 0} (r : Result T E) (P : Type 0) → OnOk r P → is_err r ≡ false → P
 on_ok (Ok t) P h e = h

@@ -6,7 +6,7 @@ use Rattle.call_contexts.specs.Standing.{WithHooks, is_conn, begun}
 use Rattle.call_contexts.specs.Sound.{with_call, let_go}
 use Rattle.call_contexts.proofs.Seeing.{conn_held}
 use Rattle.call_contexts.proofs.Making.{call_free, call_unmade}
-use Rattle.call_contexts.proofs.Beginning.{sound_begun, seen_begun, begun_unheld, is_new, sound_alike, seen_alike, given_back}
+use Rattle.call_contexts.proofs.Beginning.{sound_begun, seen_begun, begun_unheld, is_new, sound_alike, seen_alike, given_back, handed_back}
 use Rattle.call_contexts.proofs.Hooking.{pair_is, kept_hooks, more_hooks}
 use Rattle.call_contexts.proofs.call_contexts.CallContexts.begin.Goals as goal
 
@@ -14,7 +14,7 @@ pub invariant_of-self-in_default : goal.invariant_of-self-in_default
 invariant_of-self-in_default g c =
     let s = c.self.invariant in
     let r = c.in_default.ensures.refused s.laws s.past s.tree_is in
-    rw c.reserve.ensures.items (sound_alike s.laws s r.later c.make.new.tree r.stands r.alike c.self.inside.hooks s.hooks_are)
+    rw c.reserve.ensures.items (sound_alike s.laws s r.later c.make.new.tree r.stands r.alike r.handed_is c.self.inside.hooks s.hooks_are)
 
 pub returns-in_default-clause-unchanged : goal.returns-in_default-clause-unchanged
 returns-in_default-clause-unchanged g c =
@@ -41,6 +41,7 @@ invariant_of-self-in-Err g c =
     rw c.reserve.ensures.items
     (sound_alike laws s (let_go c.in-Ok.made.0 c.in-Ok.made.1 (with_call c.in-Ok.made.0 c.in-Ok.made.1 c.args.conn c.args.deadline c.args.now c.args.request_id s.past)) c.release.new.tree (c.release.ensures _ made free)
     (call_unmade laws c.in-Ok.made.0 c.args.conn c.args.deadline c.args.now s.past c.in-Ok.made.1 c.args.request_id c.in-Ok.ensures.held made.contexts.lawful)
+    (handed_back c.in-Ok.made.0 c.args.conn c.args.deadline c.args.now s.past c.in-Ok.made.1 c.args.request_id)
     c.after_func.new.self (c.in-Err.ensures.unchanged s.hooks s.hooks_are))
 
 pub returns-in-Ok-after_func-clause-stands : goal.returns-in-Ok-after_func-clause-stands

@@ -16,12 +16,10 @@ invariant_of-result c =
     let limit : c.limit.result ≡ a.plan.limit = c.limit.ensures.limit ∙ ap (λ (p : PlanRecord). p.limit) (c.deref-2.ensures ∙ plan) in
     let gone : HasGone c.args.id a (length c.branches-count.result.now) c.give.new.group c.in_ok-first.first.items =
     subst (λ m. HasGone c.args.id a m c.give.new.group c.in_ok-first.first.items) (sym n)
-    (subst (λ (x : ArrivedCall). HasGone c.args.id x (length x.plan.branches) c.give.new.group c.in_ok-first.first.items) asked c.in_ok-first.ensures) in (
-      subst (λ (x : ArrivedCall). IsKept c.args.id c.in_ok-out.out.items c.give.new.group (Some (live_value x c.in_ok-events.events.items c.in_ok-deadlines.deadlines.items))) (sym asked)
-          (begun_kept c.args.moment c.args.id a (length c.branches-count.result.now) c.min.result c.in_ok-out.out.items c.give.new.group c.in_ok-first.first.items c.in_ok-events.events.items c.in_ok-deadlines.deadlines.items n
-          (c.min.ensures ∙ ap (λ k. min (length c.branches-count.result.now) k) limit) c.in_ok-out.ensures gone c.in_ok-events.ensures.items c.in_ok-deadlines.ensures.items),
-      tt,
-    )
+    (subst (λ (x : ArrivedCall). HasGone c.args.id x (length x.plan.branches) c.give.new.group c.in_ok-first.first.items) asked c.in_ok-first.ensures) in
+    subst (λ (x : ArrivedCall). IsKept c.args.id c.in_ok-out.out.items c.give.new.group (Some (live_value x c.in_ok-events.events.items c.in_ok-deadlines.deadlines.items))) (sym asked)
+    (begun_kept c.args.moment c.args.id a (length c.branches-count.result.now) c.min.result c.in_ok-out.out.items c.give.new.group c.in_ok-first.first.items c.in_ok-events.events.items c.in_ok-deadlines.deadlines.items n
+    (c.min.ensures ∙ ap (λ k. min (length c.branches-count.result.now) k) limit) c.in_ok-out.ensures gone c.in_ok-events.ensures.items c.in_ok-deadlines.ensures.items)
 
 pub returns : goal.returns
 returns c =

@@ -3,6 +3,7 @@ use Rattle.std.proofs.Common.{subst, ◌≡◌, ◌++◌, [], ◌∷◌, None, a
 use Rattle.std.specs.Prelude.{filter, not, slice_set, slice_index_or}
 use Rattle.std.proofs.lemmas.List.{set-get_or}
 use Rattle.gateway_machine.proofs.CallsLemmas.{if_ok, taken_back}
+use Rattle.gateway_model.specs.declared.id.CallId.{CallId}
 use Rattle.gateway_model.specs.Past.{is_call}
 use Rattle.gateway_theory.specs.Begins.{begins}
 use Rattle.gateway_theory.specs.Conn.{ConnValue, added, next_of}
@@ -22,6 +23,15 @@ push-requires-clause-fresh c =
     ∙ ap next_of (conn_is c.self.inside.conns.items s.conns c.args.index c.index.result.now no_conn (ap (λ (m : MachineValue). m.conns) c.self.view_is) c.requires.there c.index.ensures) in
     subst (λ n. IsFound n c.self.inside.calls.items None) (sym (ap (λ (k : KeptValue). k.id) c.in_ok-call.ensures.call_is ∙ its))
     (subst (λ (m : MachineValue). IsFound (next_of (conn_at c.args.index s.conns)) m.calls None) (sym c.self.view_is) c.requires.new)
+
+pub push-requires-clause-below : goal.push-requires-clause-below
+push-requires-clause-below c =
+    let s : MachineValue = c.args.self.now in
+    let its : c.next_id-id.result ≡ next_of (conn_at c.args.index s.conns) =
+    c.next_id-id.ensures
+    ∙ ap next_of (conn_is c.self.inside.conns.items s.conns c.args.index c.index.result.now no_conn (ap (λ (m : MachineValue). m.conns) c.self.view_is) c.requires.there c.index.ensures) in
+    let room = c.requires.room in
+    omega (arith, room, ap (λ (k : KeptValue). k.id.request) c.in_ok-call.ensures.call_is, ap (λ (d : CallId). d.request) its)
 
 pub invariant_of-self-then-is_err : goal.invariant_of-self-then-is_err
 invariant_of-self-then-is_err c =
