@@ -182,6 +182,9 @@ module _ (h : History) (below : (place : ℕ) → succeeds h.opened place ≡ tr
   pub born_known : connections h.opened h.events < connections more (Opening ∷ h.events)
   born_known = subst (λ n. n < connections more (Opening ∷ h.events)) as_many (rw succeeded (omega arith))
 
+  pub born_count : connections more (Opening ∷ h.events) ≡ suc (connections h.opened h.events)
+  born_count = rw succeeded (ap suc as_many)
+
   pub born_is_open : is_open more (connections h.opened h.events) (Opening ∷ h.events) ≡ true
   born_is_open = subst (λ n. is_open more n (Opening ∷ h.events) ≡ true) as_many (born_open more h.events succeeded)
 

@@ -1,5 +1,7 @@
 pub mod LeadLemmas
 pub mod StepLemmas
+pub mod SumLemmas
+pub mod CountLemmas
 pub mod LoopLemmas
 pub mod ServingLemmas
 pub mod GrowLemmas

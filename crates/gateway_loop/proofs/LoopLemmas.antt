@@ -1,5 +1,5 @@
 -- What steps of one client, and other events, make of what the core's history explains.
-use Rattle.std.proofs.Common.{◌≡◌, ◌≢◌, ℕ, ◌<◌, Bool, true, false, List, [], ◌∷◌, ◌++◌, All, reverse, Option, None, Some, refl, sym, ap, ◌∙◌, subst, arith, ⊎_elim}
+use Rattle.std.proofs.Common.{◌≡◌, ◌≢◌, ℕ, suc, ◌+◌, ◌<◌, Bool, true, false, cond, List, [], ◌∷◌, ◌++◌, All, reverse, Option, None, Some, refl, sym, ap, ◌∙◌, subst, arith, ⊎_elim}
 use Rattle.std.specs.Prelude.{◌==◌}
 use Rattle.std.specs.List.{AllZip}
 use Rattle.std.proofs.lemmas.Bool.{cases_Bool, cases_eq, eqb-true}
@@ -11,11 +11,12 @@ use Rattle.gateway_model.specs.History.{History}
 use Rattle.gateway_model.specs.Job.{JobValue}
 use Rattle.slab.specs.Slab.{Slab, Updates}
 use Rattle.loop_model.specs.Clients.{ClientValue}
-use Rattle.loop_model.specs.Explained.{LoopValue, at}
+use Rattle.loop_model.specs.Explained.{LoopValue, at, one_below}
 use Rattle.loop_model.specs.Handed.{HandsIn, IsResultOf, ResultValue, latest, moments, results}
-use Rattle.gateway_loop.specs.Clients.{Fits, HasStood, IsHeld, IsQuiet, Leads}
+use Rattle.gateway_loop.specs.Clients.{Fits, HasStood, IsHeld, IsQuiet, Leads, OpensNone}
 use Rattle.gateway_loop.specs.Laws.{LoopLaws}
 use Rattle.gateway_loop.proofs.StepLemmas.{fits_on, stood_on}
+use Rattle.gateway_loop.proofs.CountLemmas.{count_comes, count_goes, count_steps, one_more}
 
 -- ---- places
 
@@ -73,9 +74,9 @@ pub record SameRest (l m : LoopValue) : Type 0 where
 module _ (unknown : Outcome) (laws : LoopLaws) (plans : List PlanRecord) (moment : ℕ) (l m : LoopValue) where
   -- the client in a place made steps
   pub held_steps : (h k : History) (i : ℕ) (x y : ClientValue) → at i l.clients ≡ Some x → y.conn ≡ x.conn → Fits plans k y
-      → Leads plans (λ c. c == x.conn) h k → IsQuiet h k → Puts l.clients m.clients i (Some y) → m.gone ≡ l.gone → SameRest l m
+      → Leads plans (λ c. c == x.conn) h k → IsQuiet h k → OpensNone h k → Puts l.clients m.clients i (Some y) → m.gone ≡ l.gone → SameRest l m
       → IsHeld unknown plans h moment l → IsHeld unknown plans k moment m
-  held_steps h k i x y its same fits leads quiet puts gone rest held = record {
+  held_steps h k i x y its same fits leads quiet opens puts gone rest held = record {
     fits = λ j z is. elim (among l.clients m.clients i (Some y) puts j z is) [
       | Here at_it it ↦ subst (λ (w : ClientValue). Fits plans k w) (some_is y z it) fits
       | There other there ↦
@@ -91,6 +92,7 @@ module _ (unknown : Outcome) (laws : LoopLaws) (plans : List PlanRecord) (moment
         | There not_n there_b ↦ held.apart j n a b there_a there_b one
       ]
     ];
+    each = λ c. count_steps l m i puts.there c x y its puts.here same gone ∙ held.each c ∙ ap (one_below c) (sym opens);
     gone = subst (λ (g : List ClientValue). All (λ (z : ClientValue). HasStood plans k z) g) (sym gone)
         (all_stood laws plans (λ c. c == x.conn) h k l.gone leads held.gone);
     latest_is = held.latest_is ∙ ap latest (sym quiet.moments_are);
@@ -103,9 +105,9 @@ module _ (unknown : Outcome) (laws : LoopLaws) (plans : List PlanRecord) (moment
 
   -- it goes
   pub held_goes : (h k : History) (i : ℕ) (x : ClientValue) → at i l.clients ≡ Some x → HasStood plans k x
-      → Leads plans (λ c. c == x.conn) h k → IsQuiet h k → Puts l.clients m.clients i None → m.gone ≡ l.gone ++ x ∷ [] → SameRest l m
+      → Leads plans (λ c. c == x.conn) h k → IsQuiet h k → OpensNone h k → Puts l.clients m.clients i None → m.gone ≡ l.gone ++ x ∷ [] → SameRest l m
       → IsHeld unknown plans h moment l → IsHeld unknown plans k moment m
-  held_goes h k i x its stood leads quiet puts gone rest held = record {
+  held_goes h k i x its stood leads quiet opens puts gone rest held = record {
     fits = λ j z is. elim (among l.clients m.clients i None puts j z is) [
       | Here at_it it ↦ absurd (no_some z it)
       | There other there ↦
@@ -118,6 +120,7 @@ module _ (unknown : Outcome) (laws : LoopLaws) (plans : List PlanRecord) (moment
         | There not_n there_b ↦ held.apart j n a b there_a there_b one
       ]
     ];
+    each = λ c. count_goes l m i puts.there c x its puts.here gone ∙ held.each c ∙ ap (one_below c) (sym opens);
     gone = subst (λ (g : List ClientValue). All (λ (z : ClientValue). HasStood plans k z) g) (sym gone)
         (All-push (λ (z : ClientValue). HasStood plans k z) l.gone x (all_stood laws plans (λ c. c == x.conn) h k l.gone leads held.gone) stood);
     latest_is = held.latest_is ∙ ap latest (sym quiet.moments_are);
@@ -131,9 +134,10 @@ module _ (unknown : Outcome) (laws : LoopLaws) (plans : List PlanRecord) (moment
   -- one comes, of a connection that no other has
   pub held_comes : (h k : History) (i : ℕ) (y : ClientValue) → Fits plans k y → y.conn ≡ connections h.opened h.events
       → ((x : ClientValue) → Fits plans h x → x.conn < connections h.opened h.events)
-      → Leads plans nobodys h k → IsQuiet h k → Puts l.clients m.clients i (Some y) → m.gone ≡ l.gone → SameRest l m
+      → Leads plans nobodys h k → IsQuiet h k → connections k.opened k.events ≡ suc (connections h.opened h.events) → at i l.clients ≡ None
+      → Puts l.clients m.clients i (Some y) → m.gone ≡ l.gone → SameRest l m
       → IsHeld unknown plans h moment l → IsHeld unknown plans k moment m
-  held_comes h k i y fits new older leads quiet puts gone rest held = record {
+  held_comes h k i y fits new older leads quiet opens vacant puts gone rest held = record {
     fits = λ j z is. elim (among l.clients m.clients i (Some y) puts j z is) [
       | Here at_it it ↦ subst (λ (w : ClientValue). Fits plans k w) (some_is y z it) fits
       | There other there ↦ fits_on laws plans nobodys h k z leads refl (held.fits j z there)
@@ -148,6 +152,10 @@ module _ (unknown : Outcome) (laws : LoopLaws) (plans : List PlanRecord) (moment
         | There not_n there_b ↦ held.apart j n a b there_a there_b one
       ]
     ];
+    each = λ c.
+        let n = connections h.opened h.events in
+        count_comes l m i puts.there c y vacant puts.here gone ∙ ap (λ (t : ℕ). t + cond (y.conn == c) 1 0) (held.each c)
+        ∙ ap (λ (t : ℕ). one_below c n + cond (t == c) 1 0) new ∙ one_more c n ∙ ap (one_below c) (sym opens);
     gone = subst (λ (g : List ClientValue). All (λ (z : ClientValue). HasStood plans k z) g) (sym gone)
         (all_stood laws plans nobodys h k l.gone leads held.gone);
     latest_is = held.latest_is ∙ ap latest (sym quiet.moments_are);

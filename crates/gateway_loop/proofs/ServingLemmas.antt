@@ -19,12 +19,13 @@ use Rattle.gateway_model.specs.Starts.{occurrences}
 use Rattle.gateway_theory.specs.Gateway.{GatewayValue, shown}
 use Rattle.gateway_theory.specs.Served.{Served}
 use Rattle.loop_model.specs.Clients.{ClientValue, IsExplainedClient, client_value}
-use Rattle.loop_model.specs.Explained.{IsExplainedBy, LoopValue, at}
+use Rattle.loop_model.specs.Explained.{IsExplainedBy, LoopValue, at, one_below}
 use Rattle.loop_model.specs.Handed.{HandsIn, IsResultOf, ResultValue, latest, moments, results}
-use Rattle.gateway_loop.specs.Clients.{Fits, HasStood, IsHeld, IsServing, Leads, MakesSteps, lingering}
+use Rattle.gateway_loop.specs.Clients.{Fits, HasStood, IsHeld, IsServing, Leads, MakesSteps, OpensNone, lingering}
 use Rattle.gateway_loop.specs.Laws.{LoopLaws}
-use Rattle.gateway_loop.proofs.LeadLemmas.{Elsewhere, closing_elsewhere, leads_event, leads_jobs, leads_opening}
+use Rattle.gateway_loop.proofs.LeadLemmas.{Elsewhere, born_count, closing_elsewhere, leads_event, leads_jobs, leads_opening}
 use Rattle.gateway_loop.proofs.StepLemmas.{born_fits, closes, fits_on, leaves, quiet_event}
+use Rattle.gateway_loop.proofs.CountLemmas.{count_same, none_below}
 use Rattle.gateway_loop.proofs.LoopLemmas.{Puts, SameRest, all_stood, held_comes, held_goes, held_steps, nobodys}
 
 fits_known : (plans : List PlanRecord) (h : History) (x : ClientValue) → Fits plans h x → x.conn < connections h.opened h.events
@@ -42,7 +43,7 @@ module _ (unknown : Outcome) (laws : LoopLaws) (v w : GatewayValue) (moment : �
         history = made.later;
         serves = made.serves;
         held = subst (λ (ps : List PlanRecord). IsHeld unknown ps made.later moment m) (sym steps.plans)
-            (held_steps unknown laws v.plans moment l m s.history made.later i x y its steps.conn made.fits made.leads made.quiet puts gone rest s.held);
+            (held_steps unknown laws v.plans moment l m s.history made.later i x y its steps.conn made.fits made.leads made.quiet made.opens puts gone rest s.held);
       }
 
   module _ (plans_are : w.plans ≡ v.plans) where
@@ -56,7 +57,7 @@ module _ (unknown : Outcome) (laws : LoopLaws) (v w : GatewayValue) (moment : �
           serves = takes h s.serves;
           held = subst (λ (ps : List PlanRecord). IsHeld unknown ps k moment m) (sym plans_are)
               (held_steps unknown laws v.plans moment l m h k i x (lingering x) its refl (leaves laws v v.plans h x refl s.serves (s.held.fits i x its))
-              (leads_event v.plans (λ c. c == x.conn) (Closing x.conn) h (λ c off. closing_elsewhere x.conn c off)) (quiet_event (Closing x.conn) h refl refl) puts gone rest s.held);
+              (leads_event v.plans (λ c. c == x.conn) (Closing x.conn) h (λ c off. closing_elsewhere x.conn c off)) (quiet_event (Closing x.conn) h refl refl) refl puts gone rest s.held);
         }
 
     -- .. and it goes
@@ -69,14 +70,14 @@ module _ (unknown : Outcome) (laws : LoopLaws) (v w : GatewayValue) (moment : �
           serves = takes h s.serves;
           held = subst (λ (ps : List PlanRecord). IsHeld unknown ps k moment m) (sym plans_are)
               (held_goes unknown laws v.plans moment l m h k i x its (closes laws v v.plans h x refl s.serves (s.held.fits i x its))
-              (leads_event v.plans (λ c. c == x.conn) (Closing x.conn) h (λ c off. closing_elsewhere x.conn c off)) (quiet_event (Closing x.conn) h refl refl) puts gone rest s.held);
+              (leads_event v.plans (λ c. c == x.conn) (Closing x.conn) h (λ c off. closing_elsewhere x.conn c off)) (quiet_event (Closing x.conn) h refl refl) refl puts gone rest s.held);
         }
 
     -- a client comes
     pub serving_comes : (i c : ℕ) (given got : List ℕ) (ended : Bool) → c ≡ v.opened → given ≡ [] → got ≡ [] → ended ≡ false
         → ((h : History) → Served v h → Served w (after_opening h))
-        → Puts l.clients m.clients i (Some (client_value c false given got ended [])) → m.gone ≡ l.gone → SameRest l m → IsServing unknown v moment l → IsServing unknown w moment m
-    serving_comes i c given got ended number none_given none_got on takes puts gone rest s =
+        → at i l.clients ≡ None → Puts l.clients m.clients i (Some (client_value c false given got ended [])) → m.gone ≡ l.gone → SameRest l m → IsServing unknown v moment l → IsServing unknown w moment m
+    serving_comes i c given got ended number none_given none_got on takes vacant puts gone rest s =
         let h = s.history in
         let k = after_opening h in
         let below = s.serves.conns.below in
@@ -87,17 +88,19 @@ module _ (unknown : Outcome) (laws : LoopLaws) (v w : GatewayValue) (moment : �
           held = subst (λ (ps : List PlanRecord). IsHeld unknown ps k moment m) (sym plans_are)
               (held_comes unknown laws v.plans moment l m h k i y
               (subst (λ (n : ℕ). Fits v.plans k (client_value n false given got ended [])) (sym c_is) (born_fits laws w v.plans h below plans_are (takes h s.serves) given got ended none_given none_got on))
-              c_is (fits_known v.plans h) (leads_opening h below v.plans nobodys) record { moments_are = refl; results_are = append-nil (results h.events); handed_are = refl } puts gone rest s.held);
+              c_is (fits_known v.plans h) (leads_opening h below v.plans nobodys) record { moments_are = refl; results_are = append-nil (results h.events); handed_are = refl }
+              (born_count h below) vacant puts gone rest s.held);
         }
 
     -- ---- what concerns no client
 
-    held_all : (h k : History) (later : ℕ) → m.clients ≡ l.clients → m.gone ≡ l.gone → Leads v.plans nobodys h k
+    held_all : (h k : History) (later : ℕ) → m.clients ≡ l.clients → m.gone ≡ l.gone → Leads v.plans nobodys h k → OpensNone h k
         → later ≡ latest (moments k.events) → HandsIn (reverse m.told) (moments k.events) → AllZip (IsResultOf unknown) (results k.events) m.results → k.handed ≡ m.handed
         → IsHeld unknown v.plans h moment l → IsHeld unknown w.plans k later m
-    held_all h k later clients gone leads latest_is told results_are handed held = subst (λ (ps : List PlanRecord). IsHeld unknown ps k later m) (sym plans_are) record {
+    held_all h k later clients gone leads opens latest_is told results_are handed held = subst (λ (ps : List PlanRecord). IsHeld unknown ps k later m) (sym plans_are) record {
       fits = λ i x is. fits_on laws v.plans nobodys h k x leads refl (held.fits i x (sym (ap (λ cs. at i cs) clients) ∙ is));
       apart = λ i j x y is also one. held.apart i j x y (sym (ap (λ cs. at i cs) clients) ∙ is) (sym (ap (λ cs. at j cs) clients) ∙ also) one;
+      each = λ c. count_same l m c clients gone ∙ held.each c ∙ ap (one_below c) (sym opens);
       gone = subst (λ (g : List ClientValue). All (λ (z : ClientValue). HasStood v.plans k z) g) (sym gone) (all_stood laws v.plans nobodys h k l.gone leads held.gone);
       latest_is = latest_is;
       told = told;
@@ -117,7 +120,7 @@ module _ (unknown : Outcome) (laws : LoopLaws) (v w : GatewayValue) (moment : �
           history = k;
           serves = takes h s.serves;
           held = held_all h k (max told moment) clients gone
-              (leads_event v.plans nobodys (Moment told) h (λ c off. record { closing = refl; hang_up = refl; piece = refl }))
+              (leads_event v.plans nobodys (Moment told) h (λ c off. record { closing = refl; hang_up = refl; piece = refl })) refl
               (ap (λ n. max told n) s.held.latest_is)
               (subst (λ (t : List ℕ). HandsIn t (told ∷ moments h.events)) (sym (ap reverse more ∙ reverse-append l.told (told ∷ []))) (inl (moments h.events, refl, s.held.told)))
               (subst (λ (rs : List (JobValue × Option Outcome)). AllZip (IsResultOf unknown) (results k.events) rs) (sym results_are)
@@ -134,7 +137,7 @@ module _ (unknown : Outcome) (laws : LoopLaws) (v w : GatewayValue) (moment : �
           history = k;
           serves = takes h s.serves;
           held = held_all h k moment clients gone
-              (leads_event v.plans nobodys Drain h (λ c off. record { closing = refl; hang_up = refl; piece = refl }))
+              (leads_event v.plans nobodys Drain h (λ c off. record { closing = refl; hang_up = refl; piece = refl })) refl
               s.held.latest_is
               (subst (λ (t : List ℕ). HandsIn (reverse t) (moments h.events)) (sym rest.told) s.held.told)
               (subst (λ (rs : List (JobValue × Option Outcome)). AllZip (IsResultOf unknown) (results k.events) rs) (sym rest.results)
@@ -161,7 +164,7 @@ module _ (unknown : Outcome) (laws : LoopLaws) (v w : GatewayValue) (moment : �
           history = k;
           serves = takes h s.serves;
           held = held_all h k moment clients gone
-              (leads_event v.plans nobodys e h (λ c off. record { closing = refl; hang_up = refl; piece = refl }))
+              (leads_event v.plans nobodys e h (λ c off. record { closing = refl; hang_up = refl; piece = refl })) refl
               s.held.latest_is
               (subst (λ (t : List ℕ). HandsIn (reverse t) (moments h.events)) (sym told) s.held.told)
               (subst (λ (rs : List (JobValue × Option Outcome)). AllZip (IsResultOf unknown) (results k.events) rs) (sym more)
@@ -178,7 +181,7 @@ module _ (unknown : Outcome) (laws : LoopLaws) (v w : GatewayValue) (moment : �
         let k = after_jobs jobs h in record {
           history = k;
           serves = takes h s.serves;
-          held = held_all h k moment clients gone (leads_jobs v.plans nobodys jobs h)
+          held = held_all h k moment clients gone (leads_jobs v.plans nobodys jobs h) refl
               s.held.latest_is
               (subst (λ (t : List ℕ). HandsIn (reverse t) (moments h.events)) (sym told) s.held.told)
               (subst (λ (rs : List (JobValue × Option Outcome)). AllZip (IsResultOf unknown) (results h.events) rs) (sym results_are) s.held.results)
@@ -195,6 +198,7 @@ serving_told unknown v moment told l m late clients gone more results_are handed
       held = record {
         fits = λ i x is. s.held.fits i x (sym (ap (λ cs. at i cs) clients) ∙ is);
         apart = λ i j x y is also one. s.held.apart i j x y (sym (ap (λ cs. at i cs) clients) ∙ is) (sym (ap (λ cs. at j cs) clients) ∙ also) one;
+        each = λ c. count_same l m c clients gone ∙ s.held.each c;
         gone = subst (λ (g : List ClientValue). All (λ (z : ClientValue). HasStood v.plans h z) g) (sym gone) s.held.gone;
         latest_is = s.held.latest_is;
         told = subst (λ (t : List ℕ). HandsIn t (moments h.events)) (sym (ap reverse more ∙ reverse-append l.told (told ∷ [])))
@@ -213,6 +217,7 @@ serving_new unknown v l clients gone told results_are handed served = record {
   held = record {
     fits = λ i x is. absurd (no_client i x (sym (ap (λ cs. at i cs) clients) ∙ is));
     apart = λ i j x y is also one. absurd (no_client i x (sym (ap (λ cs. at i cs) clients) ∙ is));
+    each = λ c. rw (clients, gone) (sym (none_below c));
     gone = subst (λ (g : List ClientValue). All (λ (z : ClientValue). HasStood v.plans no_history z) g) (sym gone) (All-nil (λ (z : ClientValue). HasStood v.plans no_history z));
     latest_is = refl;
     told = subst (λ (t : List ℕ). HandsIn (reverse t) []) (sym told) refl;
@@ -255,7 +260,7 @@ explained unknown laws v moment l same s =
           (laws.known v h occurred s.serves (subst (λ (u : GatewayValue). Occurs u.plans h.opened h.events occurred) same all));
       clients = λ i x is. subst (λ (u : GatewayValue). IsExplainedClient u.plans h x) (sym same) (fits_explained laws v h x s.serves (s.held.fits i x is)).0;
       still_open = λ i x is. (fits_explained laws v h x s.serves (s.held.fits i x is)).1;
-      apart = s.held.apart;
+      each = s.held.each;
       gone = All-weaker (λ (x : ClientValue). HasStood v.plans h x) (λ (x : ClientValue). IsExplainedClient l.core.plans h x)
           (λ x stood. subst (λ (u : GatewayValue). IsExplainedClient u.plans h x) (sym same) stood.explained) l.gone s.held.gone;
       closed = All-weaker (λ (x : ClientValue). HasStood v.plans h x) (λ (x : ClientValue). is_open h.opened x.conn h.events ≡ false) (λ x stood. stood.closed) l.gone s.held.gone;

@@ -9,7 +9,7 @@ use Rattle.gateway_model.specs.declared.entry.ReplyEntry.{ReplyEntry}
 use Rattle.gateway_model.specs.declared.event.Event.{Event}
 use Rattle.gateway_model.specs.declared.event.Event.TheVariants.{Piece, HangUp, Closing}
 use Rattle.gateway_model.specs.declared.reply_bytes.ReplyBytes.{ReplyBytes}
-use Rattle.gateway_model.specs.Events.{Occurs, connections, hung_up, listens, stream, succeeds}
+use Rattle.gateway_model.specs.Events.{Occurs, connections, hung_up, is_opening, listens, stream, succeeds}
 use Rattle.gateway_model.specs.History.{History, after_event, after_opening}
 use Rattle.gateway_model.specs.Past.{Past, marked}
 use Rattle.gateway_model.specs.Queue.{IsPrefixOf, answer_of, queued}
@@ -109,6 +109,7 @@ steps_fit v x y on = record {
     fits = on.fits plans h f;
     leads = leads_none plans (λ c. c == x.conn) h;
     quiet = quiet_none h;
+    opens = refl;
   };
 }
 
@@ -128,6 +129,7 @@ steps_then u v w x y z first second = record {
         leads = leads_then plans (λ c. c == x.conn) h a.later b.later a.leads
             (subst (λ (n : ℕ). Leads plans (λ c. c == n) a.later b.later) first.conn b.leads);
         quiet = quiet_then h a.later b.later a.quiet b.quiet;
+        opens = b.opens ∙ a.opens;
       };
 }
 
@@ -135,8 +137,8 @@ steps_then u v w x y z first second = record {
 pub steps_event : (v w : GatewayValue) (x y : ClientValue) (e : Event) → w.plans ≡ v.plans → y.conn ≡ x.conn
     → ((h : History) → Served v h → Served w (after_event e h))
     → ((plans : List PlanRecord) (h : History) → Fits plans h x → Fits plans (after_event e h) y)
-    → ((c : ℕ) → (c == x.conn) ≡ false → Elsewhere c e) → moment_in e ≡ [] → result_in e ≡ [] → MakesSteps v w x y
-steps_event v w x y e same conn takes fits away no_moment no_result = record {
+    → ((c : ℕ) → (c == x.conn) ≡ false → Elsewhere c e) → moment_in e ≡ [] → result_in e ≡ [] → is_opening e ≡ false → MakesSteps v w x y
+steps_event v w x y e same conn takes fits away no_moment no_result no_opening = record {
   conn = conn;
   plans = same;
   steps = λ plans h are served f. record {
@@ -145,6 +147,7 @@ steps_event v w x y e same conn takes fits away no_moment no_result = record {
     fits = fits plans h f;
     leads = leads_event plans (λ c. c == x.conn) e h away;
     quiet = quiet_event e h no_moment no_result;
+    opens = rw no_opening refl;
   };
 }
 
@@ -161,6 +164,7 @@ steps_reply v w x y reply same conn takes fits = record {
     fits = fits plans h f;
     leads = leads_reply plans x.conn reply h;
     quiet = record { moments_are = refl; results_are = refl; handed_are = refl };
+    opens = refl;
   };
 }
 

@@ -12,7 +12,7 @@ use Rattle.gateway_theory.specs.Gateway.{GatewayValue}
 use Rattle.gateway_theory.specs.Served.{Served}
 use Rattle.gateway_theory.specs.Task.{HandedJob}
 use Rattle.loop_model.specs.Clients.{ClientValue, IsExplainedClient}
-use Rattle.loop_model.specs.Explained.{LoopValue, at}
+use Rattle.loop_model.specs.Explained.{LoopValue, at, count_of, one_below}
 use Rattle.loop_model.specs.Growing.{Continues}
 use Rattle.loop_model.specs.Handed.{HandsIn, IsResultOf, latest, moments, results}
 use Rattle.gateway_loop.specs.declared.phase.Phase.{Phase}
@@ -87,6 +87,10 @@ pub record IsQuiet (h k : History) : Type 0 where
   pub results_are : results k.events ≡ results h.events
   pub handed_are : k.handed ≡ h.handed
 
+-- so many connections were opened by both
+abbrev pub OpensNone : History → History → Type 0
+OpensNone h k = connections k.opened k.events ≡ connections h.opened h.events
+
 -- the core and a client of it made steps of its connection, and of no other
 pub record Steps (plans : List PlanRecord) (w : GatewayValue) (x y : ClientValue) (h : History) : Type 0 where
   pub later : History
@@ -94,6 +98,7 @@ pub record Steps (plans : List PlanRecord) (w : GatewayValue) (x y : ClientValue
   pub fits : Fits plans later y
   pub leads : Leads plans (λ c. c == x.conn) h later
   pub quiet : IsQuiet h later
+  pub opens : OpensNone h later
 
 pub record MakesSteps (v w : GatewayValue) (x y : ClientValue) : Type 0 where
   pub conn : y.conn ≡ x.conn
@@ -122,6 +127,7 @@ loop_value v clients gone told results handed = record {
 pub record IsHeld (unknown : Outcome) (plans : List PlanRecord) (h : History) (moment : ℕ) (l : LoopValue) : Type 0 where
   pub fits : (i : ℕ) (x : ClientValue) → at i l.clients ≡ Some x → Fits plans h x
   pub apart : (i j : ℕ) (x y : ClientValue) → at i l.clients ≡ Some x → at j l.clients ≡ Some y → x.conn ≡ y.conn → i ≡ j
+  pub each : (c : ℕ) → count_of c l ≡ one_below c (connections h.opened h.events)
   pub gone : All (λ (x : ClientValue). HasStood plans h x) l.gone
   pub latest_is : moment ≡ latest (moments h.events)
   pub told : HandsIn (reverse l.told) (moments h.events)

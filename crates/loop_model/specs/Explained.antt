@@ -1,8 +1,9 @@
 -- One list of events explains all clients of a loop.
-use Rattle.std.specs.Prelude.{◌≡◌, ℕ, false, not, All, List, slice_index_or, reverse, Option, Some, None}
+use Rattle.std.specs.Prelude.{◌≡◌, ℕ, ◌+◌, ◌==◌, false, if◌then◌else◌, nat_lt, not, All, List, count_by, slice_index_or, reverse, Option, Some, None}
 use Rattle.std.specs.List.{AllZip}
+use Rattle.std.specs.Option.{option_map_or}
 use Rattle.connect_codec.specs.declared.answer.Outcome.{Outcome}
-use Rattle.gateway_model.specs.Events.{Occurs, is_open}
+use Rattle.gateway_model.specs.Events.{Occurs, connections, is_open}
 use Rattle.gateway_model.specs.History.{History}
 use Rattle.gateway_model.specs.Job.{JobValue}
 use Rattle.gateway_model.specs.Known.{IsKnown}
@@ -27,15 +28,25 @@ pub record LoopValue : Type 0 where
 abbrev pub at : ℕ → List (Option ClientValue) → Option ClientValue
 at i clients = slice_index_or clients i None
 
+-- 1 for a connection that was opened, where so many were, and 0 for any other number
+abbrev pub one_below : ℕ → ℕ → ℕ
+one_below c opened = if nat_lt c opened then 1 else 0
+
+-- how many clients, present or gone, have that connection
+abbrev pub count_of : ℕ → LoopValue → ℕ
+count_of c l =
+    count_by (λ (o : Option ClientValue). option_map_or (λ (x : ClientValue). x.conn == c) o false) l.clients + count_by (λ (x : ClientValue). x.conn == c) l.gone
+
 -- There is one history that the core stands for, and that explains each client, present or gone, each moment and each result, if this is
 -- what those branches ended with for whose outcome there was no memory.
 pub record IsExplainedBy (unknown : Outcome) (l : LoopValue) : Type 0 where
   pub history : History
   pub knows : (occurred : List Placed) → Occurs l.core.plans history.opened history.events occurred → IsKnown (shown l.core) history (occurrences occurred)
   pub clients : (i : ℕ) (x : ClientValue) → at i l.clients ≡ Some x → IsExplainedClient l.core.plans history x
-  -- the connection of one that is there is open, unless it lingers, and no two have one connection
+  -- the connection of one that is there is open, unless it lingers
   pub still_open : (i : ℕ) (x : ClientValue) → at i l.clients ≡ Some x → is_open history.opened x.conn history.events ≡ not x.lingers
-  pub apart : (i j : ℕ) (x y : ClientValue) → at i l.clients ≡ Some x → at j l.clients ≡ Some y → x.conn ≡ y.conn → i ≡ j
+  -- each connection that was opened is that of one client, and no two have one
+  pub each : (c : ℕ) → count_of c l ≡ one_below c (connections history.opened history.events)
   pub gone : All (λ (x : ClientValue). IsExplainedClient l.core.plans history x) l.gone
   pub closed : All (λ (x : ClientValue). is_open history.opened x.conn history.events ≡ false) l.gone
   pub told : HandsIn (reverse l.told) (moments history.events)

@@ -1,3 +1,4 @@
 pub mod RowLemmas
 pub mod ExchangeLemmas
 pub mod LostLemmas
+pub mod ConnectionLemmas

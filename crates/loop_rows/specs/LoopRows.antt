@@ -1,5 +1,5 @@
 -- What the worked rows speak of.
-use Rattle.std.specs.Prelude.{◌≡◌, ◌<◌, ℕ, Bool, List, [], ◌∷◌, ◌++◌, Option, None, Some}
+use Rattle.std.specs.Prelude.{◌≡◌, ◌<◌, ℕ, Bool, false, List, [], ◌∷◌, ◌++◌, Option, None, Some}
 use Rattle.call_plan.specs.Plan.{PlanRecord}
 use Rattle.connect_codec.specs.declared.answer.Outcome.{Outcome}
 use Rattle.gateway_model.specs.Events.{Before, Occurs, connections, hung_up, stream}
@@ -12,6 +12,8 @@ use Rattle.gateway_model.specs.declared.event.Event.TheVariants.{Opening}
 use Rattle.gateway_theory.specs.Gateway.{GatewayValue}
 use Rattle.std.specs.declared.net.socket_addr.SocketAddr.{SocketAddr}
 use Rattle.loop_model.specs.Asking.{AskingValue, EndedValue, StreamValue, ended_value}
+use Rattle.loop_model.specs.Clients.{ClientValue, client_value}
+use Rattle.loop_model.specs.Explained.{LoopValue}
 use Rattle.loop_model.specs.Handed.{ResultValue}
 use Rattle.loop_model.specs.Whole.{WholeLoop}
 
@@ -41,6 +43,14 @@ asked_at_peer peer found job = record { job = job; found = found; tried = []; pe
 -- it was asked for so, and that was recorded of it
 abbrev pub ended : SocketAddr → JobValue → List StreamValue → List ℕ → List ℕ → Option Outcome → EndedValue
 ended a job tried given got outcome = ended_value (asked a job tried given got) outcome
+
+-- a client of that connection, of whom nothing came
+abbrev pub client_of : ℕ → ClientValue
+client_of conn = client_value conn false [] [] false []
+
+-- a loop with these clients in their places, and these who are gone, that was told nothing
+abbrev pub with_clients : GatewayValue → List (Option ClientValue) → List ClientValue → LoopValue
+with_clients core clients gone = record { core = core; clients = clients; gone = gone; told = []; results = []; handed = [] }
 
 -- a loop without clients
 abbrev pub loop_of : GatewayValue → List (JobValue × Option Outcome) → List JobValue → List (Option AskingValue) → List EndedValue → WholeLoop

@@ -1,0 +1,76 @@
+-- How many clients have a connection.
+use Rattle.std.proofs.Common.{◌≡◌, ◌≢◌, ℕ, suc, ◌+◌, Bool, true, false, cond, List, [], ◌∷◌, ◌++◌, Option, None, Some, refl, sym, ap, ◌∙◌, arith, ⊎_elim}
+use Rattle.std.specs.Prelude.{◌==◌, if◌then◌else◌, nat_lt, count_by, sum_by}
+use Rattle.std.specs.Option.{option_map_or}
+use Rattle.std.proofs.lemmas.Bool.{cases_Bool, cases_eq, eq-eqb, le-ltb, lt-ltb, ltb-false, ltb-true, ne_eqb}
+use Rattle.std.proofs.lemmas.List.Sums.{sum_by-append, sum_by-cons}
+use Rattle.loop_model.specs.Clients.{ClientValue}
+use Rattle.loop_model.specs.Explained.{LoopValue, at, count_of, one_below}
+use Rattle.gateway_loop.proofs.SumLemmas.{sum_put}
+
+abbrev has_conn : ℕ → Option ClientValue → Bool
+has_conn c o = option_map_or (λ (x : ClientValue). x.conn == c) o false
+
+-- one, if there is a client that has it
+abbrev one_conn : ℕ → Option ClientValue → ℕ
+one_conn c o = cond (has_conn c o) 1 0
+
+-- how many have it that are there, and that are gone
+abbrev there_with : ℕ → LoopValue → ℕ
+there_with c l = count_by (has_conn c) l.clients
+
+abbrev gone_with : ℕ → List ClientValue → ℕ
+gone_with c gone = count_by (λ (x : ClientValue). x.conn == c) gone
+
+-- what stands in that place changed, and no other
+module _ (l m : LoopValue) (i : ℕ) (there : (j : ℕ) → j ≢ i → at j m.clients ≡ at j l.clients) (c : ℕ) where
+  count_changed : (o n : Option ClientValue) → at i l.clients ≡ o → at i m.clients ≡ n → there_with c m + one_conn c o ≡ there_with c l + one_conn c n
+  count_changed o n was now =
+      ap (λ (t : Option ClientValue). there_with c m + one_conn c t) (sym was)
+      ∙ sum_put (one_conn c) refl l.clients m.clients i there
+      ∙ ap (λ (t : Option ClientValue). there_with c l + one_conn c t) now
+
+  pub count_steps : (x y : ClientValue) → at i l.clients ≡ Some x → at i m.clients ≡ Some y → y.conn ≡ x.conn → m.gone ≡ l.gone → count_of c m ≡ count_of c l
+  count_steps x y was now same gone =
+      let changed : there_with c m + cond (x.conn == c) 1 0 ≡ there_with c l + cond (y.conn == c) 1 0 = count_changed (Some x) (Some y) was now in
+      let alike : ◌≡◌ {A = ℕ} (cond (y.conn == c) 1 0) (cond (x.conn == c) 1 0) = ap (λ (n : ℕ). cond (n == c) 1 0) same in
+      let rest : gone_with c m.gone ≡ gone_with c l.gone = ap (gone_with c) gone in
+      let all : there_with c m + gone_with c m.gone ≡ there_with c l + gone_with c l.gone = omega (arith, changed, alike, rest) in
+      all
+
+  pub count_goes : (x : ClientValue) → at i l.clients ≡ Some x → at i m.clients ≡ None → m.gone ≡ l.gone ++ x ∷ [] → count_of c m ≡ count_of c l
+  count_goes x was now gone =
+      let changed : there_with c m + cond (x.conn == c) 1 0 ≡ there_with c l + 0 = count_changed (Some x) None was now in
+      let more : gone_with c m.gone ≡ gone_with c l.gone + gone_with c (x ∷ []) =
+      ap (gone_with c) gone ∙ sum_by-append (λ (z : ClientValue). cond (z.conn == c) 1 0) l.gone (x ∷ []) in
+      let last : gone_with c (x ∷ []) ≡ cond (x.conn == c) 1 0 + 0 = sum_by-cons (λ (z : ClientValue). cond (z.conn == c) 1 0) x [] in
+      let all : there_with c m + gone_with c m.gone ≡ there_with c l + gone_with c l.gone = omega (arith, changed, more, last) in
+      all
+
+  pub count_comes : (y : ClientValue) → at i l.clients ≡ None → at i m.clients ≡ Some y → m.gone ≡ l.gone → count_of c m ≡ count_of c l + cond (y.conn == c) 1 0
+  count_comes y was now gone =
+      let changed : there_with c m + 0 ≡ there_with c l + cond (y.conn == c) 1 0 = count_changed None (Some y) was now in
+      let rest : gone_with c m.gone ≡ gone_with c l.gone = ap (gone_with c) gone in
+      let all : there_with c m + gone_with c m.gone ≡ there_with c l + gone_with c l.gone + cond (y.conn == c) 1 0 = omega (arith, changed, rest) in
+      all
+
+-- nobody came or went
+pub count_same : (l m : LoopValue) (c : ℕ) → m.clients ≡ l.clients → m.gone ≡ l.gone → count_of c m ≡ count_of c l
+count_same l m c clients gone = rw (clients, gone) refl
+
+-- one connection more
+pub one_more : (c n : ℕ) → one_below c n + cond (n == c) 1 0 ≡ one_below c (suc n)
+one_more c n =
+    ⊎_elim
+    (λ (lt : nat_lt c n ≡ true).
+    let below = ltb-true c n lt in
+    rw (lt, ne_eqb n c (λ e. omega (arith, e, below)), lt-ltb c (suc n) (omega (arith, below))) refl)
+    (λ (ge : nat_lt c n ≡ false).
+    let above = ltb-false c n ge in
+    ⊎_elim (λ (same : c ≡ n). rw (ge, eq-eqb n c (sym same), lt-ltb c (suc n) (omega (arith, same))) refl)
+    (λ (other : c ≡ n → ⊥). rw (ge, ne_eqb n c (λ e. other (sym e)), le-ltb c (suc n) (omega (arith, above, other))) refl)
+    (cases_eq c n))
+    (cases_Bool (nat_lt c n))
+
+pub none_below : (c : ℕ) → one_below c 0 ≡ 0
+none_below c = rw (le-ltb c 0 (omega arith)) refl
