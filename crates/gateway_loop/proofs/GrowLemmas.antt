@@ -56,6 +56,7 @@ continues_then u v w a b = record {
   told = begins_then u.told v.told w.told a.told b.told;
   results = begins_then u.results v.results w.results a.results b.results;
   handed = begins_then u.handed v.handed w.handed a.handed b.handed;
+  drained = b.drained ∙ a.drained;
 }
 
 pub onward : (v w : LoopValue) → Continues v w → Onward v w
@@ -69,25 +70,27 @@ continues_same v = record {
   told = begins_same v.told;
   results = begins_same v.results;
   handed = begins_same v.handed;
+  drained = refl;
 }
 
 some_is : (a b : ClientValue) → Some a ≡ Some b → a ≡ b
 some_is a b it = cc
 
 -- no client changed
-pub continues_all : (v w : LoopValue) → w.core.plans ≡ v.core.plans → w.clients ≡ v.clients → w.gone ≡ v.gone → IsPrefixOf v.told w.told
-    → IsPrefixOf v.results w.results → IsPrefixOf v.handed w.handed → Continues v w
-continues_all v w plans clients gone told results handed = record {
+pub continues_all : (v w : LoopValue) → w.core.plans ≡ v.core.plans → w.clients ≡ v.clients → w.gone ≡ v.gone → w.drained ≡ v.drained
+    → IsPrefixOf v.told w.told → IsPrefixOf v.results w.results → IsPrefixOf v.handed w.handed → Continues v w
+continues_all v w plans clients gone drained told results handed = record {
   plans = plans;
   clients = λ i x is. (x, inl (ap (λ cs. at i cs) clients ∙ is), grows_same x);
   gone = begins_is v.gone w.gone gone;
   told = told;
   results = results;
   handed = handed;
+  drained = drained;
 }
 
 module _ (v w : LoopValue) (plans : w.core.plans ≡ v.core.plans) (told : w.told ≡ v.told) (results : w.results ≡ v.results) (handed : w.handed ≡ v.handed)
-    (i : ℕ) where
+    (drained : w.drained ≡ v.drained) (i : ℕ) where
   -- the client in a place grew
   pub continues_put : (x y : ClientValue) → at i v.clients ≡ Some x → Grows x y → Puts v.clients w.clients i (Some y) → w.gone ≡ v.gone → Continues v w
   continues_put x y its grows puts gone = record {
@@ -103,6 +106,7 @@ module _ (v w : LoopValue) (plans : w.core.plans ≡ v.core.plans) (told : w.tol
     told = begins_is v.told w.told told;
     results = begins_is v.results w.results results;
     handed = begins_is v.handed w.handed handed;
+    drained = drained;
   }
 
   -- .. has gone
@@ -120,6 +124,7 @@ module _ (v w : LoopValue) (plans : w.core.plans ≡ v.core.plans) (told : w.tol
     told = begins_is v.told w.told told;
     results = begins_is v.results w.results results;
     handed = begins_is v.handed w.handed handed;
+    drained = drained;
   }
 
   -- .. came
@@ -135,6 +140,7 @@ module _ (v w : LoopValue) (plans : w.core.plans ≡ v.core.plans) (told : w.tol
     told = begins_is v.told w.told told;
     results = begins_is v.results w.results results;
     handed = begins_is v.handed w.handed handed;
+    drained = drained;
   }
     where
       nothing : (z : ClientValue) → None ≡ Some z → ⊥

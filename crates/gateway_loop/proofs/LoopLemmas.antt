@@ -70,6 +70,7 @@ pub record SameRest (l m : LoopValue) : Type 0 where
   pub told : m.told ≡ l.told
   pub results : m.results ≡ l.results
   pub handed : m.handed ≡ l.handed
+  pub drained : m.drained ≡ l.drained
 
 module _ (unknown : Outcome) (laws : LoopLaws) (plans : List PlanRecord) (moment : ℕ) (l m : LoopValue) where
   -- the client in a place made steps
@@ -101,6 +102,7 @@ module _ (unknown : Outcome) (laws : LoopLaws) (plans : List PlanRecord) (moment
     results = subst (λ (rs : List (JobValue × Option Outcome)). AllZip (IsResultOf unknown) (results k.events) rs) (sym rest.results)
         (subst (λ (rs : List ResultValue). AllZip (IsResultOf unknown) rs l.results) (sym quiet.results_are) held.results);
     handed = quiet.handed_are ∙ held.handed ∙ sym rest.handed;
+    drained = quiet.drains_are ∙ held.drained ∙ sym rest.drained;
   }
 
   -- it goes
@@ -129,6 +131,7 @@ module _ (unknown : Outcome) (laws : LoopLaws) (plans : List PlanRecord) (moment
     results = subst (λ (rs : List (JobValue × Option Outcome)). AllZip (IsResultOf unknown) (results k.events) rs) (sym rest.results)
         (subst (λ (rs : List ResultValue). AllZip (IsResultOf unknown) rs l.results) (sym quiet.results_are) held.results);
     handed = quiet.handed_are ∙ held.handed ∙ sym rest.handed;
+    drained = quiet.drains_are ∙ held.drained ∙ sym rest.drained;
   }
 
   -- one comes, of a connection that no other has
@@ -164,6 +167,7 @@ module _ (unknown : Outcome) (laws : LoopLaws) (plans : List PlanRecord) (moment
     results = subst (λ (rs : List (JobValue × Option Outcome)). AllZip (IsResultOf unknown) (results k.events) rs) (sym rest.results)
         (subst (λ (rs : List ResultValue). AllZip (IsResultOf unknown) rs l.results) (sym quiet.results_are) held.results);
     handed = quiet.handed_are ∙ held.handed ∙ sym rest.handed;
+    drained = quiet.drains_are ∙ held.drained ∙ sym rest.drained;
   }
     where
       clash : (z : ClientValue) → Fits plans h z → {c : ℕ} → c ≡ connections h.opened h.events → c ≡ z.conn → ⊥

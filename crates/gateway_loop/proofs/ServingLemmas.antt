@@ -19,8 +19,8 @@ use Rattle.gateway_model.specs.Starts.{occurrences}
 use Rattle.gateway_theory.specs.Gateway.{GatewayValue, shown}
 use Rattle.gateway_theory.specs.Served.{Served}
 use Rattle.loop_model.specs.Clients.{ClientValue, IsExplainedClient, client_value}
-use Rattle.loop_model.specs.Explained.{IsExplainedBy, LoopValue, at, one_below}
-use Rattle.loop_model.specs.Handed.{HandsIn, IsResultOf, ResultValue, latest, moments, results}
+use Rattle.loop_model.specs.Explained.{IsExplainedBy, LoopValue, at, draining, one_below}
+use Rattle.loop_model.specs.Handed.{HandsIn, IsResultOf, ResultValue, has_drained, latest, moments, results}
 use Rattle.gateway_loop.specs.Clients.{Fits, HasStood, IsHeld, IsServing, Leads, MakesSteps, OpensNone, lingering}
 use Rattle.gateway_loop.specs.Laws.{LoopLaws}
 use Rattle.gateway_loop.proofs.LeadLemmas.{Elsewhere, born_count, closing_elsewhere, leads_event, leads_jobs, leads_opening}
@@ -57,7 +57,7 @@ module _ (unknown : Outcome) (laws : LoopLaws) (v w : GatewayValue) (moment : �
           serves = takes h s.serves;
           held = subst (λ (ps : List PlanRecord). IsHeld unknown ps k moment m) (sym plans_are)
               (held_steps unknown laws v.plans moment l m h k i x (lingering x) its refl (leaves laws v v.plans h x refl s.serves (s.held.fits i x its))
-              (leads_event v.plans (λ c. c == x.conn) (Closing x.conn) h (λ c off. closing_elsewhere x.conn c off)) (quiet_event (Closing x.conn) h refl refl) refl puts gone rest s.held);
+              (leads_event v.plans (λ c. c == x.conn) (Closing x.conn) h (λ c off. closing_elsewhere x.conn c off)) (quiet_event (Closing x.conn) h refl refl refl) refl puts gone rest s.held);
         }
 
     -- .. and it goes
@@ -70,7 +70,7 @@ module _ (unknown : Outcome) (laws : LoopLaws) (v w : GatewayValue) (moment : �
           serves = takes h s.serves;
           held = subst (λ (ps : List PlanRecord). IsHeld unknown ps k moment m) (sym plans_are)
               (held_goes unknown laws v.plans moment l m h k i x its (closes laws v v.plans h x refl s.serves (s.held.fits i x its))
-              (leads_event v.plans (λ c. c == x.conn) (Closing x.conn) h (λ c off. closing_elsewhere x.conn c off)) (quiet_event (Closing x.conn) h refl refl) refl puts gone rest s.held);
+              (leads_event v.plans (λ c. c == x.conn) (Closing x.conn) h (λ c off. closing_elsewhere x.conn c off)) (quiet_event (Closing x.conn) h refl refl refl) refl puts gone rest s.held);
         }
 
     -- a client comes
@@ -88,7 +88,7 @@ module _ (unknown : Outcome) (laws : LoopLaws) (v w : GatewayValue) (moment : �
           held = subst (λ (ps : List PlanRecord). IsHeld unknown ps k moment m) (sym plans_are)
               (held_comes unknown laws v.plans moment l m h k i y
               (subst (λ (n : ℕ). Fits v.plans k (client_value n false given got ended [])) (sym c_is) (born_fits laws w v.plans h below plans_are (takes h s.serves) given got ended none_given none_got on))
-              c_is (fits_known v.plans h) (leads_opening h below v.plans nobodys) record { moments_are = refl; results_are = append-nil (results h.events); handed_are = refl }
+              c_is (fits_known v.plans h) (leads_opening h below v.plans nobodys) record { moments_are = refl; results_are = append-nil (results h.events); drains_are = refl; handed_are = refl }
               (born_count h below) vacant puts gone rest s.held);
         }
 
@@ -96,8 +96,8 @@ module _ (unknown : Outcome) (laws : LoopLaws) (v w : GatewayValue) (moment : �
 
     held_all : (h k : History) (later : ℕ) → m.clients ≡ l.clients → m.gone ≡ l.gone → Leads v.plans nobodys h k → OpensNone h k
         → later ≡ latest (moments k.events) → HandsIn (reverse m.told) (moments k.events) → AllZip (IsResultOf unknown) (results k.events) m.results → k.handed ≡ m.handed
-        → IsHeld unknown v.plans h moment l → IsHeld unknown w.plans k later m
-    held_all h k later clients gone leads opens latest_is told results_are handed held = subst (λ (ps : List PlanRecord). IsHeld unknown ps k later m) (sym plans_are) record {
+        → has_drained k.events ≡ m.drained → IsHeld unknown v.plans h moment l → IsHeld unknown w.plans k later m
+    held_all h k later clients gone leads opens latest_is told results_are handed drained held = subst (λ (ps : List PlanRecord). IsHeld unknown ps k later m) (sym plans_are) record {
       fits = λ i x is. fits_on laws v.plans nobodys h k x leads refl (held.fits i x (sym (ap (λ cs. at i cs) clients) ∙ is));
       apart = λ i j x y is also one. held.apart i j x y (sym (ap (λ cs. at i cs) clients) ∙ is) (sym (ap (λ cs. at j cs) clients) ∙ also) one;
       each = λ c. count_same l m c clients gone ∙ held.each c ∙ ap (one_below c) (sym opens);
@@ -106,6 +106,7 @@ module _ (unknown : Outcome) (laws : LoopLaws) (v w : GatewayValue) (moment : �
       told = told;
       results = results_are;
       handed = handed;
+      drained = drained;
     }
 
     nowhere : (e : Event) → ((c : ℕ) → Elsewhere c e) → (c : ℕ) → nobodys c ≡ false → Elsewhere c e
@@ -113,8 +114,8 @@ module _ (unknown : Outcome) (laws : LoopLaws) (v w : GatewayValue) (moment : �
 
     -- a moment was told, and handed in
     pub serving_moment : (told : ℕ) → m.clients ≡ l.clients → m.gone ≡ l.gone → m.told ≡ l.told ++ told ∷ [] → m.results ≡ l.results → m.handed ≡ l.handed
-        → ((h : History) → Served v h → Served w (after_event (Moment told) h)) → IsServing unknown v moment l → IsServing unknown w (max told moment) m
-    serving_moment told clients gone more results_are handed takes s =
+        → m.drained ≡ l.drained → ((h : History) → Served v h → Served w (after_event (Moment told) h)) → IsServing unknown v moment l → IsServing unknown w (max told moment) m
+    serving_moment told clients gone more results_are handed drained takes s =
         let h = s.history in
         let k = after_event (Moment told) h in record {
           history = k;
@@ -125,11 +126,11 @@ module _ (unknown : Outcome) (laws : LoopLaws) (v w : GatewayValue) (moment : �
               (subst (λ (t : List ℕ). HandsIn t (told ∷ moments h.events)) (sym (ap reverse more ∙ reverse-append l.told (told ∷ []))) (inl (moments h.events, refl, s.held.told)))
               (subst (λ (rs : List (JobValue × Option Outcome)). AllZip (IsResultOf unknown) (results k.events) rs) (sym results_are)
               (subst (λ (rs : List ResultValue). AllZip (IsResultOf unknown) rs l.results) (sym (append-nil (results h.events))) s.held.results))
-              (s.held.handed ∙ sym handed) s.held;
+              (s.held.handed ∙ sym handed) (s.held.drained ∙ sym drained) s.held;
         }
 
     -- the drain began
-    pub serving_drain : m.clients ≡ l.clients → m.gone ≡ l.gone → SameRest l m
+    pub serving_drain : m.clients ≡ l.clients → m.gone ≡ l.gone → SameRest (draining l) m
         → ((h : History) → Served v h → Served w (after_event Drain h)) → IsServing unknown v moment l → IsServing unknown w moment m
     serving_drain clients gone rest takes s =
         let h = s.history in
@@ -142,7 +143,7 @@ module _ (unknown : Outcome) (laws : LoopLaws) (v w : GatewayValue) (moment : �
               (subst (λ (t : List ℕ). HandsIn (reverse t) (moments h.events)) (sym rest.told) s.held.told)
               (subst (λ (rs : List (JobValue × Option Outcome)). AllZip (IsResultOf unknown) (results k.events) rs) (sym rest.results)
               (subst (λ (rs : List ResultValue). AllZip (IsResultOf unknown) rs l.results) (sym (append-nil (results h.events))) s.held.results))
-              (s.held.handed ∙ sym rest.handed) s.held;
+              (s.held.handed ∙ sym rest.handed) (sym rest.drained) s.held;
         }
 
     zip_push : (xs : List ResultValue) (ys : List (JobValue × Option Outcome)) (x : ResultValue) (y : JobValue × Option Outcome)
@@ -155,9 +156,9 @@ module _ (unknown : Outcome) (laws : LoopLaws) (v w : GatewayValue) (moment : �
     -- a result was handed in
     pub serving_result : (job : JobValue) (call : CallId) (branch : ℕ) (given : Option Outcome) (outcome : Outcome) → call ≡ job.call → branch ≡ job.branch
         → outcome ≡ unwrap_or given unknown
-        → m.clients ≡ l.clients → m.gone ≡ l.gone → m.told ≡ l.told → m.results ≡ l.results ++ (job, given) ∷ [] → m.handed ≡ l.handed
+        → m.clients ≡ l.clients → m.gone ≡ l.gone → m.told ≡ l.told → m.results ≡ l.results ++ (job, given) ∷ [] → m.handed ≡ l.handed → m.drained ≡ l.drained
         → ((h : History) → Served v h → Served w (after_event (BranchResult call.conn call.request branch outcome) h)) → IsServing unknown v moment l → IsServing unknown w moment m
-    serving_result job call branch given outcome call_is branch_is is_it clients gone told more handed takes s =
+    serving_result job call branch given outcome call_is branch_is is_it clients gone told more handed drained takes s =
         let h = s.history in
         let e = BranchResult call.conn call.request branch outcome in
         let k = after_event e h in record {
@@ -170,13 +171,13 @@ module _ (unknown : Outcome) (laws : LoopLaws) (v w : GatewayValue) (moment : �
               (subst (λ (rs : List (JobValue × Option Outcome)). AllZip (IsResultOf unknown) (results k.events) rs) (sym more)
               (zip_push (results h.events) l.results record { call = call_id call.conn call.request; branch = branch; outcome = outcome } (job, given) s.held.results
               record { call = call_is; branch = branch_is; outcome = is_it }))
-              (s.held.handed ∙ sym handed) s.held;
+              (s.held.handed ∙ sym handed) (s.held.drained ∙ sym drained) s.held;
         }
 
     -- jobs were taken
-    pub serving_jobs : (jobs : List JobValue) → m.clients ≡ l.clients → m.gone ≡ l.gone → m.told ≡ l.told → m.results ≡ l.results → m.handed ≡ l.handed ++ jobs
+    pub serving_jobs : (jobs : List JobValue) → m.clients ≡ l.clients → m.gone ≡ l.gone → m.told ≡ l.told → m.results ≡ l.results → m.handed ≡ l.handed ++ jobs → m.drained ≡ l.drained
         → ((h : History) → Served v h → Served w (after_jobs jobs h)) → IsServing unknown v moment l → IsServing unknown w moment m
-    serving_jobs jobs clients gone told results_are more takes s =
+    serving_jobs jobs clients gone told results_are more drained takes s =
         let h = s.history in
         let k = after_jobs jobs h in record {
           history = k;
@@ -185,13 +186,13 @@ module _ (unknown : Outcome) (laws : LoopLaws) (v w : GatewayValue) (moment : �
               s.held.latest_is
               (subst (λ (t : List ℕ). HandsIn (reverse t) (moments h.events)) (sym told) s.held.told)
               (subst (λ (rs : List (JobValue × Option Outcome)). AllZip (IsResultOf unknown) (results h.events) rs) (sym results_are) s.held.results)
-              (ap (λ (js : List JobValue). js ++ jobs) s.held.handed ∙ sym more) s.held;
+              (ap (λ (js : List JobValue). js ++ jobs) s.held.handed ∙ sym more) (s.held.drained ∙ sym drained) s.held;
         }
 
 -- a moment was told that changes nothing
 pub serving_told : (unknown : Outcome) (v : GatewayValue) (moment told : ℕ) (l m : LoopValue) → told ≤ moment → m.clients ≡ l.clients → m.gone ≡ l.gone → m.told ≡ l.told ++ told ∷ []
-    → m.results ≡ l.results → m.handed ≡ l.handed → IsServing unknown v moment l → IsServing unknown v moment m
-serving_told unknown v moment told l m late clients gone more results_are handed s =
+    → m.results ≡ l.results → m.handed ≡ l.handed → m.drained ≡ l.drained → IsServing unknown v moment l → IsServing unknown v moment m
+serving_told unknown v moment told l m late clients gone more results_are handed drained s =
     let h = s.history in record {
       history = h;
       serves = s.serves;
@@ -205,13 +206,14 @@ serving_told unknown v moment told l m late clients gone more results_are handed
             (inr (subst (λ (n : ℕ). told ≤ n) s.held.latest_is late, s.held.told));
         results = subst (λ (rs : List (JobValue × Option Outcome)). AllZip (IsResultOf unknown) (results h.events) rs) (sym results_are) s.held.results;
         handed = s.held.handed ∙ sym handed;
+        drained = s.held.drained ∙ sym drained;
       };
     }
 
 -- nothing has come
-pub serving_new : (unknown : Outcome) (v : GatewayValue) (l : LoopValue) → l.clients ≡ [] → l.gone ≡ [] → l.told ≡ [] → l.results ≡ [] → l.handed ≡ [] → Served v no_history
+pub serving_new : (unknown : Outcome) (v : GatewayValue) (l : LoopValue) → l.clients ≡ [] → l.gone ≡ [] → l.told ≡ [] → l.results ≡ [] → l.handed ≡ [] → l.drained ≡ false → Served v no_history
     → IsServing unknown v 0 l
-serving_new unknown v l clients gone told results_are handed served = record {
+serving_new unknown v l clients gone told results_are handed drained served = record {
   history = no_history;
   serves = served;
   held = record {
@@ -223,6 +225,7 @@ serving_new unknown v l clients gone told results_are handed served = record {
     told = subst (λ (t : List ℕ). HandsIn (reverse t) []) (sym told) refl;
     results = subst (λ (rs : List (JobValue × Option Outcome)). AllZip (IsResultOf unknown) [] rs) (sym results_are) tt;
     handed = sym handed;
+    drained = sym drained;
   };
 }
   where
@@ -267,4 +270,5 @@ explained unknown laws v moment l same s =
       told = s.held.told;
       results = s.held.results;
       handed = s.held.handed;
+      drained = s.held.drained;
     }

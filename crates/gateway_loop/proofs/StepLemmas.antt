@@ -20,7 +20,7 @@ use Rattle.gateway_theory.specs.Replies.{ReplyValue}
 use Rattle.gateway_theory.specs.Served.{Served, after_reply}
 use Rattle.gateway_theory.specs.lemmas.OneEvent.{kept_hung, kept_open, kept_stream, more_stream, now_hung, shut_open}
 use Rattle.loop_model.specs.Clients.{ClientValue, client_value}
-use Rattle.loop_model.specs.Handed.{moment_in, result_in, results}
+use Rattle.loop_model.specs.Handed.{is_drain, moment_in, result_in, results}
 use Rattle.gateway_loop.specs.Clients.{Fits, FitsOn, HasStood, IsQuiet, Leads, MakesSteps, Stands, lingering}
 use Rattle.wires.specs.Wires.{Gives}
 use Rattle.wires.specs.declared.got.Got.{Got}
@@ -81,19 +81,21 @@ fits_on laws plans own h k x l off f = record {
 }
 
 pub quiet_none : (h : History) → IsQuiet h h
-quiet_none h = record { moments_are = refl; results_are = refl; handed_are = refl }
+quiet_none h = record { moments_are = refl; results_are = refl; drains_are = refl; handed_are = refl }
 
 quiet_then : (h k l : History) → IsQuiet h k → IsQuiet k l → IsQuiet h l
 quiet_then h k l a b = record {
   moments_are = b.moments_are ∙ a.moments_are;
   results_are = b.results_are ∙ a.results_are;
+  drains_are = b.drains_are ∙ a.drains_are;
   handed_are = b.handed_are ∙ a.handed_are;
 }
 
-pub quiet_event : (e : Event) (h : History) → moment_in e ≡ [] → result_in e ≡ [] → IsQuiet h (after_event e h)
-quiet_event e h no_moment no_result = record {
+pub quiet_event : (e : Event) (h : History) → moment_in e ≡ [] → result_in e ≡ [] → is_drain e ≡ false → IsQuiet h (after_event e h)
+quiet_event e h no_moment no_result no_drain = record {
   moments_are = rw no_moment refl;
   results_are = rw no_result (append-nil (results h.events));
+  drains_are = rw no_drain refl;
   handed_are = refl;
 }
 
@@ -137,8 +139,8 @@ steps_then u v w x y z first second = record {
 pub steps_event : (v w : GatewayValue) (x y : ClientValue) (e : Event) → w.plans ≡ v.plans → y.conn ≡ x.conn
     → ((h : History) → Served v h → Served w (after_event e h))
     → ((plans : List PlanRecord) (h : History) → Fits plans h x → Fits plans (after_event e h) y)
-    → ((c : ℕ) → (c == x.conn) ≡ false → Elsewhere c e) → moment_in e ≡ [] → result_in e ≡ [] → is_opening e ≡ false → MakesSteps v w x y
-steps_event v w x y e same conn takes fits away no_moment no_result no_opening = record {
+    → ((c : ℕ) → (c == x.conn) ≡ false → Elsewhere c e) → moment_in e ≡ [] → result_in e ≡ [] → is_drain e ≡ false → is_opening e ≡ false → MakesSteps v w x y
+steps_event v w x y e same conn takes fits away no_moment no_result no_drain no_opening = record {
   conn = conn;
   plans = same;
   steps = λ plans h are served f. record {
@@ -146,7 +148,7 @@ steps_event v w x y e same conn takes fits away no_moment no_result no_opening =
     serves = takes h served;
     fits = fits plans h f;
     leads = leads_event plans (λ c. c == x.conn) e h away;
-    quiet = quiet_event e h no_moment no_result;
+    quiet = quiet_event e h no_moment no_result no_drain;
     opens = rw no_opening refl;
   };
 }
@@ -163,7 +165,7 @@ steps_reply v w x y reply same conn takes fits = record {
     serves = takes h served;
     fits = fits plans h f;
     leads = leads_reply plans x.conn reply h;
-    quiet = record { moments_are = refl; results_are = refl; handed_are = refl };
+    quiet = record { moments_are = refl; results_are = refl; drains_are = refl; handed_are = refl };
     opens = refl;
   };
 }

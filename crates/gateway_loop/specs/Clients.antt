@@ -14,7 +14,7 @@ use Rattle.gateway_theory.specs.Task.{HandedJob}
 use Rattle.loop_model.specs.Clients.{ClientValue, IsExplainedClient}
 use Rattle.loop_model.specs.Explained.{LoopValue, at, count_of, one_below}
 use Rattle.loop_model.specs.Growing.{Continues}
-use Rattle.loop_model.specs.Handed.{HandsIn, IsResultOf, latest, moments, results}
+use Rattle.loop_model.specs.Handed.{HandsIn, IsResultOf, has_drained, latest, moments, results}
 use Rattle.gateway_loop.specs.declared.phase.Phase.{Phase}
 use Rattle.gateway_loop.specs.declared.phase.Phase.TheVariants as phase
 
@@ -81,10 +81,11 @@ pub record Leads (plans : List PlanRecord) (own : ℕ → Bool) (h k : History) 
   pub shut : (c : ℕ) → c < connections h.opened h.events → is_open h.opened c h.events ≡ false → IsStreamOf c h k
   pub follows : (later : List Placed) → Occurs plans k.opened k.events later → Follows plans h later
 
--- no moment, no result and no job is new
+-- no moment, no result, no drain and no job is new
 pub record IsQuiet (h k : History) : Type 0 where
   pub moments_are : moments k.events ≡ moments h.events
   pub results_are : results k.events ≡ results h.events
+  pub drains_are : has_drained k.events ≡ has_drained h.events
   pub handed_are : k.handed ≡ h.handed
 
 -- so many connections were opened by both
@@ -113,14 +114,15 @@ pub record FitsOn (x y : ClientValue) : Type 0 where
 -- ---- the loop
 
 abbrev pub loop_value : GatewayValue → List (Option ClientValue) → List (ClientValue × Bool) → List (ℕ × Bool) → List (HandedJob × Option Outcome)
-    → List (HandedJob × Bool) → LoopValue
-loop_value v clients gone told results handed = record {
+    → List (HandedJob × Bool) → Bool → LoopValue
+loop_value v clients gone told results handed drained = record {
   core = v;
   clients = clients;
   gone = map (λ g. g.0) gone;
   told = map (λ t. t.0) told;
   results = map (λ r. (r.0.job, r.1)) results;
   handed = map (λ j. j.0.job) handed;
+  drained = drained;
 }
 
 -- the history explains all of this, if this is what those ended with for whose outcome there was no memory
@@ -133,6 +135,7 @@ pub record IsHeld (unknown : Outcome) (plans : List PlanRecord) (h : History) (m
   pub told : HandsIn (reverse l.told) (moments h.events)
   pub results : AllZip (IsResultOf unknown) (results h.events) l.results
   pub handed : h.handed ≡ l.handed
+  pub drained : has_drained h.events ≡ l.drained
 
 -- the core stands for a history that does
 pub record IsServing (unknown : Outcome) (v : GatewayValue) (moment : ℕ) (l : LoopValue) : Type 0 where
@@ -147,6 +150,7 @@ pub record Starts (l : LoopValue) : Type 0 where
   pub none_told : l.told ≡ []
   pub no_results : l.results ≡ []
   pub none_handed : l.handed ≡ []
+  pub not_drained : l.drained ≡ false
 
 -- what the one continues the other does too
 abbrev pub Onward : LoopValue → LoopValue → Type 0

@@ -3,7 +3,7 @@ ghost use Rattle.gateway_loop.specs.Clients.{HandsNothing, Onward, Starts, Tells
 ghost use Rattle.gateway_model.specs.History.{no_history};
 ghost use Rattle.gateway_theory.specs.Gateway.{jobs_of};
 ghost use Rattle.gateway_theory.specs.Served.{Served};
-ghost use Rattle.loop_model.specs.Explained.{IsExplained};
+ghost use Rattle.loop_model.specs.Explained.{IsExplained, draining};
 ghost use Rattle.loop_model.specs.Growing.{HasTicked};
 ghost use Rattle.slab.specs.Slab.{entries};
 ghost use Rattle.loop_model.specs.Standing.{count_clients, count_lingering};
@@ -39,6 +39,8 @@ pub(crate) struct Clients<H, W: Wire> {
     told: Log<u64, bool>,
     results: Log<Job, Option<Outcome>>,
     handed: Log<Job, bool>,
+    // .. and whether it was told to drain
+    drained: bool,
 }
 
 impl<H, W: Wire> Model for Clients<H, W> {
@@ -48,10 +50,10 @@ impl<H, W: Wire> Model for Clients<H, W> {
 
     ghost Value = { LoopValue };
 
-    ghost view = { λ l. loop_value l.core l.clients.slots l.gone.items l.told.items l.results.items l.handed.items };
+    ghost view = { λ l. loop_value l.core l.clients.slots l.gone.items l.told.items l.results.items l.handed.items l.drained };
 
     ghost invariant = { λ l. (unknown : Outcome)
-        → IsServing unknown l.core l.moment (loop_value l.core l.clients.slots l.gone.items l.told.items l.results.items l.handed.items) };
+        → IsServing unknown l.core l.moment (loop_value l.core l.clients.slots l.gone.items l.told.items l.results.items l.handed.items l.drained) };
 }
 
 impl<H: ReplyHook + Drop, W: Wire + Drop> Clients<H, W> {
@@ -70,6 +72,7 @@ impl<H: ReplyHook + Drop, W: Wire + Drop> Clients<H, W> {
             told: Log::new(),
             results: Log::new(),
             handed: Log::new(),
+            drained: false,
         })
     }
 
@@ -180,11 +183,12 @@ impl<H: ReplyHook + Drop, W: Wire + Drop> Clients<H, W> {
 
     /// The drain begins: calls that are undecided end, and those that come are refused.
     pub(crate) fn drain(&mut self)
-        ensures goes { Onward self.old self.new }
+        ensures goes { Onward (draining self.old) self.new }
         ensures told { self.new.told ≡ self.old.told }
         ensures hands { HandsNothing self.old self.new }
     {
         loop_laws();
+        self.drained = true;
         let _broke = self.core.drain();
     }
 

@@ -4,7 +4,7 @@ ghost use Rattle.gateway_loop.specs.Loop.{Goes, StartsLoop, TellsLoop};
 ghost use Rattle.gateway_model.specs.History.{no_history};
 ghost use Rattle.gateway_theory.specs.Served.{Served};
 ghost use Rattle.loop_model.specs.Growing.{HasTicked};
-ghost use Rattle.loop_model.specs.Whole.{IsExplainedLoop};
+ghost use Rattle.loop_model.specs.Whole.{IsExplainedLoop, draining_loop};
 
 use crate::asking::{Asking, Progress};
 use crate::branch_end::BranchEnd;
@@ -128,7 +128,7 @@ impl<H: ReplyHook + Drop, W: Wire + Drop> Exchanges<H, W> {
 
     /// The drain begins: calls that are undecided end, and those that come are refused.
     pub(crate) fn drain(&mut self)
-        ensures goes { Goes self.old self.new }
+        ensures goes { Goes (draining_loop self.old) self.new }
         ensures told { self.new.side.told ≡ self.old.side.told }
     {
         self.clients.drain();

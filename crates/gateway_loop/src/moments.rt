@@ -1,7 +1,7 @@
 ghost use Rattle.std.specs.Prelude.{◌≡◌};
 ghost use Rattle.gateway_loop.specs.Loop.{Goes, TellsLoop};
 ghost use Rattle.loop_model.specs.Growing.{HasTicked};
-ghost use Rattle.loop_model.specs.Whole.{ContinuesLoop};
+ghost use Rattle.loop_model.specs.Whole.{ContinuesLoop, draining_loop};
 
 use crate::event_loop::EventLoop;
 use crate::network::Network;
@@ -22,7 +22,7 @@ impl<H: ReplyHook + Drop, W: Wire + Drop> EventLoop<H, W> {
 
     /// The drain begins: calls that are undecided end, and those that come are refused.
     pub fn drain(&mut self)
-        ensures continues { ContinuesLoop self.old self.new }
+        ensures continues { ContinuesLoop (draining_loop self.old) self.new }
         ensures told { self.new.side.told ≡ self.old.side.told }
     {
         self.exchanges.drain();

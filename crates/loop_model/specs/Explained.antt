@@ -1,5 +1,5 @@
 -- One list of events explains all clients of a loop.
-use Rattle.std.specs.Prelude.{◌≡◌, ℕ, ◌+◌, ◌==◌, false, if◌then◌else◌, nat_lt, not, All, List, count_by, slice_index_or, reverse, Option, Some, None}
+use Rattle.std.specs.Prelude.{◌≡◌, ℕ, ◌+◌, ◌==◌, Bool, true, false, if◌then◌else◌, nat_lt, not, All, List, count_by, slice_index_or, reverse, Option, Some, None}
 use Rattle.std.specs.List.{AllZip}
 use Rattle.std.specs.Option.{option_map_or}
 use Rattle.connect_codec.specs.declared.answer.Outcome.{Outcome}
@@ -10,7 +10,7 @@ use Rattle.gateway_model.specs.Known.{IsKnown}
 use Rattle.gateway_model.specs.Starts.{Placed, occurrences}
 use Rattle.gateway_theory.specs.Gateway.{GatewayValue, shown}
 use Rattle.loop_model.specs.Clients.{ClientValue, IsExplainedClient}
-use Rattle.loop_model.specs.Handed.{HandsIn, IsResultOf, moments, results}
+use Rattle.loop_model.specs.Handed.{HandsIn, IsResultOf, has_drained, moments, results}
 
 -- what is seen of a loop's clients, and of what went in and out of its core
 pub record LoopValue : Type 0 where
@@ -23,6 +23,12 @@ pub record LoopValue : Type 0 where
   -- the results that were handed in, each with its job, and the jobs that were taken, both in order
   pub results : List (JobValue × Option Outcome)
   pub handed : List JobValue
+  -- whether it was told to drain
+  pub drained : Bool
+
+-- the same, once it was told to
+abbrev pub draining : LoopValue → LoopValue
+draining l = record l { drained = true }
 
 -- the client in that place
 abbrev pub at : ℕ → List (Option ClientValue) → Option ClientValue
@@ -38,7 +44,7 @@ count_of c l =
     count_by (λ (o : Option ClientValue). option_map_or (λ (x : ClientValue). x.conn == c) o false) l.clients + count_by (λ (x : ClientValue). x.conn == c) l.gone
 
 -- There is one history that the core stands for, and that explains each client, present or gone, each moment and each result, if this is
--- what those branches ended with for whose outcome there was no memory.
+-- what those branches ended with for whose outcome there was no memory. The drain is in it if the loop was told to drain, and else not.
 pub record IsExplainedBy (unknown : Outcome) (l : LoopValue) : Type 0 where
   pub history : History
   pub knows : (occurred : List Placed) → Occurs l.core.plans history.opened history.events occurred → IsKnown (shown l.core) history (occurrences occurred)
@@ -52,6 +58,7 @@ pub record IsExplainedBy (unknown : Outcome) (l : LoopValue) : Type 0 where
   pub told : HandsIn (reverse l.told) (moments history.events)
   pub results : AllZip (IsResultOf unknown) (results history.events) l.results
   pub handed : history.handed ≡ l.handed
+  pub drained : has_drained history.events ≡ l.drained
 
 -- whatever that was
 abbrev pub IsExplained : LoopValue → Type 0

@@ -15,8 +15,8 @@ pub record Grows (x y : ClientValue) : Type 0 where
 abbrev pub Remains : LoopValue → ℕ → ClientValue → Type 0
 Remains l i y = (at i l.clients ≡ Some y) ⊎ Contains l.gone y
 
--- each client that was there is there with more, or has gone with more; who had gone stays so; and moments, results and jobs that had
--- come stay
+-- each client that was there is there with more, or has gone with more; who had gone stays so; moments, results and jobs that had come
+-- stay; and it was told to drain only if it had been
 pub record Continues (v w : LoopValue) : Type 0 where
   pub plans : w.core.plans ≡ v.core.plans
   pub clients : (i : ℕ) (x : ClientValue) → at i v.clients ≡ Some x → (y : ClientValue) × Remains w i y × Grows x y
@@ -24,6 +24,7 @@ pub record Continues (v w : LoopValue) : Type 0 where
   pub told : IsPrefixOf v.told w.told
   pub results : IsPrefixOf v.results w.results
   pub handed : IsPrefixOf v.handed w.handed
+  pub drained : w.drained ≡ v.drained
 
 -- a moment was told, and then more
 abbrev pub HasTicked : LoopValue → LoopValue → Type 0

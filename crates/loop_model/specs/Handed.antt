@@ -1,8 +1,8 @@
--- The moments and the results among events.
-use Rattle.std.specs.Prelude.{◌≡◌, ◌⊎◌, ℕ, ◌≤◌, max, List, [], ◌∷◌, ◌++◌, Option, unwrap_or}
+-- The moments, the drain and the results among events.
+use Rattle.std.specs.Prelude.{◌≡◌, ◌⊎◌, ℕ, ◌≤◌, max, Bool, true, false, ◌||◌, List, [], ◌∷◌, ◌++◌, Option, unwrap_or}
 use Rattle.connect_codec.specs.declared.answer.Outcome.{Outcome}
 use Rattle.gateway_model.specs.declared.event.Event.{Event}
-use Rattle.gateway_model.specs.declared.event.Event.TheVariants.{Moment, BranchResult}
+use Rattle.gateway_model.specs.declared.event.Event.TheVariants.{Moment, BranchResult, Drain}
 use Rattle.gateway_model.specs.declared.id.CallId.{CallId}
 use Rattle.gateway_model.specs.Events.{Before}
 use Rattle.gateway_model.specs.Job.{JobValue}
@@ -29,6 +29,17 @@ latest (m ∷ moments) = max m (latest moments)
 abbrev pub HandsIn : List ℕ → List ℕ → Type 0
 HandsIn [] moments = moments ≡ []
 HandsIn (m ∷ told) moments = ((rest : List ℕ) × (moments ≡ m ∷ rest) × HandsIn told rest) ⊎ ((m ≤ latest moments) × HandsIn told moments)
+
+-- ---- the drain
+
+abbrev pub is_drain : Event → Bool
+is_drain Drain = true
+is_drain _ = false
+
+-- it is among the events
+abbrev pub has_drained : Before → Bool
+has_drained [] = false
+has_drained (e ∷ before) = is_drain e || has_drained before
 
 -- ---- results
 

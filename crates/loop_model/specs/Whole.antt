@@ -5,7 +5,7 @@ use Rattle.connect_codec.specs.declared.answer.Outcome.{Outcome}
 use Rattle.gateway_model.specs.Job.{JobValue}
 use Rattle.gateway_model.specs.Queue.{IsPrefixOf}
 use Rattle.loop_model.specs.Asking.{AskingValue, BeginsRequest, EndedValue, IsFair, StreamValue, ended_value}
-use Rattle.loop_model.specs.Explained.{IsExplained, LoopValue}
+use Rattle.loop_model.specs.Explained.{IsExplained, LoopValue, draining}
 use Rattle.loop_model.specs.Growing.{Continues}
 
 -- what is seen of a loop: its clients' side, the jobs that are asked for, in their places, and those that were, in the order in which they
@@ -14,6 +14,10 @@ pub record WholeLoop : Type 0 where
   pub side : LoopValue
   pub asking : List (Option AskingValue)
   pub ended : List EndedValue
+
+-- the same, once it was told to drain
+abbrev pub draining_loop : WholeLoop → WholeLoop
+draining_loop w = record w { side = draining w.side }
 
 -- how many jobs with the property are asked for
 abbrev pub count_asked : (JobValue → Bool) → List (Option AskingValue) → ℕ

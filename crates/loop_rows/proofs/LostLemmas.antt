@@ -41,6 +41,7 @@ side_on v results more handed = record {
   told = same [];
   results = (more, refl);
   handed = same handed;
+  drained = refl;
 }
   where
     nobody : (i : ℕ) → None ≡ Rattle.loop_model.specs.Explained.at i []

@@ -50,12 +50,12 @@ client_of conn = client_value conn false [] [] false []
 
 -- a loop with these clients in their places, and these who are gone, that was told nothing
 abbrev pub with_clients : GatewayValue → List (Option ClientValue) → List ClientValue → LoopValue
-with_clients core clients gone = record { core = core; clients = clients; gone = gone; told = []; results = []; handed = [] }
+with_clients core clients gone = record { core = core; clients = clients; gone = gone; told = []; results = []; handed = []; drained = false }
 
 -- a loop without clients
 abbrev pub loop_of : GatewayValue → List (JobValue × Option Outcome) → List JobValue → List (Option AskingValue) → List EndedValue → WholeLoop
 loop_of core results handed asking ended = record {
-  side = record { core = core; clients = []; gone = []; told = []; results = results; handed = handed };
+  side = record { core = core; clients = []; gone = []; told = []; results = results; handed = handed; drained = false };
   asking = asking;
   ended = ended;
 }

@@ -1,9 +1,11 @@
-//! The worked rows of a loop: what explains a client and what does not, whose connections are, which moments and results are handed in, and how exchanges end.
+//! The worked rows of a loop: what explains a client and what does not, whose connections are, when it drains, which moments and results
+//! are handed in, and how exchanges end.
 //! Nothing of it runs.
 #![tactic(auto)]
 
 mod rows_of_clients;
 mod rows_of_connections;
+mod rows_of_drains;
 mod rows_of_exchanges;
 mod rows_of_loops;
 mod rows_of_moments;

@@ -14,7 +14,7 @@ returns-in-Bytes-clause-steps g c =
     rw (← c.self.view_is)
     (steps_event c.args.core.now c.take_in.new.core _ _ (Piece i.conn bytes) c.take_in.ensures.plans refl c.take_in.ensures.stands
     (fits_piece i.conn c.in-Bytes.count (lingers_in i.phase) (g.W.Wire.ended i.wire) _ (g.W.Wire.given i.wire) (g.W.Wire.got i.wire) i.outbox _ _ c.read.new.piece (ap lingers_in c.in-Reads.is) e.given.2 e.got e.ended
-    (c.self.invariant c.in-Reads.is)) (λ d off. piece_elsewhere i.conn bytes d off) refl refl refl)
+    (c.self.invariant c.in-Reads.is)) (λ d off. piece_elsewhere i.conn bytes d off) refl refl refl refl)
 
 pub returns-in-Bytes-clause-grows : goal.returns-in-Bytes-clause-grows
 returns-in-Bytes-clause-grows g c =
@@ -28,4 +28,4 @@ returns-in-End-clause-steps g c =
     rw (← c.self.view_is)
     (steps_event c.args.core.now c.hang_up.new.core _ _ (HangUp i.conn) c.hang_up.ensures.plans refl c.hang_up.ensures.stands
     (fits_hang_up i.conn (lingers_in i.phase) (g.W.Wire.ended i.wire) _ (g.W.Wire.given i.wire) (g.W.Wire.got i.wire) i.outbox _ _ (ap lingers_in c.in-Reads.is) e.given e.got e.ended)
-    (λ d off. hang_up_elsewhere i.conn d off) refl refl refl)
+    (λ d off. hang_up_elsewhere i.conn d off) refl refl refl refl)

@@ -6,8 +6,8 @@ use Rattle.gateway_loop.proofs.clients.Clients.drain.Goals as goal
 pub invariant_of-self : goal.invariant_of-self
 invariant_of-self g c u =
     let i = c.self.inside in
-    serving_drain u c.loop_laws.ensures i.core c.drain-broke.new.self i.moment _ _ c.drain-broke.ensures.keeps.plans_are refl refl record { told = refl; results = refl; handed = refl } c.drain-broke.ensures.stands (c.self.invariant u)
+    serving_drain u c.loop_laws.ensures i.core c.drain-broke.new.self i.moment _ _ c.drain-broke.ensures.keeps.plans_are refl refl record { told = refl; results = refl; handed = refl; drained = refl } c.drain-broke.ensures.stands (c.self.invariant u)
 
 pub returns-clause-goes : goal.returns-clause-goes
 returns-clause-goes g c =
-    rw (← c.self.view_is) (onward _ _ (continues_all _ _ c.drain-broke.ensures.keeps.plans_are refl refl (begins_same _) (begins_same _) (begins_same _)))
+    rw (← c.self.view_is) (onward _ _ (continues_all _ _ c.drain-broke.ensures.keeps.plans_are refl refl refl (begins_same _) (begins_same _) (begins_same _)))

@@ -19,7 +19,7 @@ invariant_of-self-2 g c u =
     (sym (ap (λ (old : List (Option ClientValue)). at put.result old) slots) ∙ put.ensures.was_vacant)
     (subst (λ (y : ClientValue). Puts i.clients.slots put.new.self.slots put.result (Some y)) c.new.ensures
     (subst (λ (old : List (Option ClientValue)). Puts old put.new.self.slots put.result (Some c.new.result)) slots puts))
-    refl record { told = refl; results = refl; handed = refl } (c.self.invariant u)
+    refl record { told = refl; results = refl; handed = refl; drained = refl } (c.self.invariant u)
 
 pub returns-clause-goes : goal.returns-clause-goes
 returns-clause-goes g c =
@@ -28,5 +28,5 @@ returns-clause-goes g c =
     let slots : c.reserve.new.self.slots ≡ i.clients.slots = ap (λ (s : Slab ClientValue). s.slots) c.reserve.ensures.rest_kept in
     let puts = puts_one c.reserve.new.self put.new.self put.result (Some c.new.result) put.ensures.updates in
     rw (← c.self.view_is)
-    (onward _ _ (continues_come _ _ c.open_conn.ensures.keeps.plans_are refl refl refl put.result c.new.result (sym (ap (λ (old : List (Option ClientValue)). at put.result old) slots) ∙ put.ensures.was_vacant)
+    (onward _ _ (continues_come _ _ c.open_conn.ensures.keeps.plans_are refl refl refl refl put.result c.new.result (sym (ap (λ (old : List (Option ClientValue)). at put.result old) slots) ∙ put.ensures.was_vacant)
     (subst (λ (old : List (Option ClientValue)). Puts old put.new.self.slots put.result (Some c.new.result)) slots puts) refl))

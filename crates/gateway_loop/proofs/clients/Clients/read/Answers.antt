@@ -10,12 +10,12 @@ invariant_of-self-2 g c u =
     let put = c.insert_reserved-place in
     serving_steps u c.loop_laws.ensures i.core c.read-heard.new.core i.moment _ _ c.args.place c.in-Some.client c.read-heard.new.self (sym c.in-Some.ensures.value) c.read-heard.ensures.steps
     (puts_back i.clients c.try_remove.new.self put.new.self c.args.place put.result _ c.try_remove.ensures.updates c.in-Some.ensures.key_is_next put.ensures.key put.ensures.updates)
-    refl record { told = refl; results = refl; handed = refl } (c.self.invariant u)
+    refl record { told = refl; results = refl; handed = refl; drained = refl } (c.self.invariant u)
 
 pub returns-clause-goes : goal.returns-clause-goes
 returns-clause-goes g c =
     let i = c.self.inside in
     let put = c.insert_reserved-place in
     rw (← c.self.view_is)
-    (onward _ _ (continues_put _ _ c.read-heard.ensures.steps.plans refl refl refl c.args.place c.in-Some.client c.read-heard.new.self (sym c.in-Some.ensures.value) c.read-heard.ensures.grows
+    (onward _ _ (continues_put _ _ c.read-heard.ensures.steps.plans refl refl refl refl c.args.place c.in-Some.client c.read-heard.new.self (sym c.in-Some.ensures.value) c.read-heard.ensures.grows
     (puts_back i.clients c.try_remove.new.self put.new.self c.args.place put.result _ c.try_remove.ensures.updates c.in-Some.ensures.key_is_next put.ensures.key put.ensures.updates) refl))

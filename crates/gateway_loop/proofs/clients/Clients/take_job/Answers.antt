@@ -8,21 +8,21 @@ pub invariant_of-self : goal.invariant_of-self
 invariant_of-self g c u =
     let i = c.self.inside in
     serving_jobs u c.loop_laws.ensures i.core c.take_job.new.self i.moment _ _ (ap (λ (v : GatewayValue). v.plans) c.take_job.ensures.rest) (c.in-Some.job.job ∷ []) refl refl refl refl
-    (noted_job i.handed.items c.and-self-inside.result.items _ _ c.and-self-inside.ensures) c.in-Some.ensures.stands (c.self.invariant u)
+    (noted_job i.handed.items c.and-self-inside.result.items _ _ c.and-self-inside.ensures) refl c.in-Some.ensures.stands (c.self.invariant u)
 
 pub invariant_of-self-in-None : goal.invariant_of-self-in-None
 invariant_of-self-in-None g c u =
     let i = c.self.inside in
-    serving_jobs u c.loop_laws.ensures i.core c.take_job.new.self i.moment _ _ (ap (λ (v : GatewayValue). v.plans) c.take_job.ensures.rest) [] refl refl refl refl (sym (append-nil _)) c.in-None.ensures.stands (c.self.invariant u)
+    serving_jobs u c.loop_laws.ensures i.core c.take_job.new.self i.moment _ _ (ap (λ (v : GatewayValue). v.plans) c.take_job.ensures.rest) [] refl refl refl refl (sym (append-nil _)) refl c.in-None.ensures.stands (c.self.invariant u)
 
 pub returns-in-Some-clause-goes : goal.returns-in-Some-clause-goes
 returns-in-Some-clause-goes g c =
     let i = c.self.inside in
     rw (← c.self.view_is)
-    (onward _ _ (continues_all _ _ (ap (λ (v : GatewayValue). v.plans) c.take_job.ensures.rest) refl refl (begins_same _) (begins_same _)
+    (onward _ _ (continues_all _ _ (ap (λ (v : GatewayValue). v.plans) c.take_job.ensures.rest) refl refl refl (begins_same _) (begins_same _)
     (begins_by _ _ _ (noted_job i.handed.items c.and-self-inside.result.items _ _ c.and-self-inside.ensures))))
 
 pub returns-in-None-clause-goes : goal.returns-in-None-clause-goes
 returns-in-None-clause-goes g c =
     rw (← c.self.view_is)
-    (onward _ _ (continues_all _ _ (ap (λ (v : GatewayValue). v.plans) c.take_job.ensures.rest) refl refl (begins_same _) (begins_same _) (begins_same _)))
+    (onward _ _ (continues_all _ _ (ap (λ (v : GatewayValue). v.plans) c.take_job.ensures.rest) refl refl refl (begins_same _) (begins_same _) (begins_same _)))

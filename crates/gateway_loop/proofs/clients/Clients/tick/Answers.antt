@@ -6,26 +6,26 @@ use Rattle.gateway_loop.proofs.clients.Clients.tick.Goals as goal
 pub invariant_of-self : goal.invariant_of-self
 invariant_of-self g c u =
     let i = c.self.inside in
-    serving_told u i.core i.moment c.moment-moment.result _ _ c.if-moment-self.true refl refl (noted i.told.items c.and-self-inside.result.items _ _ c.and-self-inside.ensures) refl refl (c.self.invariant u)
+    serving_told u i.core i.moment c.moment-moment.result _ _ c.if-moment-self.true refl refl (noted i.told.items c.and-self-inside.result.items _ _ c.and-self-inside.ensures) refl refl refl (c.self.invariant u)
 
 pub invariant_of-self-2 : goal.invariant_of-self-2
 invariant_of-self-2 g c u =
     let i = c.self.inside in
     rw c.max-self-inside.ensures
     (serving_moment u c.loop_laws.ensures i.core c.moment-broke.new.self i.moment _ _ c.moment-broke.ensures.keeps.plans_are c.moment-moment.result refl refl
-    (noted i.told.items c.and-self-inside.result.items _ _ c.and-self-inside.ensures) refl refl c.moment-broke.ensures.stands (c.self.invariant u))
+    (noted i.told.items c.and-self-inside.result.items _ _ c.and-self-inside.ensures) refl refl refl c.moment-broke.ensures.stands (c.self.invariant u))
 
 pub returns-then-not-is_due-clause-goes : goal.returns-then-not-is_due-clause-goes
 returns-then-not-is_due-clause-goes g c =
     let i = c.self.inside in
     rw (← c.self.view_is)
-    (onward _ _ (continues_all _ _ refl refl refl (begins_by _ _ (c.moment-moment.result ∷ []) (noted i.told.items c.and-self-inside.result.items _ _ c.and-self-inside.ensures)) (begins_same _) (begins_same _)))
+    (onward _ _ (continues_all _ _ refl refl refl refl (begins_by _ _ (c.moment-moment.result ∷ []) (noted i.told.items c.and-self-inside.result.items _ _ c.and-self-inside.ensures)) (begins_same _) (begins_same _)))
 
 pub returns-clause-goes : goal.returns-clause-goes
 returns-clause-goes g c =
     let i = c.self.inside in
     rw (← c.self.view_is)
-    (onward _ _ (continues_all _ _ c.moment-broke.ensures.keeps.plans_are refl refl (begins_by _ _ (c.moment-moment.result ∷ []) (noted i.told.items c.and-self-inside.result.items _ _ c.and-self-inside.ensures))
+    (onward _ _ (continues_all _ _ c.moment-broke.ensures.keeps.plans_are refl refl refl (begins_by _ _ (c.moment-moment.result ∷ []) (noted i.told.items c.and-self-inside.result.items _ _ c.and-self-inside.ensures))
     (begins_same _) (begins_same _)))
 
 pub returns-then-not-is_due-clause-told : goal.returns-then-not-is_due-clause-told
