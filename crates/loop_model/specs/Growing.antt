@@ -16,7 +16,7 @@ abbrev pub Remains : LoopValue → ℕ → ClientValue → Type 0
 Remains l i y = (at i l.clients ≡ Some y) ⊎ Contains l.gone y
 
 -- each client that was there is there with more, or has gone with more; who had gone stays so; moments, results and jobs that had come
--- stay; and it was told to drain only if it had been
+-- stay; and it was told to drain if it had been, and else not
 pub record Continues (v w : LoopValue) : Type 0 where
   pub plans : w.core.plans ≡ v.core.plans
   pub clients : (i : ℕ) (x : ClientValue) → at i v.clients ≡ Some x → (y : ClientValue) × Remains w i y × Grows x y
