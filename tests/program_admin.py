@@ -454,9 +454,16 @@ def ask_prometheus(port, query):
                 for one in json.load(answer)["data"]["result"]}
 
 
+def has_read(port):
+    """Whether Prometheus has read figures; it answers by 503 until it is ready."""
+    with contextlib.suppress(OSError):
+        return ask_prometheus(port, "up") == {("", ""): 1}
+    return False
+
+
 @contextlib.contextmanager
 def prometheus(room, where):
-    """Prometheus, which reads the figures there three times a second. Gives its port."""
+    """Prometheus, which reads the figures there three times a second, once it has read them. Gives its port."""
     if not shutil.which("prometheus"):
         raise Untried("there is no prometheus")
     made = {"scrape_configs": [{"job_name": "gateway", "scrape_interval": "300ms", "scrape_timeout": "300ms",
@@ -467,6 +474,9 @@ def prometheus(room, where):
     with subprocess.Popen(["prometheus", *words], stdout=subprocess.DEVNULL, stderr=subprocess.DEVNULL) as run:
         try:
             client(port).close()
+            end = time.monotonic() + WAIT
+            while not has_read(port) and time.monotonic() < end:
+                time.sleep(0.1)
             yield port
         finally:
             run.kill()
