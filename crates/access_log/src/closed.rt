@@ -1,10 +1,9 @@
 //! The line of the log for a stream that was closed without a byte.
 ghost use Rattle.std.specs.Prelude.{◌≡◌, IfOk, Some, string_bytes};
 ghost use Rattle.serde_json.specs.Read.{read};
-ghost use Rattle.serde_json.specs.View.{view};
 ghost use Rattle.access_log.specs.Closed.{closed_document, closed_line, unserved_name};
 
-use serde_json::{Value, json};
+use crate::members::{begin, finish, put_number, put_text};
 use std::alloc::{AllocError, Global};
 
 /// Why a stream was closed without a byte.
@@ -34,11 +33,8 @@ pub fn closed_line(alloc: Global, time: u64, why: Unserved) -> Result<String, Al
     ensures text { IfOk result (λ line. string_bytes line ≡ closed_line time why) }
     ensures reads_back { IfOk result (λ line. read (string_bytes line) ≡ Some (closed_document time why)) }
 {
-    document(alloc, time, why)?.to_string(alloc)
-}
-
-fn document(alloc: Global, time: u64, why: Unserved) -> Result<Value, AllocError>
-    ensures { IfOk result (λ value. view value ≡ closed_document time why) }
-{
-    json!(in alloc; { "closed": why.name(), "time": time })
+    let mut out = begin(alloc)?;
+    put_text(&mut out, "closed", why.name())?;
+    put_number(&mut out, "time", time)?;
+    finish(alloc, out)
 }

@@ -1,13 +1,11 @@
-ghost use Rattle.std.specs.Prelude.{◌≡◌, IfOk, Some, option_map, string_bytes};
+ghost use Rattle.std.specs.Prelude.{◌≡◌, IfOk, Some, string_bytes};
 ghost use Rattle.std.specs.Option.{option_copied};
 ghost use Rattle.serde_json.specs.Read.{read};
-ghost use Rattle.serde_json.specs.View.{view};
-ghost use Rattle.access_log.specs.Line.{log_document, log_line, text_or_null};
+ghost use Rattle.access_log.specs.Line.{log_document, log_line};
 
 use crate::members::{begin, finish, put_number, put_number_or_null, put_text, put_text_or_null};
 use crate::told;
 use gateway_model::{CallId, ReplyEntry};
-use serde_json::Value;
 use std::alloc::{AllocError, Global};
 
 /// The line for a reply by its entry: an object in JSON, with no LF. `time` is when it was written, in milliseconds
@@ -42,13 +40,4 @@ pub fn log_line(
     put_number(&mut out, "time", time)?;
     put_number(&mut out, "worker", u64::from(worker))?;
     finish(alloc, out)
-}
-
-pub(crate) fn text_or_null(alloc: Global, text: Option<&str>) -> Result<Value, AllocError>
-    ensures { IfOk result (λ value. view value ≡ text_or_null (option_map (λ t. t.now) text.entry)) }
-{
-    match text {
-        Some(text) => Value::try_from_str(alloc, text),
-        None => Ok(Value::Null),
-    }
 }

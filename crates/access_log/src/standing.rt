@@ -1,10 +1,9 @@
 ghost use Rattle.std.specs.Prelude.{◌≡◌, IfOk, Some, string_bytes};
 ghost use Rattle.serde_json.specs.Read.{read};
-ghost use Rattle.serde_json.specs.View.{view};
 ghost use Rattle.access_log.specs.Standing.{standing_document, standing_line};
 
+use crate::members::{begin, finish, put_number};
 use gateway_theory::Tally;
-use serde_json::{Value, json};
 use std::alloc::{AllocError, Global};
 
 /// How the gateway stands.
@@ -30,21 +29,15 @@ pub fn standing_line(alloc: Global, time: u64, standing: &Standing) -> Result<St
     ensures text { IfOk result (λ line. string_bytes line ≡ standing_line time standing.now) }
     ensures reads_back { IfOk result (λ line. read (string_bytes line) ≡ Some (standing_document time standing.now)) }
 {
-    document(alloc, time, standing)?.to_string(alloc)
-}
-
-fn document(alloc: Global, time: u64, standing: &Standing) -> Result<Value, AllocError>
-    ensures { IfOk result (λ value. view value ≡ standing_document time standing.now) }
-{
-    json!(in alloc; {
-        "asking": standing.asking,
-        "connections": standing.connections,
-        "counted": standing.tally.counted,
-        "dropped": standing.dropped,
-        "late": standing.tally.late,
-        "lingering": standing.lingering,
-        "time": time,
-        "unknown": standing.tally.unknown,
-        "waiting": standing.waiting
-    })
+    let mut out = begin(alloc)?;
+    put_number(&mut out, "asking", standing.asking)?;
+    put_number(&mut out, "connections", standing.connections)?;
+    put_number(&mut out, "counted", standing.tally.counted)?;
+    put_number(&mut out, "dropped", standing.dropped)?;
+    put_number(&mut out, "late", standing.tally.late)?;
+    put_number(&mut out, "lingering", standing.lingering)?;
+    put_number(&mut out, "time", time)?;
+    put_number(&mut out, "unknown", standing.tally.unknown)?;
+    put_number(&mut out, "waiting", standing.waiting)?;
+    finish(alloc, out)
 }

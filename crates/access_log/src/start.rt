@@ -1,11 +1,10 @@
 //! What the log says before the first stream is accepted.
 ghost use Rattle.std.specs.Prelude.{◌≡◌, IfOk, Some, option_map, string_bytes};
 ghost use Rattle.serde_json.specs.Read.{read};
-ghost use Rattle.serde_json.specs.View.{view};
+ghost use Rattle.access_log.specs.declared.start.Remark.TheVariants.{Fault, Warning};
 ghost use Rattle.access_log.specs.Start.{remark_document, remark_line, start_document, start_line};
 
-use crate::line::text_or_null;
-use serde_json::{Value, json};
+use crate::members::{begin, finish, put_number, put_text, put_text_or_null};
 use std::alloc::{AllocError, Global};
 
 /// The line that tells that the gateway listens, at that time in milliseconds from 1970: an object in JSON, with no LF. `listen` and
@@ -23,28 +22,13 @@ pub fn start_line(
     ensures reads_back { IfOk result (λ line.
         read (string_bytes line) ≡ Some (start_document time listen.now (option_map (λ t. t.now) admin.entry) plans workers)) }
 {
-    start_document(alloc, time, listen, admin, plans, workers)?.to_string(alloc)
-}
-
-fn start_document(
-    alloc: Global,
-    time: u64,
-    listen: &str,
-    admin: Option<&str>,
-    plans: usize,
-    workers: u32,
-) -> Result<Value, AllocError>
-    ensures { IfOk result (λ value. view value ≡ start_document time listen.now (option_map (λ t. t.now) admin.entry) plans workers) }
-{
-    let admin = text_or_null(alloc, admin)?;
-    let listen = Value::try_from_str(alloc, listen)?;
-    json!(in alloc; {
-        "admin": admin,
-        "listen": listen,
-        "plans": plans,
-        "time": time,
-        "workers": workers
-    })
+    let mut out = begin(alloc)?;
+    put_text_or_null(&mut out, "admin", admin)?;
+    put_text(&mut out, "listen", listen)?;
+    put_number(&mut out, "plans", plans as u64)?;
+    put_number(&mut out, "time", time)?;
+    put_number(&mut out, "workers", u64::from(workers))?;
+    finish(alloc, out)
 }
 
 /// What a remark is.
@@ -57,7 +41,6 @@ pub enum Remark {
 }
 
 /// The line of a remark, at that time in milliseconds from 1970: an object in JSON, with no LF.
-#[tactic(auto, unfolding(crate::specs::Start::remark_line))]
 pub fn remark_line(
     alloc: Global,
     time: u64,
@@ -67,20 +50,30 @@ pub fn remark_line(
     ensures text { IfOk result (λ line. string_bytes line ≡ remark_line time remark text.now) }
     ensures reads_back { IfOk result (λ line. read (string_bytes line) ≡ Some (remark_document time remark text.now)) }
 {
-    remark_document(alloc, time, remark, text)?.to_string(alloc)
+    match remark {
+        Remark::Fault => fault_line(alloc, time, text),
+        Remark::Warning => warning_line(alloc, time, text),
+    }
 }
 
-fn remark_document(
-    alloc: Global,
-    time: u64,
-    remark: Remark,
-    text: &str,
-) -> Result<Value, AllocError>
-    ensures { IfOk result (λ value. view value ≡ remark_document time remark text.now) }
+#[tactic(auto, unfolding(crate::specs::Start::remark_line))]
+fn fault_line(alloc: Global, time: u64, text: &str) -> Result<String, AllocError>
+    ensures text { IfOk result (λ line. string_bytes line ≡ remark_line time Fault text.now) }
+    ensures reads_back { IfOk result (λ line. read (string_bytes line) ≡ Some (remark_document time Fault text.now)) }
 {
-    let text = Value::try_from_str(alloc, text)?;
-    match remark {
-        Remark::Fault => json!(in alloc; { "fault": text, "time": time }),
-        Remark::Warning => json!(in alloc; { "time": time, "warning": text }),
-    }
+    let mut out = begin(alloc)?;
+    put_text(&mut out, "fault", text)?;
+    put_number(&mut out, "time", time)?;
+    finish(alloc, out)
+}
+
+#[tactic(auto, unfolding(crate::specs::Start::remark_line))]
+fn warning_line(alloc: Global, time: u64, text: &str) -> Result<String, AllocError>
+    ensures text { IfOk result (λ line. string_bytes line ≡ remark_line time Warning text.now) }
+    ensures reads_back { IfOk result (λ line. read (string_bytes line) ≡ Some (remark_document time Warning text.now)) }
+{
+    let mut out = begin(alloc)?;
+    put_number(&mut out, "time", time)?;
+    put_text(&mut out, "warning", text)?;
+    finish(alloc, out)
 }
