@@ -20,8 +20,15 @@ pub(crate) struct Client<W: Wire> {
     conn: ConnId,
     phase: Phase,
     outbox: Outbox,
-    // the request whose reply waits in the outbox, and what answers it
-    writing: Option<(CallId, ReplyEntry)>,
+    // the reply that waits in the outbox
+    writing: Option<Writing>,
+}
+
+/// The request whose reply is written, and what answers it.
+#[derive(Drop)]
+struct Writing {
+    id: CallId,
+    entry: ReplyEntry,
 }
 
 impl<W: Wire> Model for Client<W> {
@@ -276,15 +283,15 @@ impl<W: Wire> Client<W> {
 }
 
 /// The reply to this request is being written.
-fn begin(writing: &mut Option<(CallId, ReplyEntry)>, id: CallId, entry: ReplyEntry) {
-    *writing = Some((id, entry));
+fn begin(writing: &mut Option<Writing>, id: CallId, entry: ReplyEntry) {
+    *writing = Some(Writing { id, entry });
 }
 
 /// Tells the reply that was being written.
-fn tell<W: Wire, N: Network<W>>(net: &mut N, writing: &mut Option<(CallId, ReplyEntry)>)
+fn tell<W: Wire, N: Network<W>>(net: &mut N, writing: &mut Option<Writing>)
     ensures { N.told net.new ≡ N.told net.old }
 {
-    if let Some((id, entry)) = writing.take() {
+    if let Some(Writing { id, entry }) = writing.take() {
         net.tell_reply(id, &entry);
     }
 }
