@@ -98,7 +98,7 @@ begun_addresses job x y s end items more are b = record {
 -- it goes over a stream to the next of its addresses
 module _ (job : HandedJob) (x y : AddressesValue) (s t : AttemptValue) (address : SocketAddr) where
   abbrev fresh : AttemptValue
-  fresh = attempt_value s.exchange (Some (stream_value address [] [])) false
+  fresh = attempt_value s.exchange (Some (stream_value address [] [] false)) false
 
   fresh_begins : (end : Option ExchangeEnd) (items later : List (StreamValue × Bool)) → is_some end ≡ false → next_of x ≡ address ∷ next_of y → y.found ≡ x.found
       → IsUntouchedAttempt s → All IsUntouched (map (λ (u : StreamValue × Bool). u.0) later)
@@ -113,6 +113,7 @@ module _ (job : HandedJob) (x y : AddressesValue) (s t : AttemptValue) (address 
     asks = λ e. record {
       sends = subst (λ (g : List ℕ). g ++ s.exchange.left ≡ request_of job.job) touched.0 (b.asks e).sends;
       reads = subst (λ (g : List ℕ). HasReadReply s.exchange.replies g None) touched.1 (b.asks e).reads;
+      goes_on = refl;
     };
     ended = λ e is. absurd (some_none e (sym is ∙ none_of end off));
   }
@@ -124,7 +125,7 @@ module _ (job : HandedJob) (x y : AddressesValue) (s t : AttemptValue) (address 
       some_no_peer a e = cc
 
   pub begun_connects : (end : Option ExchangeEnd) (items later : List (StreamValue × Bool)) (stream : StreamValue) → is_some end ≡ false → next_of x ≡ address ∷ next_of y
-      → y.found ≡ x.found → IsUntouchedAttempt s → stream ≡ stream_value address [] [] → t ≡ attempt_value s.exchange (Some stream) false
+      → y.found ≡ x.found → IsUntouchedAttempt s → stream ≡ stream_value address [] [] false → t ≡ attempt_value s.exchange (Some stream) false
       → All IsUntouched (map (λ (u : StreamValue × Bool). u.0) later)
       → HasBegun (asking_state job x s end items) → HasBegun (asking_state job y t end later)
   begun_connects end items later stream off next same touched is_stream is untouched b =

@@ -22,8 +22,9 @@ pub record AttemptValue : Type 0 where
   pub exchange : ExchangeValue
   pub given : List ℕ
   pub got : List ℕ
-  -- the address that its stream leads to, if it has one, and whether that took or gave a byte
+  -- the address that its stream leads to, if it has one, whether a read found its end, or failed, and whether it took or gave a byte
   pub peer : Option SocketAddr
+  pub ended : Bool
   pub connected : Bool
 
 abbrev pub attempt_value : ExchangeValue → Option StreamValue → Bool → AttemptValue
@@ -32,13 +33,15 @@ attempt_value exchange stream connected = record {
   given = option_map_or (λ (s : StreamValue). s.given) stream [];
   got = option_map_or (λ (s : StreamValue). s.got) stream [];
   peer = option_map (λ (s : StreamValue). s.peer) stream;
+  ended = option_map_or (λ (s : StreamValue). s.ended) stream false;
   connected = connected;
 }
 
--- this request is being written, or its reply is being read and is not whole yet
+-- this request is being written, or its reply is being read and is not whole yet; and no read found the end of its stream, or failed
 pub record Asks (request : List ℕ) (x : AttemptValue) : Type 0 where
   pub sends : x.got ++ x.exchange.left ≡ request
   pub reads : HasReadReply x.exchange.replies x.given None
+  pub goes_on : x.ended ≡ false
 
 -- It has ended so: with a reply only if the request was written whole, and what was read begins with that. In any case the first bytes of
 -- the request were written, and no others.
@@ -56,7 +59,7 @@ IsUnsent x = x.peer ≡ None → x.got ≡ []
 
 -- this was its stream
 abbrev pub HadStream : StreamValue → AttemptValue → Type 0
-HadStream s x = (s.given ≡ x.given) × (s.got ≡ x.got) × (x.peer ≡ Some s.peer)
+HadStream s x = (s.given ≡ x.given) × (s.got ≡ x.got) × (x.peer ≡ Some s.peer) × (s.ended ≡ x.ended)
 
 -- more may have been read from its stream, and written to it
 abbrev pub HasGrown : AttemptValue → AttemptValue → Type 0
@@ -100,7 +103,7 @@ asked_for x = record {
 
 -- the stream that it goes over, if there is one
 abbrev pub stream_of : AttemptValue → List StreamValue
-stream_of x = option_map_or (λ (peer : SocketAddr). stream_value peer x.given x.got ∷ []) x.peer []
+stream_of x = option_map_or (λ (peer : SocketAddr). stream_value peer x.given x.got x.ended ∷ []) x.peer []
 
 -- where it goes over another stream from now on, the one before is among those that were given up; unless it ended, or its stream took a byte
 abbrev pub NotesStream : Bool → AskingState → AskingState → Type 0

@@ -1,13 +1,14 @@
-ghost use Rattle.std.specs.Prelude.{◌≡◌, []};
+ghost use Rattle.std.specs.Prelude.{◌≡◌, [], false};
 ghost use Rattle.loop_model.specs.Asking.{stream_value};
-ghost use Rattle.wires.specs.Wires.{Gives, Takes};
+ghost use Rattle.wires.specs.Wires.{Ends, Gives, Takes};
 
 use crate::network::Network;
 use std::marker::Model;
 use std::net::SocketAddr;
 use wires::{Got, Outbox, PIECE, Sent, Wire};
 
-/// A stream to a backend. Contracts see the address that it was connected to, and what was read from it and written to it.
+/// A stream to a backend. Contracts see the address that it was connected to, what was read from it and written to it, and whether a read
+/// found its end, or failed.
 #[derive(Drop)]
 pub(crate) struct Backend<W: Wire> {
     wire: W,
@@ -19,7 +20,7 @@ impl<W: Wire> Model for Backend<W> {
 
     ghost Value = { StreamValue };
 
-    ghost view = { λ b. stream_value b.peer (W.given b.wire) (W.got b.wire) };
+    ghost view = { λ b. stream_value b.peer (W.given b.wire) (W.got b.wire) (W.ended b.wire) };
 }
 
 impl<W: Wire> Backend<W> {
@@ -29,7 +30,7 @@ impl<W: Wire> Backend<W> {
         address: SocketAddr,
         length: usize,
     ) -> Backend<W>
-        ensures fresh { result ≡ stream_value address [] [] }
+        ensures fresh { result ≡ stream_value address [] [] false }
         ensures told { N.told net.new ≡ N.told net.old }
     {
         Backend {
@@ -45,7 +46,8 @@ impl<W: Wire> Backend<W> {
     /// Reads once, into the first places of the piece.
     pub(crate) fn read(&mut self, piece: &mut [u8; PIECE]) -> Got
         ensures given { Gives self.old.given self.new.given piece.new result }
-        ensures rest { self.new ≡ stream_value self.old.peer self.new.given self.old.got }
+        ensures ended { Ends self.old.ended self.new.ended result }
+        ensures rest { self.new ≡ stream_value self.old.peer self.new.given self.old.got self.new.ended }
     {
         self.wire.read(piece)
     }
@@ -53,7 +55,7 @@ impl<W: Wire> Backend<W> {
     /// Writes once of what waits, from its first byte on.
     pub(crate) fn write(&mut self, outbox: &Outbox) -> Sent
         ensures got { Takes self.old.got self.new.got outbox.now result }
-        ensures rest { self.new ≡ stream_value self.old.peer self.old.given self.new.got }
+        ensures rest { self.new ≡ stream_value self.old.peer self.old.given self.new.got self.old.ended }
     {
         self.wire.write(outbox)
     }

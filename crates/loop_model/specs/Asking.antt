@@ -1,5 +1,5 @@
 -- A job that is asked for, and how that ended.
-use Rattle.std.specs.Prelude.{◌≡◌, ◌⊎◌, ℕ, All, List, [], Option, Some, None}
+use Rattle.std.specs.Prelude.{◌≡◌, ◌⊎◌, ℕ, Bool, All, List, [], Option, Some, None}
 use Rattle.std.specs.List.{Contains}
 use Rattle.std.specs.Net.Grammar.{IsSocketText}
 use Rattle.std.specs.declared.net.socket_addr.SocketAddr.{SocketAddr}
@@ -12,14 +12,16 @@ use Rattle.http_pieces.specs.Cut.{Complete, IsCut}
 use Rattle.http_pieces.specs.ReplyHead.{reply_kind}
 use Rattle.http_pieces.specs.declared.reply.HttpReply.{HttpReply}
 
--- a stream to a backend: the address that it leads to, what was read from it, and what was written to it
+-- a stream to a backend: the address that it leads to, what was read from it, what was written to it, and whether a read found its end,
+-- or failed
 pub record StreamValue : Type 0 where
   pub peer : SocketAddr
   pub given : List ℕ
   pub got : List ℕ
+  pub ended : Bool
 
-abbrev pub stream_value : SocketAddr → List ℕ → List ℕ → StreamValue
-stream_value peer given got = record { peer = peer; given = given; got = got }
+abbrev pub stream_value : SocketAddr → List ℕ → List ℕ → Bool → StreamValue
+stream_value peer given got ended = record { peer = peer; given = given; got = got; ended = ended }
 
 -- a job that is asked for: the addresses that were found for its name, the streams that were given up before, and the one that it goes
 -- over: the address that it leads to, what was read from it, and what was written to it; nothing, while there is none

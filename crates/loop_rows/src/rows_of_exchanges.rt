@@ -1,5 +1,5 @@
 //! The worked rows of exchanges. The functions do nothing.
-ghost use Rattle.std.specs.Prelude.{◌≡◌, ◌∷◌, ◌++◌, [], ℕ, List, codes, Option, Some, None};
+ghost use Rattle.std.specs.Prelude.{◌≡◌, ◌∷◌, ◌++◌, [], ℕ, List, codes, false, Option, Some, None};
 ghost use Rattle.connect_codec.specs.Outcome.{outcome_of};
 ghost use Rattle.connect_codec.specs.declared.answer.Outcome.{Outcome};
 ghost use Rattle.gateway_model.specs.Job.{JobValue};
@@ -17,14 +17,14 @@ fn fair_ends()
         → IsFair (ended a j [] given (request_of j) (Some (outcome_of (Some reply)))) }
     ensures lost { (a : SocketAddr) (j : JobValue) (given front more : List ℕ) → request_of j ≡ front ++ more → IsFair (ended a j [] given front (Some (outcome_of None))) }
     ensures no_memory { (a : SocketAddr) (j : JobValue) (given front more : List ℕ) → request_of j ≡ front ++ more → IsFair (ended a j [] given front None) }
-    ensures another_tried { (a : SocketAddr) (j : JobValue) → IsFair (ended a j (stream_value a [] [] ∷ []) [] [] (Some (outcome_of None))) }
+    ensures another_tried { (a : SocketAddr) (j : JobValue) → IsFair (ended a j (stream_value a [] [] false ∷ []) [] [] (Some (outcome_of None))) }
 {}
 
 /// No request is written twice, or otherwise, or to two streams; and no answer is made up, or given before the request was written.
 fn other_ends()
     ensures twice { (a : SocketAddr) (j : JobValue) (given : List ℕ) (o : Option Outcome) → IsFair (ended a j [] given (request_of j ++ request_of j) o) → ⊥ }
     ensures otherwise { (a : SocketAddr) (j : JobValue) (given : List ℕ) (o : Option Outcome) → IsFair (ended a j [] given (codes "GET") o) → ⊥ }
-    ensures two_streams { (a : SocketAddr) (j : JobValue) (given : List ℕ) (o : Option Outcome) → IsFair (ended a j (stream_value a [] (request_of j) ∷ []) given (request_of j) o) → ⊥ }
+    ensures two_streams { (a : SocketAddr) (j : JobValue) (given : List ℕ) (o : Option Outcome) → IsFair (ended a j (stream_value a [] (request_of j) false ∷ []) given (request_of j) o) → ⊥ }
     ensures made_up { (a : SocketAddr) (j : JobValue) (body : List ℕ) → IsFair (ended a j [] [] (request_of j) (Some (Outcome.Answer body))) → ⊥ }
     ensures early { (a : SocketAddr) (j : JobValue) (given body : List ℕ) → IsFair (ended a j [] given [] (Some (Outcome.Answer body))) → ⊥ }
 {}

@@ -1,5 +1,5 @@
 //! The worked rows of a loop's jobs. The functions do nothing.
-ghost use Rattle.std.specs.Prelude.{◌≡◌, ◌∷◌, ◌++◌, [], ℕ, List, codes, Option, Some, None};
+ghost use Rattle.std.specs.Prelude.{◌≡◌, ◌∷◌, ◌++◌, [], ℕ, List, codes, false, Option, Some, None};
 ghost use Rattle.connect_codec.specs.declared.answer.Outcome.{Outcome};
 ghost use Rattle.gateway_model.specs.Job.{JobValue};
 ghost use Rattle.std.specs.Net.Grammar.{IsSocketText};
@@ -39,7 +39,7 @@ fn other_jobs()
 fn jobs_that_go_on()
     ensures more { (a : SocketAddr) (v : GatewayValue) (j : JobValue) (given got more : List ℕ)
         → ContinuesLoop (asks v (asked a j [] given got)) (asks v (asked a j [] given (got ++ more))) }
-    ensures another { (a : SocketAddr) (v : GatewayValue) (j : JobValue) (got : List ℕ) → ContinuesLoop (asks v (asking j)) (asks v (asked a j (stream_value a [] [] ∷ []) [] got)) }
+    ensures another { (a : SocketAddr) (v : GatewayValue) (j : JobValue) (got : List ℕ) → ContinuesLoop (asks v (asking j)) (asks v (asked a j (stream_value a [] [] false ∷ []) [] got)) }
     ensures over { (a : SocketAddr) (v : GatewayValue) (j : JobValue) (given got more : List ℕ) (o : Option Outcome)
         → ContinuesLoop (asks v (asked a j [] given got)) (loop_of v ((j, o) ∷ []) (j ∷ []) (None ∷ []) (ended a j [] (given ++ more) got o ∷ [])) }
 {}

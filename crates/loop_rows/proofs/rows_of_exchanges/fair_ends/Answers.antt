@@ -1,4 +1,4 @@
-use Rattle.std.proofs.Common.{[], append-nil, inl, inr, refl, sym}
+use Rattle.std.proofs.Common.{[], append-nil, false, inl, inr, refl, sym}
 use Rattle.std.proofs.lemmas.List.Elements.{All-nil}
 use Rattle.loop_model.specs.Asking.{IsUntouched, request_of, stream_value}
 use Rattle.loop_rows.proofs.ExchangeLemmas.{all_one, found_first, no_some, some_is}
@@ -24,6 +24,6 @@ returns-clause-no_memory c a j given front more is = record {
 
 pub returns-clause-another_tried : goal.returns-clause-another_tried
 returns-clause-another_tried c a j = record {
-  begun = record { untouched = all_one IsUntouched (stream_value a [] []) (refl, refl); prefix = (request_of j, refl); addressed = found_first a j _ _ _ };
+  begun = record { untouched = all_one IsUntouched (stream_value a [] [] false) (refl, refl); prefix = (request_of j, refl); addressed = found_first a j _ _ _ };
   outcome = λ o same. inl (sym (some_is _ o same));
 }

@@ -1,4 +1,4 @@
-use Rattle.std.proofs.Common.{[], ◌∷◌, ◌++◌, Some, ap, inl, inr, refl, subst}
+use Rattle.std.proofs.Common.{[], ◌∷◌, ◌++◌, Some, ap, false, inl, inr, refl, subst}
 use Rattle.loop_model.specs.Asking.{AskingValue, stream_value}
 use Rattle.loop_model.specs.Whole.{AsksOn, asked_at}
 use Rattle.loop_rows.specs.LoopRows.{asked, asking, ended}
@@ -17,13 +17,13 @@ returns-clause-more c h v j given got more =
 
 pub returns-clause-another : goal.returns-clause-another
 returns-clause-another c h v j got =
-    let y : AskingValue = asked h j (stream_value h [] [] ∷ []) [] got in record {
+    let y : AskingValue = asked h j (stream_value h [] [] false ∷ []) [] got in record {
       side = side_on v [] [] (j ∷ []);
       asking = λ i x is.
           let a = alone i (asking j) x is in (
             y,
             inl (ap (λ n. asked_at n (Some y ∷ [])) a.0),
-            subst (λ t. AsksOn t y) a.1 (record { job = refl; found = (h ∷ [], refl); streams = inr record { last = stream_value h [] []; others = []; tried_are = refl; peer = inl refl; given = same []; got = same [] } }),
+            subst (λ t. AsksOn t y) a.1 (record { job = refl; found = (h ∷ [], refl); streams = inr record { last = stream_value h [] [] false; others = []; tried_are = refl; peer = inl refl; given = same []; got = same [] } }),
           );
       ended = same [];
     }
