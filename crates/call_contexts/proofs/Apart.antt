@@ -4,7 +4,7 @@ use Rattle.std.specs.Prelude.{◌⊎◌, All, unwrap_or}
 use Rattle.std.specs.List.{list_any}
 use Rattle.std.proofs.lemmas.List.Elements.{All-head, All-tail}
 use Rattle.std.proofs.lemmas.Bool.{cases_Bool}
-use Rattle.std.proofs.Math.Bool.{or-false, or-true}
+use Rattle.std.proofs.Math.Bool.{or-false}
 use Rattle.std.proofs.lemmas.Option.{same_Some}
 use Rattle.context_tree.specs.declared.node.Kind.{Kind}
 use Rattle.context_tree.specs.declared.node.Kind.TheVariants.{Background, Cancel, Deadline, Value}
@@ -14,8 +14,7 @@ use Rattle.after_funcs.specs.declared.callbacks.AfterFuncs.{AfterFuncs}
 use Rattle.call_contexts.specs.declared.life.Life.{Life}
 use Rattle.call_contexts.specs.declared.twig.Twig.{Twig}
 use Rattle.call_contexts.specs.Sound.{Op, IsSound, IsLife, IsConn, IsHolder, IsTwig, kind_of, contexts, owns, is_kept, is_twig}
-use Rattle.call_contexts.proofs.Trees.{same_refl, same_true, apart_kinds}
-use Rattle.call_contexts.proofs.Lists.{life_in, twig_in}
+use Rattle.call_contexts.proofs.Trees.{same_refl, same_true, not_both, apart_kinds}
 
 pub kind_parent : (C V : Type 0) (p q : Id) (d : Option ℕ) → parent_of (kind_of {C = C} {V = V} p d) ≡ Some q → p ≡ q
 kind_parent C V p q None e = cc
@@ -132,58 +131,63 @@ module _ {C V : Type 0} (past : List (Op C V)) (root base : Id) (root_is : held 
   parent_call o o_is conn c None is e = conn_call o o_is conn c e
   parent_call o o_is conn c (Some x) is e = holder_call o o_is x conn is.0 is.1 e
 
-  module _ (t : Twig) (t_is : held t.ctx past ≡ Some (Deadline t.call t.at None)) where
+  module _ (o : Life) (o_is : IsLife past base o) (t : Twig) (t_is : held t.ctx past ≡ Some (Deadline o.ctx t.at None)) where
     abbrev twig : Kind C V
-    twig = Deadline t.call t.at None
+    twig = Deadline o.ctx t.at None
 
     pub root_far_twig : same root t.ctx ≡ false
-    root_far_twig = apart_kinds root t.ctx Background (Deadline t.call t.at None) past root_is t_is (λ e. cc)
+    root_far_twig = apart_kinds root t.ctx Background (Deadline o.ctx t.at None) past root_is t_is (λ e. cc)
 
     pub base_far_twig : same base t.ctx ≡ false
-    base_far_twig = apart_kinds base t.ctx (Cancel root) (Deadline t.call t.at None) past base_is t_is (λ e. cc)
+    base_far_twig = apart_kinds base t.ctx (Cancel root) (Deadline o.ctx t.at None) past base_is t_is (λ e. cc)
 
     pub conn_far_twig : (c : Id) → IsConn base past c → same c t.ctx ≡ false
-    conn_far_twig c c_is = apart_kinds c t.ctx (Cancel base) (Deadline t.call t.at None) past c_is t_is (λ e. cc)
+    conn_far_twig c c_is = apart_kinds c t.ctx (Cancel base) (Deadline o.ctx t.at None) past c_is t_is (λ e. cc)
 
     pub twig_far_conn : (c : Id) → IsConn base past c → same t.ctx c ≡ false
-    twig_far_conn c c_is = apart_kinds t.ctx c (Deadline t.call t.at None) (Cancel base) past t_is c_is (λ e. cc)
+    twig_far_conn c c_is = apart_kinds t.ctx c (Deadline o.ctx t.at None) (Cancel base) past t_is c_is (λ e. cc)
 
     pub holder_far_twig : (x conn : Id) (r : V) → held x past ≡ Some (Value conn 0 r) → same x t.ctx ≡ false
-    holder_far_twig x conn r x_is = apart_kinds x t.ctx (Value conn 0 r) (Deadline t.call t.at None) past x_is t_is (λ e. cc)
+    holder_far_twig x conn r x_is = apart_kinds x t.ctx (Value conn 0 r) (Deadline o.ctx t.at None) past x_is t_is (λ e. cc)
 
     pub twig_far_holder : (x conn : Id) (r : V) → held x past ≡ Some (Value conn 0 r) → same t.ctx x ≡ false
-    twig_far_holder x conn r x_is = apart_kinds t.ctx x (Deadline t.call t.at None) (Value conn 0 r) past t_is x_is (λ e. cc)
+    twig_far_holder x conn r x_is = apart_kinds t.ctx x (Deadline o.ctx t.at None) (Value conn 0 r) past t_is x_is (λ e. cc)
 
     pub twig_root : t.ctx ≡ root → ⊥
-    twig_root = differ t.ctx root (Deadline t.call t.at None) Background past t_is root_is (λ e. cc)
+    twig_root = differ t.ctx root (Deadline o.ctx t.at None) Background past t_is root_is (λ e. cc)
 
     pub twig_base : t.ctx ≡ base → ⊥
-    twig_base = differ t.ctx base (Deadline t.call t.at None) (Cancel root) past t_is base_is (λ e. cc)
+    twig_base = differ t.ctx base (Deadline o.ctx t.at None) (Cancel root) past t_is base_is (λ e. cc)
 
     pub conn_twig : (c : Id) → IsConn base past c → c ≡ t.ctx → ⊥
-    conn_twig c c_is = differ c t.ctx (Cancel base) (Deadline t.call t.at None) past c_is t_is (λ e. cc)
+    conn_twig c c_is = differ c t.ctx (Cancel base) (Deadline o.ctx t.at None) past c_is t_is (λ e. cc)
 
     pub holder_twig : (x conn : Id) (r : V) → held x past ≡ Some (Value conn 0 r) → x ≡ t.ctx → ⊥
-    holder_twig x conn r x_is = differ x t.ctx (Value conn 0 r) (Deadline t.call t.at None) past x_is t_is (λ e. cc)
+    holder_twig x conn r x_is = differ x t.ctx (Value conn 0 r) (Deadline o.ctx t.at None) past x_is t_is (λ e. cc)
 
     -- of one kind with a call's, it derives from a call's context, and no call's does
-    module _ (o : Life) (o_is : IsLife past base o) (of : o.ctx ≡ t.call) (m : Life) (m_is : IsLife past base m) where
+    module _ (m : Life) (m_is : IsLife past base m) where
       other_kind : kind_of (unwrap_or m.holder m.conn) m.deadline ≡ twig → ⊥
-      other_kind e = parent_call o o_is m.conn m_is.conn_is m.holder m_is.holder_is (kind_parent C V (unwrap_or m.holder m.conn) t.call m.deadline (ap parent_of e) ∙ sym of)
+      other_kind e = parent_call o o_is m.conn m_is.conn_is m.holder m_is.holder_is (kind_parent C V (unwrap_or m.holder m.conn) o.ctx m.deadline (ap parent_of e))
 
       pub call_far_twig : same m.ctx t.ctx ≡ false
-      call_far_twig = apart_kinds m.ctx t.ctx (kind_of (unwrap_or m.holder m.conn) m.deadline) (Deadline t.call t.at None) past m_is.call_is t_is other_kind
+      call_far_twig = apart_kinds m.ctx t.ctx (kind_of (unwrap_or m.holder m.conn) m.deadline) (Deadline o.ctx t.at None) past m_is.call_is t_is other_kind
 
       pub twig_far_call : same t.ctx m.ctx ≡ false
-      twig_far_call = apart_kinds t.ctx m.ctx (Deadline t.call t.at None) (kind_of (unwrap_or m.holder m.conn) m.deadline) past t_is m_is.call_is (λ e. other_kind (sym e))
+      twig_far_call = apart_kinds t.ctx m.ctx (Deadline o.ctx t.at None) (kind_of (unwrap_or m.holder m.conn) m.deadline) past t_is m_is.call_is (λ e. other_kind (sym e))
+
+  -- branches of two calls have two contexts
+  pub twigs_far_other : (o m : Life) (t u : Twig) → IsTwig past o.ctx t → IsTwig past m.ctx u → same m.ctx o.ctx ≡ false → same u.ctx t.ctx ≡ false
+  twigs_far_other o m t u t_is u_is far = apart_kinds u.ctx t.ctx (Deadline m.ctx u.at None) (Deadline o.ctx t.at None) past u_is t_is
+      (λ e. not_both (same m.ctx o.ctx) (subst (λ z. same m.ctx z ≡ true) (same_Some m.ctx o.ctx (ap parent_of e)) (same_refl m.ctx)) far)
 
 -- ---- what derives from what
 
--- a call that derives from that context, by its connection or by the one that has its request id
+-- a call that derives from that context, by its connection or by the one that has its request id, or that has a branch which does
 pub record Derives (P : Life → Type 0) (x y : Id) : Type 0 where
   pub life : Life
   pub which : P life
-  pub from : (life.conn ≡ x) ⊎ ((life.holder ≡ Some x) × (y ≡ life.ctx))
+  pub from : (life.conn ≡ x) ⊎ (((life.holder ≡ Some x) × (y ≡ life.ctx)) ⊎ ((life.ctx ≡ x) × (is_twig y life.twigs ≡ true)))
 
 among_in : (P : Id → Type 0) (y : Id) (xs : List Id) → All P xs → is_among y xs ≡ true → P y
 among_in P y [] all is = cc
@@ -206,7 +210,7 @@ owned y ctx (Some x) is = ⊎_elim
     (λ (n : same y ctx ≡ false). let e : y ≡ x = same_true y x (sym (or-false (same y x)) ∙ (rw n at is)) in inr (ap (λ z. Some z) (sym e)))
     (cases_Bool (same y ctx))
 
-module _ {C V H : Type 0} {f : AfterFuncs H} {base : Id} {conns : List Id} {calls : List Life} {twigs : List Twig} {old : TreeValue C V} (s : IsSound old f twigs base conns calls)
+module _ {C V H : Type 0} {f : AfterFuncs H} {base : Id} {conns : List Id} {calls : List Life} {old : TreeValue C V} (s : IsSound old f base conns calls)
     (P : Life → Type 0) (each : All (λ l. IsLife s.past base l × P l) calls) where
   of_parent : (x : Id) (k : Kind C V) (y : Id) (l : Kind C V) → held y s.past ≡ Some k → held y s.past ≡ Some l → parent_of k ≡ Some x → parent_of l ≡ Some x
   of_parent x k y l ks ls is = ap parent_of (same_Some l k (sym ls ∙ ks)) ∙ is
@@ -217,26 +221,21 @@ module _ {C V H : Type 0} {f : AfterFuncs H} {base : Id} {conns : List Id} {call
       let zy : z ≡ y = same_Some z y e in
       same_Some conn x (of_parent x k y (Value conn 0 h.0) ks (subst (λ w. held w s.past ≡ Some (Value conn 0 h.0)) zy h.1) is)
 
-  by_call : (x y ctx conn : Id) → (holder : Option Id) → unwrap_or holder conn ≡ x → y ≡ ctx → (conn ≡ x) ⊎ ((holder ≡ Some x) × (y ≡ ctx))
-  by_call x y ctx conn None e same_ctx = inl e
-  by_call x y ctx conn (Some z) e same_ctx = inr (ap (λ w. Some w) e, same_ctx)
+  by_call : (B : Type 0) (x y ctx conn : Id) → (holder : Option Id) → unwrap_or holder conn ≡ x → y ≡ ctx → (conn ≡ x) ⊎ (((holder ≡ Some x) × (y ≡ ctx)) ⊎ B)
+  by_call B x y ctx conn None e same_ctx = inl e
+  by_call B x y ctx conn (Some z) e same_ctx = inr (inl (ap (λ w. Some w) e, same_ctx))
 
   -- a branch's context derives from its call's
-  from_twig : (x y : Id) (k : Kind C V) → held y s.past ≡ Some k → parent_of k ≡ Some x → (ts : List Twig) → All (IsTwig s.past calls) ts → is_twig y ts ≡ true → list_any (λ t. same t.call x) ts ≡ true
-  from_twig x y k ks is [] all any = cc
-  from_twig x y k ks is (t ∷ ts) all any = ⊎_elim
-      (λ (h : same y t.ctx ≡ true).
-      let of : IsTwig s.past calls t = All-head (IsTwig s.past calls) t ts all in
-      let e : Some t.call ≡ Some x = of_parent x k y (Deadline t.call t.at None) ks (subst (λ z. held z s.past ≡ Some (Deadline t.call t.at None)) (sym (same_true y t.ctx h)) of.0) is in
-      let here : same t.call x ≡ true = subst (λ z. same t.call z ≡ true) (same_Some t.call x e) (same_refl t.call) in
-      rw here refl)
-      (λ (n : same y t.ctx ≡ false).
-      let rest : list_any (λ u. same u.call x) ts ≡ true = from_twig x y k ks is ts (All-tail (IsTwig s.past calls) t ts all) (rw n at any) in
-      rw rest (or-true (same t.call x)))
+  from_twig : (x y call : Id) (k : Kind C V) → held y s.past ≡ Some k → parent_of k ≡ Some x → (ts : List Twig) → All (IsTwig s.past call) ts → is_twig y ts ≡ true → call ≡ x
+  from_twig x y call k ks is [] all any = cc
+  from_twig x y call k ks is (t ∷ ts) all any = ⊎_elim
+      (λ (h : same y t.ctx ≡ true). same_Some call x (of_parent x k y (Deadline call t.at None) ks
+      (subst (λ z. held z s.past ≡ Some (Deadline call t.at None)) (sym (same_true y t.ctx h)) (All-head (IsTwig s.past call) t ts all)) is))
+      (λ (n : same y t.ctx ≡ false). from_twig x y call k ks is ts (All-tail (IsTwig s.past call) t ts all) (rw n at any))
       (cases_Bool (same y t.ctx))
 
   -- from the root derives the base, from it the connections, from each of these its calls, and from each of these its branches
-  pub origin : (x y : Id) (k : Kind C V) → held y s.past ≡ Some k → parent_of k ≡ Some x → (x ≡ s.root) ⊎ ((x ≡ base) ⊎ (Derives P x y ⊎ (list_any (λ t. same t.call x) twigs ≡ true)))
+  pub origin : (x y : Id) (k : Kind C V) → held y s.past ≡ Some k → parent_of k ≡ Some x → (x ≡ s.root) ⊎ ((x ≡ base) ⊎ Derives P x y)
   origin x y k ks is = ⊎_elim
       (λ (r : same y s.root ≡ true).
       let bad : parent_of {C = C} {V = V} Background ≡ Some x = of_parent x k y Background ks (subst (λ z. held z s.past ≡ Some Background) (sym (same_true y s.root r)) s.root_is) is in
@@ -250,14 +249,11 @@ module _ {C V H : Type 0} {f : AfterFuncs H} {base : Id} {conns : List Id} {call
       let e : Some base ≡ Some x = of_parent x k y (Cancel base) ks (among_in (IsConn base s.past) y conns s.conns_are c) is in
       inr (inl (sym (same_Some base x e))))
       (λ (nc : is_among y conns ≡ false). ⊎_elim
-      (λ (o : list_any (owns y) calls ≡ true). inr (inr (inl (of_call (owner_in (λ l. IsLife s.past base l × P l) y calls each o)))))
-      (λ (none : list_any (owns y) calls ≡ false). ⊎_elim
-      (λ (t : is_twig y twigs ≡ true). inr (inr (inr (from_twig x y k ks is twigs s.twigs_are t))))
-      (λ (nt : is_twig y twigs ≡ false).
-      let kept : is_kept twigs s.root base conns calls y ≡ false = rw (nt, nr, nb, nc, none) refl in
+      (λ (o : list_any (owns y) calls ≡ true). inr (inr (of_call (owner_in (λ l. IsLife s.past base l × P l) y calls each o))))
+      (λ (none : list_any (owns y) calls ≡ false).
+      let kept : is_kept s.root base conns calls y ≡ false = rw (nr, nb, nc, none) refl in
       let bad : None ≡ Some k = sym (s.none_else y kept) ∙ ks in
       cc)
-      (cases_Bool (is_twig y twigs)))
       (cases_Bool (list_any (owns y) calls)))
       (cases_Bool (is_among y conns)))
       (cases_Bool (same y base)))
@@ -268,27 +264,14 @@ module _ {C V H : Type 0} {f : AfterFuncs H} {base : Id} {conns : List Id} {call
         life = o.0;
         which = o.1.1;
         from = ⊎_elim
-            (λ (c : y ≡ o.0.ctx). by_call x y o.0.ctx o.0.conn o.0.holder
+            (λ (own : is_among y (contexts o.0.ctx o.0.holder) ≡ true). ⊎_elim
+            (λ (c : y ≡ o.0.ctx). by_call ((o.0.ctx ≡ x) × (is_twig y o.0.twigs ≡ true)) x y o.0.ctx o.0.conn o.0.holder
             (kind_parent C V (unwrap_or o.0.holder o.0.conn) x o.0.deadline
             (of_parent x k y (kind_of (unwrap_or o.0.holder o.0.conn) o.0.deadline) ks (subst (λ z. held z s.past ≡ Some (kind_of (unwrap_or o.0.holder o.0.conn) o.0.deadline)) (sym c) o.1.0.call_is) is)) c)
             (λ (h : o.0.holder ≡ Some y). inl (by_holder x y k ks is o.0.conn o.0.holder o.1.0.holder_is h))
-            (owned y o.0.ctx o.0.holder o.2);
+            (owned y o.0.ctx o.0.holder own))
+            (λ (off : is_among y (contexts o.0.ctx o.0.holder) ≡ false).
+            let twig : is_twig y o.0.twigs ≡ true = rw off at o.2 in
+            inr (inr (from_twig x y o.0.ctx k ks is o.0.twigs o.1.0.twigs_are twig, twig)))
+            (cases_Bool (is_among y (contexts o.0.ctx o.0.holder)));
       }
-
--- the call of a branch stands
-module _ {C V H : Type 0} {f : AfterFuncs H} {base : Id} {conns : List Id} {calls : List Life} {twigs : List Twig} {old : TreeValue C V} (s : IsSound old f twigs base conns calls) where
-  pub owner : (t : Twig) → IsTwig s.past calls t → (l : Life) × IsLife s.past base l × (l.ctx ≡ t.call)
-  owner t is = life_in (IsLife s.past base) t.call calls s.calls_are is.1
-
-  pub called : (x : Id) → list_any (λ t. same t.call x) twigs ≡ true → (l : Life) × IsLife s.past base l × (l.ctx ≡ x)
-  called x any =
-      let t = twig_in (IsTwig s.past calls) x twigs s.twigs_are any in
-      let o = owner t.0 t.1 in
-      (o.0, o.1, o.2 ∙ t.2)
-
-  -- a branch's context is no call's
-  pub call_apart_twig : (t : Twig) → IsTwig s.past calls t → (m : Life) → IsLife s.past base m → same m.ctx t.ctx ≡ false
-  call_apart_twig t is m m_is = let o = owner t is in call_far_twig s.past s.root base s.root_is s.base_is t is.0 o.0 o.1 o.2 m m_is
-
-  pub twig_apart_call : (t : Twig) → IsTwig s.past calls t → (m : Life) → IsLife s.past base m → same t.ctx m.ctx ≡ false
-  twig_apart_call t is m m_is = let o = owner t is in twig_far_call s.past s.root base s.root_is s.base_is t is.0 o.0 o.1 o.2 m m_is

@@ -1,44 +1,88 @@
--- The branches of one call, as they are seen.
-use Rattle.std.proofs.Common.{◌≡◌, refl, sym, ap, ◌∙◌, List, [], ◌∷◌, Some, None, Bool, true, false, ⊎_elim, subst}
-use Rattle.std.specs.Prelude.{◌||◌, not, if◌then◌else◌, map, filter, All}
+-- The branches of one call, as they are kept and as they are seen.
+use Rattle.std.proofs.Common.{◌≡◌, refl, sym, ap, ◌∙◌, ℕ, zero, suc, ◌<◌, List, [], ◌∷◌, ◌++◌, take, drop, Some, Bool, true, false, ⊎_elim, subst, arith, length, slice_set}
+use Rattle.std.specs.Prelude.{◌||◌, not, if◌then◌else◌, map, filter, slice_index_or, All}
 use Rattle.std.specs.List.{list_any}
-use Rattle.std.proofs.lemmas.Bool.{cases_Bool, or_parts}
-use Rattle.std.proofs.lemmas.List.Elements.{All-nil, All-cons, All-head, All-tail}
+use Rattle.std.proofs.lemmas.Bool.{cases_Bool, eq-eqb, ne_eqb, or_parts}
+use Rattle.std.proofs.lemmas.List.Elements.{All-nil, All-cons, All-head, All-tail, All-weaker}
+use Rattle.std.proofs.lemmas.Option.{same_Some}
 use Rattle.context_tree.specs.Context.{Id, same}
 use Rattle.call_contexts.specs.declared.life.Life.{Life}
 use Rattle.call_contexts.specs.declared.twig.Twig.{Twig}
-use Rattle.call_contexts.specs.Standing.{Branch, Call, Standing, WithHooks, Slots, seen, seen_call, seen_branch, seen_branches, on_branches, bare_call, IsBare, with_branches, with_standing, is_call, gone}
-use Rattle.call_contexts.specs.Sound.{life_at}
-use Rattle.call_contexts.proofs.Trees.{same_true}
+use Rattle.call_contexts.specs.Standing.{Branch, Call, Standing, WithHooks, Slots, cause_in, seen, seen_conn, seen_call, seen_branches, on_branches, bare_call, IsBare, with_branches, with_standing, is_call, gone}
+use Rattle.call_contexts.specs.Sound.{IsPlaced, NoTwo, drop_twig, life_at, same_ctx, with_twigs}
+use Rattle.call_contexts.proofs.Hooking.{map_nil}
+use Rattle.call_contexts.proofs.Lists.{all_none, gone_first}
+use Rattle.call_contexts.proofs.Trees.{not_both, same_refl}
+
+-- ---- one of a list of branches
+
+pub split_at : (i : ℕ) (ts : List Twig) (d : Twig) → i < length ts → ts ≡ take i ts ++ slice_index_or ts i d ∷ drop (suc i) ts
+split_at i [] d lt = absurd (omega (arith, lt))
+split_at zero (t ∷ ts) d lt = refl
+split_at (suc i) (t ∷ ts) d lt = ap (λ us. t ∷ us) (split_at i ts d (omega (arith, lt)))
+
+pub dropped_at : (n i : ℕ) (ts : List Twig) (d : Twig) → i < length ts → ((j : ℕ) (e : Twig) → j < i → (slice_index_or ts j e).branch ≡ n → ⊥) → (slice_index_or ts i d).branch ≡ n
+    → drop_twig n ts ≡ take i ts ++ drop (suc i) ts
+dropped_at n i [] d lt none own = absurd (omega (arith, lt))
+dropped_at n zero (t ∷ ts) d lt none own = rw (eq-eqb t.branch n own) refl
+dropped_at n (suc i) (t ∷ ts) d lt none own =
+    rw (ne_eqb t.branch n (none 0 t (omega arith))) (ap (λ us. t ∷ us) (dropped_at n i ts d (omega (arith, lt)) (λ j e low. none (suc j) e (omega (arith, low))) own))
+
+pub dropped_none : (n : ℕ) (ts : List Twig) → ((j : ℕ) (e : Twig) → j < length ts → (slice_index_or ts j e).branch ≡ n → ⊥) → ts ≡ drop_twig n ts
+dropped_none n [] none = refl
+dropped_none n (t ∷ ts) none = rw (ne_eqb t.branch n (none 0 t (omega arith))) (ap (λ us. t ∷ us) (dropped_none n ts (λ j e low. none (suc j) e (omega (arith, low)))))
+
+-- ---- the one call of a context
+
+any_at : {A : Type 0} (p : A → Bool) (xs : List A) (i : ℕ) (d : A) → list_any p xs ≡ false → i < length xs → p (slice_index_or xs i d) ≡ false
+any_at p [] i d none lt = absurd (omega (arith, lt))
+any_at p (x ∷ xs) zero d none lt = (or_parts (p x) (list_any p xs) none).0
+any_at p (x ∷ xs) (suc i) d none lt = any_at p xs i d (or_parts (p x) (list_any p xs) none).1 (omega (arith, lt))
+
+module _ (id : Id) where
+  pub only_one : (l : Life) (ls : List Life) → NoTwo same_ctx ls → life_at id ls ≡ Some l → All (λ m. same m.ctx id ≡ true → m ≡ l) ls
+  only_one l [] distinct found = cc
+  only_one l (m ∷ ms) distinct found = ⊎_elim
+      (λ (y : same m.ctx id ≡ true).
+      let e : m ≡ l = same_Some m l (rw y at found) in
+      All-cons (λ m. same m.ctx id ≡ true → m ≡ l) m ms (λ z. e)
+      (All-weaker (λ k. same k.ctx id ≡ false) (λ k. same k.ctx id ≡ true → k ≡ l) (λ k far z. absurd (not_both (same k.ctx id) z far)) ms
+      (all_none (λ k. same k.ctx id) ms (gone_first id m ms distinct.0 y))))
+      (λ (n : same m.ctx id ≡ false).
+      All-cons (λ m. same m.ctx id ≡ true → m ≡ l) m ms (λ z. absurd (not_both (same m.ctx id) z n)) (only_one l ms distinct.1 (rw n at found)))
+      (cases_Bool (same m.ctx id))
+
+  others_still : (ts : List Twig) (ls : List Life) → list_any (λ k. same k.ctx id) ls ≡ false → map (with_twigs id ts) ls ≡ ls
+  others_still ts [] none = refl
+  others_still ts (m ∷ ms) none = let two = or_parts (same m.ctx id) (list_any (λ k. same k.ctx id) ms) none in rw two.0 (ap (λ ks. m ∷ ks) (others_still ts ms two.1))
+
+  -- the call at that place is the one of that context
+  pub placed : (i : ℕ) (d : Life) (ts : List Twig) (ls : List Life) → NoTwo same_ctx ls → i < length ls → (slice_index_or ls i d).ctx ≡ id
+      → (life_at id ls ≡ Some (slice_index_or ls i d)) × (slice_set ls i (record (slice_index_or ls i d) { twigs = ts }) ≡ map (with_twigs id ts) ls)
+  placed i d ts [] distinct lt own = absurd (omega (arith, lt))
+  placed zero d ts (m ∷ ms) distinct lt own =
+      let y : same m.ctx id ≡ true = rw own (same_refl id) in
+      (rw y refl, rw y (ap (λ ks. record m { twigs = ts } ∷ ks) (sym (others_still ts ms (gone_first id m ms distinct.0 y)))))
+  placed (suc i) d ts (m ∷ ms) distinct lt own =
+      let low : i < length ms = omega (arith, lt) in
+      let n : same m.ctx id ≡ false = ⊎_elim
+      (λ (y : same m.ctx id ≡ true). absurd (not_both (same (slice_index_or ms i d).ctx id) (rw own (same_refl id)) (any_at (λ k. same k.ctx id) ms i d (gone_first id m ms distinct.0 y) low)))
+      (λ (n : same m.ctx id ≡ false). n)
+      (cases_Bool (same m.ctx id)) in
+      let rest = placed i d ts ms distinct.1 low own in
+      (rw n rest.0, rw n (ap (λ ks. m ∷ ks) rest.1))
+
+  pub placed_call : (i : ℕ) (x : Life) (ts : List Twig) (ls : List Life) → NoTwo same_ctx ls → i < length ls → IsPlaced id i ls → x ≡ slice_index_or ls i x
+      → (life_at id ls ≡ Some x) × (slice_set ls i (record x { twigs = ts }) ≡ map (with_twigs id ts) ls)
+  placed_call i x ts ls distinct lt own x_is =
+      let p = placed i x ts ls distinct lt (own x) in
+      (p.0 ∙ ap (λ k. Some k) (sym x_is), subst (λ k. slice_set ls i (record k { twigs = ts }) ≡ map (with_twigs id ts) ls) (sym x_is) p.1)
+
+-- ---- the calls, with the branches of that one turned
 
 module _ {C V : Type 0} (id : Id) where
-  -- the calls, with the branches of that one turned
   abbrev pub turn_calls : (Call C V → List (Branch C)) → List (Call C V) → List (Call C V)
   turn_calls f cs = map (λ c. if same c.id id then with_branches (f c) c else c) cs
-
-  turned_same : (f g : Call C V → List (Branch C)) (cs : List (Call C V)) → All (λ c. same c.id id ≡ true → f c ≡ g c) cs → turn_calls f cs ≡ turn_calls g cs
-  turned_same f g [] all = refl
-  turned_same f g (c ∷ cs) all =
-      let rest = turned_same f g cs (All-tail (λ c. same c.id id ≡ true → f c ≡ g c) c cs all) in
-      ⊎_elim
-      (λ (y : same c.id id ≡ true).
-      let here : f c ≡ g c = All-head (λ c. same c.id id ≡ true → f c ≡ g c) c cs all y in
-      rw y (ap (λ bs. with_branches bs c ∷ turn_calls f cs) here ∙ ap (λ l. with_branches (g c) c ∷ l) rest))
-      (λ (n : same c.id id ≡ false). rw n (ap (λ l. c ∷ l) rest))
-      (cases_Bool (same c.id id))
-
-  pub on_same : (f g : Call C V → List (Branch C)) (v : Standing C V) → All (λ c. same c.id id ≡ true → f c ≡ g c) v.calls → on_branches id f v ≡ on_branches id g v
-  on_same f g v all = ap (λ cs. record { drained = v.drained; conns = v.conns; calls = cs }) (turned_same f g v.calls all)
-
-  turned_none : (cs : List (Call C V)) → turn_calls (λ c. c.branches) cs ≡ cs
-  turned_none [] = refl
-  turned_none (c ∷ cs) = ⊎_elim
-      (λ (y : same c.id id ≡ true). rw y (ap (λ l. c ∷ l) (turned_none cs)))
-      (λ (n : same c.id id ≡ false). rw n (ap (λ l. c ∷ l) (turned_none cs)))
-      (cases_Bool (same c.id id))
-
-  pub on_none : (v : Standing C V) → on_branches id (λ c. c.branches) v ≡ v
-  on_none v = ap (λ cs. record { drained = v.drained; conns = v.conns; calls = cs }) (turned_none v.calls)
 
   turned_twice : (f : Call C V → List (Branch C)) (cs : List (Call C V)) → turn_calls (λ c. []) (turn_calls f cs) ≡ turn_calls (λ c. []) cs
   turned_twice f [] = refl
@@ -79,35 +123,45 @@ module _ {C V : Type 0} (id : Id) where
 -- ---- what is seen
 
 module _ {C V : Type 0} (slots : Slots C V) (id : Id) where
-  -- where the call has no branch, none is seen
-  none_first : (ts : List Twig) → list_any (λ t. same t.call id) ts ≡ false → seen_branches slots ts id ≡ []
-  none_first [] none = refl
-  none_first (t ∷ ts) none = let two = or_parts (same t.call id) (list_any (λ u. same u.call id) ts) none in rw two.0 (none_first ts two.1)
-
-  none_seen : (ts : List Twig) → seen_branches slots ts id ≡ [] → list_any (λ t. same t.call id) ts ≡ false
-  none_seen [] is = refl
-  none_seen (t ∷ ts) is = ⊎_elim
-      (λ (y : same t.call id ≡ true). let bad : seen_branch slots t ∷ seen_branches slots ts id ≡ [] = rw y at is in cc)
-      (λ (n : same t.call id ≡ false). rw n (none_seen ts (rw n at is)))
-      (cases_Bool (same t.call id))
-
-  -- what holds of the branches that are seen of that call holds of the call's
-  pub all_seen_of : (P : List (Branch C) → Type 0) (ts : List Twig) (ls : List Life) → P (seen_branches slots ts id) → All (λ c. same c.id id ≡ true → P c.branches) (map (seen_call slots ts) ls)
-  all_seen_of P ts [] p = All-nil (λ c. same c.id id ≡ true → P c.branches)
-  all_seen_of P ts (l ∷ ls) p = All-cons (λ c. same c.id id ≡ true → P c.branches) (seen_call slots ts l) (map (seen_call slots ts) ls)
-      (λ y. subst (λ x. P (seen_branches slots ts x)) (sym (same_true l.ctx id y)) p) (all_seen_of P ts ls p)
-
-  -- a call that is seen without branches has none
-  pub bare_twigs : (ts : List Twig) (l : Life) (ls : List Life) → life_at id ls ≡ Some l → IsBare id (map (seen_call slots ts) ls) → list_any (λ t. same t.call id) ts ≡ false
-  bare_twigs ts l [] found bare = cc
-  bare_twigs ts l (m ∷ ms) found bare = ⊎_elim
-      (λ (y : same m.ctx id ≡ true). none_seen ts
-      (subst (λ x. seen_branches slots ts x ≡ []) (same_true m.ctx id y) (All-head (λ c. same c.id id ≡ true → c.branches ≡ []) (seen_call slots ts m) (map (seen_call slots ts) ms) bare y)))
-      (λ (n : same m.ctx id ≡ false). bare_twigs ts l ms (rw n at found) (All-tail (λ c. same c.id id ≡ true → c.branches ≡ []) (seen_call slots ts m) (map (seen_call slots ts) ms) bare))
+  pub turn_seen : (f : Call C V → List (Branch C)) (ts : List Twig) (ls : List Life) → All (λ m. same m.ctx id ≡ true → f (seen_call slots m) ≡ seen_branches slots ts) ls
+      → map (seen_call slots) (map (with_twigs id ts) ls) ≡ turn_calls id f (map (seen_call slots) ls)
+  turn_seen f ts [] all = refl
+  turn_seen f ts (m ∷ ms) all =
+      let rest = turn_seen f ts ms (All-tail (λ m. same m.ctx id ≡ true → f (seen_call slots m) ≡ seen_branches slots ts) m ms all) in
+      ⊎_elim
+      (λ (y : same m.ctx id ≡ true).
+      let here : f (seen_call slots m) ≡ seen_branches slots ts = All-head (λ m. same m.ctx id ≡ true → f (seen_call slots m) ≡ seen_branches slots ts) m ms all y in
+      rw y (ap (λ bs. with_branches bs (seen_call slots m) ∷ map (seen_call slots) (map (with_twigs id ts) ms)) (sym here) ∙ ap (λ cs. with_branches (f (seen_call slots m)) (seen_call slots m) ∷ cs) rest))
+      (λ (n : same m.ctx id ≡ false). rw n (ap (λ cs. seen_call slots m ∷ cs) rest))
       (cases_Bool (same m.ctx id))
 
-  pub none_bare : (ts : List Twig) (base : Id) (conns : List Id) (ls : List Life) → list_any (λ t. same t.call id) ts ≡ false
-      → seen slots ts base conns ls ≡ bare_call id (seen slots ts base conns ls)
-  none_bare ts base conns ls none = sym (on_none id (seen slots ts base conns ls))
-      ∙ on_same id (λ c. c.branches) (λ c. []) (seen slots ts base conns ls)
-      (all_seen_of (λ bs. bs ≡ []) ts ls (none_first ts none))
+  turn_none : (f : Call C V → List (Branch C)) (ls : List Life) → All (λ m. same m.ctx id ≡ true → f (seen_call slots m) ≡ seen_branches slots m.twigs) ls
+      → map (seen_call slots) ls ≡ turn_calls id f (map (seen_call slots) ls)
+  turn_none f [] all = refl
+  turn_none f (m ∷ ms) all =
+      let rest = turn_none f ms (All-tail (λ m. same m.ctx id ≡ true → f (seen_call slots m) ≡ seen_branches slots m.twigs) m ms all) in
+      ⊎_elim
+      (λ (y : same m.ctx id ≡ true).
+      let here : f (seen_call slots m) ≡ seen_branches slots m.twigs = All-head (λ m. same m.ctx id ≡ true → f (seen_call slots m) ≡ seen_branches slots m.twigs) m ms all y in
+      rw y (ap (λ bs. with_branches bs (seen_call slots m) ∷ map (seen_call slots) ms) (sym here) ∙ ap (λ cs. with_branches (f (seen_call slots m)) (seen_call slots m) ∷ cs) rest))
+      (λ (n : same m.ctx id ≡ false). rw n (ap (λ cs. seen_call slots m ∷ cs) rest))
+      (cases_Bool (same m.ctx id))
+
+  -- nothing changes where the call keeps its branches
+  pub seen_still : (f : Call C V → List (Branch C)) (base : Id) (conns : List Id) (ls : List Life) → All (λ m. same m.ctx id ≡ true → f (seen_call slots m) ≡ seen_branches slots m.twigs) ls
+      → seen slots base conns ls ≡ on_branches id f (seen slots base conns ls)
+  seen_still f base conns ls all = ap (λ cs. record { drained = cause_in slots base; conns = map (seen_conn slots) conns; calls = cs }) (turn_none f ls all)
+
+  -- nor where it is none of these
+  pub none_seen : (f : Call C V → List (Branch C)) (base : Id) (conns : List Id) (ls : List Life) → list_any (λ m. same m.ctx id) ls ≡ false
+      → seen slots base conns ls ≡ on_branches id f (seen slots base conns ls)
+  none_seen f base conns ls none = seen_still f base conns ls
+      (All-weaker (λ m. same m.ctx id ≡ false) (λ m. same m.ctx id ≡ true → f (seen_call slots m) ≡ seen_branches slots m.twigs) (λ m far y. absurd (not_both (same m.ctx id) y far)) ls
+      (all_none (λ m. same m.ctx id) ls none))
+
+  -- a call that is seen without branches has none
+  pub bare_twigs : (ls : List Life) → IsBare id (map (seen_call slots) ls) → All (λ m. same m.ctx id ≡ true → m.twigs ≡ []) ls
+  bare_twigs [] bare = All-nil (λ m. same m.ctx id ≡ true → m.twigs ≡ [])
+  bare_twigs (m ∷ ms) bare = All-cons (λ m. same m.ctx id ≡ true → m.twigs ≡ []) m ms
+      (λ y. map_nil _ m.twigs (All-head (λ c. same c.id id ≡ true → c.branches ≡ []) (seen_call slots m) (map (seen_call slots) ms) bare y))
+      (bare_twigs ms (All-tail (λ c. same c.id id ≡ true → c.branches ≡ []) (seen_call slots m) (map (seen_call slots) ms) bare))

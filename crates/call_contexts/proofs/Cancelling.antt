@@ -1,6 +1,6 @@
 -- What is seen after a cancel of a connection.
 use Rattle.std.proofs.Common.{◌≡◌, refl, ap, ◌∙◌, ◌∷◌, Some, None, Bool, true, false}
-use Rattle.std.specs.Prelude.{◌&&◌, ◌||◌, List, map, filter, unwrap_or}
+use Rattle.std.specs.Prelude.{◌&&◌, ◌||◌, List, map, unwrap_or}
 use Rattle.std.specs.Option.{option_or}
 use Rattle.std.proofs.lemmas.List.Elements.{All-weaker}
 use Rattle.context_tree.specs.declared.node.Kind.TheVariants.{Cancel, Deadline}
@@ -8,16 +8,14 @@ use Rattle.context_tree.specs.Context.{Id, same, Cancels, chain, has_cancel, hel
 use Rattle.context_tree.specs.Tree.{TreeValue, StandsFor, is_ended_by_cancel}
 use Rattle.after_funcs.specs.declared.callbacks.AfterFuncs.{AfterFuncs}
 use Rattle.call_contexts.specs.declared.life.Life.{Life}
-use Rattle.call_contexts.specs.declared.twig.Twig.{Twig}
 use Rattle.call_contexts.specs.Standing.{cause_in, if_cancelled, seen, seen_conn, seen_call, seen_branch, seen_branches, ends_branch, ends_call, ends_conn, cancelled}
 use Rattle.call_contexts.proofs.Making.{or_none}
 use Rattle.call_contexts.specs.Sound.{TreeLaws, IsSound, IsLife, IsConn, IsTwig, kind_of}
 use Rattle.call_contexts.proofs.Trees.{base_chain, conn_chain, call_hit, twig_hit}
 use Rattle.call_contexts.proofs.Apart.{base_far_conn, call_far_conn, twig_far_conn}
-use Rattle.call_contexts.proofs.Lists.{twigs_of}
 use Rattle.call_contexts.proofs.Seeing.{maps_to, hit_base, hit_conn, hit_call, conn_as, call_as, branch_as, seen_as, lawful, struck_after, request_after}
 
-module _ {C V H : Type 0} (laws : TreeLaws C V) {f : AfterFuncs H} {base : Id} {conns : List Id} {calls : List Life} {twigs : List Twig} {old : TreeValue C V} (s : IsSound old f twigs base conns calls)
+module _ {C V H : Type 0} (laws : TreeLaws C V) {f : AfterFuncs H} {base : Id} {conns : List Id} {calls : List Life} {old : TreeValue C V} (s : IsSound old f base conns calls)
     (id : Id) (cause : C) (id_is : held id s.past ≡ Some (Cancel base)) (new : TreeValue C V) (answer : Bool)
     (answer_is : answer ≡ is_ended_by_cancel id s.past) (ends : answer ≡ true → StandsFor new (Cancels id (Some cause) ∷ s.past)) (stays : answer ≡ false → new.slots ≡ old.slots) where
   far : same base id ≡ false
@@ -38,18 +36,17 @@ module _ {C V H : Type 0} (laws : TreeLaws C V) {f : AfterFuncs H} {base : Id} {
   off_chain true b is = cc
   off_chain false b is = refl
 
-  branches_struck : (l : Life) → IsLife s.past base l → seen_branches new.slots twigs l.ctx ≡ map (ends_branch (if_cancelled (same l.conn id) cause)) (seen_branches old.slots twigs l.ctx)
-  branches_struck l is = maps_to (seen_branch new.slots) (ends_branch (if_cancelled (same l.conn id) cause)) (seen_branch old.slots) (filter (λ t. same t.call l.ctx) twigs)
-      (All-weaker (λ t. IsTwig s.past calls t × (t.call ≡ l.ctx)) (λ t. seen_branch new.slots t ≡ ends_branch (if_cancelled (same l.conn id) cause) (seen_branch old.slots t))
+  branches_struck : (l : Life) → IsLife s.past base l → seen_branches new.slots l.twigs ≡ map (ends_branch (if_cancelled (same l.conn id) cause)) (seen_branches old.slots l.twigs)
+  branches_struck l is = maps_to (seen_branch new.slots) (ends_branch (if_cancelled (same l.conn id) cause)) (seen_branch old.slots) l.twigs
+      (All-weaker (IsTwig s.past l.ctx) (λ t. seen_branch new.slots t ≡ ends_branch (if_cancelled (same l.conn id) cause) (seen_branch old.slots t))
       (λ t t_is. branch_as new.slots t _
-      (struck_after laws s cause new answer id base id_is answer_is ends stays t.ctx (Deadline t.call t.at None) t_is.0.0
+      (struck_after laws s cause new answer id base id_is answer_is ends stays t.ctx (Deadline l.ctx t.at None) t_is
       ∙ ap (λ b. option_or (cause_in old.slots t.ctx) (if_cancelled b cause))
-      (twig_hit laws s.past (lawful laws s) t t_is.0.0 id ∙ off_chain (same t.ctx id) (has_cancel id (chain t.call s.past)) (twig_far_conn s.past s.root base s.root_is s.base_is t t_is.0.0 id id_is)
-      ∙ ap (λ x. has_cancel id (chain x s.past)) t_is.1 ∙ life_struck l is)))
-      (filter (λ t. same t.call l.ctx) twigs) (twigs_of (IsTwig s.past calls) l.ctx twigs s.twigs_are))
+      (twig_hit laws s.past (lawful laws s) l.ctx t t_is id ∙ off_chain (same t.ctx id) (has_cancel id (chain l.ctx s.past)) (twig_far_conn s.past s.root base s.root_is s.base_is l is t t_is id id_is)
+      ∙ life_struck l is))) l.twigs is.twigs_are)
 
-  one_call : (l : Life) → IsLife s.past base l → seen_call new.slots twigs l ≡ ends_call (if_cancelled (same l.conn id) cause) (seen_call old.slots twigs l)
-  one_call l is = call_as new.slots twigs l _ _ _ (request_after laws s cause new answer id base id_is answer_is ends stays l is)
+  one_call : (l : Life) → IsLife s.past base l → seen_call new.slots l ≡ ends_call (if_cancelled (same l.conn id) cause) (seen_call old.slots l)
+  one_call l is = call_as new.slots l _ _ _ (request_after laws s cause new answer id base id_is answer_is ends stays l is)
       (struck_after laws s cause new answer id base id_is answer_is ends stays l.ctx (kind_of (unwrap_or l.holder l.conn) l.deadline) is.call_is
       ∙ ap (λ b. option_or (cause_in old.slots l.ctx) (if_cancelled b cause)) (life_struck l is))
       (branches_struck l is)
@@ -57,11 +54,11 @@ module _ {C V H : Type 0} (laws : TreeLaws C V) {f : AfterFuncs H} {base : Id} {
   base_missed : has_cancel id (chain base s.past) ≡ false
   base_missed = rw (base_chain laws s.past (lawful laws s) s.root base s.root_is s.base_is) (hit_base (same base id) (same s.root id) far)
 
-  pub seen_cancelled : seen new.slots twigs base conns calls ≡ cancelled id cause (seen old.slots twigs base conns calls)
-  seen_cancelled = seen_as new.slots twigs base conns calls _ _ _
+  pub seen_cancelled : seen new.slots base conns calls ≡ cancelled id cause (seen old.slots base conns calls)
+  seen_cancelled = seen_as new.slots base conns calls _ _ _
       (struck_after laws s cause new answer id base id_is answer_is ends stays base (Cancel s.root) s.base_is
       ∙ ap (λ b. option_or (cause_in old.slots base) (if_cancelled b cause)) base_missed ∙ or_none (cause_in old.slots base))
       (maps_to (seen_conn new.slots) (λ c. ends_conn (if_cancelled (same c.id id) cause) c) (seen_conn old.slots) conns
       (All-weaker (IsConn base s.past) (λ c. seen_conn new.slots c ≡ ends_conn (if_cancelled (same c id) cause) (seen_conn old.slots c)) one_conn conns s.conns_are))
-      (maps_to (seen_call new.slots twigs) (λ c. ends_call (if_cancelled (same c.conn id) cause) c) (seen_call old.slots twigs) calls
-      (All-weaker (IsLife s.past base) (λ l. seen_call new.slots twigs l ≡ ends_call (if_cancelled (same l.conn id) cause) (seen_call old.slots twigs l)) one_call calls s.calls_are))
+      (maps_to (seen_call new.slots) (λ c. ends_call (if_cancelled (same c.conn id) cause) c) (seen_call old.slots) calls
+      (All-weaker (IsLife s.past base) (λ l. seen_call new.slots l ≡ ends_call (if_cancelled (same l.conn id) cause) (seen_call old.slots l)) one_call calls s.calls_are))

@@ -1,6 +1,6 @@
 -- The least deadline is that of a call or a branch that has not ended.
 use Rattle.std.proofs.Common.{◌≡◌, refl, sym, ap, ◌∙◌, arith, rules, ℕ, List, Option, Some, None, Bool, true, false, inl, inr, ⊎_elim, is_none, subst}
-use Rattle.std.specs.Prelude.{◌⊎◌, ◌&&◌, ◌||◌, ◌==◌, min, is_some, map, filter, nat_le, option_map, unwrap_or}
+use Rattle.std.specs.Prelude.{◌⊎◌, ◌&&◌, ◌||◌, ◌==◌, min, is_some, map, nat_le, option_map, unwrap_or}
 use Rattle.std.specs.List.{list_any}
 use Rattle.std.specs.Option.{option_map_or}
 use Rattle.std.proofs.lemmas.Bool.{and_from, cases_Bool, or_cases, or_left, or_right}
@@ -15,7 +15,7 @@ use Rattle.call_contexts.specs.declared.twig.Twig.{Twig}
 use Rattle.call_contexts.specs.Standing.{Branch, cause_in, has_deadline, seen_branch, seen_branches, seen_call}
 use Rattle.call_contexts.specs.Sound.{TreeLaws, IsLife, IsSound, IsTwig, contexts, is_kept, is_twig, kind_of, owns}
 use Rattle.call_contexts.proofs.Trees.{base_chain, call_deadline, call_hit, conn_chain, parent_least, same_refl, same_true, shown, twig_deadline, twig_hit}
-use Rattle.call_contexts.proofs.Lists.{any_filter, any_map, picked}
+use Rattle.call_contexts.proofs.Lists.{any_map, picked}
 
 -- the least of two is one of them
 least_first : (a b first : ℕ) → nat_le a b ≡ true → min a b ≡ first → a ≡ first
@@ -37,7 +37,7 @@ itself a first e = grind (arith, rules, e)
 its : (first : ℕ) (d : Option ℕ) → d ≡ Some first → option_map_or (λ x. x == first) d false ≡ true
 its first d e = ap (λ o. option_map_or (λ x. x == first) o false) e ∙ itself first first refl
 
-module _ {C V H : Type 0} (laws : TreeLaws C V) {f : AfterFuncs H} {base : Id} {conns : List Id} {calls : List Life} {twigs : List Twig} {old : TreeValue C V} (s : IsSound old f twigs base conns calls) where
+module _ {C V H : Type 0} (laws : TreeLaws C V) {f : AfterFuncs H} {base : Id} {conns : List Id} {calls : List Life} {old : TreeValue C V} (s : IsSound old f base conns calls) where
   lawful : IsLawful s.past
   lawful = s.tree_is.contexts.lawful
 
@@ -49,37 +49,55 @@ module _ {C V H : Type 0} (laws : TreeLaws C V) {f : AfterFuncs H} {base : Id} {
   deadline_of l is = call_deadline laws s.past lawful s.root base s.root_is s.base_is l.conn is.conn_is l.ctx l.holder is.holder_is l.deadline is.call_is
 
   -- a branch goes on with its call
-  call_on : (l : Life) → IsLife s.past base l → (t : Twig) → held t.ctx s.past ≡ Some (Deadline t.call t.at None) → t.call ≡ l.ctx → ending t.ctx s.past ≡ None → ending l.ctx s.past ≡ None
-  call_on l is t t_is of on = by (ending l.ctx s.past) refl
+  call_on : (l : Life) → IsLife s.past base l → (t : Twig) → IsTwig s.past l.ctx t → ending t.ctx s.past ≡ None → ending l.ctx s.past ≡ None
+  call_on l is t t_is on = by (ending l.ctx s.past) refl
     where
       reaches : has_cancel l.ctx (chain t.ctx s.past) ≡ true
-      reaches = twig_hit laws s.past lawful t t_is l.ctx ∙ or_right (same t.ctx l.ctx && true) (has_cancel l.ctx (chain t.call s.past))
-          (ap (λ x. has_cancel l.ctx (chain x s.past)) of
-          ∙ call_hit laws s.past lawful s.root base s.root_is s.base_is l.conn is.conn_is l.ctx l.holder is.holder_is l.deadline is.call_is l.ctx
+      reaches = twig_hit laws s.past lawful l.ctx t t_is l.ctx ∙ or_right (same t.ctx l.ctx && true) (has_cancel l.ctx (chain l.ctx s.past))
+          (call_hit laws s.past lawful s.root base s.root_is s.base_is l.conn is.conn_is l.ctx l.holder is.holder_is l.deadline is.call_is l.ctx
           ∙ or_left (same l.ctx l.ctx && true) (has_cancel l.ctx (chain l.conn s.past)) (rw (same_refl l.ctx) refl))
 
       by : (o : _) → ending l.ctx s.past ≡ o → o ≡ None
       by None e = refl
-      by (Some e) is_e = let bad : is_some (ending t.ctx s.past) ≡ true = laws.ends_with s.past t.ctx l.ctx (Deadline t.call t.at None) lawful t_is reaches (ap (λ o. is_some o) is_e) in
+      by (Some e) is_e = let bad : is_some (ending t.ctx s.past) ≡ true = laws.ends_with s.past t.ctx l.ctx (Deadline l.ctx t.at None) lawful t_is reaches (ap (λ o. is_some o) is_e) in
           let worse : false ≡ true = sym (ap (λ o. is_some o) on) ∙ bad in cc
 
   -- the call's own
-  by_call : (first : ℕ) (l : Life) → IsLife s.past base l → ending l.ctx s.past ≡ None → l.deadline ≡ Some first → has_deadline first (seen_call old.slots twigs l) ≡ true
+  by_call : (first : ℕ) (l : Life) → IsLife s.past base l → ending l.ctx s.past ≡ None → l.deadline ≡ Some first → has_deadline first (seen_call old.slots l) ≡ true
   by_call first l is on at = or_left (is_none (cause_in old.slots l.ctx) && option_map_or (λ d. d == first) l.deadline false) _
       (and_from (is_none (cause_in old.slots l.ctx)) (option_map_or (λ d. d == first) l.deadline false) (on_seen l.ctx (kind_of (unwrap_or l.holder l.conn) l.deadline) is.call_is on) (its first l.deadline at))
 
+  -- a branch's, or its call's where that is no later
+  by_branch : (first : ℕ) (l : Life) → IsLife s.past base l → (t : Twig) → IsTwig s.past l.ctx t → ((q : Twig → Bool) → q t ≡ true → list_any q l.twigs ≡ true)
+      → ending t.ctx s.past ≡ None → deadline t.ctx s.past ≡ Some first → has_deadline first (seen_call old.slots l) ≡ true
+  by_branch first l is t t_is among on at =
+      let two : sooner (Some t.at) l.deadline ≡ Some first = ap (sooner (Some t.at)) (sym (deadline_of l is)) ∙ sym (twig_deadline laws s.past lawful l.ctx t t_is) ∙ at in
+      ⊎_elim
+      (λ (own : t.at ≡ first). or_right _ (list_any (λ (b : Branch C). is_none b.ended && (b.deadline == first)) (seen_branches old.slots l.twigs))
+      (any_map (λ (b : Branch C). is_none b.ended && (b.deadline == first)) (seen_branch old.slots) l.twigs
+      ∙ among (λ t. is_none (cause_in old.slots t.ctx) && (t.at == first))
+      (and_from (is_none (cause_in old.slots t.ctx)) (t.at == first) (on_seen t.ctx (Deadline l.ctx t.at None) t_is on) (itself t.at first own))))
+      (λ (its : l.deadline ≡ Some first). by_call first l is (call_on l is t t_is on) its)
+      (of_two t.at first l.deadline two)
+
   -- a context of a call has its deadline, or none
-  by_owned : (first : ℕ) (x : Id) → ending x s.past ≡ None → deadline x s.past ≡ Some first → (l : Life) → IsLife s.past base l → owns x l ≡ true → has_deadline first (seen_call old.slots twigs l) ≡ true
-  by_owned first x on at l is own = by l.holder refl
+  by_owned : (first : ℕ) (x : Id) → ending x s.past ≡ None → deadline x s.past ≡ Some first → (l : Life) → IsLife s.past base l → owns x l ≡ true → has_deadline first (seen_call old.slots l) ≡ true
+  by_owned first x on at l is own = ⊎_elim
+      (λ y. by y l.holder refl)
+      (λ (y : is_twig x l.twigs ≡ true).
+      let t = picked (IsTwig s.past l.ctx) (λ t. same x t.ctx) l.twigs is.twigs_are y in
+      let e : x ≡ t.0.ctx = same_true x t.0.ctx t.2 in
+      by_branch first l is t.0 t.1 t.3 (subst (λ z. ending z s.past ≡ None) e on) (subst (λ z. deadline z s.past ≡ Some first) e at))
+      (or_cases (is_among x (contexts l.ctx l.holder)) (is_twig x l.twigs) own)
     where
-      by_own : same x l.ctx ≡ true → has_deadline first (seen_call old.slots twigs l) ≡ true
+      by_own : same x l.ctx ≡ true → has_deadline first (seen_call old.slots l) ≡ true
       by_own y =
           let e : x ≡ l.ctx = same_true x l.ctx y in
           by_call first l is (subst (λ z. ending z s.past ≡ None) e on) (sym (deadline_of l is) ∙ subst (λ z. deadline z s.past ≡ Some first) e at)
 
-      by : (h : Option Id) → l.holder ≡ h → has_deadline first (seen_call old.slots twigs l) ≡ true
-      by None h_is = ⊎_elim by_own (λ (n : false ≡ true). cc) (or_cases (same x l.ctx) false (subst (λ h. is_among x (contexts l.ctx h) ≡ true) h_is own))
-      by (Some h) h_is = ⊎_elim by_own
+      by : is_among x (contexts l.ctx l.holder) ≡ true → (h : Option Id) → l.holder ≡ h → has_deadline first (seen_call old.slots l) ≡ true
+      by own None h_is = ⊎_elim by_own (λ (n : false ≡ true). cc) (or_cases (same x l.ctx) false (subst (λ h. is_among x (contexts l.ctx h) ≡ true) h_is own))
+      by own (Some h) h_is = ⊎_elim by_own
           (λ (n : (same x h || false) ≡ true). ⊎_elim
           (λ (y : same x h ≡ true).
           let none : deadline x s.past ≡ None = ap (λ z. deadline z s.past) (same_true x h y)
@@ -89,33 +107,8 @@ module _ {C V H : Type 0} (laws : TreeLaws C V) {f : AfterFuncs H} {base : Id} {
           (or_cases (same x h) false n))
           (or_cases (same x l.ctx) (same x h || false) (subst (λ k. is_among x (contexts l.ctx k) ≡ true) h_is own))
 
-  -- a branch's, or its call's where that is no later
-  by_branch : (first : ℕ) (t : Twig) → IsTwig s.past calls t → ((q : Twig → Bool) → q t ≡ true → list_any q twigs ≡ true) → ending t.ctx s.past ≡ None → deadline t.ctx s.past ≡ Some first
-      → list_any (λ l. has_deadline first (seen_call old.slots twigs l)) calls ≡ true
-  by_branch first t is among on at =
-      let l = picked (IsLife s.past base) (λ l. same l.ctx t.call) calls s.calls_are is.1 in
-      let of : t.call ≡ l.0.ctx = sym (same_true l.0.ctx t.call l.2) in
-      let two : sooner (Some t.at) l.0.deadline ≡ Some first =
-      ap (sooner (Some t.at)) (sym (ap (λ x. deadline x s.past) of ∙ deadline_of l.0 l.1)) ∙ sym (twig_deadline laws s.past lawful t is.0) ∙ at in
-      l.3 (λ l. has_deadline first (seen_call old.slots twigs l)) (⊎_elim
-      (λ (own : t.at ≡ first). or_right _ (list_any (λ (b : Branch C). is_none b.ended && (b.deadline == first)) (seen_branches old.slots twigs l.0.ctx)) (seen l.0.ctx of own))
-      (λ (its : l.0.deadline ≡ Some first). by_call first l.0 l.1 (call_on l.0 l.1 t is.0 of on) its)
-      (of_two t.at first l.0.deadline two))
-    where
-      seen : (x : Id) → t.call ≡ x → t.at ≡ first → list_any (λ (b : Branch C). is_none b.ended && (b.deadline == first)) (seen_branches old.slots twigs x) ≡ true
-      seen x of own = any_map (λ (b : Branch C). is_none b.ended && (b.deadline == first)) (seen_branch old.slots) (filter (λ t. same t.call x) twigs)
-          ∙ any_filter (λ t. is_none (cause_in old.slots t.ctx) && (t.at == first)) (λ t. same t.call x) twigs
-          ∙ among (λ t. same t.call x && (is_none (cause_in old.slots t.ctx) && (t.at == first)))
-          (and_from (same t.call x) _ (subst (λ z. same t.call z ≡ true) of (same_refl t.call))
-          (and_from (is_none (cause_in old.slots t.ctx)) (t.at == first) (on_seen t.ctx (Deadline t.call t.at None) is.0 on) (itself t.at first own)))
-
-  pub has_first : (first : ℕ) → IsDeadline first s.past → list_any (has_deadline first) (map (seen_call old.slots twigs) calls) ≡ true
-  has_first first d = any_map (has_deadline first) (seen_call old.slots twigs) calls ∙ ⊎_elim
-      (λ (y : is_twig d.context twigs ≡ true).
-      let t = picked (IsTwig s.past calls) (λ t. same d.context t.ctx) twigs s.twigs_are y in
-      let e : d.context ≡ t.0.ctx = same_true d.context t.0.ctx t.2 in
-      by_branch first t.0 t.1 t.3 (subst (λ z. ending z s.past ≡ None) e d.goes_on) (subst (λ z. deadline z s.past ≡ Some first) e d.deadline_is))
-      (λ n. ⊎_elim
+  pub has_first : (first : ℕ) → IsDeadline first s.past → list_any (has_deadline first) (map (seen_call old.slots) calls) ≡ true
+  has_first first d = any_map (has_deadline first) (seen_call old.slots) calls ∙ ⊎_elim
       (λ (y : same d.context s.root ≡ true). none_of (ap (λ z. deadline z s.past) (same_true d.context s.root y) ∙ ap least (laws.chain_goes_on s.past s.root Background lawful s.root_is)))
       (λ n. ⊎_elim
       (λ (y : same d.context base ≡ true). none_of (ap (λ z. deadline z s.past) (same_true d.context base y) ∙ ap least (base_chain laws s.past lawful s.root base s.root_is s.base_is)))
@@ -125,19 +118,18 @@ module _ {C V H : Type 0} (laws : TreeLaws C V) {f : AfterFuncs H} {base : Id} {
       none_of (ap (λ z. deadline z s.past) (same_true d.context c.0 c.2) ∙ ap least (conn_chain laws s.past lawful s.root base s.root_is s.base_is c.0 c.1)))
       (λ (y : list_any (owns d.context) calls ≡ true).
       let l = picked (IsLife s.past base) (owns d.context) calls s.calls_are y in
-      l.3 (λ l. has_deadline first (seen_call old.slots twigs l)) (by_owned first d.context d.goes_on d.deadline_is l.0 l.1 l.2))
+      l.3 (λ l. has_deadline first (seen_call old.slots l)) (by_owned first d.context d.goes_on d.deadline_is l.0 l.1 l.2))
       (or_cases (is_among d.context conns) (list_any (owns d.context) calls) n))
       (or_cases (same d.context base) _ n))
-      (or_cases (same d.context s.root) _ n))
-      (or_cases (is_twig d.context twigs) _ kept)
+      (or_cases (same d.context s.root) _ kept)
     where
       Has : Type 0
-      Has = list_any (λ l. has_deadline first (seen_call old.slots twigs l)) calls ≡ true
+      Has = list_any (λ l. has_deadline first (seen_call old.slots l)) calls ≡ true
 
       none_of : deadline d.context s.past ≡ None → Has
       none_of none = let bad : None ≡ Some first = sym none ∙ d.deadline_is in cc
 
-      kept : is_kept twigs s.root base conns calls d.context ≡ true
-      kept = ⊎_elim (λ (y : is_kept twigs s.root base conns calls d.context ≡ true). y)
-          (λ (n : is_kept twigs s.root base conns calls d.context ≡ false). let bad : None ≡ Some d.kind = sym (s.none_else d.context n) ∙ d.is_held in cc)
-          (cases_Bool (is_kept twigs s.root base conns calls d.context))
+      kept : is_kept s.root base conns calls d.context ≡ true
+      kept = ⊎_elim (λ (y : is_kept s.root base conns calls d.context ≡ true). y)
+          (λ (n : is_kept s.root base conns calls d.context ≡ false). let bad : None ≡ Some d.kind = sym (s.none_else d.context n) ∙ d.is_held in cc)
+          (cases_Bool (is_kept s.root base conns calls d.context))

@@ -13,11 +13,10 @@ use Rattle.after_funcs.specs.declared.registration.Registration.{Registration}
 use Rattle.after_funcs.specs.Hooks.{Operation, AfterFunc, Fire, RunNext, Stop, registered, waiting, due, is_on, IsAnswerOfFirst}
 use Rattle.after_funcs.specs.Stands.{StandsFor as HooksStand}
 use Rattle.call_contexts.specs.declared.life.Life.{Life}
-use Rattle.call_contexts.specs.declared.twig.Twig.{Twig}
 use Rattle.call_contexts.specs.Standing.{WithHooks, Slots, on_ctx, hook_for, seen_call}
 use Rattle.call_contexts.specs.Sound.{hook_of, kept_of, life_at, NoTwo, same_ctx}
 use Rattle.call_contexts.proofs.Trees.{same_true}
-use Rattle.call_contexts.proofs.Lists.{any_map, all_stay}
+use Rattle.call_contexts.proofs.Lists.{any_map, all_stay, unmapped}
 
 pub pair_is : {C V H : Type 0} (v w : WithHooks C V H) → v.standing ≡ w.standing → v.hooks ≡ w.hooks → v ≡ w
 pair_is v w l h = ap (λ x. record { standing = x; hooks = v.hooks }) l ∙ ap (λ x. record { standing = w.standing; hooks = x }) h
@@ -44,11 +43,7 @@ filters_agree p q (x ∷ xs) all =
     (λ (n : q x ≡ false). rw (here, n) (ap (λ l. x ∷ l) rest))
     (cases_Bool (q x))
 
-unmap : {A B : Type 0} (P : B → Type 0) (f : A → B) (xs : List A) → All P (map f xs) → All (λ x. P (f x)) xs
-unmap P f [] all = All-nil (λ x. P (f x))
-unmap P f (x ∷ xs) all = All-cons (λ x. P (f x)) x xs (All-head P (f x) (map f xs) all) (unmap P f xs (All-tail P (f x) (map f xs) all))
-
-map_nil : {A B : Type 0} (f : A → B) (xs : List A) → map f xs ≡ [] → xs ≡ []
+pub map_nil : {A B : Type 0} (f : A → B) (xs : List A) → map f xs ≡ [] → xs ≡ []
 map_nil f [] is = refl
 map_nil f (x ∷ xs) is = cc
 
@@ -170,7 +165,7 @@ module _ (id : Id) where
     stopped_is =
         let P : ℕ × Id → Type 0 = λ p. nat_eq p.0 k.hook ≡ same p.1 id in
         let on_calls : All P (map kept_of calls) = All-map P kept_of calls (all_agree k calls (subst Rising (numbers hooks calls waits) (rising_of (waiting hooks) pairs)) distinct is) in
-        let on_hooks : All (λ r. nat_eq r.id k.hook ≡ same r.ctx id) (waiting hooks) = unmap P hook_of (waiting hooks) (subst (All P) (sym waits) on_calls) in
+        let on_hooks : All (λ r. nat_eq r.id k.hook ≡ same r.ctx id) (waiting hooks) = unmapped P hook_of (waiting hooks) (subst (All P) (sym waits) on_calls) in
         filters_agree (λ r. nat_eq r.id k.hook) (λ r. same r.ctx id) (waiting hooks) on_hooks
 
     pub stopped_waits : map hook_of (waiting (Stop k.hook ∷ hooks)) ≡ map kept_of (filter (λ l. not (same l.ctx id)) calls)
@@ -195,11 +190,11 @@ module _ {H : Type 0} (f f' : AfterFuncs H) (hooks : List (Operation H)) (hs : H
       ∙ ap (λ rs. filter (λ p. not (same p.0 id)) (map on_ctx rs)) (sym hs.waiting_is)
 
 -- the hooks are those of the calls, in their order
-pub hooks_of_calls : {C V H : Type 0} (slots : Slots C V) (twigs : List Twig) (f : AfterFuncs H) (hooks : List (Operation H)) (hs : HooksStand f hooks) (calls : List Life) → map hook_of (waiting hooks) ≡ map kept_of calls
-    → map (λ p. p.0) (map on_ctx f.waiting.items) ≡ map (λ c. c.id) (map (seen_call slots twigs) calls)
-hooks_of_calls slots twigs f hooks hs calls waits =
+pub hooks_of_calls : {C V H : Type 0} (slots : Slots C V) (f : AfterFuncs H) (hooks : List (Operation H)) (hs : HooksStand f hooks) (calls : List Life) → map hook_of (waiting hooks) ≡ map kept_of calls
+    → map (λ p. p.0) (map on_ctx f.waiting.items) ≡ map (λ c. c.id) (map (seen_call slots) calls)
+hooks_of_calls slots f hooks hs calls waits =
     map_twice (λ p. p.0) on_ctx f.waiting.items ∙ ap (map (λ r. r.ctx)) hs.waiting_is ∙ sym (map_twice (λ (p : ℕ × Id). p.1) hook_of (waiting hooks)) ∙ ap (map (λ (p : ℕ × Id). p.1)) waits
-    ∙ map_twice (λ (p : ℕ × Id). p.1) kept_of calls ∙ sym (map_twice (λ c. c.id) (seen_call slots twigs) calls)
+    ∙ map_twice (λ (p : ℕ × Id). p.1) kept_of calls ∙ sym (map_twice (λ c. c.id) (seen_call slots) calls)
 
 -- where no call has that context, no hook has it
 pub no_hook_gone : {H : Type 0} (f : AfterFuncs H) (hooks : List (Operation H)) (hs : HooksStand f hooks) (id : Id) (calls : List Life) → map hook_of (waiting hooks) ≡ map kept_of calls → list_any (λ l. same l.ctx id) calls ≡ false

@@ -8,45 +8,57 @@ use Rattle.std.proofs.lemmas.List.Elements.{All-weaker}
 use Rattle.std.proofs.Math.Bool.{or-false}
 use Rattle.std.proofs.lemmas.Option.{same_Some}
 use Rattle.context_tree.specs.declared.node.Kind.TheVariants.{Cancel, Value}
-use Rattle.context_tree.specs.Context.{Id, same, Releases, HasChild, held, nearest, line, handed}
+use Rattle.context_tree.specs.Context.{Id, same, Releases, HasChild, held, nearest, line}
 use Rattle.context_tree.specs.Tree.{TreeValue, StandsFor, is_among}
 use Rattle.after_funcs.specs.declared.callbacks.AfterFuncs.{AfterFuncs}
 use Rattle.after_funcs.specs.Hooks.{Operation, waiting, due}
 use Rattle.after_funcs.specs.Stands.{StandsFor as HooksStand}
 use Rattle.call_contexts.specs.declared.life.Life.{Life}
-use Rattle.call_contexts.specs.declared.twig.Twig.{Twig}
 use Rattle.call_contexts.specs.Standing.{seen, seen_conn, seen_call, cause_in, ended_call, value_in, without, closed, request_for, AreApart}
-use Rattle.call_contexts.specs.Sound.{TreeLaws, IsSound, IsLife, IsConn, IsHolder, IsTwig, IsFree, AreFree, Touches, kind_of, contexts, let_go, hook_of, kept_of, life_at, NoTwo, same_ctx, same_holder, owns, is_kept, is_twig, why}
+use Rattle.call_contexts.specs.Sound.{TreeLaws, IsSound, IsLife, IsConn, IsHolder, IsTwig, IsUnhanded, IsFree, AreFree, Touches, kind_of, contexts, let_go, hook_of, kept_of, life_at, NoTwo, same_ctx, same_holder, owns, is_kept, is_twig, why}
 use Rattle.call_contexts.proofs.Trees.{same_refl, same_true, same_turned, not_both, shown, touch_released, released_held, call_value}
 use Rattle.call_contexts.proofs.Making.{go_touches, gone_unheld}
-use Rattle.call_contexts.proofs.Apart.{conn_root, conn_base, base_far_conn, root_far_conn, root_far_holder, base_far_holder, conn_far_holder, holder_far_conn, holder_root, holder_base, conn_holder, root_far_call, base_far_call, conn_far_call, call_far_conn, call_far_holder, holder_far_call, call_root, call_base, conn_call, holder_call, Derives, origin, called, twig_apart_call, twig_far_holder, twig_far_conn}
-use Rattle.call_contexts.proofs.Lists.{any_map, all_stay, all_none, both_all, no_two_kept, found_in, found_any, owns_none, holders_apart, filtered, conns_filtered, among_none, any_other}
+use Rattle.call_contexts.proofs.Apart.{conn_root, conn_base, base_far_conn, root_far_conn, root_far_holder, base_far_holder, conn_far_holder, holder_far_conn, holder_root, holder_base, conn_holder, root_far_call, base_far_call, conn_far_call, call_far_conn, call_far_holder, holder_far_call, call_root, call_base, conn_call, holder_call, Derives, origin, twig_far_call, twig_far_holder, twig_far_conn}
+use Rattle.call_contexts.proofs.Lists.{any_map, all_stay, all_none, both_all, no_two_kept, found_in, found_any, owns_none, holders_apart, filtered, conns_filtered, among_none}
 use Rattle.call_contexts.proofs.Hooking.{filter_map_swap}
-use Rattle.call_contexts.proofs.Framing.{FarHolder, OtherConn, OtherLife, OtherTwig, framed_sound, twigs_kept, conns_kept, calls_kept, all_seen}
-use Rattle.call_contexts.proofs.Rows.{any_fewer, rows_less}
+use Rattle.call_contexts.proofs.Framing.{FarHolder, OtherConn, OtherLife, framed_sound, conns_kept, calls_kept, all_seen}
 
-pub seen_apart : {C V : Type 0} (slots : _) (twigs : List Twig) (ls : List Life) → NoTwo same_ctx ls → AreApart (map (seen_call {C = C} {V = V} slots twigs) ls)
-seen_apart slots twigs [] distinct = tt
-seen_apart slots twigs (l ∷ ls) distinct = (any_map (λ c. same c.id l.ctx) (seen_call slots twigs) ls ∙ distinct.0, seen_apart slots twigs ls distinct.1)
+pub seen_apart : {C V : Type 0} (slots : _) (ls : List Life) → NoTwo same_ctx ls → AreApart (map (seen_call {C = C} {V = V} slots) ls)
+seen_apart slots [] distinct = tt
+seen_apart slots (l ∷ ls) distinct = (any_map (λ c. same c.id l.ctx) (seen_call slots) ls ∙ distinct.0, seen_apart slots ls distinct.1)
 
-module _ {C V H : Type 0} {f : AfterFuncs H} {base : Id} {conns : List Id} {calls : List Life} {twigs : List Twig} {old : TreeValue C V} (s : IsSound old f twigs base conns calls) (id : Id) where
+module _ {C V H : Type 0} {f : AfterFuncs H} {base : Id} {conns : List Id} {calls : List Life} {old : TreeValue C V} (s : IsSound old f base conns calls) (id : Id) where
   -- nothing is gone where no call has that context
-  pub none_gone : list_any (λ l. same l.ctx id) calls ≡ false → seen old.slots twigs base conns calls ≡ without id (seen old.slots twigs base conns calls)
+  pub none_gone : list_any (λ l. same l.ctx id) calls ≡ false → seen old.slots base conns calls ≡ without id (seen old.slots base conns calls)
   none_gone none = ap (λ cs. record { drained = cause_in old.slots base; conns = map (seen_conn old.slots) conns; calls = cs })
-      (sym (all_stay (λ c. same c.id id) (map (seen_call old.slots twigs) calls) (any_map (λ c. same c.id id) (seen_call old.slots twigs) calls ∙ none)))
+      (sym (all_stay (λ c. same c.id id) (map (seen_call old.slots) calls) (any_map (λ c. same c.id id) (seen_call old.slots) calls ∙ none)))
 
 -- ---- a call is gone
 
-module _ {C V H : Type 0} (laws : TreeLaws C V) {f : AfterFuncs H} {base : Id} {conns : List Id} {calls : List Life} {twigs : List Twig} {old : TreeValue C V} (s : IsSound old f twigs base conns calls)
-    (id : Id) (l : Life) (found : life_at id calls ≡ Some l) (bare : list_any (λ t. same t.call id) twigs ≡ false) where
+module _ {C V H : Type 0} (laws : TreeLaws C V) {f : AfterFuncs H} {base : Id} {conns : List Id} {calls : List Life} {old : TreeValue C V} (s : IsSound old f base conns calls)
+    (id : Id) (l : Life) (found : life_at id calls ≡ Some l) (bare : All (λ m. same m.ctx id ≡ true → m.twigs ≡ []) calls) where
   one : IsLife s.past base l × (l.ctx ≡ id)
   one = found_in id (IsLife s.past base) l calls s.calls_are found
 
   is : IsLife s.past base l
   is = one.0
 
+  none_of_its : l.twigs ≡ []
+  none_of_its = (found_in id (λ m. same m.ctx id ≡ true → m.twigs ≡ []) l calls bare found).0 (rw one.1 (same_refl id))
+
   abbrev ids : List Id
   ids = contexts l.ctx l.holder
+
+  -- what is known of each call
+  abbrev Known : Life → Type 0
+  Known m = IsLife s.past base m × (((m.ctx ≡ id) ⊎ (same_holder l m ≡ false)) × (same m.ctx id ≡ true → m.twigs ≡ []))
+
+  each : All Known calls
+  each = both_all (IsLife s.past base) (λ m. ((m.ctx ≡ id) ⊎ (same_holder l m ≡ false)) × (same m.ctx id ≡ true → m.twigs ≡ [])) calls s.calls_are
+      (both_all (λ m. (m.ctx ≡ id) ⊎ (same_holder l m ≡ false)) (λ m. same m.ctx id ≡ true → m.twigs ≡ []) calls (holders_apart id l calls s.apart found) bare)
+
+  twice : All (λ m. IsLife s.past base m × Known m) calls
+  twice = both_all (IsLife s.past base) Known calls s.calls_are each
 
   -- ---- its contexts are far from the others
 
@@ -77,26 +89,25 @@ module _ {C V H : Type 0} (laws : TreeLaws C V) {f : AfterFuncs H} {base : Id} {
   conn_far c c_is = far_both c (conn_far_call s.past s.root base s.root_is s.base_is l is c c_is)
       (λ h e. conn_far_holder s.past s.root base s.root_is s.base_is h l.conn (holds h e).0 (holds h e).1 c c_is)
 
-  -- what is known of each call
-  each : All (λ m. IsLife s.past base m × ((m.ctx ≡ id) ⊎ (same_holder l m ≡ false))) calls
-  each = both_all (IsLife s.past base) (λ m. (m.ctx ≡ id) ⊎ (same_holder l m ≡ false)) calls s.calls_are (holders_apart id l calls s.apart found)
-
   not_shared : (x h : Id) (a b : Option Id) → a ≡ Some h → b ≡ Some x → option_map_or (λ y. option_map_or (same y) b false) a false ≡ false → same h x ≡ false
   not_shared x h a b ae be none = rw (ae, be) at none
 
-  other : (m : Life) → (IsLife s.past base m × ((m.ctx ≡ id) ⊎ (same_holder l m ≡ false))) × (same m.ctx id ≡ false) → OtherLife s.past base (contexts l.ctx l.holder) m
+  other : (m : Life) → Known m × (same m.ctx id ≡ false) → OtherLife s.past base (contexts l.ctx l.holder) m
   other m known = record {
     life = known.0.0;
     ctx_far = far_both m.ctx (subst (λ z. same m.ctx z ≡ false) (sym one.1) known.1) (λ h e. call_far_holder s.past s.root base s.root_is s.base_is m known.0.0 h l.conn (holds h e).0 (holds h e).1);
     holder_far = of m.holder known.0.0.holder_is apart_holders;
     conn_far = conn_far m.conn known.0.0.conn_is;
+    twigs_far = All-weaker (IsTwig s.past m.ctx) (λ t. is_among t.ctx (contexts l.ctx l.holder) ≡ false)
+        (λ t t_is. far_both t.ctx (twig_far_call s.past s.root base s.root_is s.base_is m known.0.0 t t_is l is)
+        (λ h e. twig_far_holder s.past s.root base s.root_is s.base_is m known.0.0 t t_is h l.conn (holds h e).0 (holds h e).1)) m.twigs known.0.0.twigs_are;
   }
     where
       apart_holders : same_holder l m ≡ false
       apart_holders = ⊎_elim
           (λ (e : m.ctx ≡ id). absurd (not_both (same m.ctx id) (rw e (same_refl id)) known.1))
           (λ (n : same_holder l m ≡ false). n)
-          known.0.1
+          known.0.1.0
 
       of : (holder : Option Id) → IsHolder s.past m.conn holder → option_map_or (λ y. option_map_or (same y) holder false) l.holder false ≡ false → FarHolder (contexts l.ctx l.holder) holder
       of None hs none = tt
@@ -104,22 +115,15 @@ module _ {C V H : Type 0} (laws : TreeLaws C V) {f : AfterFuncs H} {base : Id} {
           (λ h e. same_turned x h ∙ not_shared x h l.holder (Some x) e refl none)
 
   others : All (OtherLife s.past base (contexts l.ctx l.holder)) (filter (λ m. not (same m.ctx id)) calls)
-  others = All-weaker (λ m. (IsLife s.past base m × ((m.ctx ≡ id) ⊎ (same_holder l m ≡ false))) × (same m.ctx id ≡ false)) (OtherLife s.past base (contexts l.ctx l.holder)) other
+  others = All-weaker (λ m. Known m × (same m.ctx id ≡ false)) (OtherLife s.past base (contexts l.ctx l.holder)) other
       (filter (λ m. not (same m.ctx id)) calls)
-      (filtered id (λ m. IsLife s.past base m × ((m.ctx ≡ id) ⊎ (same_holder l m ≡ false))) calls each)
+      (filtered id Known calls each)
 
   conns_far : All (OtherConn s.past base (contexts l.ctx l.holder)) conns
   conns_far = All-weaker (IsConn base s.past) (OtherConn s.past base (contexts l.ctx l.holder)) (λ c c_is. (c_is, conn_far c c_is)) conns s.conns_are
 
-  twigs_far : All (OtherTwig s.past (filter (λ m. not (same m.ctx id)) calls) (contexts l.ctx l.holder)) twigs
-  twigs_far = All-weaker (λ t. IsTwig s.past calls t × (same t.call id ≡ false)) (OtherTwig s.past (filter (λ m. not (same m.ctx id)) calls) (contexts l.ctx l.holder))
-      (λ t t_is. (
-        (t_is.0.0, any_other t.call id calls t_is.1 ∙ t_is.0.1),
-        far_both t.ctx (twig_apart_call s t t_is.0 l is) (λ h e. twig_far_holder s.past s.root base s.root_is s.base_is t t_is.0.0 h l.conn (holds h e).0 (holds h e).1),
-      )) twigs (both_all (IsTwig s.past calls) (λ t. same t.call id ≡ false) twigs s.twigs_are (all_none (λ t. same t.call id) twigs bare))
-
-  no_twig : list_any (λ t. same t.call l.ctx) twigs ≡ true → ⊥
-  no_twig any = not_both (list_any (λ t. same t.call id) twigs) (subst (λ z. list_any (λ (t : Twig). same t.call z) twigs ≡ true) one.1 any) bare
+  no_twig : (m : Life) (x : Id) → (same m.ctx id ≡ true → m.twigs ≡ []) → m.ctx ≡ l.ctx → is_twig x m.twigs ≡ true → ⊥
+  no_twig m x none own any = not_both (is_twig x m.twigs) any (ap (is_twig x) (none (rw (own, one.1) (same_refl id))))
 
   -- ---- they can be let go of
 
@@ -127,21 +131,18 @@ module _ {C V H : Type 0} (laws : TreeLaws C V) {f : AfterFuncs H} {base : Id} {
   no_child : HasChild l.ctx s.past → ⊥
   no_child c = ⊎_elim
       (λ (r : l.ctx ≡ s.root). call_root s.past s.root base s.root_is s.base_is l is r)
-      (λ (rest : (l.ctx ≡ base) ⊎ (Derives (λ m. IsLife s.past base m × ((m.ctx ≡ id) ⊎ (same_holder l m ≡ false))) l.ctx c.child ⊎ (list_any (λ t. same t.call l.ctx) twigs ≡ true))). ⊎_elim
+      (λ (rest : (l.ctx ≡ base) ⊎ Derives Known l.ctx c.child). ⊎_elim
       (λ (b : l.ctx ≡ base). call_base s.past s.root base s.root_is s.base_is l is b)
-      (λ (deeper : Derives (λ m. IsLife s.past base m × ((m.ctx ≡ id) ⊎ (same_holder l m ≡ false))) l.ctx c.child ⊎ (list_any (λ t. same t.call l.ctx) twigs ≡ true)). ⊎_elim
-      (λ (d : Derives (λ m. IsLife s.past base m × ((m.ctx ≡ id) ⊎ (same_holder l m ≡ false))) l.ctx c.child). ⊎_elim
+      (λ (d : Derives Known l.ctx c.child). ⊎_elim
       (λ (e : d.life.conn ≡ l.ctx). conn_call s.past s.root base s.root_is s.base_is l is d.life.conn d.which.0.conn_is e)
+      (λ (more : ((d.life.holder ≡ Some l.ctx) × (c.child ≡ d.life.ctx)) ⊎ ((d.life.ctx ≡ l.ctx) × (is_twig c.child d.life.twigs ≡ true))). ⊎_elim
       (λ (e : (d.life.holder ≡ Some l.ctx) × (c.child ≡ d.life.ctx)). of d.life.conn d.life.holder d.which.0.holder_is e.0)
+      (λ (e : (d.life.ctx ≡ l.ctx) × (is_twig c.child d.life.twigs ≡ true)). no_twig d.life c.child d.which.1.1 e.0 e.1)
+      more)
       d.from)
-      (λ (any : list_any (λ t. same t.call l.ctx) twigs ≡ true). no_twig any)
-      deeper)
       rest)
-      (origin s (λ m. IsLife s.past base m × ((m.ctx ≡ id) ⊎ (same_holder l m ≡ false))) twice l.ctx c.child c.kind c.is_held c.derives)
+      (origin s Known twice l.ctx c.child c.kind c.is_held c.derives)
     where
-      twice : All (λ m. IsLife s.past base m × (IsLife s.past base m × ((m.ctx ≡ id) ⊎ (same_holder l m ≡ false)))) calls
-      twice = both_all (IsLife s.past base) (λ m. IsLife s.past base m × ((m.ctx ≡ id) ⊎ (same_holder l m ≡ false))) calls s.calls_are each
-
       of : (conn : Id) (holder : Option Id) → IsHolder s.past conn holder → holder ≡ Some l.ctx → ⊥
       of conn None hs e = cc
       of conn (Some x) hs e = holder_call s.past s.root base s.root_is s.base_is l is x conn hs.0 hs.1 (same_Some x l.ctx e)
@@ -153,9 +154,6 @@ module _ {C V H : Type 0} (laws : TreeLaws C V) {f : AfterFuncs H} {base : Id} {
       (λ (n : same l.ctx c.child ≡ false). from n (rw n at c.is_held))
       (cases_Bool (same l.ctx c.child))
     where
-      twice : All (λ m. IsLife s.past base m × (IsLife s.past base m × ((m.ctx ≡ id) ⊎ (same_holder l m ≡ false)))) calls
-      twice = both_all (IsLife s.past base) (λ m. IsLife s.past base m × ((m.ctx ≡ id) ⊎ (same_holder l m ≡ false))) calls s.calls_are each
-
       of : (m : Life) → (m.ctx ≡ id) ⊎ (same_holder l m ≡ false) → m.holder ≡ Some h → c.child ≡ m.ctx → same l.ctx c.child ≡ false → ⊥
       of m known hs child n = ⊎_elim
           (λ (own : m.ctx ≡ id). not_both (same l.ctx c.child) (rw (child, own, one.1) (same_refl id)) n)
@@ -165,17 +163,17 @@ module _ {C V H : Type 0} (laws : TreeLaws C V) {f : AfterFuncs H} {base : Id} {
       from : same l.ctx c.child ≡ false → held c.child s.past ≡ Some c.kind → ⊥
       from n child_is = ⊎_elim
           (λ (r : h ≡ s.root). holder_root s.past s.root base s.root_is s.base_is h l.conn (holds h e).0 (holds h e).1 r)
-          (λ (rest : (h ≡ base) ⊎ (Derives (λ m. IsLife s.past base m × ((m.ctx ≡ id) ⊎ (same_holder l m ≡ false))) h c.child ⊎ (list_any (λ t. same t.call h) twigs ≡ true))). ⊎_elim
+          (λ (rest : (h ≡ base) ⊎ Derives Known h c.child). ⊎_elim
           (λ (b : h ≡ base). holder_base s.past s.root base s.root_is s.base_is h l.conn (holds h e).0 (holds h e).1 b)
-          (λ (deeper : Derives (λ m. IsLife s.past base m × ((m.ctx ≡ id) ⊎ (same_holder l m ≡ false))) h c.child ⊎ (list_any (λ t. same t.call h) twigs ≡ true)). ⊎_elim
-          (λ (d : Derives (λ m. IsLife s.past base m × ((m.ctx ≡ id) ⊎ (same_holder l m ≡ false))) h c.child). ⊎_elim
+          (λ (d : Derives Known h c.child). ⊎_elim
           (λ (k : d.life.conn ≡ h). conn_holder s.past s.root base s.root_is s.base_is h l.conn (holds h e).0 (holds h e).1 d.life.conn d.which.0.conn_is k)
-          (λ (k : (d.life.holder ≡ Some h) × (c.child ≡ d.life.ctx)). of d.life d.which.1 k.0 k.1 n)
+          (λ (more : ((d.life.holder ≡ Some h) × (c.child ≡ d.life.ctx)) ⊎ ((d.life.ctx ≡ h) × (is_twig c.child d.life.twigs ≡ true))). ⊎_elim
+          (λ (k : (d.life.holder ≡ Some h) × (c.child ≡ d.life.ctx)). of d.life d.which.1.0 k.0 k.1 n)
+          (λ (k : (d.life.ctx ≡ h) × (is_twig c.child d.life.twigs ≡ true)). holder_call s.past s.root base s.root_is s.base_is d.life d.which.0 h l.conn (holds h e).0 (holds h e).1 (sym k.0))
+          more)
           d.from)
-          (λ (any : list_any (λ t. same t.call h) twigs ≡ true). let m = called s h any in holder_call s.past s.root base s.root_is s.base_is m.0 m.1 h l.conn (holds h e).0 (holds h e).1 (sym m.2))
-          deeper)
           rest)
-          (origin s (λ m. IsLife s.past base m × ((m.ctx ≡ id) ⊎ (same_holder l m ≡ false))) twice h c.child c.kind child_is c.derives)
+          (origin s Known twice h c.child c.kind child_is c.derives)
 
   pub call_frees : AreFree l.ctx l.holder s.past
   call_frees = of l.holder (λ h e. e)
@@ -202,57 +200,56 @@ module _ {C V H : Type 0} (laws : TreeLaws C V) {f : AfterFuncs H} {base : Id} {
     touches : Touches (contexts l.ctx l.holder) s.past (let_go l.ctx l.holder s.past)
     touches = go_touches l.ctx s.past l.holder
 
-    gone_else : (x : Id) → is_kept twigs s.root base conns (filter (λ m. not (same m.ctx id)) calls) x ≡ false → held x (let_go l.ctx l.holder s.past) ≡ None
+    gone_else : (x : Id) → is_kept s.root base conns (filter (λ m. not (same m.ctx id)) calls) x ≡ false → held x (let_go l.ctx l.holder s.past) ≡ None
     gone_else x none = ⊎_elim
-        (λ (y : owns x l ≡ true). gone_unheld l.ctx s.past l.holder x y)
-        (λ (n : owns x l ≡ false).
-        let z = or_parts (is_twig x twigs) _ none in
-        let a = or_parts (same x s.root) _ z.1 in
+        (λ (y : is_among x (contexts l.ctx l.holder) ≡ true). gone_unheld l.ctx s.past l.holder x y)
+        (λ (n : is_among x (contexts l.ctx l.holder) ≡ false).
+        let a = or_parts (same x s.root) _ none in
         let b = or_parts (same x base) _ a.1 in
         let c = or_parts (is_among x conns) (list_any (owns x) (filter (λ m. not (same m.ctx id)) calls)) b.1 in
-        touches.held_is x n ∙ s.none_else x (rw (z.0, a.0, b.0, c.0, owns_none id x l calls s.distinct found n c.1) refl))
-        (cases_Bool (owns x l))
+        touches.held_is x n ∙ s.none_else x (rw (a.0, b.0, c.0, owns_none id x l calls s.distinct found (rw n (ap (is_twig x) none_of_its)) c.1) refl))
+        (cases_Bool (is_among x (contexts l.ctx l.holder)))
+
+    unhanded_left : (holder : Option Id) (m : Life) → IsUnhanded s.past m × (same m.ctx id ≡ false) → IsUnhanded (let_go l.ctx holder s.past) m
+    unhanded_left None m is = is.0
+    unhanded_left (Some h) m is = is.0
 
     pub sound_left : (f' : AfterFuncs H) (hooks' : List (Operation H)) → HooksStand f' hooks' → map hook_of (waiting hooks') ≡ map kept_of (filter (λ m. not (same m.ctx id)) calls) → due hooks' ≡ []
-        → IsSound new f' twigs base conns (filter (λ m. not (same m.ctx id)) calls)
-    sound_left f' hooks' hs waits none = framed_sound laws s ids (let_go l.ctx l.holder s.past) new st touches root_far base_far f' hooks' conns (filter (λ m. not (same m.ctx id)) calls) twigs hs
+        → IsSound new f' base conns (filter (λ m. not (same m.ctx id)) calls)
+    sound_left f' hooks' hs waits none = framed_sound laws s ids (let_go l.ctx l.holder s.past) new st touches root_far base_far f' hooks' conns (filter (λ m. not (same m.ctx id)) calls) hs
         (conns_kept laws s ids (let_go l.ctx l.holder s.past) new st touches root_far base_far conns conns_far)
         (calls_kept laws s ids (let_go l.ctx l.holder s.past) new st touches root_far base_far (filter (λ m. not (same m.ctx id)) calls) others)
-        (twigs_kept laws s ids (let_go l.ctx l.holder s.past) new st touches root_far base_far (filter (λ m. not (same m.ctx id)) calls) twigs twigs_far)
         gone_else
-        (no_two_kept same_ctx (λ m. not (same m.ctx id)) calls s.distinct) (no_two_kept same_holder (λ m. not (same m.ctx id)) calls s.apart) s.twigs_apart waits none
-        (λ x row. handed_left l.holder x ∙ s.unhanded x (rows_less x twigs twigs calls (filter (λ m. not (same m.ctx id)) calls) (any_fewer (λ m. same m.ctx x) (λ m. not (same m.ctx id)) calls) (λ e. e) row))
-      where
-        handed_left : (holder : Option Id) (x : Id) → handed x (let_go l.ctx holder s.past) ≡ handed x s.past
-        handed_left None x = refl
-        handed_left (Some h) x = refl
+        (no_two_kept same_ctx (λ m. not (same m.ctx id)) calls s.distinct) (no_two_kept same_holder (λ m. not (same m.ctx id)) calls s.apart) waits none
+        (All-weaker (λ m. IsUnhanded s.past m × (same m.ctx id ≡ false)) (IsUnhanded (let_go l.ctx l.holder s.past)) (unhanded_left l.holder)
+        (filter (λ m. not (same m.ctx id)) calls) (filtered id (IsUnhanded s.past) calls s.unhanded))
 
-    pub seen_left : seen new.slots twigs base conns (filter (λ m. not (same m.ctx id)) calls) ≡ without id (seen old.slots twigs base conns calls)
-    seen_left = all_seen laws s ids (let_go l.ctx l.holder s.past) new st touches root_far base_far (filter (λ m. not (same m.ctx id)) calls) conns (filter (λ m. not (same m.ctx id)) calls) twigs conns_far others twigs_far
-        ∙ ap (λ cs. record { drained = cause_in old.slots base; conns = map (seen_conn old.slots) conns; calls = cs }) (sym (filter_map_swap (seen_call old.slots twigs) (λ c. not (same c.id id)) calls))
+    pub seen_left : seen new.slots base conns (filter (λ m. not (same m.ctx id)) calls) ≡ without id (seen old.slots base conns calls)
+    seen_left = all_seen laws s ids (let_go l.ctx l.holder s.past) new st touches root_far base_far conns (filter (λ m. not (same m.ctx id)) calls) conns_far others
+        ∙ ap (λ cs. record { drained = cause_in old.slots base; conns = map (seen_conn old.slots) conns; calls = cs }) (sym (filter_map_swap (seen_call old.slots) (λ c. not (same c.id id)) calls))
 
 -- ---- a connection is gone
 
-none_of : {C V : Type 0} (slots : _) (twigs : List Twig) (id : Id) (ls : List Life) → list_any (λ c. same c.conn id) (map (seen_call {C = C} {V = V} slots twigs) ls) ≡ false → All (λ m. same m.conn id ≡ false) ls
-none_of slots twigs id ls none = all_none (λ m. same m.conn id) ls (sym (any_map (λ c. same c.conn id) (seen_call slots twigs) ls) ∙ none)
+none_of : {C V : Type 0} (slots : _) (id : Id) (ls : List Life) → list_any (λ c. same c.conn id) (map (seen_call {C = C} {V = V} slots) ls) ≡ false → All (λ m. same m.conn id ≡ false) ls
+none_of slots id ls none = all_none (λ m. same m.conn id) ls (sym (any_map (λ c. same c.conn id) (seen_call slots) ls) ∙ none)
 
-module _ {C V H : Type 0} (laws : TreeLaws C V) {f : AfterFuncs H} {base : Id} {conns : List Id} {calls : List Life} {twigs : List Twig} {old : TreeValue C V} (s : IsSound old f twigs base conns calls) (id : Id)
-    (id_is : held id s.past ≡ Some (Cancel base)) (none : list_any (λ c. same c.conn id) (map (seen_call old.slots twigs) calls) ≡ false) where
+module _ {C V H : Type 0} (laws : TreeLaws C V) {f : AfterFuncs H} {base : Id} {conns : List Id} {calls : List Life} {old : TreeValue C V} (s : IsSound old f base conns calls) (id : Id)
+    (id_is : held id s.past ≡ Some (Cancel base)) (none : list_any (λ c. same c.conn id) (map (seen_call old.slots) calls) ≡ false) where
   each_call : All (λ m. IsLife s.past base m × (same m.conn id ≡ false)) calls
-  each_call = both_all (IsLife s.past base) (λ m. same m.conn id ≡ false) calls s.calls_are (none_of old.slots twigs id calls none)
+  each_call = both_all (IsLife s.past base) (λ m. same m.conn id ≡ false) calls s.calls_are (none_of old.slots id calls none)
 
   no_call : HasChild id s.past → ⊥
   no_call c = ⊎_elim
       (λ (r : id ≡ s.root). conn_root s.past s.root base s.root_is s.base_is id id_is r)
-      (λ (rest : (id ≡ base) ⊎ (Derives (λ m. IsLife s.past base m × (same m.conn id ≡ false)) id c.child ⊎ (list_any (λ t. same t.call id) twigs ≡ true))). ⊎_elim
+      (λ (rest : (id ≡ base) ⊎ Derives (λ m. IsLife s.past base m × (same m.conn id ≡ false)) id c.child). ⊎_elim
       (λ (b : id ≡ base). conn_base s.past s.root base s.root_is s.base_is id id_is b)
-      (λ (deeper : Derives (λ m. IsLife s.past base m × (same m.conn id ≡ false)) id c.child ⊎ (list_any (λ t. same t.call id) twigs ≡ true)). ⊎_elim
       (λ (d : Derives (λ m. IsLife s.past base m × (same m.conn id ≡ false)) id c.child). ⊎_elim
       (λ (e : d.life.conn ≡ id). not_both (same d.life.conn id) (rw e (same_refl id)) d.which.1)
+      (λ (more : ((d.life.holder ≡ Some id) × (c.child ≡ d.life.ctx)) ⊎ ((d.life.ctx ≡ id) × (is_twig c.child d.life.twigs ≡ true))). ⊎_elim
       (λ (e : (d.life.holder ≡ Some id) × (c.child ≡ d.life.ctx)). of d.life.conn d.life.holder d.which.0.holder_is e.0)
+      (λ (e : (d.life.ctx ≡ id) × (is_twig c.child d.life.twigs ≡ true)). conn_call s.past s.root base s.root_is s.base_is d.life d.which.0 id id_is (sym e.0))
+      more)
       d.from)
-      (λ (any : list_any (λ t. same t.call id) twigs ≡ true). let m = called s id any in conn_call s.past s.root base s.root_is s.base_is m.0 m.1 id id_is (sym m.2))
-      deeper)
       rest)
       (origin s (λ m. IsLife s.past base m × (same m.conn id ≡ false)) twice id c.child c.kind c.is_held c.derives)
     where
@@ -294,81 +291,77 @@ module _ {C V H : Type 0} (laws : TreeLaws C V) {f : AfterFuncs H} {base : Id} {
           ctx_far = far m.ctx (call_far_conn s.past s.root base s.root_is s.base_is m known.0 id id_is);
           holder_far = holder_apart m.conn m.holder known.0.holder_is;
           conn_far = far m.conn known.1;
+          twigs_far = All-weaker (IsTwig s.past m.ctx) (λ t. is_among t.ctx (id ∷ []) ≡ false) (λ t t_is. far t.ctx (twig_far_conn s.past s.root base s.root_is s.base_is m known.0 t t_is id id_is)) m.twigs known.0.twigs_are;
         }) calls each_call
 
-    twigs_left : All (OtherTwig s.past calls (id ∷ [])) twigs
-    twigs_left = All-weaker (IsTwig s.past calls) (OtherTwig s.past calls (id ∷ [])) (λ t t_is. (t_is, far t.ctx (twig_far_conn s.past s.root base s.root_is s.base_is t t_is.0 id id_is))) twigs s.twigs_are
-
-    close_else : (x : Id) → is_kept twigs s.root base (filter (λ c. not (same c id)) conns) calls x ≡ false → held x (Releases id ∷ s.past) ≡ None
+    close_else : (x : Id) → is_kept s.root base (filter (λ c. not (same c id)) conns) calls x ≡ false → held x (Releases id ∷ s.past) ≡ None
     close_else x gone = ⊎_elim
         (λ (y : same x id ≡ true). subst (λ z. held z (Releases id ∷ s.past) ≡ None) (sym (same_true x id y)) (released_held s.past id))
         (λ (n : same x id ≡ false).
-        let z = or_parts (is_twig x twigs) _ gone in
-        let a = or_parts (same x s.root) _ z.1 in
+        let a = or_parts (same x s.root) _ gone in
         let b = or_parts (same x base) _ a.1 in
         let c = or_parts (is_among x (filter (λ c. not (same c id)) conns)) (list_any (owns x) calls) b.1 in
-        close_touches.held_is x (far x n) ∙ s.none_else x (rw (z.0, a.0, b.0, among_none id x conns n c.0, c.1) refl))
+        close_touches.held_is x (far x n) ∙ s.none_else x (rw (a.0, b.0, among_none id x conns n c.0, c.1) refl))
         (cases_Bool (same x id))
 
-    pub sound_closed : IsSound new f twigs base (filter (λ c. not (same c id)) conns) calls
-    sound_closed = framed_sound laws s (id ∷ []) (Releases id ∷ s.past) new st close_touches root_apart base_apart f s.hooks (filter (λ c. not (same c id)) conns) calls twigs s.hooks_are
+    pub sound_closed : IsSound new f base (filter (λ c. not (same c id)) conns) calls
+    sound_closed = framed_sound laws s (id ∷ []) (Releases id ∷ s.past) new st close_touches root_apart base_apart f s.hooks (filter (λ c. not (same c id)) conns) calls s.hooks_are
         (conns_kept laws s (id ∷ []) (Releases id ∷ s.past) new st close_touches root_apart base_apart (filter (λ c. not (same c id)) conns) conns_left)
         (calls_kept laws s (id ∷ []) (Releases id ∷ s.past) new st close_touches root_apart base_apart calls calls_left)
-        (twigs_kept laws s (id ∷ []) (Releases id ∷ s.past) new st close_touches root_apart base_apart calls twigs twigs_left)
-        close_else s.distinct s.apart s.twigs_apart s.hook_waits s.none_due s.unhanded
+        close_else s.distinct s.apart s.hook_waits s.none_due s.unhanded
 
-    pub seen_closed : seen new.slots twigs base (filter (λ c. not (same c id)) conns) calls ≡ closed id (seen old.slots twigs base conns calls)
-    seen_closed = all_seen laws s (id ∷ []) (Releases id ∷ s.past) new st close_touches root_apart base_apart calls (filter (λ c. not (same c id)) conns) calls twigs conns_left calls_left twigs_left
-        ∙ ap (λ cs. record { drained = cause_in old.slots base; conns = cs; calls = map (seen_call old.slots twigs) calls }) (sym (filter_map_swap (seen_conn old.slots) (λ c. not (same c.id id)) conns))
+    pub seen_closed : seen new.slots base (filter (λ c. not (same c id)) conns) calls ≡ closed id (seen old.slots base conns calls)
+    seen_closed = all_seen laws s (id ∷ []) (Releases id ∷ s.past) new st close_touches root_apart base_apart (filter (λ c. not (same c id)) conns) calls conns_left calls_left
+        ∙ ap (λ cs. record { drained = cause_in old.slots base; conns = cs; calls = map (seen_call old.slots) calls }) (sym (filter_map_swap (seen_conn old.slots) (λ c. not (same c.id id)) conns))
 
 -- ---- what is asked of a call
 
 -- the first call that is seen is the one that is kept
-pub ended_seen : {C V : Type 0} (slots : _) (twigs : List Twig) (id : Id) (ls : List Life) → list_any (λ m. same m.ctx id) ls ≡ true → ended_call id (map (seen_call {C = C} {V = V} slots twigs) ls) ≡ cause_in slots id
-ended_seen slots twigs id [] any = cc
-ended_seen slots twigs id (m ∷ ms) any = ⊎_elim
+pub ended_seen : {C V : Type 0} (slots : _) (id : Id) (ls : List Life) → list_any (λ m. same m.ctx id) ls ≡ true → ended_call id (map (seen_call {C = C} {V = V} slots) ls) ≡ cause_in slots id
+ended_seen slots id [] any = cc
+ended_seen slots id (m ∷ ms) any = ⊎_elim
     (λ (y : same m.ctx id ≡ true). rw y (ap (cause_in slots) (same_true m.ctx id y)))
-    (λ (n : same m.ctx id ≡ false). rw n (ended_seen slots twigs id ms (rw n at any)))
+    (λ (n : same m.ctx id ≡ false). rw n (ended_seen slots id ms (rw n at any)))
     (cases_Bool (same m.ctx id))
 
-pub none_ended : {C V : Type 0} (slots : _) (twigs : List Twig) (id : Id) (ls : List Life) → list_any (λ m. same m.ctx id) ls ≡ false → ended_call id (map (seen_call {C = C} {V = V} slots twigs) ls) ≡ None
-none_ended slots twigs id [] none = refl
-none_ended slots twigs id (m ∷ ms) none =
+pub none_ended : {C V : Type 0} (slots : _) (id : Id) (ls : List Life) → list_any (λ m. same m.ctx id) ls ≡ false → ended_call id (map (seen_call {C = C} {V = V} slots) ls) ≡ None
+none_ended slots id [] none = refl
+none_ended slots id (m ∷ ms) none =
     let two = or_parts (same m.ctx id) (list_any (λ k. same k.ctx id) ms) none in
-    rw two.0 (none_ended slots twigs id ms two.1)
+    rw two.0 (none_ended slots id ms two.1)
 
-pub request_seen : {C V : Type 0} (slots : _) (twigs : List Twig) (id : Id) (l : Life) (ls : List Life) → life_at id ls ≡ Some l → request_for id (map (seen_call {C = C} {V = V} slots twigs) ls) ≡ option_and_then (value_in slots) l.holder
-request_seen slots twigs id l [] found = cc
-request_seen slots twigs id l (m ∷ ms) found = ⊎_elim
+pub request_seen : {C V : Type 0} (slots : _) (id : Id) (l : Life) (ls : List Life) → life_at id ls ≡ Some l → request_for id (map (seen_call {C = C} {V = V} slots) ls) ≡ option_and_then (value_in slots) l.holder
+request_seen slots id l [] found = cc
+request_seen slots id l (m ∷ ms) found = ⊎_elim
     (λ (y : same m.ctx id ≡ true). rw y (ap (λ (k : Life). option_and_then (value_in slots) k.holder) (same_Some m l (rw y at found))))
-    (λ (n : same m.ctx id ≡ false). rw n (request_seen slots twigs id l ms (rw n at found)))
+    (λ (n : same m.ctx id ≡ false). rw n (request_seen slots id l ms (rw n at found)))
     (cases_Bool (same m.ctx id))
 
-pub no_request : {C V : Type 0} (slots : _) (twigs : List Twig) (id : Id) (ls : List Life) → list_any (λ m. same m.ctx id) ls ≡ false → request_for id (map (seen_call {C = C} {V = V} slots twigs) ls) ≡ None
-no_request slots twigs id [] none = refl
-no_request slots twigs id (m ∷ ms) none =
+pub no_request : {C V : Type 0} (slots : _) (id : Id) (ls : List Life) → list_any (λ m. same m.ctx id) ls ≡ false → request_for id (map (seen_call {C = C} {V = V} slots) ls) ≡ None
+no_request slots id [] none = refl
+no_request slots id (m ∷ ms) none =
     let two = or_parts (same m.ctx id) (list_any (λ k. same k.ctx id) ms) none in
-    rw two.0 (no_request slots twigs id ms two.1)
+    rw two.0 (no_request slots id ms two.1)
 
-module _ {C V H : Type 0} (laws : TreeLaws C V) {f : AfterFuncs H} {base : Id} {conns : List Id} {calls : List Life} {twigs : List Twig} {old : TreeValue C V} (s : IsSound old f twigs base conns calls)
+module _ {C V H : Type 0} (laws : TreeLaws C V) {f : AfterFuncs H} {base : Id} {conns : List Id} {calls : List Life} {old : TreeValue C V} (s : IsSound old f base conns calls)
     (id : Id) (l : Life) (found : life_at id calls ≡ Some l) where
   pub call_known : is_some (held id s.past) ≡ true
   call_known = let it = found_in id (IsLife s.past base) l calls s.calls_are found in subst (λ z. is_some (held z s.past) ≡ true) it.1 (ap is_some it.0.call_is)
 
   -- the request id that the tree tells is the one that is seen
-  pub request_told : nearest 0 (line id s.past) ≡ request_for id (map (seen_call old.slots twigs) calls)
+  pub request_told : nearest 0 (line id s.past) ≡ request_for id (map (seen_call old.slots) calls)
   request_told =
       let it = found_in id (IsLife s.past base) l calls s.calls_are found in
       subst (λ z. nearest 0 (line z s.past) ≡ option_and_then (value_in old.slots) l.holder) it.1
       (call_value laws s.past s.tree_is.contexts.lawful s.root base s.root_is s.base_is l.conn it.0.conn_is l.ctx l.holder it.0.holder_is old s.tree_is l.deadline it.0.call_is)
-      ∙ sym (request_seen old.slots twigs id l calls found)
+      ∙ sym (request_seen old.slots id l calls found)
 
   -- the tree tells what ended the call as it is seen
-  pub ended_told : why id s.past ≡ ended_call id (map (seen_call old.slots twigs) calls)
+  pub ended_told : why id s.past ≡ ended_call id (map (seen_call old.slots) calls)
   ended_told =
       let it = found_in id (IsLife s.past base) l calls s.calls_are found in
       subst (λ z. why z s.past ≡ cause_in old.slots z) it.1 (sym (shown old s.past l.ctx (kind_of (unwrap_or l.holder l.conn) l.deadline) s.tree_is it.0.call_is))
-      ∙ sym (ended_seen old.slots twigs id calls (found_any id l calls found))
+      ∙ sym (ended_seen old.slots id calls (found_any id l calls found))
 
 -- the answer about a context that is held
 pub asked_held : {K A : Type 0} (o : Option K) (a : A) → is_some o ≡ true → option_map (λ kind. a) o ≡ Some a

@@ -9,7 +9,6 @@ pub mod Hooking
 pub mod Beginning
 pub mod Leaving
 pub mod Branching
-pub mod Rows
 pub mod Branches
 pub mod Going
 pub mod Sooner

@@ -1,6 +1,6 @@
 -- Lists of calls and of connections.
 use Rattle.std.proofs.Common.{◌≡◌, refl, sym, ap, ◌∙◌, List, [], ◌∷◌, ◌++◌, Option, Some, None, Bool, true, false, inl, inr, ⊎_elim, subst}
-use Rattle.std.specs.Prelude.{◌⊎◌, ◌||◌, ◌&&◌, not, map, filter, All}
+use Rattle.std.specs.Prelude.{◌⊎◌, ◌||◌, not, map, filter, All, Result, Ok, Err, IfOk, OnErr}
 use Rattle.std.specs.List.{list_any}
 use Rattle.std.specs.Option.{option_map_or}
 use Rattle.std.proofs.lemmas.Bool.{cases_Bool, or_left, or_parts, or_right}
@@ -9,7 +9,6 @@ use Rattle.std.proofs.lemmas.Option.{same_Some}
 use Rattle.context_tree.specs.Context.{Id, same}
 use Rattle.context_tree.specs.Tree.{is_among}
 use Rattle.call_contexts.specs.declared.life.Life.{Life}
-use Rattle.call_contexts.specs.declared.twig.Twig.{Twig}
 use Rattle.call_contexts.specs.Sound.{NoTwo, same_ctx, same_holder, owns, life_at}
 use Rattle.call_contexts.proofs.Trees.{same_true, same_turned}
 
@@ -54,22 +53,6 @@ any_kept p q (x ∷ xs) is =
     (λ (n : q x ≡ false). rw n (any_kept p q xs two.1))
     (cases_Bool (q x))
 
-pub none_kept : {A : Type 0} (p : A → Bool) (xs : List A) → list_any p xs ≡ false → filter p xs ≡ []
-none_kept p [] is = refl
-none_kept p (x ∷ xs) is =
-    let two = or_parts (p x) (list_any p xs) is in
-    rw two.0 (none_kept p xs two.1)
-
--- the branches of a call
-pub twigs_of : (P : Twig → Type 0) (x : Id) (ts : List Twig) → All P ts → All (λ t. P t × (t.call ≡ x)) (filter (λ t. same t.call x) ts)
-twigs_of P x [] all = All-nil (λ t. P t × (t.call ≡ x))
-twigs_of P x (t ∷ ts) all =
-    let rest = twigs_of P x ts (All-tail P t ts all) in
-    ⊎_elim
-    (λ (y : same t.call x ≡ true). rw y (All-cons (λ t. P t × (t.call ≡ x)) t (filter (λ u. same u.call x) ts) (All-head P t ts all, same_true t.call x y) rest))
-    (λ (n : same t.call x ≡ false). rw n rest)
-    (cases_Bool (same t.call x))
-
 -- one of these passes a test; what else it passes, one of these does
 pub picked : {A : Type 0} (P : A → Type 0) (p : A → Bool) (xs : List A) → All P xs → list_any p xs ≡ true
     → (a : A) × P a × (p a ≡ true) × ((q : A → Bool) → q a ≡ true → list_any q xs ≡ true)
@@ -81,39 +64,6 @@ picked P p (x ∷ xs) all is = ⊎_elim
     (rest.0, rest.1, rest.2, λ q here. or_right (q x) (list_any q xs) (rest.3 q here)))
     (cases_Bool (p x))
 
-pub any_filter : {A : Type 0} (p q : A → Bool) (xs : List A) → list_any p (filter q xs) ≡ list_any (λ x. q x && p x) xs
-any_filter p q [] = refl
-any_filter p q (x ∷ xs) = ⊎_elim
-    (λ (y : q x ≡ true). rw y (ap (λ b. p x || b) (any_filter p q xs)))
-    (λ (n : q x ≡ false). rw n (any_filter p q xs))
-    (cases_Bool (q x))
-
--- the call of a context that is one of these
-pub life_in : (P : Life → Type 0) (x : Id) (ls : List Life) → All P ls → list_any (λ l. same l.ctx x) ls ≡ true → (l : Life) × P l × (l.ctx ≡ x)
-life_in P x [] all is = cc
-life_in P x (l ∷ ls) all is = ⊎_elim
-    (λ (y : same l.ctx x ≡ true). (l, All-head P l ls all, same_true l.ctx x y))
-    (λ (n : same l.ctx x ≡ false). life_in P x ls (All-tail P l ls all) (rw n at is))
-    (cases_Bool (same l.ctx x))
-
--- the branch of a call that has one
-pub twig_in : (P : Twig → Type 0) (x : Id) (ts : List Twig) → All P ts → list_any (λ t. same t.call x) ts ≡ true → (t : Twig) × P t × (t.call ≡ x)
-twig_in P x [] all is = cc
-twig_in P x (t ∷ ts) all is = ⊎_elim
-    (λ (y : same t.call x ≡ true). (t, All-head P t ts all, same_true t.call x y))
-    (λ (n : same t.call x ≡ false). twig_in P x ts (All-tail P t ts all) (rw n at is))
-    (cases_Bool (same t.call x))
-
--- a call of another context stays
-pub any_other : (x id : Id) (ls : List Life) → same x id ≡ false → list_any (λ l. same l.ctx x) (filter (λ m. not (same m.ctx id)) ls) ≡ list_any (λ l. same l.ctx x) ls
-any_other x id [] far = refl
-any_other x id (m ∷ ms) far = ⊎_elim
-    (λ (y : same m.ctx id ≡ true).
-    let e : same m.ctx x ≡ false = same_turned m.ctx x ∙ subst (λ z. same x z ≡ false) (sym (same_true m.ctx id y)) far in
-    rw (y, e) (any_other x id ms far))
-    (λ (n : same m.ctx id ≡ false). rw n (ap (λ b. same m.ctx x || b) (any_other x id ms far)))
-    (cases_Bool (same m.ctx id))
-
 -- ---- no two
 
 pub no_two_kept : {A : Type 0} (r : A → A → Bool) (q : A → Bool) (ls : List A) → NoTwo r ls → NoTwo r (filter q ls)
@@ -122,6 +72,32 @@ no_two_kept r q (l ∷ ls) all = ⊎_elim
     (λ (y : q l ≡ true). rw y (any_kept (r l) q ls all.0, no_two_kept r q ls all.1))
     (λ (n : q l ≡ false). rw n (no_two_kept r q ls all.1))
     (cases_Bool (q l))
+
+-- no two of their pictures stand in a relation that reads the pictures alone
+pub no_two_map : {A B : Type 0} (r : B → B → Bool) (f : A → B) (ls : List A) → NoTwo (λ l m. r (f l) (f m)) ls → NoTwo r (map f ls)
+no_two_map r f [] all = tt
+no_two_map r f (l ∷ ls) all = (any_map (r (f l)) f ls ∙ all.0, no_two_map r f ls all.1)
+
+pub unmapped : {A B : Type 0} (P : B → Type 0) (f : A → B) (ls : List A) → All P (map f ls) → All (λ l. P (f l)) ls
+unmapped P f [] all = All-nil (λ l. P (f l))
+unmapped P f (l ∷ ls) all = All-cons (λ l. P (f l)) l ls (All-head P (f l) (map f ls) all) (unmapped P f ls (All-tail P (f l) (map f ls) all))
+
+pub map_same : {A B : Type 0} (g : A → B) (f : A → A) (ls : List A) → ((l : A) → g l ≡ g (f l)) → map g ls ≡ map g (map f ls)
+map_same g f [] same_there = refl
+map_same g f (l ∷ ls) same_there = ap (λ x. x ∷ map g ls) (same_there l) ∙ ap (λ xs. g (f l) ∷ xs) (map_same g f ls same_there)
+
+-- what an answer is
+pub by_answer : {T E P Q R G : Type 0} (r : Result T E) → IfOk r (λ _. P) → OnErr r Q → OnErr r R → (P → G) → (Q → R → G) → G
+by_answer (Ok a) p q r ok err = ok p
+by_answer (Err e) p q r ok err = err q r
+
+pub if_ok : {T E P G : Type 0} (r : Result T E) → IfOk r (λ _. P) → (P → G) → IfOk r (λ _. G)
+if_ok (Ok a) p ok = ok p
+if_ok (Err e) p ok = tt
+
+pub on_err : {T E Q R G : Type 0} (r : Result T E) → OnErr r Q → OnErr r R → (Q → R → G) → OnErr r G
+on_err (Ok a) q r err = tt
+on_err (Err e) q r err = err q r
 
 any_pushed : {A : Type 0} (p : A → Bool) (ls : List A) (l : A) → list_any p ls ≡ false → p l ≡ false → list_any p (ls ++ l ∷ []) ≡ false
 any_pushed p ls l none one = any_append p ls (l ∷ []) ∙ rw (none, one) refl
@@ -164,7 +140,7 @@ module _ (id : Id) where
       (cases_Bool (same m.ctx id))
 
   -- the others of different contexts
-  gone_first : (m : Life) (ms : List Life) → list_any (same_ctx m) ms ≡ false → same m.ctx id ≡ true → list_any (λ k. same k.ctx id) ms ≡ false
+  pub gone_first : (m : Life) (ms : List Life) → list_any (same_ctx m) ms ≡ false → same m.ctx id ≡ true → list_any (λ k. same k.ctx id) ms ≡ false
   gone_first m ms none y = subst (λ x. list_any (λ (k : Life). same k.ctx x) ms ≡ false) (same_true m.ctx id y) none
 
   -- what none of the others has, and not the call, none has

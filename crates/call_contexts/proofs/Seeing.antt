@@ -1,25 +1,23 @@
 -- What is seen after a moment, a cancel and a drain.
-use Rattle.std.proofs.Common.{◌≡◌, refl, sym, ap, ◌∙◌, arith, ℕ, ◌≤◌, List, [], ◌∷◌, Option, Some, None, Bool, true, false, ⊎_elim, is_none, subst, Ok}
-use Rattle.std.specs.Prelude.{◌&&◌, ◌||◌, IfOk, Result, min, is_some, map, filter, All, option_map, option_and_then, unwrap_or}
+use Rattle.std.proofs.Common.{◌≡◌, refl, sym, ap, ◌∙◌, arith, ℕ, ◌≤◌, List, [], ◌∷◌, Option, Some, None, Bool, true, false, ⊎_elim, is_none}
+use Rattle.std.specs.Prelude.{◌&&◌, ◌||◌, min, is_some, map, All, option_map, option_and_then, unwrap_or}
 use Rattle.std.specs.Option.{option_or}
 use Rattle.std.proofs.lemmas.List.Elements.{All-nil, All-head, All-map, All-tail, All-weaker}
 use Rattle.std.proofs.lemmas.Bool.{cases_Bool, or_parts}
 use Rattle.std.proofs.Math.Bool.{or-true}
 use Rattle.context_tree.specs.declared.error.Cause.{Cause}
 use Rattle.context_tree.specs.declared.error.Cause.TheVariants.{Given}
-use Rattle.context_tree.specs.declared.error.CtxError.{CtxError}
 use Rattle.context_tree.specs.declared.node.Kind.{Kind}
 use Rattle.context_tree.specs.declared.node.Kind.TheVariants.{Background, Cancel, Deadline, Value}
 use Rattle.context_tree.specs.Context.{Id, Ended, same, Makes, Cancels, Advances, held, chain, deadline, sooner, has_cancel, ending}
-use Rattle.context_tree.specs.Tree.{TreeValue, StandsFor, IsMade, IsFirstDeadline, IsNotAfter, IsLawful, is_ended_by_cancel}
+use Rattle.context_tree.specs.Tree.{TreeValue, StandsFor, IsFirstDeadline, IsNotAfter, IsLawful, is_ended_by_cancel}
 use Rattle.after_funcs.specs.declared.callbacks.AfterFuncs.{AfterFuncs}
 use Rattle.after_funcs.specs.Stands.{StandsFor as HooksStand}
 use Rattle.call_contexts.specs.declared.life.Life.{Life}
 use Rattle.call_contexts.specs.declared.twig.Twig.{Twig}
 use Rattle.call_contexts.specs.Standing.{Conn, Call, IsNoSooner, AreNoSooner, Slots, cause_in, value_in, seen, seen_conn, seen_call, Branch, seen_branch, seen_branches, ends_call, ends_branch, expires_branch, expires_call, ends_conn, if_cancelled, if_due, is_conn, ended_conn, expired, all_ended}
-use Rattle.call_contexts.specs.Sound.{Op, TreeLaws, IsSound, IsLife, IsConn, IsHolder, IsTwig, kind_of, is_kept, why}
+use Rattle.call_contexts.specs.Sound.{Op, TreeLaws, IsSound, IsLife, IsConn, IsHolder, IsTwig, kind_of, is_kept, IsUnhanded, why}
 use Rattle.call_contexts.proofs.Trees.{same_refl, same_true, same_turned, shown, shown_request, advanced, due_on, struck, base_chain, conn_chain, call_deadline, call_hit, call_due, twig_hit, twig_due, twig_deadline, far_new, made_held}
-use Rattle.call_contexts.proofs.Lists.{twigs_of}
 use Rattle.call_contexts.proofs.Making.{or_none}
 
 pub maps_agree : {A B : Type 0} (f g : A → B) (xs : List A) → All (λ x. f x ≡ g x) xs → map f xs ≡ map g xs
@@ -84,12 +82,12 @@ module _ {C V : Type 0} where
       (λ (n : same c id ≡ false). rw n (ended_found slots cs id (rw n at is)))
       (cases_Bool (same c id))
 
-  pub seen_as : (slots : Slots C V) (twigs : List Twig) (base : Id) (conns : List Id) (calls : List Life) (d : Option (Cause C)) (cs : List (Conn C)) (ls : List (Call C V))
-      → cause_in slots base ≡ d → map (seen_conn slots) conns ≡ cs → map (seen_call slots twigs) calls ≡ ls
-      → seen slots twigs base conns calls ≡ record { drained = d; conns = cs; calls = ls }
-  seen_as slots twigs base conns calls d cs ls b c l =
-      ap (λ x. record { drained = x; conns = map (seen_conn slots) conns; calls = map (seen_call slots twigs) calls }) b
-      ∙ ap (λ x. record { drained = d; conns = x; calls = map (seen_call slots twigs) calls }) c
+  pub seen_as : (slots : Slots C V) (base : Id) (conns : List Id) (calls : List Life) (d : Option (Cause C)) (cs : List (Conn C)) (ls : List (Call C V))
+      → cause_in slots base ≡ d → map (seen_conn slots) conns ≡ cs → map (seen_call slots) calls ≡ ls
+      → seen slots base conns calls ≡ record { drained = d; conns = cs; calls = ls }
+  seen_as slots base conns calls d cs ls b c l =
+      ap (λ x. record { drained = x; conns = map (seen_conn slots) conns; calls = map (seen_call slots) calls }) b
+      ∙ ap (λ x. record { drained = d; conns = x; calls = map (seen_call slots) calls }) c
       ∙ ap (λ x. record { drained = d; conns = cs; calls = x }) l
 
   pub conn_as : (slots : Slots C V) (x : Id) (e : Option (Cause C)) → cause_in slots x ≡ e → seen_conn slots x ≡ record { id = x; ended = e }
@@ -98,11 +96,11 @@ module _ {C V : Type 0} where
   pub branch_as : (slots : Slots C V) (t : Twig) (e : Option (Cause C)) → cause_in slots t.ctx ≡ e → seen_branch slots t ≡ record { branch = t.branch; deadline = t.at; ended = e }
   branch_as slots t e is = ap (λ b. record { branch = t.branch; deadline = t.at; ended = b }) is
 
-  pub call_as : (slots : Slots C V) (twigs : List Twig) (l : Life) (r : Option V) (e : Option (Cause C)) (bs : List (Branch C)) → option_and_then (value_in slots) l.holder ≡ r → cause_in slots l.ctx ≡ e
-      → seen_branches slots twigs l.ctx ≡ bs → seen_call slots twigs l ≡ record { id = l.ctx; conn = l.conn; deadline = l.deadline; request_id = r; ended = e; branches = bs }
-  call_as slots twigs l r e bs rs es bss =
-      ap (λ q. record { id = l.ctx; conn = l.conn; deadline = l.deadline; request_id = q; ended = cause_in slots l.ctx; branches = seen_branches slots twigs l.ctx }) rs
-      ∙ ap (λ b. record { id = l.ctx; conn = l.conn; deadline = l.deadline; request_id = r; ended = b; branches = seen_branches slots twigs l.ctx }) es
+  pub call_as : (slots : Slots C V) (l : Life) (r : Option V) (e : Option (Cause C)) (bs : List (Branch C)) → option_and_then (value_in slots) l.holder ≡ r → cause_in slots l.ctx ≡ e
+      → seen_branches slots l.twigs ≡ bs → seen_call slots l ≡ record { id = l.ctx; conn = l.conn; deadline = l.deadline; request_id = r; ended = e; branches = bs }
+  call_as slots l r e bs rs es bss =
+      ap (λ q. record { id = l.ctx; conn = l.conn; deadline = l.deadline; request_id = q; ended = cause_in slots l.ctx; branches = seen_branches slots l.twigs }) rs
+      ∙ ap (λ b. record { id = l.ctx; conn = l.conn; deadline = l.deadline; request_id = r; ended = b; branches = seen_branches slots l.twigs }) es
       ∙ ap (λ b. record { id = l.ctx; conn = l.conn; deadline = l.deadline; request_id = r; ended = e; branches = b }) bss
 
   -- a request id is seen as before, where its context is still held
@@ -120,7 +118,7 @@ module _ {C V : Type 0} (laws : TreeLaws C V) (root base : Id) (t : TreeValue C 
   base_live =
       shown t _ base (Cancel root) st (made_held (Makes root Background 0 ∷ []) base (Cancel root) 0) ∙ rw (same_refl base, same_refl root) refl
 
-  not_made : (x : Id) → is_kept [] root base [] [] x ≡ false → held {C = C} {V = V} x (Makes base (Cancel root) 0 ∷ Makes root Background 0 ∷ []) ≡ None
+  not_made : (x : Id) → is_kept root base [] [] x ≡ false → held {C = C} {V = V} x (Makes base (Cancel root) 0 ∷ Makes root Background 0 ∷ []) ≡ None
   not_made x far =
       let r = or_parts (same x root) (same x base || false) far in
       let one : same root x ≡ false = same_turned root x ∙ r.0 in
@@ -131,7 +129,7 @@ module _ {C V : Type 0} (laws : TreeLaws C V) (root base : Id) (t : TreeValue C 
   base_root = far_new base root Background (Makes root Background 0 ∷ [])
       (laws.new_unheld (Makes root Background 0 ∷ []) base (Cancel root) 0 st.contexts.lawful) (made_held [] root Background 0)
 
-  pub new_sound : {H : Type 0} (f : AfterFuncs H) → HooksStand f [] → IsSound t f [] base [] []
+  pub new_sound : {H : Type 0} (f : AfterFuncs H) → HooksStand f [] → IsSound t f base [] []
   new_sound f hs = record {
     laws = laws;
     past = Makes base (Cancel root) 0 ∷ Makes root Background 0 ∷ [];
@@ -143,17 +141,15 @@ module _ {C V : Type 0} (laws : TreeLaws C V) (root base : Id) (t : TreeValue C 
     base_is = made_held (Makes root Background 0 ∷ []) base (Cancel root) 0;
     conns_are = All-nil _;
     calls_are = All-nil _;
-    twigs_are = All-nil _;
     none_else = not_made;
     distinct = tt;
     apart = tt;
-    twigs_apart = tt;
     hook_waits = refl;
     none_due = refl;
-    unhanded = λ x row. absurd (cc);
+    unhanded = All-nil _;
   }
 
-module _ {C V H : Type 0} (laws : TreeLaws C V) {f : AfterFuncs H} {base : Id} {conns : List Id} {calls : List Life} {twigs : List Twig} {old : TreeValue C V} (s : IsSound old f twigs base conns calls) where
+module _ {C V H : Type 0} (laws : TreeLaws C V) {f : AfterFuncs H} {base : Id} {conns : List Id} {calls : List Life} {old : TreeValue C V} (s : IsSound old f base conns calls) where
   pub lawful : IsLawful s.past
   lawful = s.tree_is.contexts.lawful
 
@@ -161,6 +157,41 @@ module _ {C V H : Type 0} (laws : TreeLaws C V) {f : AfterFuncs H} {base : Id} {
   request_kept : (new : TreeValue C V) (later : List (Op C V)) → StandsFor new later → ((x : Id) → held x later ≡ held x s.past)
       → (l : Life) → IsLife s.past base l → option_and_then (value_in new.slots) l.holder ≡ option_and_then (value_in old.slots) l.holder
   request_kept new later st same_held l is = request_stays old new s.past later l.conn s.tree_is st l.holder (λ x r e h. same_held x ∙ h) is.holder_is
+
+  -- ---- no context is made or let go of
+
+  module _ (later : List (Op C V)) (same_held : (x : Id) → held x later ≡ held x s.past) where
+    holder_later : (conn : Id) (holder : Option Id) → IsHolder s.past conn holder → IsHolder later conn holder
+    holder_later conn None is = tt
+    holder_later conn (Some x) is = (is.0, same_held x ∙ is.1)
+
+    pub sound_held : (f' : AfterFuncs H) → HooksStand f' s.hooks → (new : TreeValue C V) → StandsFor new later
+        → All (IsUnhanded later) calls → IsSound new f' base conns calls
+    sound_held f' hs new st unhanded = record {
+      laws = laws;
+      past = later;
+      hooks = s.hooks;
+      tree_is = st;
+      hooks_are = hs;
+      root = s.root;
+      root_is = same_held s.root ∙ s.root_is;
+      base_is = same_held base ∙ s.base_is;
+      conns_are = All-weaker (IsConn base s.past) (IsConn base later) (λ c is. same_held c ∙ is) conns s.conns_are;
+      calls_are = All-weaker (IsLife s.past base) (IsLife later base)
+          (λ l is. record {
+            call_is = same_held l.ctx ∙ is.call_is;
+            holder_is = holder_later l.conn l.holder is.holder_is;
+            conn_is = same_held l.conn ∙ is.conn_is;
+            twigs_are = All-weaker (IsTwig s.past l.ctx) (IsTwig later l.ctx) (λ t t_is. same_held t.ctx ∙ t_is) l.twigs is.twigs_are;
+            twigs_apart = is.twigs_apart;
+          }) calls s.calls_are;
+      none_else = λ x none. same_held x ∙ s.none_else x none;
+      distinct = s.distinct;
+      apart = s.apart;
+      hook_waits = s.hook_waits;
+      none_due = s.none_due;
+      unhanded = unhanded;
+    }
 
   -- ---- a moment
 
@@ -173,61 +204,36 @@ module _ {C V H : Type 0} (laws : TreeLaws C V) {f : AfterFuncs H} {base : Id} {
     untouched x kind is at = one_advanced x kind None is at ∙ or_none _
 
     -- a branch ends with its call or by its own deadline
-    one_expired : (l : Life) → IsLife s.past base l → (t : Twig) → IsTwig s.past calls t → t.call ≡ l.ctx
+    one_expired : (l : Life) → IsLife s.past base l → (t : Twig) → IsTwig s.past l.ctx t
         → seen_branch new.slots t ≡ expires_branch now (ends_branch (if_due now l.deadline) (seen_branch old.slots t))
-    one_expired l is t t_is of = branch_as new.slots t _
-        (one_advanced t.ctx (Deadline t.call t.at None) (option_or (if_due now l.deadline) (if_due now (Some t.at))) t_is.0
-        (twig_due laws s.past lawful t t_is.0 now l.deadline
-        (ap (λ x. due_on now (chain x s.past)) of ∙ call_due laws s.past lawful s.root base s.root_is s.base_is l.conn is.conn_is l.ctx l.holder is.holder_is now l.deadline is.call_is))
+    one_expired l is t t_is = branch_as new.slots t _
+        (one_advanced t.ctx (Deadline l.ctx t.at None) (option_or (if_due now l.deadline) (if_due now (Some t.at))) t_is
+        (twig_due laws s.past lawful l.ctx t t_is now l.deadline
+        (call_due laws s.past lawful s.root base s.root_is s.base_is l.conn is.conn_is l.ctx l.holder is.holder_is now l.deadline is.call_is))
         ∙ or_or (cause_in old.slots t.ctx) (if_due now l.deadline) (if_due now (Some t.at)))
 
     branches_expired : (l : Life) → IsLife s.past base l
-        → seen_branches new.slots twigs l.ctx ≡ map (λ b. expires_branch now (ends_branch (if_due now l.deadline) b)) (seen_branches old.slots twigs l.ctx)
-    branches_expired l is = maps_to (seen_branch new.slots) (λ b. expires_branch now (ends_branch (if_due now l.deadline) b)) (seen_branch old.slots) (filter (λ t. same t.call l.ctx) twigs)
-        (All-weaker (λ t. IsTwig s.past calls t × (t.call ≡ l.ctx)) (λ t. seen_branch new.slots t ≡ expires_branch now (ends_branch (if_due now l.deadline) (seen_branch old.slots t)))
-        (λ t t_is. one_expired l is t t_is.0 t_is.1)
-        (filter (λ t. same t.call l.ctx) twigs) (twigs_of (IsTwig s.past calls) l.ctx twigs s.twigs_are))
+        → seen_branches new.slots l.twigs ≡ map (λ b. expires_branch now (ends_branch (if_due now l.deadline) b)) (seen_branches old.slots l.twigs)
+    branches_expired l is = maps_to (seen_branch new.slots) (λ b. expires_branch now (ends_branch (if_due now l.deadline) b)) (seen_branch old.slots) l.twigs
+        (All-weaker (IsTwig s.past l.ctx) (λ t. seen_branch new.slots t ≡ expires_branch now (ends_branch (if_due now l.deadline) (seen_branch old.slots t))) (one_expired l is) l.twigs is.twigs_are)
 
-    pub seen_expired : seen new.slots twigs base conns calls ≡ expired now (seen old.slots twigs base conns calls)
+    pub seen_expired : seen new.slots base conns calls ≡ expired now (seen old.slots base conns calls)
     seen_expired =
         let b : cause_in new.slots base ≡ cause_in old.slots base = untouched base (Cancel s.root) s.base_is (ap (due_on now) (base_chain laws s.past lawful s.root base s.root_is s.base_is)) in
         let cs : map (seen_conn new.slots) conns ≡ map (seen_conn old.slots) conns =
         maps_agree (seen_conn new.slots) (seen_conn old.slots) conns
         (All-weaker (IsConn base s.past) (λ c. seen_conn new.slots c ≡ seen_conn old.slots c)
         (λ c is. conn_as new.slots c _ (untouched c (Cancel base) is (ap (due_on now) (conn_chain laws s.past lawful s.root base s.root_is s.base_is c is)))) conns s.conns_are) in
-        let ls : map (seen_call new.slots twigs) calls ≡ map (expires_call now) (map (seen_call old.slots twigs) calls) =
-        maps_to (seen_call new.slots twigs) (expires_call now) (seen_call old.slots twigs) calls
-        (All-weaker (IsLife s.past base) (λ l. seen_call new.slots twigs l ≡ expires_call now (seen_call old.slots twigs l))
-        (λ l is. call_as new.slots twigs l _ _ _ (request_kept new (Advances now ∷ s.past) st (λ x. refl) l is)
+        let ls : map (seen_call new.slots) calls ≡ map (expires_call now) (map (seen_call old.slots) calls) =
+        maps_to (seen_call new.slots) (expires_call now) (seen_call old.slots) calls
+        (All-weaker (IsLife s.past base) (λ l. seen_call new.slots l ≡ expires_call now (seen_call old.slots l))
+        (λ l is. call_as new.slots l _ _ _ (request_kept new (Advances now ∷ s.past) st (λ x. refl) l is)
         (one_advanced l.ctx (kind_of (unwrap_or l.holder l.conn) l.deadline) (if_due now l.deadline) is.call_is
         (call_due laws s.past lawful s.root base s.root_is s.base_is l.conn is.conn_is l.ctx l.holder is.holder_is now l.deadline is.call_is)) (branches_expired l is)) calls s.calls_are) in
-        seen_as new.slots twigs base conns calls _ _ _ b cs ls
+        seen_as new.slots base conns calls _ _ _ b cs ls
 
-    pub sound_expired : IsSound new f twigs base conns calls
-    sound_expired = record {
-      laws = laws;
-      past = Advances now ∷ s.past;
-      hooks = s.hooks;
-      tree_is = st;
-      hooks_are = s.hooks_are;
-      root = s.root;
-      root_is = s.root_is;
-      base_is = s.base_is;
-      conns_are = s.conns_are;
-      calls_are = All-weaker (IsLife s.past base) (IsLife (Advances now ∷ s.past) base) (λ l is. record { call_is = is.call_is; holder_is = holder_later l.holder l.conn is.holder_is; conn_is = is.conn_is }) calls s.calls_are;
-      twigs_are = s.twigs_are;
-      none_else = s.none_else;
-      distinct = s.distinct;
-      apart = s.apart;
-      twigs_apart = s.twigs_apart;
-      hook_waits = s.hook_waits;
-      none_due = s.none_due;
-      unhanded = s.unhanded;
-    }
-      where
-        holder_later : (holder : Option Id) (conn : Id) → IsHolder s.past conn holder → IsHolder (Advances now ∷ s.past) conn holder
-        holder_later None conn is = tt
-        holder_later (Some x) conn is = is
+    pub sound_expired : IsSound new f base conns calls
+    sound_expired = sound_held (Advances now ∷ s.past) (λ x. refl) f s.hooks_are new st s.unhanded
 
   -- ---- a cancel
 
@@ -277,59 +283,11 @@ module _ {C V H : Type 0} (laws : TreeLaws C V) {f : AfterFuncs H} {base : Id} {
         (cases_Bool answer)
 
     -- a cancel leaves all sound
-    sound_cancelled : StandsFor new (Cancels id (Some cause) ∷ s.past) → IsSound new f twigs base conns calls
-    sound_cancelled st = record {
-      laws = laws;
-      past = Cancels id (Some cause) ∷ s.past;
-      hooks = s.hooks;
-      tree_is = st;
-      hooks_are = s.hooks_are;
-      root = s.root;
-      root_is = s.root_is;
-      base_is = s.base_is;
-      conns_are = s.conns_are;
-      calls_are = All-weaker (IsLife s.past base) (IsLife (Cancels id (Some cause) ∷ s.past) base) (λ l is. record { call_is = is.call_is; holder_is = holder_later l.holder l.conn is.holder_is; conn_is = is.conn_is }) calls s.calls_are;
-      twigs_are = s.twigs_are;
-      none_else = s.none_else;
-      distinct = s.distinct;
-      apart = s.apart;
-      twigs_apart = s.twigs_apart;
-      hook_waits = s.hook_waits;
-      none_due = s.none_due;
-      unhanded = s.unhanded;
-    }
-      where
-        holder_later : (holder : Option Id) (conn : Id) → IsHolder s.past conn holder → IsHolder (Cancels id (Some cause) ∷ s.past) conn holder
-        holder_later None conn is = tt
-        holder_later (Some x) conn is = is
-
-    pub sound_after_cancel : (answer ≡ false → StandsFor new s.past) → IsSound new f twigs base conns calls
+    pub sound_after_cancel : (answer ≡ false → StandsFor new s.past) → IsSound new f base conns calls
     sound_after_cancel keeps = ⊎_elim
-        (λ (y : answer ≡ true). sound_cancelled (ends y))
-        (λ (n : answer ≡ false). still_sound (keeps n))
+        (λ (y : answer ≡ true). sound_held (Cancels id (Some cause) ∷ s.past) (λ x. refl) f s.hooks_are new (ends y) s.unhanded)
+        (λ (n : answer ≡ false). sound_held s.past (λ x. refl) f s.hooks_are new (keeps n) s.unhanded)
         (cases_Bool answer)
-      where
-        still_sound : StandsFor new s.past → IsSound new f twigs base conns calls
-        still_sound st = record {
-          laws = laws;
-          past = s.past;
-          hooks = s.hooks;
-          tree_is = st;
-          hooks_are = s.hooks_are;
-          root = s.root;
-          root_is = s.root_is;
-          base_is = s.base_is;
-          conns_are = s.conns_are;
-          calls_are = s.calls_are;
-          twigs_are = s.twigs_are;
-          none_else = s.none_else;
-          distinct = s.distinct;
-          apart = s.apart;
-          twigs_apart = s.twigs_apart;
-          hook_waits = s.hook_waits;
-          none_due = s.none_due;
-          unhanded = s.unhanded;
-        }
 
   -- ---- the base is cancelled
 
@@ -349,43 +307,40 @@ module _ {C V H : Type 0} (laws : TreeLaws C V) {f : AfterFuncs H} {base : Id} {
     life_hit l is = call_hit laws s.past lawful s.root base s.root_is s.base_is l.conn is.conn_is l.ctx l.holder is.holder_is l.deadline is.call_is base
         ∙ ap (λ b. (same l.ctx base && true) || b) (conn_hit l.conn is.conn_is) ∙ or-true _
 
-    all_branches : (l : Life) → IsLife s.past base l → seen_branches new.slots twigs l.ctx ≡ map (ends_branch (Some (Given cause))) (seen_branches old.slots twigs l.ctx)
-    all_branches l is = maps_to (seen_branch new.slots) (ends_branch (Some (Given cause))) (seen_branch old.slots) (filter (λ t. same t.call l.ctx) twigs)
-        (All-weaker (λ t. IsTwig s.past calls t × (t.call ≡ l.ctx)) (λ t. seen_branch new.slots t ≡ ends_branch (Some (Given cause)) (seen_branch old.slots t))
-        (λ t t_is. branch_as new.slots t _ (all_struck t.ctx (Deadline t.call t.at None) t_is.0.0
-        (twig_hit laws s.past lawful t t_is.0.0 base ∙ ap (λ x. (same t.ctx base && true) || has_cancel base (chain x s.past)) t_is.1
-        ∙ ap (λ b. (same t.ctx base && true) || b) (life_hit l is) ∙ or-true _)))
-        (filter (λ t. same t.call l.ctx) twigs) (twigs_of (IsTwig s.past calls) l.ctx twigs s.twigs_are))
+    all_branches : (l : Life) → IsLife s.past base l → seen_branches new.slots l.twigs ≡ map (ends_branch (Some (Given cause))) (seen_branches old.slots l.twigs)
+    all_branches l is = maps_to (seen_branch new.slots) (ends_branch (Some (Given cause))) (seen_branch old.slots) l.twigs
+        (All-weaker (IsTwig s.past l.ctx) (λ t. seen_branch new.slots t ≡ ends_branch (Some (Given cause)) (seen_branch old.slots t))
+        (λ t t_is. branch_as new.slots t _ (all_struck t.ctx (Deadline l.ctx t.at None) t_is
+        (twig_hit laws s.past lawful l.ctx t t_is base ∙ ap (λ b. (same t.ctx base && true) || b) (life_hit l is) ∙ or-true _))) l.twigs is.twigs_are)
 
-    all_call : (l : Life) → IsLife s.past base l → seen_call new.slots twigs l ≡ ends_call (Some (Given cause)) (seen_call old.slots twigs l)
-    all_call l is = call_as new.slots twigs l _ _ _ (request_after cause new answer base s.root s.base_is answer_is ends stays l is)
+    all_call : (l : Life) → IsLife s.past base l → seen_call new.slots l ≡ ends_call (Some (Given cause)) (seen_call old.slots l)
+    all_call l is = call_as new.slots l _ _ _ (request_after cause new answer base s.root s.base_is answer_is ends stays l is)
         (all_struck l.ctx (kind_of (unwrap_or l.holder l.conn) l.deadline) is.call_is (life_hit l is)) (all_branches l is)
 
-    pub seen_drained : seen new.slots twigs base conns calls ≡ all_ended cause (seen old.slots twigs base conns calls)
-    seen_drained = seen_as new.slots twigs base conns calls _ _ _
+    pub seen_drained : seen new.slots base conns calls ≡ all_ended cause (seen old.slots base conns calls)
+    seen_drained = seen_as new.slots base conns calls _ _ _
         (all_struck base (Cancel s.root) s.base_is (rw (base_chain laws s.past lawful s.root base s.root_is s.base_is, same_refl base) refl))
         (maps_to (seen_conn new.slots) (ends_conn (Some (Given cause))) (seen_conn old.slots) conns
         (All-weaker (IsConn base s.past) (λ c. seen_conn new.slots c ≡ ends_conn (Some (Given cause)) (seen_conn old.slots c)) all_conn conns s.conns_are))
-        (maps_to (seen_call new.slots twigs) (ends_call (Some (Given cause))) (seen_call old.slots twigs) calls
-        (All-weaker (IsLife s.past base) (λ l. seen_call new.slots twigs l ≡ ends_call (Some (Given cause)) (seen_call old.slots twigs l)) all_call calls s.calls_are))
+        (maps_to (seen_call new.slots) (ends_call (Some (Given cause))) (seen_call old.slots) calls
+        (All-weaker (IsLife s.past base) (λ l. seen_call new.slots l ≡ ends_call (Some (Given cause)) (seen_call old.slots l)) all_call calls s.calls_are))
 
   -- ---- the least deadline
 
-  pub no_sooner : (first : Option ℕ) → IsFirstDeadline first s.past → All (IsNoSooner first) (map (seen_call old.slots twigs) calls)
-  no_sooner first sooner = All-map (IsNoSooner first) (seen_call old.slots twigs) calls
-      (All-weaker (IsLife s.past base) (λ l. IsNoSooner first (seen_call old.slots twigs l))
+  pub no_sooner : (first : Option ℕ) → IsFirstDeadline first s.past → All (IsNoSooner first) (map (seen_call old.slots) calls)
+  no_sooner first sooner = All-map (IsNoSooner first) (seen_call old.slots) calls
+      (All-weaker (IsLife s.past base) (λ l. IsNoSooner first (seen_call old.slots l))
       (λ l is at on due. sooner l.ctx (kind_of (unwrap_or l.holder l.conn) l.deadline) at is.call_is
       (none_ended (ending l.ctx s.past) (sym (shown old s.past l.ctx (kind_of (unwrap_or l.holder l.conn) l.deadline) s.tree_is is.call_is) ∙ on))
       (call_deadline laws s.past lawful s.root base s.root_is s.base_is l.conn is.conn_is l.ctx l.holder is.holder_is l.deadline is.call_is ∙ due)) calls s.calls_are)
 
-  pub branches_no_sooner : (first : Option ℕ) → IsFirstDeadline first s.past → All (AreNoSooner first) (map (seen_call old.slots twigs) calls)
-  branches_no_sooner first sooner = All-map (AreNoSooner first) (seen_call old.slots twigs) calls
-      (All-weaker (IsLife s.past base) (λ l. AreNoSooner first (seen_call old.slots twigs l)) (λ l is. of l.ctx) calls s.calls_are)
+  pub branches_no_sooner : (first : Option ℕ) → IsFirstDeadline first s.past → All (AreNoSooner first) (map (seen_call old.slots) calls)
+  branches_no_sooner first sooner = All-map (AreNoSooner first) (seen_call old.slots) calls
+      (All-weaker (IsLife s.past base) (λ l. AreNoSooner first (seen_call old.slots l)) (λ l is. of l.ctx l.twigs is.twigs_are) calls s.calls_are)
     where
-      of : (x : Id) → All (λ b. b.ended ≡ None → IsNotAfter first b.deadline) (seen_branches old.slots twigs x)
-      of x = All-map (λ b. b.ended ≡ None → IsNotAfter first b.deadline) (seen_branch old.slots) (filter (λ t. same t.call x) twigs)
-          (All-weaker (λ t. IsTwig s.past calls t × (t.call ≡ x)) (λ t. cause_in old.slots t.ctx ≡ None → IsNotAfter first t.at)
-          (λ t is on. not_after first t.at (deadline t.call s.past) (λ d at. sooner t.ctx (Deadline t.call t.at None) d is.0.0
-          (none_ended (ending t.ctx s.past) (sym (shown old s.past t.ctx (Deadline t.call t.at None) s.tree_is is.0.0) ∙ on))
-          (twig_deadline laws s.past lawful t is.0.0 ∙ at)))
-          (filter (λ t. same t.call x) twigs) (twigs_of (IsTwig s.past calls) x twigs s.twigs_are))
+      of : (call : Id) (ts : List Twig) → All (IsTwig s.past call) ts → All (λ b. b.ended ≡ None → IsNotAfter first b.deadline) (seen_branches old.slots ts)
+      of call ts all = All-map (λ b. b.ended ≡ None → IsNotAfter first b.deadline) (seen_branch old.slots) ts
+          (All-weaker (IsTwig s.past call) (λ t. cause_in old.slots t.ctx ≡ None → IsNotAfter first t.at)
+          (λ t is on. not_after first t.at (deadline call s.past) (λ d at. sooner t.ctx (Deadline call t.at None) d is
+          (none_ended (ending t.ctx s.past) (sym (shown old s.past t.ctx (Deadline call t.at None) s.tree_is is) ∙ on))
+          (twig_deadline laws s.past lawful call t is ∙ at))) ts all)

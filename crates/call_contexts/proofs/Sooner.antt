@@ -10,9 +10,10 @@ use Rattle.context_tree.specs.Tree.{TreeValue}
 use Rattle.after_funcs.specs.declared.callbacks.AfterFuncs.{AfterFuncs}
 use Rattle.call_contexts.specs.declared.life.Life.{Life}
 use Rattle.call_contexts.specs.declared.twig.Twig.{Twig}
-use Rattle.call_contexts.specs.Standing.{Branch, Slots, branch_before, cause_in, ended_branch, seen_branch, seen_branches, seen_call, sooner_branch, first_branch, if_before}
-use Rattle.call_contexts.specs.Sound.{IsSound, IsTwig, sooner_twig, soonest_of, life_at, why}
-use Rattle.call_contexts.proofs.Trees.{same_true, shown}
+use Rattle.call_contexts.specs.Standing.{Branch, Slots, cause_in, ended_branch, seen_branch, seen_branches, seen_call, sooner_branch, first_branch, if_before}
+use Rattle.call_contexts.specs.Sound.{IsLife, IsSound, IsTwig, sooner_twig, soonest_of, life_at, why}
+use Rattle.call_contexts.proofs.Trees.{shown}
+use Rattle.call_contexts.proofs.Lists.{found_in}
 
 -- the first of what was passed and of the rest
 abbrev pub merged : Option Twig → Option Twig → Option Twig
@@ -21,33 +22,28 @@ merged (Some t) rest = Some (sooner_twig t rest)
 
 -- ---- what is seen
 
-module _ {C V : Type 0} (slots : Slots C V) (id : Id) where
+module _ {C V : Type 0} (slots : Slots C V) where
   sooner_seen : (t : Twig) (o : Option Twig) → seen_branch slots (sooner_twig t o) ≡ sooner_branch (seen_branch slots t) (option_map (seen_branch slots) o)
   sooner_seen t None = refl
   sooner_seen t (Some u) = ⊎_elim (λ (y : nat_le t.at u.at ≡ true). rw y refl) (λ (n : nat_le t.at u.at ≡ false). rw n refl) (cases_Bool (nat_le t.at u.at))
 
-  soonest_seen : (ts : List Twig) → first_branch (seen_branches slots ts id) ≡ option_map (seen_branch slots) (soonest_of id ts)
+  soonest_seen : (ts : List Twig) → first_branch (seen_branches slots ts) ≡ option_map (seen_branch slots) (soonest_of ts)
   soonest_seen [] = refl
-  soonest_seen (t ∷ ts) = ⊎_elim
-      (λ (y : same t.call id ≡ true). rw y (ap (λ o. Some (sooner_branch (seen_branch slots t) o)) (soonest_seen ts) ∙ ap (λ b. Some b) (sym (sooner_seen t (soonest_of id ts)))))
-      (λ (n : same t.call id ≡ false). rw n (soonest_seen ts))
-      (cases_Bool (same t.call id))
+  soonest_seen (t ∷ ts) = ap (λ o. Some (sooner_branch (seen_branch slots t) o)) (soonest_seen ts) ∙ ap (λ b. Some b) (sym (sooner_seen t (soonest_of ts)))
 
   -- the same of what is kept, in whose place the tree tells what ended it
   abbrev pub kept_before : Option ℕ → Option Twig → Option ℕ
   kept_before call o = option_and_then (λ (t : Twig). if is_some (cause_in slots t.ctx) then if_before call t.at t.branch else None) o
 
   -- of the first call of that context
-  pub ended_found : (ts : List Twig) (l : Life) (ls : List Life) → life_at id ls ≡ Some l
-      → ended_branch id (map (seen_call slots ts) ls) ≡ kept_before l.deadline (soonest_of id ts)
-  ended_found ts l [] found = cc
-  ended_found ts l (m ∷ ms) found = ⊎_elim
+  pub ended_found : (id : Id) (l : Life) (ls : List Life) → life_at id ls ≡ Some l → ended_branch id (map (seen_call slots) ls) ≡ kept_before l.deadline (soonest_of l.twigs)
+  ended_found id l [] found = cc
+  ended_found id l (m ∷ ms) found = ⊎_elim
       (λ (y : same m.ctx id ≡ true).
-      rw y (ap (λ x. branch_before m.deadline (seen_branches slots ts x)) (same_true m.ctx id y)
-      ∙ ap (option_and_then (λ (b : Branch C). if is_some b.ended then if_before m.deadline b.deadline b.branch else None)) (soonest_seen ts)
-      ∙ through m.deadline (soonest_of id ts)
-      ∙ ap (λ (k : Life). kept_before k.deadline (soonest_of id ts)) (same_Some m l (rw y at found))))
-      (λ (n : same m.ctx id ≡ false). rw n (ended_found ts l ms (rw n at found)))
+      rw y (ap (option_and_then (λ (b : Branch C). if is_some b.ended then if_before m.deadline b.deadline b.branch else None)) (soonest_seen m.twigs)
+      ∙ through m.deadline (soonest_of m.twigs)
+      ∙ ap (λ (k : Life). kept_before k.deadline (soonest_of k.twigs)) (same_Some m l (rw y at found))))
+      (λ (n : same m.ctx id ≡ false). rw n (ended_found id l ms (rw n at found)))
       (cases_Bool (same m.ctx id))
     where
       through : (d : Option ℕ) (o : Option Twig)
@@ -55,22 +51,19 @@ module _ {C V : Type 0} (slots : Slots C V) (id : Id) where
       through d None = refl
       through d (Some t) = refl
 
-  pub ended_none : (ts : List Twig) (ls : List Life) → life_at id ls ≡ None → ended_branch id (map (seen_call slots ts) ls) ≡ None
-  ended_none ts [] none = refl
-  ended_none ts (m ∷ ms) none = ⊎_elim
+  pub ended_none : (id : Id) (ls : List Life) → life_at id ls ≡ None → ended_branch id (map (seen_call slots) ls) ≡ None
+  ended_none id [] none = refl
+  ended_none id (m ∷ ms) none = ⊎_elim
       (λ (y : same m.ctx id ≡ true). let bad : Some m ≡ None = rw y at none in cc)
-      (λ (n : same m.ctx id ≡ false). rw n (ended_none ts ms (rw n at none)))
+      (λ (n : same m.ctx id ≡ false). rw n (ended_none id ms (rw n at none)))
       (cases_Bool (same m.ctx id))
 
 -- the soonest is one of them
-pub soonest_all : (P : Twig → Type 0) (id : Id) (ts : List Twig) (t : Twig) → All P ts → soonest_of id ts ≡ Some t → P t
-soonest_all P id [] t all is = cc
-soonest_all P id (u ∷ ts) t all is = ⊎_elim
-    (λ (y : same u.call id ≡ true). by (soonest_of id ts) refl (soonest_all P id ts) (rw y at is))
-    (λ (n : same u.call id ≡ false). soonest_all P id ts t (All-tail P u ts all) (rw n at is))
-    (cases_Bool (same u.call id))
+pub soonest_all : (P : Twig → Type 0) (ts : List Twig) (t : Twig) → All P ts → soonest_of ts ≡ Some t → P t
+soonest_all P [] t all is = cc
+soonest_all P (u ∷ ts) t all is = by (soonest_of ts) refl (soonest_all P ts) is
   where
-    by : (o : Option Twig) → soonest_of id ts ≡ o → ((w : Twig) → All P ts → soonest_of id ts ≡ Some w → P w) → Some (sooner_twig u o) ≡ Some t → P t
+    by : (o : Option Twig) → soonest_of ts ≡ o → ((w : Twig) → All P ts → soonest_of ts ≡ Some w → P w) → Some (sooner_twig u o) ≡ Some t → P t
     by None o_is rest e = subst P (same_Some u t e) (All-head P u ts all)
     by (Some w) o_is rest e = ⊎_elim
         (λ (le : nat_le u.at w.at ≡ true). subst P (same_Some u t (rw le at e)) (All-head P u ts all))
@@ -79,13 +72,13 @@ soonest_all P id (u ∷ ts) t all is = ⊎_elim
 
 -- ---- the tree tells what ended it
 
-module _ {C V H : Type 0} {f : AfterFuncs H} {base : Id} {conns : List Id} {calls : List Life} {twigs : List Twig} {old : TreeValue C V} (s : IsSound old f twigs base conns calls)
-    (id : Id) (t : Twig) (found : soonest_of id twigs ≡ Some t) where
-  it_is : IsTwig s.past calls t
-  it_is = soonest_all (IsTwig s.past calls) id twigs t s.twigs_are found
+module _ {C V H : Type 0} {f : AfterFuncs H} {base : Id} {conns : List Id} {calls : List Life} {old : TreeValue C V} (s : IsSound old f base conns calls)
+    (id : Id) (l : Life) (at : life_at id calls ≡ Some l) (t : Twig) (found : soonest_of l.twigs ≡ Some t) where
+  it_is : IsTwig s.past l.ctx t
+  it_is = soonest_all (IsTwig s.past l.ctx) l.twigs t (found_in id (IsLife s.past base) l calls s.calls_are at).0.twigs_are found
 
   pub soonest_held : is_some (held t.ctx s.past) ≡ true
-  soonest_held = ap is_some it_is.0
+  soonest_held = ap is_some it_is
 
   pub soonest_told : why t.ctx s.past ≡ cause_in old.slots t.ctx
-  soonest_told = sym (shown old s.past t.ctx (Deadline t.call t.at None) s.tree_is it_is.0)
+  soonest_told = sym (shown old s.past t.ctx (Deadline l.ctx t.at None) s.tree_is it_is)

@@ -188,20 +188,20 @@ module _ {C D : Type 0} (f : Option D → Option D → Option D) (c : D → Caus
   first_plain (Some x) (Some y) false n am bn = cc
   first_plain (Some x) (Some y) true false am bn = cc
 
-module _ {C V : Type 0} (laws : TreeLaws C V) (past : List (Op C V)) (lawful : IsLawful past) (t : Twig) (is : held t.ctx past ≡ Some (Deadline t.call t.at None)) where
-  twig_chain : chain t.ctx past ≡ (t.ctx, Deadline t.call t.at None) ∷ chain t.call past
-  twig_chain = laws.chain_goes_on past t.ctx (Deadline t.call t.at None) lawful is
+module _ {C V : Type 0} (laws : TreeLaws C V) (past : List (Op C V)) (lawful : IsLawful past) (call : Id) (t : Twig) (is : held t.ctx past ≡ Some (Deadline call t.at None)) where
+  twig_chain : chain t.ctx past ≡ (t.ctx, Deadline call t.at None) ∷ chain call past
+  twig_chain = laws.chain_goes_on past t.ctx (Deadline call t.at None) lawful is
 
-  pub twig_hit : (id : Id) → has_cancel id (chain t.ctx past) ≡ ((same t.ctx id && true) || has_cancel id (chain t.call past))
+  pub twig_hit : (id : Id) → has_cancel id (chain t.ctx past) ≡ ((same t.ctx id && true) || has_cancel id (chain call past))
   twig_hit id = ap (has_cancel id) twig_chain
 
   -- a moment ends it where it has reached its own deadline or its call's
-  pub twig_due : (now : ℕ) (d : Option ℕ) → due_on now (chain t.call past) ≡ if_due now d → due_on now (chain t.ctx past) ≡ option_or (if_due now d) (if_due now (Some t.at))
+  pub twig_due : (now : ℕ) (d : Option ℕ) → due_on now (chain call past) ≡ if_due now d → due_on now (chain t.ctx past) ≡ option_or (if_due now d) (if_due now (Some t.at))
   twig_due now d call_is = ap (due_on now) twig_chain
-      ∙ first_plain first_of (λ d. cause_or DeadlineExceeded d.cause) (Plain DeadlineExceeded) (λ b. refl) (λ x. refl) picks (own_due {C = C} {V = V} now (t.ctx, Deadline t.call t.at None)) (first_due now (chain t.call past))
+      ∙ first_plain first_of (λ d. cause_or DeadlineExceeded d.cause) (Plain DeadlineExceeded) (λ b. refl) (λ x. refl) picks (own_due {C = C} {V = V} now (t.ctx, Deadline call t.at None)) (first_due now (chain call past))
       (nat_le t.at now) (is_due now d) (map_if _ (nat_le t.at now) _) call_is
 
-  pub twig_deadline : deadline t.ctx past ≡ sooner (Some t.at) (deadline t.call past)
+  pub twig_deadline : deadline t.ctx past ≡ sooner (Some t.at) (deadline call past)
   twig_deadline = ap least twig_chain
 
 -- ---- what operations leave

@@ -1,5 +1,5 @@
 -- How the connections and calls are kept in a tree of contexts and a table of hooks.
-use Rattle.std.specs.Prelude.{◌≡◌, ◌||◌, ◌&&◌, ◌==◌, ℕ, Bool, true, false, is_some, nat_le, not, List, [], ◌∷◌, filter, map, if◌then◌else◌, All, IfNone, IfSome, Option, Some, None, option_map, unwrap_or}
+use Rattle.std.specs.Prelude.{◌≡◌, ◌||◌, ◌==◌, ℕ, Bool, true, false, is_some, nat_le, List, [], ◌∷◌, ◌++◌, map, slice_index_or, if◌then◌else◌, All, IfNone, IfSome, Option, Some, None, option_map, unwrap_or}
 use Rattle.std.specs.List.{list_any}
 use Rattle.std.specs.Option.{option_map_or}
 use Rattle.context_tree.specs.declared.error.Cause.{Cause}
@@ -38,6 +38,19 @@ pub record TreeLaws (C V : Type 0) : Type 0 where
   pub new_unhanded : (past : List (TreeOp C V)) (id : Id) (kind : Kind C V) (now : ℕ) → IsLawful (Makes id kind now ∷ past) → handed id past ≡ false
 
 -- ---- the contexts of a call
+
+-- no two of them stand in this relation
+abbrev pub NoTwo : {A : Type 0} → (A → A → Bool) → List A → Type 0
+NoTwo r [] = Unit {0}
+NoTwo r (l ∷ ls) = (list_any (r l) ls ≡ false) × NoTwo r ls
+
+-- the branches have one context
+abbrev pub same_twig : Twig → Twig → Bool
+same_twig t u = same u.ctx t.ctx
+
+-- the context of a branch
+abbrev pub is_twig : Id → List Twig → Bool
+is_twig x twigs = list_any (λ t. same x t.ctx) twigs
 
 -- the context of a call derives from the one that has its request id, or else from that of its connection
 abbrev pub parent_of_call : Option Id → Id → Id
@@ -106,15 +119,17 @@ module _ {C V : Type 0} where
   IsHolder past conn None = Unit {0}
   IsHolder past conn (Some holder) = (request_id : V) × (held holder past ≡ Some (Value conn request_id_key request_id))
 
-  -- the contexts of a call are held as they were made
+  -- a branch's context is held as it was made, from that of its call
+  abbrev pub IsTwig : List (Op C V) → Id → Twig → Type 0
+  IsTwig past call t = held t.ctx past ≡ Some (Deadline call t.at None)
+
+  -- the contexts of a call and of its branches are held as they were made
   pub record IsLife (past : List (Op C V)) (base : Id) (life : Life) : Type 0 where
     pub call_is : held life.ctx past ≡ Some (kind_of (parent_of_call life.holder life.conn) life.deadline)
     pub holder_is : IsHolder past life.conn life.holder
     pub conn_is : held life.conn past ≡ Some (Cancel base)
-
-  -- a branch's context is held as it was made, from that of a call
-  abbrev pub IsTwig : List (Op C V) → List Life → Twig → Type 0
-  IsTwig past calls t = (held t.ctx past ≡ Some (Deadline t.call t.at None)) × (list_any (λ l. same l.ctx t.call) calls ≡ true)
+    pub twigs_are : All (IsTwig past life.ctx) life.twigs
+    pub twigs_apart : NoTwo same_twig life.twigs
 
 -- ---- the calls
 
@@ -122,18 +137,13 @@ module _ {C V : Type 0} where
 abbrev pub kept_of : Life → ℕ × Id
 kept_of l = (l.hook, l.ctx)
 
--- no two of them stand in this relation
-abbrev pub NoTwo : {A : Type 0} → (A → A → Bool) → List A → Type 0
-NoTwo r [] = Unit {0}
-NoTwo r (l ∷ ls) = (list_any (r l) ls ≡ false) × NoTwo r ls
-
 -- the calls have one context
 abbrev pub same_ctx : Life → Life → Bool
 same_ctx l m = same m.ctx l.ctx
 
--- one of the contexts of a call
+-- one of the contexts of a call, or of a branch of it
 abbrev pub owns : Id → Life → Bool
-owns x l = is_among x (contexts l.ctx l.holder)
+owns x l = is_among x (contexts l.ctx l.holder) || is_twig x l.twigs
 
 -- the calls share a context that has a request id
 abbrev pub same_holder : Life → Life → Bool
@@ -144,53 +154,54 @@ abbrev pub life_at : Id → List Life → Option Life
 life_at id [] = None
 life_at id (l ∷ ls) = if same l.ctx id then Some l else life_at id ls
 
--- the branches have one context
-abbrev pub same_twig : Twig → Twig → Bool
-same_twig t u = same u.ctx t.ctx
-
--- the context of a branch
-abbrev pub is_twig : Id → List Twig → Bool
-is_twig x twigs = list_any (λ t. same x t.ctx) twigs
-
--- a branch of that number of the call of that context
-abbrev pub is_branch : Id → ℕ → Twig → Bool
-is_branch call n t = same t.call call && (t.branch == n)
-
--- the first branch of that number of a call
-abbrev pub twig_at : Id → ℕ → List Twig → Option Twig
-twig_at call n [] = None
-twig_at call n (t ∷ ts) = if is_branch call n t then Some t else twig_at call n ts
-
--- the branches of other calls
-abbrev pub other_twigs : Id → List Twig → List Twig
-other_twigs call ts = filter (λ t. not (same t.call call)) ts
-
 -- of these two the branch of the lesser deadline, and of equal ones the first
 abbrev pub sooner_twig : Twig → Option Twig → Twig
 sooner_twig t None = t
 sooner_twig t (Some u) = if nat_le t.at u.at then t else u
 
--- the branch of a call of the least deadline, and of equal ones the first
-abbrev pub soonest_of : Id → List Twig → Option Twig
-soonest_of call [] = None
-soonest_of call (t ∷ ts) = if same t.call call then Some (sooner_twig t (soonest_of call ts)) else soonest_of call ts
+-- the branch of the least deadline, and of equal ones the first
+abbrev pub soonest_of : List Twig → Option Twig
+soonest_of [] = None
+soonest_of (t ∷ ts) = Some (sooner_twig t (soonest_of ts))
 
--- the branch of that context
-abbrev pub twig_with : Id → List Twig → Option Twig
-twig_with x [] = None
-twig_with x (t ∷ ts) = if same t.ctx x then Some t else twig_with x ts
+-- neither the context of the call was handed out, nor that of a branch of it
+abbrev pub IsUnhanded : {C V : Type 0} → List (Op C V) → Life → Type 0
+IsUnhanded past l = (handed l.ctx past ≡ false) × All (λ t. handed t.ctx past ≡ false) l.twigs
 
--- the call that a context is of, or a branch of it
-abbrev pub owner_of : Id → List Twig → List Life → Option Id
-owner_of x twigs calls = if list_any (λ l. same l.ctx x) calls then Some x else option_map (λ t. t.call) (twig_with x twigs)
+-- the first branch of that number is gone
+abbrev pub drop_twig : ℕ → List Twig → List Twig
+drop_twig n [] = []
+drop_twig n (t ∷ ts) = if t.branch == n then ts else t ∷ drop_twig n ts
 
--- a context of a call or of a branch
-abbrev pub is_row : Id → List Twig → List Life → Bool
-is_row x twigs calls = list_any (λ l. same l.ctx x) calls || list_any (λ t. same t.ctx x) twigs
+-- that branch is gone, and no other
+pub record IsWithout (t : Twig) (old new : List Twig) : Type 0 where
+  pub front : List Twig
+  pub back : List Twig
+  pub was : old ≡ front ++ t ∷ back
+  pub is : new ≡ front ++ back
+
+-- a branch of the call of that context started, as the last
+pub record IsStarted {C V : Type 0} (call : Id) (branch at now : ℕ) (old new : List Twig) (t u : TreeValue C V) : Type 0 where
+  pub ctx : Id
+  pub is : new ≡ old ++ record { ctx = ctx; branch = branch; at = at } ∷ []
+  pub stands : (past : List (Op C V)) → StandsFor t past → StandsFor u (Makes ctx (Deadline call at None) now ∷ past)
+
+-- the context of the call, or that of a branch of it
+abbrev pub is_row : Id → Life → Bool
+is_row x l = same l.ctx x || list_any (λ t. same t.ctx x) l.twigs
+
+-- the first call that has that context
+abbrev pub owner_of : Id → List Life → Option Id
+owner_of x [] = None
+owner_of x (l ∷ ls) = if is_row x l then Some l.ctx else owner_of x ls
+
+-- the call of that context with these branches
+abbrev pub with_twigs : Id → List Twig → Life → Life
+with_twigs id ts l = record { ctx = l.ctx; holder = l.holder; conn = l.conn; deadline = l.deadline; hook = l.hook; twigs = if same l.ctx id then ts else l.twigs }
 
 -- one of the contexts that are kept
-abbrev pub is_kept : List Twig → Id → Id → List Id → List Life → Id → Bool
-is_kept twigs root base conns calls x = is_twig x twigs || (same x root || (same x base || (is_among x conns || list_any (owns x) calls)))
+abbrev pub is_kept : Id → Id → List Id → List Life → Id → Bool
+is_kept root base conns calls x = same x root || (same x base || (is_among x conns || list_any (owns x) calls))
 
 -- the number of a hook, and the context that it waits on
 abbrev pub hook_of : {H : Type 0} → Registration H → ℕ × Id
@@ -200,7 +211,7 @@ module _ {C V H : Type 0} where
   -- Some operations lead to these contexts and hooks. Each call has its contexts, those of its branches, and its hook which
   -- waits on it; no other context is held, and no hook is due. What the laws of the tree say is kept with it, so that no call
   -- has to ask for it again.
-  pub record IsSound (t : TreeValue C V) (f : AfterFuncs H) (twigs : List Twig) (base : Id) (conns : List Id) (calls : List Life) : Type 0 where
+  pub record IsSound (t : TreeValue C V) (f : AfterFuncs H) (base : Id) (conns : List Id) (calls : List Life) : Type 0 where
     pub laws : TreeLaws C V
     pub past : List (Op C V)
     pub hooks : List (Operation H)
@@ -211,24 +222,26 @@ module _ {C V H : Type 0} where
     pub base_is : held base past ≡ Some (Cancel root)
     pub conns_are : All (IsConn base past) conns
     pub calls_are : All (IsLife past base) calls
-    pub twigs_are : All (IsTwig past calls) twigs
-    pub none_else : (x : Id) → is_kept twigs root base conns calls x ≡ false → held x past ≡ None
+    pub none_else : (x : Id) → is_kept root base conns calls x ≡ false → held x past ≡ None
     pub distinct : NoTwo same_ctx calls
     pub apart : NoTwo same_holder calls
-    pub twigs_apart : NoTwo same_twig twigs
     pub hook_waits : map hook_of (waiting hooks) ≡ map kept_of calls
     pub none_due : due hooks ≡ []
     -- what has ended of these is still to be found
-    pub unhanded : (x : Id) → is_row x twigs calls ≡ true → handed x past ≡ false
+    pub unhanded : All (IsUnhanded past) calls
+
+-- the call at that place is the one of that context
+abbrev pub IsPlaced : Id → ℕ → List Life → Type 0
+IsPlaced id place calls = (d : Life) → (slice_index_or calls place d).ctx ≡ id
 
 -- the contexts of the call's branches are gone, and nothing else
-pub record BranchesGo {C V H : Type 0} (call : Id) (old new : TreeValue C V) (f : AfterFuncs H) (twigs : List Twig) (base : Id) (conns : List Id) (calls : List Life) : Type 0 where
-  pub sound : IsSound new f (other_twigs call twigs) base conns calls
-  pub seen_is : seen new.slots (other_twigs call twigs) base conns calls ≡ bare_call call (seen old.slots twigs base conns calls)
+pub record BranchesGo {C V H : Type 0} (id : Id) (old new : TreeValue C V) (f : AfterFuncs H) (base : Id) (conns : List Id) (calls left : List Life) : Type 0 where
+  pub sound : IsSound new f base conns left
+  pub seen_is : seen new.slots base conns left ≡ bare_call id (seen old.slots base conns calls)
 
 -- nothing else changes, and this call is over, or none is
-pub record FindsEnded {C V H : Type 0} (found : Option Id) (old new : TreeValue C V) (f : AfterFuncs H) (twigs : List Twig) (base : Id) (conns : List Id) (calls : List Life) : Type 0 where
-  pub sound : IsSound new f twigs base conns calls
-  pub seen_is : seen new.slots twigs base conns calls ≡ seen old.slots twigs base conns calls
-  pub its : IfSome found (λ id. list_any (has_ended id) (map (seen_call old.slots twigs) calls) ≡ true)
-  pub none : IfNone found (list_any is_over (map (seen_call old.slots twigs) calls) ≡ false)
+pub record FindsEnded {C V H : Type 0} (found : Option Id) (old new : TreeValue C V) (f : AfterFuncs H) (base : Id) (conns : List Id) (calls : List Life) : Type 0 where
+  pub sound : IsSound new f base conns calls
+  pub seen_is : seen new.slots base conns calls ≡ seen old.slots base conns calls
+  pub its : IfSome found (λ id. list_any (has_ended id) (map (seen_call old.slots) calls) ≡ true)
+  pub none : IfNone found (list_any is_over (map (seen_call old.slots) calls) ≡ false)

@@ -254,23 +254,22 @@ module _ {C V : Type 0} where
   abbrev pub seen_branch : Slots C V → Twig → Branch C
   seen_branch slots t = record { branch = t.branch; deadline = t.at; ended = cause_in slots t.ctx }
 
-  -- the branches of the call of that context
-  abbrev pub seen_branches : Slots C V → List Twig → Id → List (Branch C)
-  seen_branches slots twigs call = map (seen_branch slots) (filter (λ t. same t.call call) twigs)
+  abbrev pub seen_branches : Slots C V → List Twig → List (Branch C)
+  seen_branches slots twigs = map (seen_branch slots) twigs
 
-  abbrev pub seen_call : Slots C V → List Twig → Life → Call C V
-  seen_call slots twigs life =
+  abbrev pub seen_call : Slots C V → Life → Call C V
+  seen_call slots life =
       record {
         id = life.ctx;
         conn = life.conn;
         deadline = life.deadline;
         request_id = option_and_then (value_in slots) life.holder;
         ended = cause_in slots life.ctx;
-        branches = seen_branches slots twigs life.ctx;
+        branches = seen_branches slots life.twigs;
       }
 
-  abbrev pub seen : Slots C V → List Twig → Id → List Id → List Life → Standing C V
-  seen slots twigs base conns calls = record { drained = cause_in slots base; conns = map (seen_conn slots) conns; calls = map (seen_call slots twigs) calls }
+  abbrev pub seen : Slots C V → Id → List Id → List Life → Standing C V
+  seen slots base conns calls = record { drained = cause_in slots base; conns = map (seen_conn slots) conns; calls = map (seen_call slots) calls }
 
 -- ---- the calls' hooks
 

@@ -4,11 +4,11 @@ ghost use Rattle.std.specs.Option.{option_copied};
 ghost use Rattle.context_tree.specs.Context.{same};
 ghost use Rattle.call_contexts.specs.Standing.{IsNoSooner, AreNoSooner, has_deadline, has_ended, is_over, ended_branch, empty, opened, begun, expired, cancelled, all_ended, closed, gone, with_standing, with_hook, hook_for, request_for, ended_call, branched, unbranched, bare_call, AreApart, is_fresh, is_call, is_conn};
 
+use crate::calls;
 use crate::contexts::{REQUEST_ID, cause_of, free, free_branches, make, release, tree_laws};
 use crate::ends::first_ended;
 use crate::life::Life;
-use crate::twig::Twig;
-use crate::{calls, twigs};
+use crate::twigs::{Twigs, if_before};
 use after_funcs::laws::order_law;
 use after_funcs::{AfterFuncs, Hook};
 use context_tree::{Cause, CtxId, Tree};
@@ -28,8 +28,6 @@ pub struct CallContexts<C, V, H> {
     base: CtxId,
     conns: Vec<CtxId>,
     calls: Vec<Life>,
-    // of branches that have a time of their own, by start
-    twigs: Vec<Twig>,
 }
 
 impl<C, V, H> Model for CallContexts<C, V, H> {
@@ -40,11 +38,11 @@ impl<C, V, H> Model for CallContexts<C, V, H> {
     ghost Value = { WithHooks C V H };
 
     ghost view = { λ s. record {
-      standing = seen s.tree.slots s.twigs.items s.base s.conns.items s.calls.items;
+      standing = seen s.tree.slots s.base s.conns.items s.calls.items;
       hooks = map on_ctx s.hooks.waiting.items;
     } };
 
-    ghost invariant = { λ s. IsSound s.tree s.hooks s.twigs.items s.base s.conns.items s.calls.items };
+    ghost invariant = { λ s. IsSound s.tree s.hooks s.base s.conns.items s.calls.items };
 }
 
 impl<C: Copy, V: Drop, H: Drop> CallContexts<C, V, H> {
@@ -66,7 +64,6 @@ impl<C: Copy, V: Drop, H: Drop> CallContexts<C, V, H> {
             base,
             conns: Vec::new(alloc),
             calls: Vec::new(alloc),
-            twigs: Vec::new(alloc),
         })
     }
 
@@ -106,6 +103,7 @@ impl<C: Copy, V: Drop, H: Drop> CallContexts<C, V, H> {
             return Err(hook);
         };
         let (ctx, holder) = made;
+        let twigs = Twigs::new(*self.calls.allocator());
         match self.hooks.after_func(ctx, false, hook) {
             Ok(id) => {
                 self.calls.push_reserved(Life {
@@ -114,6 +112,7 @@ impl<C: Copy, V: Drop, H: Drop> CallContexts<C, V, H> {
                     conn,
                     deadline,
                     hook: id,
+                    twigs,
                 });
                 Ok(ctx)
             }
@@ -177,9 +176,9 @@ impl<C: Copy, V: Drop, H: Drop> CallContexts<C, V, H> {
         ensures { result ≡ ended_branch ctx self.now.standing.calls }
     {
         let life = calls::find(&self.calls, ctx)?;
-        let twig = twigs::soonest(&self.twigs, ctx)?;
+        let twig = life.twigs.soonest()?;
         if cause_of(&self.tree, twig.ctx).is_some() {
-            twigs::if_before(twig, life.deadline)
+            if_before(twig, life.deadline)
         } else {
             None
         }
@@ -191,7 +190,7 @@ impl<C: Copy, V: Drop, H: Drop> CallContexts<C, V, H> {
         ensures its { IfSome result (λ id. list_any (has_ended id) self.old.standing.calls ≡ true) }
         ensures none { IfNone result (list_any is_over self.old.standing.calls ≡ false) }
     {
-        first_ended(&mut self.tree, &self.hooks, &self.twigs, &self.calls)
+        first_ended(&mut self.tree, &self.hooks, &self.calls)
     }
 
     /// The least deadline of the calls and their branches that have not ended, if any has one: no moment before it ends one.
@@ -209,36 +208,34 @@ impl<C: Copy, V: Drop, H: Drop> CallContexts<C, V, H> {
         ensures stands { IfOk result (λ _. self.new ≡ with_standing (branched call branch at now self.old.standing) self.old) }
         ensures unchanged { OnErr result (self.new ≡ self.old) }
     {
-        self.twigs.reserve(1)?;
-        let Ok(ctx) = self.tree.with_deadline(call, at, now, None) else {
-            return Err(AllocError);
+        let Some(place) = calls::place(&self.calls, call) else {
+            unreachable!();
         };
-        self.twigs.push_reserved(Twig {
-            ctx,
-            call,
-            branch,
-            at,
-        });
-        Ok(())
+        self.calls[place]
+            .twigs
+            .start(&mut self.tree, call, branch, at, now)
     }
 
     /// Lets go of the context of the first branch of that number of a call, if it has one.
     pub fn let_branch_go(&mut self, call: CtxId, branch: u32)
         ensures { self.new ≡ with_standing (unbranched call branch self.old.standing) self.old }
     {
-        let Some(twig) = twigs::find(&self.twigs, call, branch) else {
+        let Some(place) = calls::place(&self.calls, call) else {
             return;
         };
-        twigs::remove(&mut self.twigs, twig.ctx);
-        free(&mut self.tree, twig.ctx);
+        if let Some(twig) = self.calls[place].twigs.take(branch) {
+            free(&mut self.tree, twig.ctx);
+        }
     }
 
     /// Lets go of the contexts of all branches of a call.
     fn let_branches_go(&mut self, call: CtxId)
         ensures { self.new ≡ with_standing (bare_call call self.old.standing) self.old }
     {
-        free_branches(&mut self.tree, &self.hooks, &self.twigs, call);
-        twigs::remove_of(&mut self.twigs, call);
+        let Some(place) = calls::place(&self.calls, call) else {
+            return;
+        };
+        free_branches(&mut self.tree, &self.hooks, &mut self.calls, place);
     }
 
     /// Calls the hook of a call with what ended it, and lets go of its contexts and those of its branches. None where no
@@ -256,10 +253,11 @@ impl<C: Copy, V: Drop, H: Drop> CallContexts<C, V, H> {
         let Some(life) = calls::find(&self.calls, ctx) else {
             return None;
         };
+        let holder = life.holder;
         calls::remove(&mut self.calls, ctx);
         self.hooks.fire(ctx);
         let ran = self.hooks.run_next(event);
-        release(&mut self.tree, ctx, life.holder);
+        release(&mut self.tree, ctx, holder);
         match ran {
             Some((_, answer)) => Some(answer),
             None => None,
@@ -274,10 +272,12 @@ impl<C: Copy, V: Drop, H: Drop> CallContexts<C, V, H> {
         let Some(life) = calls::find(&self.calls, ctx) else {
             return;
         };
+        let holder = life.holder;
+        let hook = life.hook;
         order_law::<H>();
         calls::remove(&mut self.calls, ctx);
-        self.hooks.stop(life.hook);
-        release(&mut self.tree, ctx, life.holder);
+        self.hooks.stop(hook);
+        release(&mut self.tree, ctx, holder);
     }
 
     /// Lets go of a connection's context, whose calls are gone.

@@ -1,11 +1,10 @@
 //! The contexts of calls in a tree.
-ghost use Rattle.std.specs.Prelude.{◌≡◌, ◌∷◌, [], List, true, IfOk, OnErr, is_some, unwrap_or};
+ghost use Rattle.std.specs.Prelude.{◌≡◌, ◌<◌, ◌∷◌, [], List, true, IfOk, OnErr, is_some, length, unwrap_or};
 ghost use Rattle.context_tree.specs.Context.{Id, Makes, Releases, held};
 ghost use Rattle.context_tree.specs.Tree.{StandsFor};
-ghost use Rattle.call_contexts.specs.Sound.{Op, TreeLaws, BranchesGo, IsFree, IsSound, AreFree, StandsAlike, kind_of, moment_of, with_call, let_go, why};
-ghost use Rattle.call_contexts.specs.declared.life.Life.{Life};
+ghost use Rattle.call_contexts.specs.Sound.{Op, TreeLaws, BranchesGo, IsFree, IsPlaced, IsSound, AreFree, StandsAlike, kind_of, moment_of, with_call, let_go, why};
 
-use crate::twig::Twig;
+use crate::life::Life;
 use after_funcs::AfterFuncs;
 use context_tree::laws::{chain_law, child_law, new_law};
 use context_tree::{Cause, CtxError, CtxId, Tree};
@@ -86,22 +85,21 @@ pub(crate) fn free<C: Copy, V: Drop>(tree: &mut Tree<C, V>, ctx: CtxId)
     tree.release(ctx);
 }
 
-/// Lets go of the contexts of a call's branches.
+/// Lets go of the contexts of all branches of the call at that place.
 pub(crate) fn free_branches<C: Copy, V: Drop, H>(
     tree: &mut Tree<C, V>,
     hooks: &AfterFuncs<H>,
-    twigs: &[Twig],
-    call: CtxId,
+    calls: &mut Vec<Life>,
+    place: usize,
 )
-    ensures { (base : Id) (conns : List Id) (calls : List Life) → IsSound tree.old hooks.now twigs.now base conns calls
-        → BranchesGo call tree.old tree.new hooks.now twigs.now base conns calls }
+    requires { place < length calls.old.items }
+    ensures { (base : Id) (conns : List Id) (id : Id) → IsSound tree.old hooks.now base conns calls.old.items → IsPlaced id place calls.old.items
+        → BranchesGo id tree.old tree.new hooks.now base conns calls.old.items calls.new.items }
 {
     // the clause alone looks at the hooks
     let _ = hooks;
-    for twig in twigs {
-        if twig.call == call {
-            free(tree, twig.ctx);
-        }
+    while let Some(twig) = calls[place].twigs.take_last() {
+        free(tree, twig.ctx);
     }
 }
 

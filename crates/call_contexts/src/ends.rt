@@ -1,12 +1,9 @@
 //! A call that has ended, found by the context that ended.
-ghost use Rattle.std.specs.Prelude.{◌≡◌, List, Some, if◌then◌else◌, option_map};
-ghost use Rattle.std.specs.List.{list_any};
-ghost use Rattle.context_tree.specs.Context.{Id, same};
-ghost use Rattle.call_contexts.specs.Sound.{FindsEnded, IsSound, owner_of, twig_with};
+ghost use Rattle.std.specs.Prelude.{◌≡◌, List};
+ghost use Rattle.context_tree.specs.Context.{Id};
+ghost use Rattle.call_contexts.specs.Sound.{FindsEnded, IsSound, owner_of};
 
-use crate::calls;
 use crate::life::Life;
-use crate::twig::Twig;
 use after_funcs::AfterFuncs;
 use context_tree::{CtxId, Tree};
 
@@ -15,16 +12,15 @@ use context_tree::{CtxId, Tree};
 pub(crate) fn first_ended<C: Copy, V: Drop, H>(
     tree: &mut Tree<C, V>,
     hooks: &AfterFuncs<H>,
-    twigs: &[Twig],
     calls: &[Life],
 ) -> Option<CtxId>
-    ensures { (base : Id) (conns : List Id) → IsSound tree.old hooks.now twigs.now base conns calls.now
-        → FindsEnded result tree.old tree.new hooks.now twigs.now base conns calls.now }
+    ensures { (base : Id) (conns : List Id) → IsSound tree.old hooks.now base conns calls.now
+        → FindsEnded result tree.old tree.new hooks.now base conns calls.now }
 {
     // the clause alone looks at the hooks
     let _ = hooks;
     while let Some(ctx) = tree.first_done() {
-        if let Some(call) = owner(calls, twigs, ctx) {
+        if let Some(call) = owner(calls, ctx) {
             return Some(call);
         }
         tree.next_done();
@@ -33,25 +29,12 @@ pub(crate) fn first_ended<C: Copy, V: Drop, H>(
 }
 
 /// The call that a context is of, or a branch of it.
-fn owner(calls: &[Life], twigs: &[Twig], ctx: CtxId) -> Option<CtxId>
-    ensures { result ≡ owner_of ctx twigs.now calls.now }
+fn owner(calls: &[Life], ctx: CtxId) -> Option<CtxId>
+    ensures { result ≡ owner_of ctx calls.now }
 {
-    if calls::find(calls, ctx).is_some() {
-        return Some(ctx);
-    }
-    match with_ctx(twigs, ctx) {
-        Some(twig) => Some(twig.call),
-        None => None,
-    }
-}
-
-/// The branch of that context.
-fn with_ctx(twigs: &[Twig], ctx: CtxId) -> Option<Twig>
-    ensures { result ≡ twig_with ctx twigs.now }
-{
-    for twig in twigs {
-        if twig.ctx == ctx {
-            return Some(*twig);
+    for life in calls {
+        if life.has(ctx) {
+            return Some(life.ctx);
         }
     }
     None

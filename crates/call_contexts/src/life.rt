@@ -1,13 +1,27 @@
+ghost use Rattle.std.specs.Prelude.{◌≡◌};
+ghost use Rattle.call_contexts.specs.Sound.{is_row};
+
+use crate::twigs::Twigs;
 use after_funcs::AfterId;
 use context_tree::CtxId;
 
 /// A call that stands: its context, the one that has its request id, that of its connection, when it ends by itself,
-/// and its hook.
-#[derive(Clone, Copy, Drop)]
+/// its hook, and its branches that are out and have a timeout.
+#[derive(Drop)]
 pub(crate) struct Life {
     pub(crate) ctx: CtxId,
     pub(crate) holder: Option<CtxId>,
     pub(crate) conn: CtxId,
     pub(crate) deadline: Option<u64>,
     pub(crate) hook: AfterId,
+    pub(crate) twigs: Twigs,
+}
+
+impl Life {
+    /// Whether that is its context, or one of its branches'.
+    pub(crate) fn has(&self, ctx: CtxId) -> bool
+        ensures { result ≡ is_row ctx self.now }
+    {
+        self.ctx == ctx || self.twigs.has(ctx)
+    }
 }

@@ -1,26 +1,28 @@
-use Rattle.std.proofs.Common.{◌≡◌, ◌+◌, ◌∷◌, ◌∙◌, ap, arith, drop, sym}
-use Rattle.std.proofs.lemmas.List.{drop_more}
-use Rattle.call_contexts.specs.declared.twig.Twig.{Twig}
-use Rattle.call_contexts.proofs.Going.{gone_all, gone_first, gone_other, gone_own, none_left}
+use Rattle.std.proofs.Common.{◌<◌, ◌∙◌, ap, arith, length}
+use Rattle.std.proofs.lemmas.List.{length-set}
+use Rattle.call_contexts.specs.declared.life.Life.{Life}
+use Rattle.call_contexts.proofs.Going.{all_gone, fewer_left, left_is, left_set, one_gone}
 use Rattle.call_contexts.proofs.contexts.free_branches.Goals as goal
-use Rattle.call_contexts.proofs.contexts.free_branches.Goals.{then-eq, else-eq}
 
-pub loop-twig-init : goal.loop-twig-init
-loop-twig-init g c = λ base conns calls s. gone_first c.args.call c.args.twigs.now base conns calls s
+pub loop-twig-smaller : goal.loop-twig-smaller
+loop-twig-smaller g c =
+    let lt : c.args.place < length c.loop-twig.calls.items = omega (arith, c.requires, c.loop-twig.invariant.0) in
+    let now = left_set c.args.place (record c.index_mut.result.now { twigs = c.take_last.new.self }) c.loop-twig.calls.items lt in
+    let was = left_is c.args.place c.index_mut.result.now c.loop-twig.calls.items lt in
+    let same = ap (λ (k : Life). length k.twigs) c.index_mut.ensures.value in
+    let less = fewer_left c.in-Some.twig c.index_mut.result.now.twigs c.take_last.new.self c.in-Some.ensures.taken in
+    omega (arith, now, was, same, less)
 
 pub loop-twig-preserved : goal.loop-twig-preserved
-loop-twig-preserved g c = λ base conns calls s.
-    let i = c.loop-twig.twig-index in
-    let t : Twig = c.twig-item.result in
-    let next : drop i c.args.twigs.now ≡ t ∷ drop (i + 1) c.args.twigs.now =
-    drop_more c.args.twigs.now i t c.loop-twig-test.true ∙ ap (λ (u : Twig). u ∷ drop (i + 1) c.args.twigs.now) (sym c.twig-item.is) in
-    let below = c.loop-twig.invariant base conns calls s in
-    elim c.if-eq.branch [
-      | then-eq w ↦ rw w.tree-is (gone_own c.args.call i c.args.twigs.now base conns calls t next below (sym c.eq.ensures ∙ w.if-eq.true) w.free.new.tree w.free.ensures)
-      | else-eq w ↦ rw w.tree-is (gone_other c.args.call i c.args.twigs.now base conns calls t next below (sym c.eq.ensures ∙ w.if-eq.false))
-    ]
+loop-twig-preserved g c =
+    let lt : c.args.place < length c.loop-twig.calls.items = omega (arith, c.requires, c.loop-twig.invariant.0) in (
+      length-set c.loop-twig.calls.items c.args.place _ ∙ c.loop-twig.invariant.0,
+      λ base conns id s placed. one_gone id c.args.place base conns c.args.calls.now.items c.loop-twig.calls.items c.index_mut.result.now c.take_last.new.self lt c.index_mut.ensures.value
+          (c.loop-twig.invariant.1 base conns id s placed) c.in-Some.twig c.in-Some.ensures.taken c.free.new.tree c.free.ensures,
+    )
 
 pub returns : goal.returns
-returns g c = λ base conns calls s.
-    gone_all c.args.call c.loop-twig.twig-index c.args.twigs.now base conns calls (c.loop-twig.invariant base conns calls s)
-    (none_left c.args.twigs.now c.loop-twig.twig-index (omega (arith, c.loop-twig-test.false)))
+returns g c = λ base conns id s placed.
+    let lt : c.args.place < length c.loop-twig.calls.items = omega (arith, c.requires, c.loop-twig.invariant.0) in
+    all_gone id c.args.place base conns c.args.calls.now.items c.loop-twig.calls.items c.index_mut.result.now c.take_last.new.self lt c.index_mut.ensures.value
+    (c.loop-twig.invariant.1 base conns id s placed) c.in_default.ensures.none c.in_default.ensures.unchanged

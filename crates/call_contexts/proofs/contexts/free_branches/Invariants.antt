@@ -1,11 +1,14 @@
-use Rattle.std.proofs.Common.{List}
+use Rattle.std.proofs.Common.{◌≡◌, List, length}
 use Rattle.context_tree.specs.Context.{Id}
-use Rattle.call_contexts.specs.declared.life.Life.{Life}
-use Rattle.call_contexts.specs.Sound.{IsSound}
-use Rattle.call_contexts.proofs.Going.{GoneBelow}
+use Rattle.call_contexts.specs.Sound.{IsPlaced, IsSound}
+use Rattle.call_contexts.proofs.Going.{SomeGone, left_at}
 use Rattle.call_contexts.proofs.contexts.free_branches.Given as goal
 
 -- those that were passed are gone
 abbrev pub invariant-loop-twig : goal.invariant-loop-twig
-invariant-loop-twig g l = (base : Id) (conns : List Id) (calls : List Life) → IsSound l.fn.tree l.hooks l.twigs base conns calls
-    → GoneBelow l.call l.twig-index l.fn.tree l.tree l.hooks l.twigs base conns calls
+invariant-loop-twig g l = (length l.calls.items ≡ length l.fn.calls.items)
+    × ((base : Id) (conns : List Id) (id : Id) → IsSound l.fn.tree l.hooks base conns l.fn.calls.items → IsPlaced id l.place l.fn.calls.items
+    → SomeGone id l.place l.fn.tree l.tree l.hooks base conns l.fn.calls.items l.calls.items)
+
+abbrev pub decreases-loop-twig : goal.decreases-loop-twig
+decreases-loop-twig g l = left_at l.place l.calls.items

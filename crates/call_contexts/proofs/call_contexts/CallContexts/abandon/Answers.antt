@@ -1,5 +1,5 @@
 use Rattle.std.proofs.Common.{◌∙◌, ap, sym, subst, ◌≡◌, false, Some}
-use Rattle.std.specs.Prelude.{not, filter}
+use Rattle.std.specs.Prelude.{not, filter, option_map}
 use Rattle.std.specs.List.{list_any}
 use Rattle.context_tree.specs.Context.{same}
 use Rattle.call_contexts.specs.Standing.{WithHooks, IsBare, gone, without}
@@ -13,7 +13,7 @@ use Rattle.call_contexts.proofs.call_contexts.CallContexts.abandon.Goals as goal
 pub returns-in_default : goal.returns-in_default
 returns-in_default g c =
     let s = c.self.invariant in
-    let none : list_any (λ l. same l.ctx c.args.ctx) c.self.inside.calls.items ≡ false = none_found c.args.ctx c.self.inside.calls.items (ap (life_at c.args.ctx) (sym c.deref.ensures.value) ∙ sym c.find.ensures ∙ c.in_default.is) in
+    let none : list_any (λ l. same l.ctx c.args.ctx) c.self.inside.calls.items ≡ false = none_found c.args.ctx c.self.inside.calls.items (ap (life_at c.args.ctx) (sym c.deref.ensures.value) ∙ sym c.find.ensures ∙ ap (option_map (λ l. l.now)) c.in_default.is) in
     pair_is _ _ (ap (λ (v : WithHooks _ _ _). v.standing) (sym c.self.view_is) ∙ none_gone s c.args.ctx none ∙ ap (λ (v : WithHooks _ _ _). without c.args.ctx v.standing) c.self.view_is)
     (ap (λ (v : WithHooks _ _ _). v.hooks) (sym c.self.view_is) ∙ no_hook_gone c.self.inside.hooks s.hooks s.hooks_are c.args.ctx c.self.inside.calls.items s.hook_waits none ∙ ap (λ (v : WithHooks _ _ _). filter (λ p. not (same p.0 c.args.ctx)) v.hooks) c.self.view_is)
     ∙ ap (gone c.args.ctx) c.let_branches_go.ensures ∙ bare_gone c.args.ctx c.args.self.now
@@ -22,23 +22,21 @@ pub invariant_of-self : goal.invariant_of-self
 invariant_of-self g c =
     let s = c.self.invariant in
     let laws = s.laws in
-    let at : life_at c.args.ctx c.self.inside.calls.items ≡ Some c.in-Some.life = ap (life_at c.args.ctx) (sym c.deref.ensures.value) ∙ sym c.find.ensures ∙ c.in-Some.is in
-    let bare : list_any (λ t. same t.call c.args.ctx) c.self.inside.twigs.items ≡ false =
-    bare_twigs c.self.inside.tree.slots c.args.ctx c.self.inside.twigs.items c.in-Some.life c.self.inside.calls.items at (subst (λ (v : WithHooks _ _ _). IsBare c.args.ctx v.standing.calls) (sym (c.self.view_is ∙ c.let_branches_go.ensures)) (turned_bare c.args.ctx c.args.self.now.standing.calls)) in
+    let at : life_at c.args.ctx c.self.inside.calls.items ≡ Some c.in-Some.life.now = ap (life_at c.args.ctx) (sym c.deref.ensures.value) ∙ sym c.find.ensures ∙ ap (option_map (λ l. l.now)) c.in-Some.is in
+    let bare = bare_twigs c.self.inside.tree.slots c.args.ctx c.self.inside.calls.items (subst (λ (v : WithHooks _ _ _). IsBare c.args.ctx v.standing.calls) (sym (c.self.view_is ∙ c.let_branches_go.ensures)) (turned_bare c.args.ctx c.args.self.now.standing.calls)) in
     rw c.remove.ensures
-    (sound_left laws s c.args.ctx c.in-Some.life at bare c.release.new.tree (call_let_go laws s c.args.ctx c.in-Some.life at bare c.release.new.tree (c.release.ensures s.past s.tree_is))
-    c.stop.new.self _ (c.stop.ensures.stands s.hooks s.hooks_are) (stopped_waits c.args.ctx c.in-Some.life s.hooks c.self.inside.calls.items (c.order_law.ensures.registered s.hooks) s.hook_waits s.distinct at) s.none_due)
+    (sound_left laws s c.args.ctx c.in-Some.life.now at bare c.release.new.tree (call_let_go laws s c.args.ctx c.in-Some.life.now at bare c.release.new.tree (c.release.ensures s.past s.tree_is))
+    c.stop.new.self _ (c.stop.ensures.stands s.hooks s.hooks_are) (stopped_waits c.args.ctx c.in-Some.life.now s.hooks c.self.inside.calls.items (c.order_law.ensures.registered s.hooks) s.hook_waits s.distinct at) s.none_due)
 
 pub returns : goal.returns
 returns g c =
     let s = c.self.invariant in
     let laws = s.laws in
-    let at : life_at c.args.ctx c.self.inside.calls.items ≡ Some c.in-Some.life = ap (life_at c.args.ctx) (sym c.deref.ensures.value) ∙ sym c.find.ensures ∙ c.in-Some.is in
-    let bare : list_any (λ t. same t.call c.args.ctx) c.self.inside.twigs.items ≡ false =
-    bare_twigs c.self.inside.tree.slots c.args.ctx c.self.inside.twigs.items c.in-Some.life c.self.inside.calls.items at (subst (λ (v : WithHooks _ _ _). IsBare c.args.ctx v.standing.calls) (sym (c.self.view_is ∙ c.let_branches_go.ensures)) (turned_bare c.args.ctx c.args.self.now.standing.calls)) in
+    let at : life_at c.args.ctx c.self.inside.calls.items ≡ Some c.in-Some.life.now = ap (life_at c.args.ctx) (sym c.deref.ensures.value) ∙ sym c.find.ensures ∙ ap (option_map (λ l. l.now)) c.in-Some.is in
+    let bare = bare_twigs c.self.inside.tree.slots c.args.ctx c.self.inside.calls.items (subst (λ (v : WithHooks _ _ _). IsBare c.args.ctx v.standing.calls) (sym (c.self.view_is ∙ c.let_branches_go.ensures)) (turned_bare c.args.ctx c.args.self.now.standing.calls)) in
     rw c.remove.ensures
     (pair_is _ _
-    (seen_left laws s c.args.ctx c.in-Some.life at bare c.release.new.tree (call_let_go laws s c.args.ctx c.in-Some.life at bare c.release.new.tree (c.release.ensures s.past s.tree_is)) ∙ ap (λ (v : WithHooks _ _ _). without c.args.ctx v.standing) c.self.view_is)
-    (stopped_hooks c.args.ctx c.in-Some.life s.hooks c.self.inside.calls.items (c.order_law.ensures.registered s.hooks) s.hook_waits s.distinct at c.self.inside.hooks c.stop.new.self s.hooks_are (c.stop.ensures.stands s.hooks s.hooks_are)
+    (seen_left laws s c.args.ctx c.in-Some.life.now at bare c.release.new.tree (call_let_go laws s c.args.ctx c.in-Some.life.now at bare c.release.new.tree (c.release.ensures s.past s.tree_is)) ∙ ap (λ (v : WithHooks _ _ _). without c.args.ctx v.standing) c.self.view_is)
+    (stopped_hooks c.args.ctx c.in-Some.life.now s.hooks c.self.inside.calls.items (c.order_law.ensures.registered s.hooks) s.hook_waits s.distinct at c.self.inside.hooks c.stop.new.self s.hooks_are (c.stop.ensures.stands s.hooks s.hooks_are)
     ∙ ap (λ (v : WithHooks _ _ _). filter (λ p. not (same p.0 c.args.ctx)) v.hooks) c.self.view_is)
     ∙ ap (gone c.args.ctx) c.let_branches_go.ensures ∙ bare_gone c.args.ctx c.args.self.now)

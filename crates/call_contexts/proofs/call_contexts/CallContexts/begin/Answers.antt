@@ -28,12 +28,12 @@ invariant_of-self-in-Ok-after_func g c =
     let s = c.self.invariant in
     let is : held c.args.conn s.past ≡ Some (Cancel c.self.inside.base) = conn_held c.self.inside.base s.past c.self.inside.tree.slots c.self.inside.conns.items c.args.conn s.conns_are (ap (λ (v : WithHooks _ _ _). is_conn c.args.conn v.standing.conns) c.self.view_is ∙ c.requires) in
     rw (c.push_reserved.ensures.items, c.reserve.ensures.items)
-    (sound_begun s.laws s (record { ctx = c.in-Ok.made.0; holder = c.in-Ok.made.1; conn = c.args.conn; deadline = c.args.deadline; hook = c.in-Ok-after_func.id }) c.args.now c.args.request_id
+    (sound_begun s.laws s (record { ctx = c.in-Ok.made.0; holder = c.in-Ok.made.1; conn = c.args.conn; deadline = c.args.deadline; hook = c.in-Ok-after_func.id; twigs = c.new-twigs.result }) c.new-twigs.ensures c.args.now c.args.request_id
     c.in-Ok.ensures.held c.make.new.tree is (c.in-Ok.ensures.made s.past s.tree_is) c.args.hook c.after_func.new.self
     (c.in-Ok-after_func.ensures.stands s.hooks s.hooks_are) (c.in-Ok-after_func.ensures.id s.hooks s.hooks_are))
 
-pub invariant_of-self-in-Err : goal.invariant_of-self-in-Err
-invariant_of-self-in-Err g c =
+pub invariant_of-self-in-Err-after_func : goal.invariant_of-self-in-Err-after_func
+invariant_of-self-in-Err-after_func g c =
     let s = c.self.invariant in
     let laws = s.laws in
     let made = c.in-Ok.ensures.made s.past s.tree_is in
@@ -51,7 +51,7 @@ returns-in-Ok-after_func-clause-stands g c =
     let is : held c.args.conn s.past ≡ Some (Cancel c.self.inside.base) = conn_held c.self.inside.base s.past c.self.inside.tree.slots c.self.inside.conns.items c.args.conn s.conns_are known in
     rw (c.push_reserved.ensures.items, c.reserve.ensures.items)
     (pair_is _ _
-    (seen_begun s.laws s (record { ctx = c.in-Ok.made.0; holder = c.in-Ok.made.1; conn = c.args.conn; deadline = c.args.deadline; hook = c.in-Ok-after_func.id }) c.args.now c.args.request_id
+    (seen_begun s.laws s (record { ctx = c.in-Ok.made.0; holder = c.in-Ok.made.1; conn = c.args.conn; deadline = c.args.deadline; hook = c.in-Ok-after_func.id; twigs = c.new-twigs.result }) c.new-twigs.ensures c.args.now c.args.request_id
     c.in-Ok.ensures.held c.make.new.tree is (c.in-Ok.ensures.made s.past s.tree_is) known
     ∙ ap (λ (v : WithHooks _ _ _). begun c.in-Ok.made.0 c.args.conn c.args.deadline c.args.now c.args.request_id v.standing) c.self.view_is)
     (more_hooks c.self.inside.hooks c.after_func.new.self s.hooks s.hooks_are c.in-Ok.made.0 c.args.hook (c.in-Ok-after_func.ensures.stands s.hooks s.hooks_are)
@@ -62,7 +62,7 @@ returns-in-Ok-after_func-clause-fresh g c =
     let s = c.self.invariant in
     let is : held c.args.conn s.past ≡ Some (Cancel c.self.inside.base) = conn_held c.self.inside.base s.past c.self.inside.tree.slots c.self.inside.conns.items c.args.conn s.conns_are (ap (λ (v : WithHooks _ _ _). is_conn c.args.conn v.standing.conns) c.self.view_is ∙ c.requires) in
     rw (← c.self.view_is)
-    (is_new s c.in-Ok.made.0 (begun_unheld s.laws s (record { ctx = c.in-Ok.made.0; holder = c.in-Ok.made.1; conn = c.args.conn; deadline = c.args.deadline; hook = c.in-Ok-after_func.id }) c.args.now c.args.request_id
+    (is_new s c.in-Ok.made.0 (begun_unheld s.laws s (record { ctx = c.in-Ok.made.0; holder = c.in-Ok.made.1; conn = c.args.conn; deadline = c.args.deadline; hook = c.in-Ok-after_func.id; twigs = c.new-twigs.result }) c.new-twigs.ensures c.args.now c.args.request_id
     c.in-Ok.ensures.held c.make.new.tree is (c.in-Ok.ensures.made s.past s.tree_is)))
 
 pub returns-in-Err-clause-back : goal.returns-in-Err-clause-back

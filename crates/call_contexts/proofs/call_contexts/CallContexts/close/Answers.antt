@@ -15,7 +15,7 @@ invariant_of-self g c =
     let s = c.self.invariant in
     let laws = s.laws in
     let is : held c.args.conn s.past ≡ Some (Cancel c.self.inside.base) = conn_held c.self.inside.base s.past c.self.inside.tree.slots c.self.inside.conns.items c.args.conn s.conns_are (ap (λ (v : WithHooks _ _ _). is_conn c.args.conn v.standing.conns) c.self.view_is ∙ c.requires.known) in
-    let none : list_any (λ d. same d.conn c.args.conn) (map (seen_call c.self.inside.tree.slots c.self.inside.twigs.items) c.self.inside.calls.items) ≡ false = ap (λ (v : WithHooks _ _ _). list_any (λ d. same d.conn c.args.conn) v.standing.calls) c.self.view_is ∙ c.requires.none in
+    let none : list_any (λ d. same d.conn c.args.conn) (map (seen_call c.self.inside.tree.slots) c.self.inside.calls.items) ≡ false = ap (λ (v : WithHooks _ _ _). list_any (λ d. same d.conn c.args.conn) v.standing.calls) c.self.view_is ∙ c.requires.none in
     let left : c.retain.new.self.items ≡ filter (λ d. not (same d c.args.conn)) c.self.inside.conns.items = filter_same _ _ _ (λ x b f' k. search rules) _ _ c.retain.ensures.filtered in
     rw left (sound_closed laws s c.args.conn is none c.free.new.tree (c.free.ensures s.past s.tree_is (conn_free laws s c.args.conn is none)))
 
@@ -24,6 +24,6 @@ returns g c =
     let s = c.self.invariant in
     let laws = s.laws in
     let is : held c.args.conn s.past ≡ Some (Cancel c.self.inside.base) = conn_held c.self.inside.base s.past c.self.inside.tree.slots c.self.inside.conns.items c.args.conn s.conns_are (ap (λ (v : WithHooks _ _ _). is_conn c.args.conn v.standing.conns) c.self.view_is ∙ c.requires.known) in
-    let none : list_any (λ d. same d.conn c.args.conn) (map (seen_call c.self.inside.tree.slots c.self.inside.twigs.items) c.self.inside.calls.items) ≡ false = ap (λ (v : WithHooks _ _ _). list_any (λ d. same d.conn c.args.conn) v.standing.calls) c.self.view_is ∙ c.requires.none in
+    let none : list_any (λ d. same d.conn c.args.conn) (map (seen_call c.self.inside.tree.slots) c.self.inside.calls.items) ≡ false = ap (λ (v : WithHooks _ _ _). list_any (λ d. same d.conn c.args.conn) v.standing.calls) c.self.view_is ∙ c.requires.none in
     let left : c.retain.new.self.items ≡ filter (λ d. not (same d c.args.conn)) c.self.inside.conns.items = filter_same _ _ _ (λ x b f' k. search rules) _ _ c.retain.ensures.filtered in
     rw left (pair_is _ _ (seen_closed laws s c.args.conn is none c.free.new.tree (c.free.ensures s.past s.tree_is (conn_free laws s c.args.conn is none)) ∙ ap (λ (v : WithHooks _ _ _). closed c.args.conn v.standing) c.self.view_is) (ap (λ (v : WithHooks _ _ _). v.hooks) c.self.view_is))

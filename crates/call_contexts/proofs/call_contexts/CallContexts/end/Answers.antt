@@ -1,5 +1,5 @@
 use Rattle.std.proofs.Common.{◌∙◌, ap, sym, subst, [], ◌≡◌, true, false, is_some, Some}
-use Rattle.std.specs.Prelude.{not, filter, IfSome}
+use Rattle.std.specs.Prelude.{not, filter, IfSome, option_map}
 use Rattle.std.specs.List.{list_any}
 use Rattle.context_tree.specs.Context.{same}
 use Rattle.call_contexts.specs.Standing.{WithHooks, IsBare, gone, without, is_call, seen_call, hook_for}
@@ -13,14 +13,14 @@ use Rattle.call_contexts.proofs.call_contexts.CallContexts.end.Goals.{in-Some-ra
 
 pub returns-in_default-clause-ran : goal.returns-in_default-clause-ran
 returns-in_default-clause-ran g c =
-    let none : list_any (λ l. same l.ctx c.args.ctx) c.self.inside.calls.items ≡ false = none_found c.args.ctx c.self.inside.calls.items (ap (life_at c.args.ctx) (sym c.deref.ensures.value) ∙ sym c.find.ensures ∙ c.in_default.is) in
-    sym none ∙ sym (any_map (λ d. same d.id c.args.ctx) (seen_call c.self.inside.tree.slots c.self.inside.twigs.items) c.self.inside.calls.items) ∙ ap (λ (v : WithHooks _ _ _). is_call c.args.ctx v.standing.calls) c.self.view_is
+    let none : list_any (λ l. same l.ctx c.args.ctx) c.self.inside.calls.items ≡ false = none_found c.args.ctx c.self.inside.calls.items (ap (life_at c.args.ctx) (sym c.deref.ensures.value) ∙ sym c.find.ensures ∙ ap (option_map (λ l. l.now)) c.in_default.is) in
+    sym none ∙ sym (any_map (λ d. same d.id c.args.ctx) (seen_call c.self.inside.tree.slots) c.self.inside.calls.items) ∙ ap (λ (v : WithHooks _ _ _). is_call c.args.ctx v.standing.calls) c.self.view_is
     ∙ ap (λ (v : WithHooks _ _ _). is_call c.args.ctx v.standing.calls) c.let_branches_go.ensures ∙ turned_call c.args.ctx c.args.ctx (λ d. []) c.args.self.now.standing.calls
 
 pub returns-in_default-clause-left : goal.returns-in_default-clause-left
 returns-in_default-clause-left g c =
     let s = c.self.invariant in
-    let none : list_any (λ l. same l.ctx c.args.ctx) c.self.inside.calls.items ≡ false = none_found c.args.ctx c.self.inside.calls.items (ap (life_at c.args.ctx) (sym c.deref.ensures.value) ∙ sym c.find.ensures ∙ c.in_default.is) in
+    let none : list_any (λ l. same l.ctx c.args.ctx) c.self.inside.calls.items ≡ false = none_found c.args.ctx c.self.inside.calls.items (ap (life_at c.args.ctx) (sym c.deref.ensures.value) ∙ sym c.find.ensures ∙ ap (option_map (λ l. l.now)) c.in_default.is) in
     pair_is _ _ (ap (λ (v : WithHooks _ _ _). v.standing) (sym c.self.view_is) ∙ none_gone s c.args.ctx none ∙ ap (λ (v : WithHooks _ _ _). without c.args.ctx v.standing) c.self.view_is)
     (ap (λ (v : WithHooks _ _ _). v.hooks) (sym c.self.view_is) ∙ no_hook_gone c.self.inside.hooks s.hooks s.hooks_are c.args.ctx c.self.inside.calls.items s.hook_waits none ∙ ap (λ (v : WithHooks _ _ _). filter (λ p. not (same p.0 c.args.ctx)) v.hooks) c.self.view_is)
     ∙ ap (gone c.args.ctx) c.let_branches_go.ensures ∙ bare_gone c.args.ctx c.args.self.now
@@ -36,20 +36,19 @@ pub invariant_of-self : goal.invariant_of-self
 invariant_of-self g c =
     let s = c.self.invariant in
     let laws = s.laws in
-    let at : life_at c.args.ctx c.self.inside.calls.items ≡ Some c.in-Some.life = ap (life_at c.args.ctx) (sym c.deref.ensures.value) ∙ sym c.find.ensures ∙ c.in-Some.is in
-    let bare : list_any (λ t. same t.call c.args.ctx) c.self.inside.twigs.items ≡ false =
-    bare_twigs c.self.inside.tree.slots c.args.ctx c.self.inside.twigs.items c.in-Some.life c.self.inside.calls.items at (subst (λ (v : WithHooks _ _ _). IsBare c.args.ctx v.standing.calls) (sym (c.self.view_is ∙ c.let_branches_go.ensures)) (turned_bare c.args.ctx c.args.self.now.standing.calls)) in
+    let at : life_at c.args.ctx c.self.inside.calls.items ≡ Some c.in-Some.life.now = ap (life_at c.args.ctx) (sym c.deref.ensures.value) ∙ sym c.find.ensures ∙ ap (option_map (λ l. l.now)) c.in-Some.is in
+    let bare = bare_twigs c.self.inside.tree.slots c.args.ctx c.self.inside.calls.items (subst (λ (v : WithHooks _ _ _). IsBare c.args.ctx v.standing.calls) (sym (c.self.view_is ∙ c.let_branches_go.ensures)) (turned_bare c.args.ctx c.args.self.now.standing.calls)) in
     rw c.remove.ensures
-    (sound_left laws s c.args.ctx c.in-Some.life at bare c.release.new.tree (call_let_go laws s c.args.ctx c.in-Some.life at bare c.release.new.tree (c.release.ensures s.past s.tree_is))
+    (sound_left laws s c.args.ctx c.in-Some.life.now at bare c.release.new.tree (call_let_go laws s c.args.ctx c.in-Some.life.now at bare c.release.new.tree (c.release.ensures s.past s.tree_is))
     c.run_next-ran.new.self _ (c.run_next-ran.ensures.stands _ (c.fire.ensures s.hooks s.hooks_are))
     (fired_waits c.args.ctx s.hooks c.self.inside.calls.items s.hook_waits s.none_due s.distinct) (fired_due c.args.ctx s.hooks c.self.inside.calls.items s.hook_waits s.none_due s.distinct))
 
 pub returns-clause-ran : goal.returns-clause-ran
 returns-clause-ran g c =
     let s = c.self.invariant in
-    let any : list_any (λ l. same l.ctx c.args.ctx) c.self.inside.calls.items ≡ true = found_any c.args.ctx c.in-Some.life c.self.inside.calls.items (ap (life_at c.args.ctx) (sym c.deref.ensures.value) ∙ sym c.find.ensures ∙ c.in-Some.is) in
+    let any : list_any (λ l. same l.ctx c.args.ctx) c.self.inside.calls.items ≡ true = found_any c.args.ctx c.in-Some.life.now c.self.inside.calls.items (ap (life_at c.args.ctx) (sym c.deref.ensures.value) ∙ sym c.find.ensures ∙ ap (option_map (λ l. l.now)) c.in-Some.is) in
     let ran : is_some c.run_next-ran.result ≡ true = fired_answer c.args.ctx s.hooks c.self.inside.calls.items s.hook_waits s.none_due s.distinct g.H.Hook.gives c.args.event c.run_next-ran.result (c.run_next-ran.ensures.called _ (c.fire.ensures s.hooks s.hooks_are)) any in
-    let known : true ≡ is_call c.args.ctx c.args.self.now.standing.calls = sym any ∙ sym (any_map (λ d. same d.id c.args.ctx) (seen_call c.self.inside.tree.slots c.self.inside.twigs.items) c.self.inside.calls.items) ∙ ap (λ (v : WithHooks _ _ _). is_call c.args.ctx v.standing.calls) c.self.view_is
+    let known : true ≡ is_call c.args.ctx c.args.self.now.standing.calls = sym any ∙ sym (any_map (λ d. same d.id c.args.ctx) (seen_call c.self.inside.tree.slots) c.self.inside.calls.items) ∙ ap (λ (v : WithHooks _ _ _). is_call c.args.ctx v.standing.calls) c.self.view_is
     ∙ ap (λ (v : WithHooks _ _ _). is_call c.args.ctx v.standing.calls) c.let_branches_go.ensures ∙ turned_call c.args.ctx c.args.ctx (λ d. []) c.args.self.now.standing.calls in
     elim c.match-ran.branch [ in-Some-ran w ↦ rw w.result-is known | in-None w ↦ absurd (not_none c.run_next-ran.result w.in-None.is ran) ]
 
@@ -57,12 +56,11 @@ pub returns-clause-left : goal.returns-clause-left
 returns-clause-left g c =
     let s = c.self.invariant in
     let laws = s.laws in
-    let at : life_at c.args.ctx c.self.inside.calls.items ≡ Some c.in-Some.life = ap (life_at c.args.ctx) (sym c.deref.ensures.value) ∙ sym c.find.ensures ∙ c.in-Some.is in
-    let bare : list_any (λ t. same t.call c.args.ctx) c.self.inside.twigs.items ≡ false =
-    bare_twigs c.self.inside.tree.slots c.args.ctx c.self.inside.twigs.items c.in-Some.life c.self.inside.calls.items at (subst (λ (v : WithHooks _ _ _). IsBare c.args.ctx v.standing.calls) (sym (c.self.view_is ∙ c.let_branches_go.ensures)) (turned_bare c.args.ctx c.args.self.now.standing.calls)) in
+    let at : life_at c.args.ctx c.self.inside.calls.items ≡ Some c.in-Some.life.now = ap (life_at c.args.ctx) (sym c.deref.ensures.value) ∙ sym c.find.ensures ∙ ap (option_map (λ l. l.now)) c.in-Some.is in
+    let bare = bare_twigs c.self.inside.tree.slots c.args.ctx c.self.inside.calls.items (subst (λ (v : WithHooks _ _ _). IsBare c.args.ctx v.standing.calls) (sym (c.self.view_is ∙ c.let_branches_go.ensures)) (turned_bare c.args.ctx c.args.self.now.standing.calls)) in
     rw c.remove.ensures
     (pair_is _ _
-    (seen_left laws s c.args.ctx c.in-Some.life at bare c.release.new.tree (call_let_go laws s c.args.ctx c.in-Some.life at bare c.release.new.tree (c.release.ensures s.past s.tree_is)) ∙ ap (λ (v : WithHooks _ _ _). without c.args.ctx v.standing) c.self.view_is)
+    (seen_left laws s c.args.ctx c.in-Some.life.now at bare c.release.new.tree (call_let_go laws s c.args.ctx c.in-Some.life.now at bare c.release.new.tree (c.release.ensures s.past s.tree_is)) ∙ ap (λ (v : WithHooks _ _ _). without c.args.ctx v.standing) c.self.view_is)
     (fewer_hooks c.self.inside.hooks c.run_next-ran.new.self s.hooks s.hooks_are c.args.ctx (c.run_next-ran.ensures.stands _ (c.fire.ensures s.hooks s.hooks_are))
     ∙ ap (λ (v : WithHooks _ _ _). filter (λ p. not (same p.0 c.args.ctx)) v.hooks) c.self.view_is)
     ∙ ap (gone c.args.ctx) c.let_branches_go.ensures ∙ bare_gone c.args.ctx c.args.self.now)

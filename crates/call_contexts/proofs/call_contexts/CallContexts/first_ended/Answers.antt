@@ -9,20 +9,14 @@ use Rattle.call_contexts.proofs.call_contexts.CallContexts.first_ended.Goals as 
 pub invariant_of-self : goal.invariant_of-self
 invariant_of-self g c =
     let s = c.self.inside in
-    let go = c.first_ended.ensures s.base s.conns.items
-    (subst (λ ts. IsSound s.tree s.hooks ts s.base s.conns.items c.deref-2.result.now) (sym c.deref.ensures.value)
-    (subst (λ ls. IsSound s.tree s.hooks s.twigs.items s.base s.conns.items ls) (sym c.deref-2.ensures.value) c.self.invariant)) in
-    subst (λ ts. IsSound c.first_ended.new.tree s.hooks ts s.base s.conns.items s.calls.items) c.deref.ensures.value
-    (subst (λ ls. IsSound c.first_ended.new.tree s.hooks c.deref.result.now s.base s.conns.items ls) c.deref-2.ensures.value go.sound)
+    subst (IsSound c.first_ended.new.tree s.hooks s.base s.conns.items) c.deref.ensures.value
+    (c.first_ended.ensures s.base s.conns.items (subst (IsSound s.tree s.hooks s.base s.conns.items) (sym c.deref.ensures.value) c.self.invariant)).sound
 
 pub returns : goal.returns
 returns g c =
     let s = c.self.inside in
-    let go = subst (λ ts. FindsEnded c.first_ended.result s.tree c.first_ended.new.tree s.hooks ts s.base s.conns.items s.calls.items) c.deref.ensures.value
-    (subst (λ ls. FindsEnded c.first_ended.result s.tree c.first_ended.new.tree s.hooks c.deref.result.now s.base s.conns.items ls) c.deref-2.ensures.value
-    (c.first_ended.ensures s.base s.conns.items
-    (subst (λ ts. IsSound s.tree s.hooks ts s.base s.conns.items c.deref-2.result.now) (sym c.deref.ensures.value)
-    (subst (λ ls. IsSound s.tree s.hooks s.twigs.items s.base s.conns.items ls) (sym c.deref-2.ensures.value) c.self.invariant)))) in
+    let go = subst (FindsEnded c.first_ended.result s.tree c.first_ended.new.tree s.hooks s.base s.conns.items) c.deref.ensures.value
+    (c.first_ended.ensures s.base s.conns.items (subst (IsSound s.tree s.hooks s.base s.conns.items) (sym c.deref.ensures.value) c.self.invariant)) in
     record {
       same = pair_is _ _ (go.seen_is ∙ ap (λ (v : WithHooks _ _ _). v.standing) c.self.view_is) (ap (λ (v : WithHooks _ _ _). v.hooks) c.self.view_is);
       its = subst (λ (v : WithHooks _ _ _). IfSome c.first_ended.result (λ id. list_any (has_ended id) v.standing.calls ≡ true)) c.self.view_is go.its;

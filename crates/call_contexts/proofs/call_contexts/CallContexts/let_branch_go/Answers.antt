@@ -1,32 +1,47 @@
-use Rattle.std.proofs.Common.{◌∙◌, ap, sym, ◌≡◌, None, Some}
-use Rattle.call_contexts.specs.Standing.{WithHooks, unbranched}
-use Rattle.call_contexts.specs.Sound.{twig_at}
-use Rattle.call_contexts.proofs.Branching.{twig_free, sound_unbranched, seen_unbranched, none_unbranched}
+use Rattle.std.proofs.Common.{◌≡◌, ◌∙◌, ◌<◌, ap, sym, subst, length, None}
+use Rattle.call_contexts.specs.Standing.{WithHooks, drop_branch, seen, seen_branches, unbranched}
+use Rattle.call_contexts.specs.Sound.{IsPlaced, life_at}
+use Rattle.call_contexts.proofs.Branches.{none_seen}
+use Rattle.call_contexts.proofs.Branching.{dropped_seen, same_set, seen_same, seen_taken, sound_taken}
 use Rattle.call_contexts.proofs.Hooking.{pair_is}
+use Rattle.call_contexts.proofs.Lists.{none_found}
 use Rattle.call_contexts.proofs.call_contexts.CallContexts.let_branch_go.Goals as goal
 
 pub returns-in_default : goal.returns-in_default
 returns-in_default g c =
-    let none : twig_at c.args.call c.args.branch c.self.inside.twigs.items ≡ None = ap (twig_at c.args.call c.args.branch) (sym c.deref.ensures.value) ∙ sym c.find.ensures ∙ c.in_default.is in
+    let s = c.self.inside in
+    let none : life_at c.args.call s.calls.items ≡ None = ap (life_at c.args.call) (sym c.deref.ensures.value) ∙ c.in_default.ensures.none in
     pair_is _ _ (ap (λ (v : WithHooks _ _ _). v.standing) (sym c.self.view_is)
-    ∙ none_unbranched c.self.inside.tree.slots c.self.inside.twigs.items c.self.inside.base c.self.inside.conns.items c.self.inside.calls.items c.args.call c.args.branch none
-    ∙ ap (λ (v : WithHooks _ _ _). unbranched c.args.call c.args.branch v.standing) c.self.view_is)
-    (λ i. c.args.self.now.hooks)
+    ∙ none_seen s.tree.slots c.args.call (λ d. drop_branch c.args.branch d.branches) s.base s.conns.items s.calls.items (none_found c.args.call s.calls.items none)
+    ∙ ap (λ (v : WithHooks _ _ _). unbranched c.args.call c.args.branch v.standing) c.self.view_is) (λ i. c.args.self.now.hooks)
 
 pub invariant_of-self : goal.invariant_of-self
 invariant_of-self g c =
-    let s = c.self.invariant in
-    let laws = s.laws in
-    let at : twig_at c.args.call c.args.branch c.self.inside.twigs.items ≡ Some c.in-Some.twig = ap (twig_at c.args.call c.args.branch) (sym c.deref.ensures.value) ∙ sym c.find.ensures ∙ c.in-Some.is in
-    rw c.remove.ensures (sound_unbranched laws s c.args.call c.args.branch c.in-Some.twig at c.free.new.tree (c.free.ensures s.past s.tree_is (twig_free laws s c.args.call c.args.branch c.in-Some.twig at)))
+    let s = c.self.inside in
+    let lt : c.in-Some.place < length s.calls.items = subst (λ ls. c.in-Some.place < length ls) c.deref.ensures.value c.in-Some.ensures.some in
+    let placed : IsPlaced c.args.call c.in-Some.place s.calls.items = subst (IsPlaced c.args.call c.in-Some.place) c.deref.ensures.value c.in-Some.ensures.its in
+    sound_taken c.self.invariant c.args.call c.in-Some.place c.index_mut.result.now c.take.new.self lt placed c.index_mut.ensures.value c.free.new.tree c.in-Some-take.twig c.in-Some-take.ensures.taken c.free.ensures
 
-pub returns : goal.returns
-returns g c =
-    let s = c.self.invariant in
-    let laws = s.laws in
-    let at : twig_at c.args.call c.args.branch c.self.inside.twigs.items ≡ Some c.in-Some.twig = ap (twig_at c.args.call c.args.branch) (sym c.deref.ensures.value) ∙ sym c.find.ensures ∙ c.in-Some.is in
-    rw c.remove.ensures
-    (pair_is _ _
-    (seen_unbranched laws s c.args.call c.args.branch c.in-Some.twig at c.free.new.tree (c.free.ensures s.past s.tree_is (twig_free laws s c.args.call c.args.branch c.in-Some.twig at))
+pub returns-in-Some-take : goal.returns-in-Some-take
+returns-in-Some-take g c =
+    let s = c.self.inside in
+    let lt : c.in-Some.place < length s.calls.items = subst (λ ls. c.in-Some.place < length ls) c.deref.ensures.value c.in-Some.ensures.some in
+    let placed : IsPlaced c.args.call c.in-Some.place s.calls.items = subst (IsPlaced c.args.call c.in-Some.place) c.deref.ensures.value c.in-Some.ensures.its in
+    pair_is _ _
+    (seen_taken c.self.invariant c.args.call c.in-Some.place c.index_mut.result.now c.take.new.self lt placed c.index_mut.ensures.value c.free.new.tree c.in-Some-take.twig c.in-Some-take.ensures.taken c.free.ensures
+    (λ d. drop_branch c.args.branch d.branches) (dropped_seen s.tree.slots c.args.branch c.index_mut.result.now.twigs ∙ ap (seen_branches s.tree.slots) (sym c.take.ensures.first))
     ∙ ap (λ (v : WithHooks _ _ _). unbranched c.args.call c.args.branch v.standing) c.self.view_is)
-    (ap (λ (v : WithHooks _ _ _). v.hooks) c.self.view_is))
+    (ap (λ (v : WithHooks _ _ _). v.hooks) c.self.view_is)
+
+pub returns-in_default-take : goal.returns-in_default-take
+returns-in_default-take g c =
+    let s = c.self.inside in
+    let lt : c.in-Some.place < length s.calls.items = subst (λ ls. c.in-Some.place < length ls) c.deref.ensures.value c.in-Some.ensures.some in
+    let placed : IsPlaced c.args.call c.in-Some.place s.calls.items = subst (IsPlaced c.args.call c.in-Some.place) c.deref.ensures.value c.in-Some.ensures.its in
+    pair_is _ _
+    (ap (seen s.tree.slots s.base s.conns.items)
+    (same_set c.self.invariant c.args.call c.in-Some.place c.index_mut.result.now c.take.new.self lt placed c.index_mut.ensures.value s.tree c.in_default-take.ensures.none)
+    ∙ seen_same c.self.invariant c.args.call c.in-Some.place c.index_mut.result.now c.take.new.self lt placed c.index_mut.ensures.value s.tree (λ d. drop_branch c.args.branch d.branches)
+    (dropped_seen s.tree.slots c.args.branch c.index_mut.result.now.twigs ∙ ap (seen_branches s.tree.slots) (sym c.take.ensures.first ∙ c.in_default-take.ensures.none))
+    ∙ ap (λ (v : WithHooks _ _ _). unbranched c.args.call c.args.branch v.standing) c.self.view_is)
+    (ap (λ (v : WithHooks _ _ _). v.hooks) c.self.view_is)

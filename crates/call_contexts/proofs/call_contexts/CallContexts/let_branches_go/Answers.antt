@@ -1,20 +1,26 @@
-use Rattle.std.proofs.Common.{◌∙◌, ap, sym, subst}
+use Rattle.std.proofs.Common.{◌≡◌, ◌∙◌, [], ap, sym, subst, None}
 use Rattle.call_contexts.specs.Standing.{WithHooks, bare_call}
-use Rattle.call_contexts.specs.Sound.{BranchesGo, IsSound}
+use Rattle.call_contexts.specs.Sound.{IsPlaced, life_at}
+use Rattle.call_contexts.proofs.Branches.{none_seen}
 use Rattle.call_contexts.proofs.Hooking.{pair_is}
+use Rattle.call_contexts.proofs.Lists.{none_found}
 use Rattle.call_contexts.proofs.call_contexts.CallContexts.let_branches_go.Goals as goal
+
+pub returns-in_default : goal.returns-in_default
+returns-in_default g c =
+    let s = c.self.inside in
+    let none : life_at c.args.call s.calls.items ≡ None = ap (life_at c.args.call) (sym c.deref.ensures.value) ∙ c.in_default.ensures.none in
+    pair_is _ _ (ap (λ (v : WithHooks _ _ _). v.standing) (sym c.self.view_is)
+    ∙ none_seen s.tree.slots c.args.call (λ d. []) s.base s.conns.items s.calls.items (none_found c.args.call s.calls.items none)
+    ∙ ap (λ (v : WithHooks _ _ _). bare_call c.args.call v.standing) c.self.view_is) (λ i. c.args.self.now.hooks)
 
 pub invariant_of-self : goal.invariant_of-self
 invariant_of-self g c =
     let s = c.self.inside in
-    let go = subst (λ ts. BranchesGo c.args.call s.tree c.free_branches.new.tree s.hooks ts s.base s.conns.items s.calls.items) c.deref.ensures.value
-    (c.free_branches.ensures s.base s.conns.items s.calls.items (subst (λ ts. IsSound s.tree s.hooks ts s.base s.conns.items s.calls.items) (sym c.deref.ensures.value) c.self.invariant)) in
-    rw c.remove_of.ensures go.sound
+    (c.free_branches.ensures s.base s.conns.items c.args.call c.self.invariant (subst (IsPlaced c.args.call c.in-Some.place) c.deref.ensures.value c.in-Some.ensures.its)).sound
 
 pub returns : goal.returns
 returns g c =
     let s = c.self.inside in
-    let go = subst (λ ts. BranchesGo c.args.call s.tree c.free_branches.new.tree s.hooks ts s.base s.conns.items s.calls.items) c.deref.ensures.value
-    (c.free_branches.ensures s.base s.conns.items s.calls.items (subst (λ ts. IsSound s.tree s.hooks ts s.base s.conns.items s.calls.items) (sym c.deref.ensures.value) c.self.invariant)) in
-    rw c.remove_of.ensures
-    (pair_is _ _ (go.seen_is ∙ ap (λ (v : WithHooks _ _ _). bare_call c.args.call v.standing) c.self.view_is) (ap (λ (v : WithHooks _ _ _). v.hooks) c.self.view_is))
+    let go = c.free_branches.ensures s.base s.conns.items c.args.call c.self.invariant (subst (IsPlaced c.args.call c.in-Some.place) c.deref.ensures.value c.in-Some.ensures.its) in
+    pair_is _ _ (go.seen_is ∙ ap (λ (v : WithHooks _ _ _). bare_call c.args.call v.standing) c.self.view_is) (ap (λ (v : WithHooks _ _ _). v.hooks) c.self.view_is)

@@ -1,8 +1,8 @@
 use Rattle.std.proofs.Common.{◌≡◌, drop}
 use Rattle.call_contexts.specs.Sound.{soonest_of}
 use Rattle.call_contexts.proofs.Sooner.{merged}
-use Rattle.call_contexts.proofs.twigs.soonest.Given as goal
+use Rattle.call_contexts.proofs.twigs.Twigs.soonest.Given as goal
 
 -- the first of those that were passed, and of the rest
 abbrev pub invariant-loop-twig : goal.invariant-loop-twig
-invariant-loop-twig l = soonest_of l.call l.twigs ≡ merged l.least (soonest_of l.call (drop l.twig-index l.twigs))
+invariant-loop-twig l = soonest_of l.fn.self ≡ merged l.least (soonest_of (drop l.twig-index l.fn.self))
