@@ -15,7 +15,7 @@ use Rattle.after_funcs.specs.Stands.{StandsFor as HooksStand}
 use Rattle.call_contexts.specs.declared.life.Life.{Life}
 use Rattle.call_contexts.specs.Standing.{WithHooks, Slots, on_ctx, hook_for, seen_call}
 use Rattle.call_contexts.specs.Sound.{hook_of, kept_of, life_at, NoTwo, same_ctx}
-use Rattle.call_contexts.proofs.Trees.{same_true}
+use Rattle.call_contexts.proofs.Trees.{same_true, none_held as not_none}
 use Rattle.call_contexts.proofs.Lists.{any_map, all_stay, unmapped}
 
 pub pair_is : {C V H : Type 0} (v w : WithHooks C V H) → v.standing ≡ w.standing → v.hooks ≡ w.hooks → v ≡ w
@@ -99,10 +99,6 @@ module _ {H : Type 0} (id : Id) (hooks : List (Operation H)) (calls : List Life)
       of_due [] answer is none = absurd (none refl)
       of_due (d ∷ ds) None is none = absurd is
       of_due (d ∷ ds) (Some a) is none = refl
-
-pub not_none : {A : Type 0} (o : Option A) → o ≡ None → is_some o ≡ true → ⊥
-not_none None is some = cc
-not_none (Some a) is some = cc
 
 -- ---- the hook that is stopped
 

@@ -34,7 +34,7 @@ pub not_both : (b : Bool) → b ≡ true → b ≡ false → ⊥
 not_both true y n = cc
 not_both false y n = cc
 
-none_held : {A : Type 0} (o : Option A) → o ≡ None → is_some o ≡ true → ⊥
+pub none_held : {A : Type 0} (o : Option A) → o ≡ None → is_some o ≡ true → ⊥
 none_held None is some = cc
 none_held (Some a) is some = cc
 

@@ -17,9 +17,11 @@ use Rattle.gateway_model.specs.Starts.{Placed, occurrences}
 use Rattle.gateway_theory.specs.Replies.{ReplyValue}
 use Rattle.gateway_theory.specs.Served.{after_reply}
 use Rattle.gateway_theory.specs.lemmas.LaterOpenings.{same_openings}
-use Rattle.gateway_theory.specs.lemmas.OneEvent.{born_hung, born_open, born_stream, connections_grow, deaf_stream, kept_hung, kept_open, kept_stream, shut_deaf, shut_hung, stays_shut, unborn_open}
-use Rattle.gateway_theory.specs.lemmas.ServedOpens.{grown, occurs_before, succeeds_more}
+use Rattle.gateway_theory.specs.lemmas.OneEvent.{born_hung, born_open, born_stream, deaf_stream, kept_open, shut_deaf, shut_hung, stays_shut}
+use Rattle.gateway_theory.specs.lemmas.ServedOpens.{grown, occurs_before, succeeds_more, unopened_shut as unborn_open}
 use Rattle.gateway_loop.specs.Clients.{Follows, IsStreamOf, Leads}
+use Rattle.gateway_theory.specs.lemmas.CutLemmas.{connections_grow}
+use Rattle.gateway_theory.specs.lemmas.ServedLemmas.{hung_still as kept_hung, text_still as kept_stream}
 
 -- ---- what had occurred
 

@@ -18,7 +18,7 @@ use Rattle.gateway_model.specs.Starts.{Placed, occurrences}
 use Rattle.gateway_theory.specs.Gateway.{GatewayValue}
 use Rattle.gateway_theory.specs.Replies.{ReplyValue}
 use Rattle.gateway_theory.specs.Served.{Served, after_reply}
-use Rattle.gateway_theory.specs.lemmas.OneEvent.{kept_hung, kept_open, kept_stream, more_stream, now_hung, shut_open}
+use Rattle.gateway_theory.specs.lemmas.OneEvent.{kept_open, more_stream, now_hung, shut_open}
 use Rattle.loop_model.specs.Clients.{ClientValue, client_value}
 use Rattle.loop_model.specs.Handed.{is_drain, moment_in, result_in, results}
 use Rattle.gateway_loop.specs.Clients.{Fits, FitsOn, HasStood, IsQuiet, Leads, MakesSteps, Stands, lingering}
@@ -27,6 +27,7 @@ use Rattle.wires.specs.declared.got.Got.{Got}
 use Rattle.wires.specs.declared.got.Got.TheVariants as got
 use Rattle.gateway_loop.specs.Laws.{LoopLaws}
 use Rattle.gateway_loop.proofs.LeadLemmas.{Elsewhere, born_is_open, born_known, born_on, born_queue, born_text, closing_elsewhere, follows_event, leads_event, leads_none, leads_reply, leads_then}
+use Rattle.gateway_theory.specs.lemmas.ServedLemmas.{hung_still as kept_hung, text_still as kept_stream}
 
 pub prefix_then : (a b c : List ℕ) → IsPrefixOf a b → IsPrefixOf b c → IsPrefixOf a c
 prefix_then a b c p q = (p.0 ++ q.0, q.1 ∙ ap (λ (t : List ℕ). t ++ q.0) p.1 ∙ append_assoc a p.0 q.0)

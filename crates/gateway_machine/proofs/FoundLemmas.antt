@@ -25,6 +25,7 @@ use Rattle.gateway_theory.specs.Store.{IsFound, MachineValue, call_at, kept_at}
 use Rattle.gateway_theory.specs.lemmas.Deadlines.{due_smaller}
 use Rattle.gateway_theory.specs.lemmas.LimitLemmas.{same_call}
 use Rattle.gateway_theory.specs.lemmas.StoreLemmas.{call_itself}
+use Rattle.gateway_theory.specs.lemmas.Keeping.{both_parts}
 
 -- ---- nothing is over
 
@@ -93,11 +94,6 @@ none_left trigger moment ends v c now apart linked none id = none_called trigger
     ap (λ (s : Step). s.reply) (sym (ends_as trigger (event_for moment (kept_at j v.calls).id c) (kept_at j v.calls) (event_at trigger moment ends v c j (kept_at j v.calls) refl now apart linked)))
     ∙ ap (λ e. (ends_with e (kept_at j v.calls).call.out (kept_at j v.calls).call.live).reply) (none_ending moment (kept_at j v.calls).id c.calls none)
     ∙ never (kept_at j v.calls).call.out (kept_at j v.calls).call.live)
-
-both_parts : (a b : Bool) → (a && b) ≡ true → (a ≡ true) × (b ≡ true)
-both_parts true true e = (refl, refl)
-both_parts true false e = absurd (cc)
-both_parts false b e = absurd (cc)
 
 -- ---- what is over ends
 

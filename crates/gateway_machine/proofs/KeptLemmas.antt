@@ -23,12 +23,7 @@ use Rattle.gateway_theory.specs.Step.{deadlines_next, result_on, next_out, rest_
 use Rattle.gateway_theory.specs.Kept.{KeptValue}
 use Rattle.gateway_machine.specs.KeptCall.{LiveValue, live_value, kept_value, started_of, IsGoing, IsKept, IsStep}
 use Rattle.gateway_theory.specs.lemmas.StepLemmas.{tasks_none, tasks_next}
-
-within : (out : List Bool) (i : ℕ) → slice_index_or out i false ≡ true → i < length out
-within out i it =
-    ⊎_elim (λ (lt : i < length out). lt)
-    (λ (ge : length out ≤ i). absurd (let clash : false ≡ true = sym (get_or-eq_default out false {n = i} ge) ∙ it in cc))
-    (cases_lt i (length out))
+use Rattle.gateway_theory.specs.lemmas.KeptCalls.{index_in as within}
 
 -- how many branches are out
 abbrev pub outs : List Bool → ℕ

@@ -11,9 +11,9 @@ use Rattle.gateway_model.specs.Past.{is_call}
 use Rattle.gateway_replies.specs.declared.contexts.cancelled.CancelledBy.{CancelledBy}
 use Rattle.gateway_replies.specs.Contexts.{AllContexts, AreTied, CallContext, ConnContext, contexts_of, ContextsValue, IsTied, LifeValue, Lives, NoTwo, Peers, TimedBranch, contexts_value, ctx_for, is_life, peers_of, life_with, lives_of, on_branches, with_branches, same_id}
 use Rattle.gateway_theory.specs.lemmas.LimitLemmas.{same_call}
-use Rattle.gateway_replies.proofs.ListLemmas.{same_itself, same_true}
 use Rattle.gateway_replies.proofs.ContextLemmas.{life_in, stands_in}
 use Rattle.gateway_replies.proofs.ToldLemmas.{Stays, drained_stays, told_tied}
+use Rattle.call_contexts.proofs.Trees.{same_refl as same_itself, same_true}
 
 map_stays : {A : Type 0} (p : A → Bool) (g : A → A) (xs : List A) → list_any p xs ≡ false → map (λ y. if p y then g y else y) xs ≡ xs
 map_stays p g [] none = refl

@@ -18,8 +18,10 @@ use Rattle.gateway_replies.specs.Contexts.{AllContexts, AreTied, CallContext, Co
 use Rattle.gateway_theory.specs.lemmas.Cases.{all_stay, or_true}
 use Rattle.gateway_theory.specs.lemmas.LimitLemmas.{same_call}
 use Rattle.gateway_theory.specs.lemmas.StoreLemmas.{call_itself}
-use Rattle.gateway_replies.proofs.ListLemmas.{any_map, call_turned, context_turned, due_same, filter_map_both, no_two_kept, no_two_pushed, number_turned, same_itself, same_true}
+use Rattle.gateway_replies.proofs.ListLemmas.{call_turned, context_turned, due_same, filter_map_both, no_two_pushed, number_turned}
 use Rattle.gateway_replies.proofs.PeerLemmas.{ctx_more, known_in, less_contexts, less_ctx, not_in, peer_ended, peer_in, peers_less, peers_pushed, two_apart}
+use Rattle.call_contexts.proofs.Lists.{any_map, no_two_kept}
+use Rattle.call_contexts.proofs.Trees.{same_refl as same_itself, same_true}
 
 -- ---- calls
 

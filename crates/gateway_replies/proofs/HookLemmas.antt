@@ -20,9 +20,11 @@ use Rattle.gateway_replies.specs.declared.contexts.life.Life.{Life}
 use Rattle.gateway_replies.specs.Contexts.{AllContexts, AreTied, CallContext, ContextsValue, Lives, NoTwo, Peers, ctx_for, ctx_of, first_of, same_id}
 use Rattle.gateway_replies.specs.Hooks.{BringsHooks, Called, DropsHooks, GivesBytes, HookedContexts, Hooks, KeepsHooks, LosesHook, KeepsStocks, Stocks, TakesHook, hook_of, hooked, hooks_but, hooks_of_others, stock_in, stock_of}
 use Rattle.gateway_replies.specs.Ties.{AreHooked, Takes, hooks_of, life_tie, life_ties, peer_ties, stock_tie, stock_ties}
-use Rattle.gateway_replies.proofs.ListLemmas.{any_map, filter_map_both, same_itself, same_true}
+use Rattle.gateway_replies.proofs.ListLemmas.{filter_map_both}
 use Rattle.gateway_replies.proofs.PeerLemmas.{first_same, rest_same}
 use Rattle.gateway_replies.proofs.ContextLemmas.{no_ctx_for, stands_in}
+use Rattle.call_contexts.proofs.Lists.{any_map}
+use Rattle.call_contexts.proofs.Trees.{same_refl as same_itself, same_true}
 
 -- ---- the hooks of calls
 

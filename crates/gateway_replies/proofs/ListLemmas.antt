@@ -10,19 +10,8 @@ use Rattle.call_contexts.specs.Standing.{ends_branch, if_due}
 use Rattle.gateway_model.specs.declared.id.CallId.{CallId}
 use Rattle.gateway_replies.specs.Contexts.{by_deadline, NoTwo, TimedBranch, same_id, same_context, same_number}
 use Rattle.gateway_theory.specs.lemmas.Cases.{sym_eqb}
-
-any_kept : {A : Type 0} (p q : A → Bool) (xs : List A) → list_any p xs ≡ false → list_any p (filter q xs) ≡ false
-any_kept p q [] is = refl
-any_kept p q (x ∷ xs) is =
-    let two = or_parts (p x) (list_any p xs) is in
-    ⊎_elim
-    (λ (y : q x ≡ true). rw (y, two.0) (any_kept p q xs two.1))
-    (λ (n : q x ≡ false). rw n (any_kept p q xs two.1))
-    (cases_Bool (q x))
-
-pub any_map : {A B : Type 0} (p : B → Bool) (f : A → B) (xs : List A) → list_any p (map f xs) ≡ list_any (λ x. p (f x)) xs
-any_map p f [] = refl
-any_map p f (x ∷ xs) = ap (λ b. p (f x) || b) (any_map p f xs)
+use Rattle.call_contexts.proofs.Lists.{any_map, any_kept, no_two_kept}
+use Rattle.call_contexts.proofs.Trees.{same_refl as same_itself, same_true, same_turned}
 
 pub filter_map_both : {A B : Type 0} (p : B → Bool) (f : A → B) (xs : List A) → map f (filter (λ x. p (f x)) xs) ≡ filter p (map f xs)
 filter_map_both p f [] = refl
@@ -30,13 +19,6 @@ filter_map_both p f (x ∷ xs) = ⊎_elim
     (λ (y : p (f x) ≡ true). rw y (ap (λ l. f x ∷ l) (filter_map_both p f xs)))
     (λ (n : p (f x) ≡ false). rw n (filter_map_both p f xs))
     (cases_Bool (p (f x)))
-
-pub no_two_kept : {A : Type 0} (r : A → A → Bool) (q : A → Bool) (xs : List A) → NoTwo r xs → NoTwo r (filter q xs)
-no_two_kept r q [] all = tt
-no_two_kept r q (x ∷ xs) all = ⊎_elim
-    (λ (y : q x ≡ true). rw y (any_kept (r x) q xs all.0, no_two_kept r q xs all.1))
-    (λ (n : q x ≡ false). rw n (no_two_kept r q xs all.1))
-    (cases_Bool (q x))
 
 pub no_two_pushed : {A : Type 0} (r : A → A → Bool) → ((x y : A) → r x y ≡ r y x) → (xs : List A) (x : A) → NoTwo r xs → list_any (r x) xs ≡ false → NoTwo r (xs ++ x ∷ [])
 no_two_pushed r turned [] x all none = (refl, tt)
@@ -52,15 +34,6 @@ context_turned p q = grind (arith, rules)
 
 pub call_turned : (l m : CallId × Id) → same_id l m ≡ same_id m l
 call_turned l m = rw (sym_eqb m.0.conn l.0.conn, sym_eqb m.0.request l.0.request) refl
-
-pub same_true : (x y : Id) → same x y ≡ true → x ≡ y
-same_true x y is = grind (arith, rules)
-
-pub same_itself : (x : Id) → same x x ≡ true
-same_itself x = grind (arith, rules)
-
-pub same_turned : (x y : Id) → same x y ≡ same y x
-same_turned x y = grind (arith, rules)
 
 -- a deadline ends what it does in both words
 pub due_same : (now : ℕ) (deadline : Option ℕ) → if_due now deadline ≡ by_deadline now deadline

@@ -15,9 +15,10 @@ use Rattle.gateway_model.specs.declared.id.CallId.{CallId}
 use Rattle.gateway_model.specs.Past.{is_call, is_due}
 use Rattle.gateway_replies.specs.declared.contexts.cancelled.CancelledBy.TheVariants.{HangUp, Drain}
 use Rattle.gateway_replies.specs.Contexts.{AllContexts, AreTied, IsNotDue, CallContext, ConnContext, Ended, by_drain, by_hang_up, contexts_of, ContextsValue, IsTied, LifeValue, Lives, Peers, TimedBranch, contexts_value, ctx_for, ctx_of, ending_life, ends_life, event_of, expires_life, ends_peer, first_life, has_due, is_peer, peers_of, told, life_with, lives_of}
-use Rattle.gateway_replies.proofs.ListLemmas.{due_same, same_itself, same_true}
+use Rattle.gateway_replies.proofs.ListLemmas.{due_same}
 use Rattle.gateway_replies.proofs.PeerLemmas.{lives_stay, not_in, peers_drained, peers_hung, peers_stay, two_apart}
 use Rattle.gateway_replies.proofs.ContextLemmas.{stands_in}
+use Rattle.call_contexts.proofs.Trees.{same_refl as same_itself, same_true}
 
 conns_told : (g : ConnContext → Ended) (cs : List ConnContext) → map (λ (c : ConnContext). c.id) (map (λ (c : ConnContext). ends_conn (g c) c) cs) ≡ map (λ (c : ConnContext). c.id) cs
 conns_told g [] = refl

@@ -24,13 +24,11 @@ use Rattle.gateway_model.specs.Reply.{reply_of}
 use Rattle.gateway_model.specs.Headline.{AllAnswered, AnswersCall, failed, joined, HasAnswered, IsAnswered}
 use Rattle.gateway_theory.specs.lemmas.Cases.{or_none}
 use Rattle.gateway_theory.specs.lemmas.Deadlines.{expires}
-use Rattle.gateway_theory.specs.lemmas.LimitLemmas.{same_call}
+use Rattle.gateway_theory.specs.lemmas.LimitLemmas.{same_call, count_most}
+use Rattle.gateway_theory.specs.lemmas.RecordLemmas.{among_more as among_behind}
+use Rattle.gateway_theory.specs.lemmas.StandsLemmas.{last_is as last_behind, or_assoc, answer_after as answer_behind}
 
 -- ---- counts
-
-count_most : (n : ℕ) (p : ℕ → Bool) → count_below n p ≤ n
-count_most zero p = omega arith
-count_most (suc n) p = cond_both (p n) (suc (count_below n p)) (count_below n p) (λ k. k ≤ suc n) (λ _. omega (arith, count_most n p)) (λ _. omega (arith, count_most n p))
 
 -- where all are counted, each has the property
 count_full : (n : ℕ) (p : ℕ → Bool) → n ≤ count_below n p → (i : ℕ) → i < n → p i ≡ true
@@ -73,24 +71,6 @@ count_more (suc n) i p q lt p_is q_is h =
     by_other false false a_is b_is le = le
 
 -- ---- the answers among events
-
-or_assoc : {A : Type 0} (x y z : Option A) → option_or (option_or x y) z ≡ option_or x (option_or y z)
-or_assoc None y z = refl
-or_assoc (Some a) y z = refl
-
--- with one event more
-answer_behind : (i : ℕ) (es : List CallEvent) (e : CallEvent) → answer_of_branch i (es ++ e ∷ []) ≡ option_or (answer_in i e) (answer_of_branch i es)
-answer_behind i [] e = sym (or_none (answer_in i e))
-answer_behind i (x ∷ es) e = ap (λ o. option_or o (answer_in i x)) (answer_behind i es e) ∙ or_assoc (answer_in i e) (answer_of_branch i es) (answer_in i x)
-
-among_behind : (es : List CallEvent) (e : CallEvent) → answers_among (es ++ e ∷ []) ≡ answers_among es + answers_among (e ∷ [])
-among_behind [] e = omega arith
-among_behind (Answered i body ∷ es) e = omega (arith, among_behind es e)
-among_behind (Failed i error ∷ es) e = among_behind es e
-among_behind (Expired t ∷ es) e = among_behind es e
-among_behind (BranchExpired i t ∷ es) e = among_behind es e
-among_behind (HungUp ∷ es) e = among_behind es e
-among_behind (Drained ∷ es) e = among_behind es e
 
 abbrev has_answer : List CallEvent → ℕ → Bool
 has_answer es i = is_some (answer_of_branch i es)
@@ -169,11 +149,6 @@ answers_call r HungUp lawful decided_is last = failed _ refl (ap (bytes_by r) la
 answers_call r Drained lawful decided_is last = failed _ refl (ap (bytes_by r) last)
 
 -- ---- the last event is the one that decided
-
-last_behind : (es : List CallEvent) (e : CallEvent) → last_event (es ++ e ∷ []) ≡ Some e
-last_behind [] e = refl
-last_behind (x ∷ []) e = refl
-last_behind (x ∷ y ∷ es) e = last_behind (y ∷ es) e
 
 last_own : (id : CallId) (past : Past) (e : CallEvent) → decided id past ≡ Some e → last_event (own_events id past) ≡ Some e
 last_own id [] e d = absurd (cc)

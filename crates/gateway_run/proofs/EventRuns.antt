@@ -24,6 +24,7 @@ use Rattle.gateway_run.proofs.CoreLaws.{OpeningsLaws}
 use Rattle.gateway_run.proofs.Gathering.{collected_run}
 use Rattle.gateway_run.proofs.RunSteps.{Steps, run_on}
 use Rattle.gateway_theory.specs.lemmas.ServedOpens.{succeeds_more}
+use Rattle.gateway_theory.specs.lemmas.Cases.{sym_eqb as turned}
 
 -- the same connections were gathered
 pub same_gathered : (f g : ℕ → Bool) (v : GatewayValue) (log : LogValue) (es : Before) → ((c : ℕ) → f c ≡ g c) → HasRun f v log es → HasRun g v log es
@@ -44,10 +45,6 @@ same_gathered f g v log es same h = record {
   none_left = λ c on. h.none_left c (same c ∙ on);
   has_lived = h.has_lived;
 }
-
-turned : (a b : ℕ) → (a == b) ≡ (b == a)
-turned a b = ⊎_elim (λ (same : (b == a) ≡ true). eq-eqb a b (sym (eqb-true b a same)) ∙ sym same)
-    (λ (other : (b == a) ≡ false). ne_eqb a b (λ at. let clash : true ≡ false = sym (eq-eqb b a (sym at)) ∙ other in absurd (cc)) ∙ sym other) (cases_Bool (b == a))
 
 -- what is queued for the connection that the event closes was taken
 collected_for : (e : Event) (v w : GatewayValue) (log later : LogValue) (es : Before) → HasRun (λ c. false) v log es → CollectsFor e v w log later

@@ -16,6 +16,7 @@ use Rattle.gateway_theory.specs.lemmas.PrefixLemmas.{events_occur}
 use Rattle.gateway_theory.specs.Starting.{StartedJob, job_started, start}
 use Rattle.gateway_model.specs.Run.{is_start_of, run_start}
 use Rattle.gateway_run.specs.Log.{start_at}
+use Rattle.gateway_theory.specs.lemmas.GivingUp.{or_right as or_false_right}
 
 -- ---- places
 
@@ -42,10 +43,6 @@ more_default [] zero d = refl
 more_default [] (suc c) d = refl
 more_default (x ∷ xs) zero d = refl
 more_default (x ∷ xs) (suc c) d = more_default xs c d
-
-pub or_false_right : (a b : Bool) → (a || b) ≡ false → b ≡ false
-or_false_right true b e = absurd (cc)
-or_false_right false b e = e
 
 -- ---- starts of a connection
 

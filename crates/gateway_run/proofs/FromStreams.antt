@@ -20,6 +20,7 @@ use Rattle.gateway_model.specs.Queue.{came}
 use Rattle.gateway_model.specs.Starts.{Placed, occurrences}
 use Rattle.gateway_model.specs.Headline.{brought_by, came_on}
 use Rattle.gateway_theory.specs.lemmas.Cases.{or_none}
+use Rattle.gateway_theory.specs.lemmas.ServedLemmas.{text_still as stream_same}
 
 -- what is known of requests
 pub record StreamLaws : Type 0 where
@@ -81,9 +82,6 @@ once_gained conn false o e = refl
 same_if : (b : Bool) (s t : List ℕ) → t ≡ [] → (if b then s ++ t else s) ≡ s
 same_if true s t e = ap (λ xs. s ++ xs) e ∙ append-nil s
 same_if false s t e = refl
-
-stream_same : (opened : List ℕ) (conn : ℕ) (e : Event) (before : Before) → piece_of conn e ≡ [] → stream opened conn (e ∷ before) ≡ stream opened conn before
-stream_same opened conn e before none = same_if (listens opened conn before) (stream opened conn before) (piece_of conn e) none
 
 refusal_from : (left : List ℕ) (e : StreamEnd) → refusal_gained (Open left) e ≡ refusal_gained (Open []) e
 refusal_from left (Open l) = refl

@@ -10,6 +10,7 @@ use Rattle.std.proofs.KnownBytes.{Appends-trans}
 use Rattle.std.specs.Io.KnownBytes.{Appends}
 use Rattle.gateway_run.specs.RunText.{AppendsSome, start_line, connection_text, connections_text}
 use Rattle.gateway_model.specs.declared.run.Start.{Start}
+use Rattle.gateway_theory.specs.lemmas.Cases.{err_if as OnErr-from}
 
 -- a write took k more bytes
 pub Appends-more : (old mid new : Option (List ℕ)) (n k : ℕ) (text : List ℕ)
@@ -54,11 +55,6 @@ module _ {X : Type 0} (f : X → List ℕ) where
       → Appends a b (flat_map f (take i xs)) → Appends b c (f (get_or xs i d)) → Appends a c (flat_map f (take (i + 1) xs))
   Appends-at a b c xs i d lt p q =
       rw (flat_map-more xs i d lt) (Appends-trans a b c _ _ p q)
-
--- what holds holds at an error
-pub OnErr-from : {A E P : Type 0} (r : Result A E) → P → OnErr r P
-OnErr-from (Ok a) p = tt
-OnErr-from (Err e) p = p
 
 pub OnErr-map : {A E P Q : Type 0} (r : Result A E) → (P → Q) → OnErr r P → OnErr r Q
 OnErr-map (Ok a) f p = tt

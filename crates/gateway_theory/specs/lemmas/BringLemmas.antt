@@ -13,13 +13,9 @@ use Rattle.gateway_model.specs.Occurrence.{Refused}
 use Rattle.gateway_theory.specs.Serving.{gateway_value, BringsAt, ComesBy, MayTake, ReadsAt, ReadsOn, RefusesBy}
 use Rattle.gateway_theory.specs.Store.{MachineValue}
 use Rattle.gateway_theory.specs.lemmas.ServingLemmas.{IsRead}
+use Rattle.gateway_theory.specs.lemmas.BroughtLemmas.{set_there as set_here}
 
 -- ---- streams at their places
-
-pub set_here : (i : ℕ) (s : StreamValue) (streams : List StreamValue) → i < length streams → stream_at i (slice_set streams i s) ≡ s
-set_here i s [] lt = absurd (omega (arith, lt))
-set_here zero s (x ∷ streams) lt = refl
-set_here (suc i) s (x ∷ streams) lt = set_here i s streams (omega (arith, lt))
 
 pub set_itself : (i : ℕ) (streams : List StreamValue) → slice_set streams i (stream_at i streams) ≡ streams
 set_itself i [] = refl

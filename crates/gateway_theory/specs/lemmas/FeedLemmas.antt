@@ -20,10 +20,10 @@ use Rattle.gateway_theory.specs.Machine.{ConnState}
 use Rattle.gateway_theory.specs.Orderly.{IsOrderly}
 use Rattle.gateway_theory.specs.Step.{Live}
 use Rattle.gateway_theory.specs.Store.{MachineValue, machine, conn_at, conn_of, broken_conn, given_up_if}
-use Rattle.gateway_theory.specs.lemmas.OpenSteps.{eqb_sym}
 use Rattle.gateway_theory.specs.lemmas.OrderLemmas.{broken_order, entered_order, fresh_next, has_broken, same_given, some_same}
 use Rattle.gateway_theory.specs.lemmas.StoreLemmas.{conn_broken}
 use Rattle.gateway_theory.specs.lemmas.StoreMore.{conn_found, conn_set}
+use Rattle.gateway_theory.specs.lemmas.Cases.{sym_eqb as eqb_sym}
 
 -- ---- the streams
 

@@ -49,9 +49,7 @@ use Rattle.gateway_theory.specs.lemmas.SeenResults.{forgotten_conns}
 use Rattle.gateway_theory.specs.lemmas.ServedPieces.{fed_back, feeds_machine}
 use Rattle.gateway_theory.specs.lemmas.ServingLemmas.{conn_by_number, stream_by_number, streams_apart}
 use Rattle.gateway_theory.specs.lemmas.StoreMore.{broken_hung, conn_added, conn_found, conn_set, conn_without}
-
-broken_of : (c : ℕ) (conns : List ConnValue) (k : ConnValue) → conn_of c conns ≡ Some k → is_broken_in c conns ≡ k.broken
-broken_of c conns k k_is = ap (λ o. option_map_or (λ (x : ConnValue). x.broken) o false) k_is
+use Rattle.gateway_theory.specs.lemmas.LivedEnds.{in_conns as broken_of}
 
 abbrev is_broken_there : Option ConnValue → Bool
 is_broken_there o = option_map_or (λ (k : ConnValue). k.broken) o false
@@ -61,7 +59,7 @@ waiting_of o = option_map_or (λ (k : ConnValue). front k.slots) o []
 
 -- ---- by what it makes of the machine
 
-both_parts : (a b : Bool) → (a && b) ≡ true → (a ≡ true) × (b ≡ true)
+pub both_parts : (a b : Bool) → (a && b) ≡ true → (a ≡ true) × (b ≡ true)
 both_parts true true e = (refl, refl)
 both_parts true false e = absurd (cc)
 both_parts false b e = absurd (cc)

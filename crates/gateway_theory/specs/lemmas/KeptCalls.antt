@@ -71,7 +71,7 @@ outs_at_most id out past h =
     count_less (branches id past) (λ k. slice_index_or out k false) (λ k. is_out id k past) (λ i lt is. h i is) in
     omega (arith, all, below, less)
 
-index_in : (out : List Bool) (i : ℕ) → slice_index_or out i false ≡ true → i < length out
+pub index_in : (out : List Bool) (i : ℕ) → slice_index_or out i false ≡ true → i < length out
 index_in [] i is = absurd (cc)
 index_in (b ∷ out) zero is = omega arith
 index_in (b ∷ out) (suc i) is = let lt = index_in out i is in omega (arith, lt)

@@ -5,8 +5,8 @@ use Rattle.std.proofs.lemmas.Bool.{cases_Bool, ne_eqb}
 use Rattle.gateway_model.specs.Events.{Before, IsShifted, connections, is_open, open_connections, succeeds}
 use Rattle.gateway_model.specs.Past.{count_below}
 use Rattle.gateway_theory.specs.lemmas.CutLemmas.{IsSame, same_before}
-use Rattle.gateway_theory.specs.lemmas.OpenCount.{count_same}
 use Rattle.gateway_theory.specs.lemmas.ServedOpens.{grown, succeeds_more}
+use Rattle.gateway_theory.specs.lemmas.SlotLemmas.{count_same}
 
 pub same_openings : (opened : List ℕ) (place : ℕ) (es : Before) → ((other : ℕ) → succeeds opened other ≡ true → other < place) → length es ≤ place
     → IsSame opened (opened ++ place ∷ []) es es

@@ -8,6 +8,7 @@ use Rattle.connect_codec.specs.declared.answer.Outcome.TheVariants.{Answer, Fail
 use Rattle.gateway_model.specs.Occurrence.{Occurrence, Opening, Comes, HangUp, Moment, Result, Drain, Closing, Break}
 use Rattle.gateway_model.specs.Past.{Mark, Past, ArrivedCall, call, answers, branches, began, started, is_out, is_result_of, is_answer_to, is_call, count_below, outs, counts, can_be_decided, mark_of, marked, asked_now, ends_at_arrival}
 use Rattle.gateway_theory.specs.lemmas.PastLemmas.{call_stays}
+use Rattle.gateway_theory.specs.lemmas.Cases.{and_false as and_no, or_true as or_yes}
 
 -- ---- counting
 
@@ -67,7 +68,7 @@ count_without (suc n) j q lt has =
     (λ not_q. rw not_q rest))
     (cases_eq n j)
 
-count_most : (n : ℕ) (p : ℕ → Bool) → count_below n p ≤ n
+pub count_most : (n : ℕ) (p : ℕ → Bool) → count_below n p ≤ n
 count_most zero p = omega arith
 count_most (suc n) p = cond_both (p n) (suc (count_below n p)) (count_below n p) (λ k. k ≤ suc n) (λ _. omega (arith, count_most n p)) (λ _. omega (arith, count_most n p))
 
@@ -82,10 +83,6 @@ count_lt (suc n) s =
     (cases_lt n s)
 
 -- ---- on the words
-
-and_no : (b : Bool) → (b && false) ≡ false
-and_no true = refl
-and_no false = refl
 
 abbrev call_named : ℕ → ℕ → CallId
 call_named conn request = record { conn = conn; request = request }
@@ -202,10 +199,6 @@ fresh id os o c unbegan c_is =
 answers_one : (id : CallId) (m : Mark) (past : Past) → answers id (m ∷ past) ≤ answers id past + 1
 answers_one id m past =
     cond_both (m.counted && is_answer_to id m.what) (suc (answers id past)) (answers id past) (λ n. n ≤ answers id past + 1) (λ _. omega arith) (λ _. omega arith)
-
-or_yes : (b : Bool) → (b || true) ≡ true
-or_yes true = refl
-or_yes false = refl
 
 -- which branches are out after a counted answer of branch j
 out_next : (id : CallId) (m : Mark) (past : Past) (i j : ℕ) → ((k : ℕ) → is_result_of id k m.what ≡ (j == k))

@@ -6,21 +6,14 @@ use Rattle.std.proofs.lemmas.Bool.{lt-ltb, le-ltb, eq-eqb, and_left, or_from}
 use Rattle.gateway_model.specs.declared.event.Event.{Event}
 use Rattle.gateway_model.specs.declared.event.Event.TheVariants.{Opening, Piece, HangUp, Closing}
 use Rattle.gateway_model.specs.Events.{Before, connections, hung_up, is_closing_of, is_hang_up_of, is_open, is_opening, listens, piece_of, stream, succeeds}
-
-and_false : (b : Bool) → (b && false) ≡ false
-and_false true = refl
-and_false false = refl
-
-or_true : (b : Bool) → (b || true) ≡ true
-or_true true = refl
-or_true false = refl
+use Rattle.gateway_theory.specs.lemmas.Cases.{and_false, or_true}
+use Rattle.gateway_theory.specs.lemmas.CutLemmas.{connections_grow}
+use Rattle.gateway_theory.specs.lemmas.ServedLemmas.{hung_still as kept_hung, text_still as kept_stream}
+use Rattle.gateway_theory.specs.lemmas.ServedOpens.{unopened_shut as unborn_open, unopened_hung as unborn_hung, unopened_text as unborn_stream}
 
 more_by : (b : Bool) (n : ℕ) → n ≤ (if b then suc n else n)
 more_by true n = omega arith
 more_by false n = omega arith
-
-pub connections_grow : (opened : List ℕ) (e : Event) (es : Before) → connections opened es ≤ connections opened (e ∷ es)
-connections_grow opened e es = more_by (is_opening e && succeeds opened (length es)) (connections opened es)
 
 -- ---- a connection that was opened before
 
@@ -28,17 +21,8 @@ pub kept_open : (opened : List ℕ) (c : ℕ) (e : Event) (es : Before) → c < 
     → is_open opened c (e ∷ es) ≡ is_open opened c es
 kept_open opened c e es lt stays = rw (lt-ltb c (connections opened es) lt, stays) (and-true (is_open opened c es))
 
-pub kept_hung : (opened : List ℕ) (c : ℕ) (e : Event) (es : Before) → is_hang_up_of c e ≡ false → hung_up opened c (e ∷ es) ≡ hung_up opened c es
-kept_hung opened c e es stays = rw (stays, and_false (is_open opened c es)) (or-false (hung_up opened c es))
-
 pub now_hung : (opened : List ℕ) (c : ℕ) (es : Before) → is_open opened c es ≡ true → hung_up opened c (HangUp c ∷ es) ≡ true
 now_hung opened c es is = rw (is, eq-eqb c c refl) (or_true (hung_up opened c es))
-
-pub kept_stream : (opened : List ℕ) (c : ℕ) (e : Event) (es : Before) → piece_of c e ≡ [] → stream opened c (e ∷ es) ≡ stream opened c es
-kept_stream opened c e es none = elim (listens opened c es) as (λ b. (if b then stream opened c es ++ piece_of c e else stream opened c es) ≡ stream opened c es) [
-  | true ↦ rw none (append-nil (stream opened c es))
-  | false ↦ refl
-]
 
 pub deaf_stream : (opened : List ℕ) (c : ℕ) (e : Event) (es : Before) → listens opened c es ≡ false → stream opened c (e ∷ es) ≡ stream opened c es
 deaf_stream opened c e es deaf = rw deaf refl
@@ -61,25 +45,6 @@ pub shut_hung : (opened : List ℕ) (c : ℕ) (e : Event) (es : Before) → is_o
 shut_hung opened c e es shut = rw shut (or-false (hung_up opened c es))
 
 -- ---- a connection that was not opened yet
-
-pub unborn_open : (opened : List ℕ) (c : ℕ) (es : Before) → connections opened es ≤ c → is_open opened c es ≡ false
-unborn_open opened c [] le = refl
-unborn_open opened c (e ∷ es) le =
-    let before : connections opened es ≤ c = omega (arith, le, connections_grow opened e es) in
-    rw (le-ltb c (connections opened es) before) (le-ltb c (connections opened (e ∷ es)) le)
-
-pub unborn_hung : (opened : List ℕ) (c : ℕ) (es : Before) → connections opened es ≤ c → hung_up opened c es ≡ false
-unborn_hung opened c [] le = refl
-unborn_hung opened c (e ∷ es) le =
-    let before : connections opened es ≤ c = omega (arith, le, connections_grow opened e es) in
-    or_from (hung_up opened c es) (is_open opened c es && is_hang_up_of c e) (unborn_hung opened c es before)
-    (and_left (is_open opened c es) (is_hang_up_of c e) (unborn_open opened c es before))
-
-pub unborn_stream : (opened : List ℕ) (c : ℕ) (es : Before) → connections opened es ≤ c → stream opened c es ≡ []
-unborn_stream opened c [] le = refl
-unborn_stream opened c (e ∷ es) le =
-    let before : connections opened es ≤ c = omega (arith, le, connections_grow opened e es) in
-    deaf_stream opened c e es (shut_deaf opened c es (unborn_open opened c es before)) ∙ unborn_stream opened c es before
 
 -- ---- one that opens
 

@@ -13,6 +13,7 @@ use Rattle.gateway_theory.specs.Served.{HasConns}
 use Rattle.gateway_theory.specs.Serving.{IsServing, Opens}
 use Rattle.gateway_theory.specs.Store.{conn_at, numbers}
 use Rattle.gateway_theory.specs.lemmas.ServingLemmas.{conn_by_number}
+use Rattle.gateway_theory.specs.lemmas.SlotLemmas.{count_same}
 
 -- the number is one of them
 abbrev has : ℕ → List ℕ → Bool
@@ -26,12 +27,6 @@ Apart (n ∷ ns) = (has n ns ≡ false) × Apart ns
 abbrev AllBelow : ℕ → List ℕ → Type 0
 AllBelow n [] = ⊤
 AllBelow n (m ∷ ns) = (m < n) × AllBelow n ns
-
-pub count_same : (n : ℕ) (p q : ℕ → Bool) → ((c : ℕ) → c < n → p c ≡ q c) → count_below n p ≡ count_below n q
-count_same zero p q same = refl
-count_same (suc n) p q same =
-    ap (λ b. if b then suc (count_below n p) else count_below n p) (same n (omega arith))
-    ∙ ap (λ m. if q n then suc m else m) (count_same n p q (λ c lt. same c (omega (arith, lt))))
 
 -- of numbers that stand apart, one is n at most
 more_below : (n : ℕ) (ns : List ℕ) → Apart ns → length (filter (λ m. nat_lt m (suc n)) ns) ≡ (if has n ns then suc (length (filter (λ m. nat_lt m n) ns)) else length (filter (λ m. nat_lt m n) ns))

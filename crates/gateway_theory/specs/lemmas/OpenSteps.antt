@@ -18,7 +18,7 @@ use Rattle.gateway_model.specs.Past.{call_id, shuts}
 use Rattle.gateway_theory.specs.Replies.{ReplyValue}
 use Rattle.gateway_theory.specs.Step.{CallState, Live, Step, call_state, ended_live, has_out, kept, step}
 use Rattle.gateway_theory.specs.Store.{MachineValue, machine, call_at, conn_at, conn_of, conn_state, broken_at, broken_conn, HasBroken}
-use Rattle.gateway_theory.specs.lemmas.Cases.{or_none}
+use Rattle.gateway_theory.specs.lemmas.Cases.{or_none, sym_eqb as eqb_sym}
 use Rattle.gateway_theory.specs.lemmas.GivingUp.{given_up}
 use Rattle.gateway_theory.specs.lemmas.ResultSteps.{given, eta_none, broken_not_live, none_broken}
 use Rattle.gateway_theory.specs.lemmas.StoreLemmas.{call_given_up, conn_broken}
@@ -57,14 +57,6 @@ same_slots o u c old new taken_is slots_are closed_is none = record {
   size_is = ap (λ ks. length ks) slots_are;
   each = λ j lt. ap (λ ks. slot_at j ks) slots_are ∙ sym (ap (λ r. option_or (slot_at j old.slots) r) (none (old.taken + j)) ∙ or_none (slot_at j old.slots));
 }
-
-pub eqb_sym : (a b : ℕ) → (a == b) ≡ (b == a)
-eqb_sym a b = ⊎_elim
-    (λ (e : (a == b) ≡ true). e ∙ sym (eq-eqb b a (sym (eqb-true a b e))))
-    (λ (e : (a == b) ≡ false). ⊎_elim
-    (λ (f : (b == a) ≡ true). absurd (let clash : true ≡ false = sym (eq-eqb a b (sym (eqb-true b a f))) ∙ e in cc))
-    (λ (f : (b == a) ≡ false). e ∙ sym f) (cases_Bool (b == a)))
-    (cases_Bool (a == b))
 
 close_after : (n : ℕ) (v : MachineValue) (closed : ℕ → ConnState) (were_broken : ℕ → Bool) (k : ConnValue) → conn_of n v.conns ≡ Some k → HasBroken were_broken v
     → After (Closing n) (given (λ c. is_broken_in c (closed_at n v).conns) (machine closed v)) (machine (closed_with n v.conns closed) (closed_at n v))

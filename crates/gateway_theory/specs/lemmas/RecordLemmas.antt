@@ -2,7 +2,7 @@
 use Rattle.std.proofs.Common.{◌≡◌, ℕ, suc, ◌+◌, ◌≤◌, ◌<◌, min, Bool, true, false, List, [], ◌∷◌, ◌++◌, length, Option, None, Some, refl, sym, ap, ◌∙◌, subst, arith, append_assoc, append-nil, ⊎_elim}
 use Rattle.std.specs.Prelude.{is_some, is_none, ◌&&◌, ◌||◌, not, ◌==◌, nat_lt, if◌then◌else◌, option_and_then, option_map, slice_index_or}
 use Rattle.std.specs.Option.{option_or, option_map_or}
-use Rattle.std.proofs.lemmas.Bool.{cases_Bool, and_parts, lt-ltb, le-ltb, eq-eqb, ne_eqb, ltb-false}
+use Rattle.std.proofs.lemmas.Bool.{cases_Bool, and_parts, lt-ltb, le-ltb, eq-eqb, ne_eqb, ltb-false, and_from as and_both}
 use Rattle.connect_codec.specs.declared.answer.Outcome.{Outcome}
 use Rattle.connect_codec.specs.declared.answer.Outcome.TheVariants.{Answer, Fail}
 use Rattle.gateway_model.specs.declared.entry.ReplyEntry.TheVariants.{Call as Calling}
@@ -31,9 +31,6 @@ use Rattle.gateway_theory.specs.lemmas.Cases.{and_false, or_true}
 abbrev pub none_decides : CallRecord → List CallEvent → List CallEvent → Bool
 none_decides r before [] = true
 none_decides r before (e ∷ es) = not (decides (answers_among before) (length r.plan.branches) e) && none_decides r (before ++ e ∷ []) es
-
-and_both : (a b : Bool) → a ≡ true → b ≡ true → (a && b) ≡ true
-and_both a b x y = rw (x, y) refl
 
 is_last_more : (es : List CallEvent) (e : CallEvent) → (length (es ++ e ∷ []) == 0) ≡ false
 is_last_more [] e = refl

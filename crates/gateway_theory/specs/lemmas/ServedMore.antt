@@ -33,20 +33,10 @@ use Rattle.gateway_theory.specs.lemmas.OrderLemmas.{some_same}
 use Rattle.gateway_theory.specs.lemmas.ServedLemmas.{conns_go, hung_still, open_same, open_still, text_still}
 use Rattle.gateway_theory.specs.lemmas.ServingLemmas.{keeps_hung}
 use Rattle.gateway_theory.specs.lemmas.StoreMore.{conn_found, hung_before, numbers_hung}
+use Rattle.std.proofs.lemmas.List.Folds.{map_fixed as map_still}
+use Rattle.gateway_theory.specs.lemmas.EndLemmas.{open_number as number_of}
 
 -- ---- a hang-up of a connection that is broken does nothing
-
-map_still : {A : Type 0} (f : A → A) (xs : List A) → All (λ x. f x ≡ x) xs → map f xs ≡ xs
-map_still f [] all = refl
-map_still f (x ∷ xs) all = ap (λ y. y ∷ map f xs) (all 0 x (omega arith)) ∙ ap (λ ys. x ∷ ys) (map_still f xs (λ j d lt. all (suc j) d (omega (arith, lt))))
-
-number_of : (c : ℕ) (conns : List ConnValue) (k : ConnValue) → conn_of c conns ≡ Some k → k.number ≡ c
-number_of c [] k e = absurd (cc)
-number_of c (x ∷ conns) k e = by_it (x.number == c) refl e (λ f. number_of c conns k f)
-  where
-    by_it : (b : Bool) → (x.number == c) ≡ b → (if b then Some x else conn_of c conns) ≡ Some k → (conn_of c conns ≡ Some k → k.number ≡ c) → k.number ≡ c
-    by_it true its f rest = ap (λ (y : ConnValue). y.number) (sym (some_same f)) ∙ eqb-true x.number c its
-    by_it false its f rest = rest f
 
 module _ (n : ℕ) (s : MachineValue) (h : IsOrderly s) (broken : is_broken_in n s.conns ≡ true) where
   -- a call of another connection is not ended by it

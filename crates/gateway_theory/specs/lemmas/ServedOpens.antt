@@ -39,20 +39,20 @@ use Rattle.gateway_theory.specs.lemmas.StoreMore.{conn_added, conn_without}
 
 -- ---- a connection that was not opened
 
-unopened_shut : (opened : List ℕ) (c : ℕ) (es : Before) → connections opened es ≤ c → is_open opened c es ≡ false
+pub unopened_shut : (opened : List ℕ) (c : ℕ) (es : Before) → connections opened es ≤ c → is_open opened c es ≡ false
 unopened_shut opened c es le = by_it (is_open opened c es) refl
   where
     by_it : (b : Bool) → is_open opened c es ≡ b → is_open opened c es ≡ false
     by_it true x = absurd (let lt = open_known opened c es x in omega (arith, lt, le))
     by_it false x = x
 
-unopened_hung : (opened : List ℕ) (c : ℕ) (es : Before) → connections opened es ≤ c → hung_up opened c es ≡ false
+pub unopened_hung : (opened : List ℕ) (c : ℕ) (es : Before) → connections opened es ≤ c → hung_up opened c es ≡ false
 unopened_hung opened c [] le = refl
 unopened_hung opened c (e ∷ es) le =
     let before : connections opened es ≤ c = let g = connections_grow opened e es in omega (arith, g, le) in
     ap (λ b. b || (is_open opened c es && is_hang_up_of c e)) (unopened_hung opened c es before) ∙ ap (λ b. b && is_hang_up_of c e) (unopened_shut opened c es before)
 
-unopened_text : (opened : List ℕ) (c : ℕ) (es : Before) → connections opened es ≤ c → stream opened c es ≡ []
+pub unopened_text : (opened : List ℕ) (c : ℕ) (es : Before) → connections opened es ≤ c → stream opened c es ≡ []
 unopened_text opened c [] le = refl
 unopened_text opened c (e ∷ es) le =
     let before : connections opened es ≤ c = let g = connections_grow opened e es in omega (arith, g, le) in

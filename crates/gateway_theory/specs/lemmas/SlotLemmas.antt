@@ -152,7 +152,7 @@ count_take p d xs (suc n) le =
     (λ is. ap (λ i. count_by p (take i xs)) (sym next) ∙ count_by_more_yes p xs n d lt is ∙ omega (arith, before))
     (λ isnt. ap (λ i. count_by p (take i xs)) (sym next) ∙ count_by_more_no p xs n d lt isnt ∙ before)
 
-count_same : (n : ℕ) (p q : ℕ → Bool) → ((k : ℕ) → k < n → p k ≡ q k) → count_below n p ≡ count_below n q
+pub count_same : (n : ℕ) (p q : ℕ → Bool) → ((k : ℕ) → k < n → p k ≡ q k) → count_below n p ≡ count_below n q
 count_same zero p q h = refl
 count_same (suc n) p q h =
     ap (λ b. if b then suc (count_below n p) else count_below n p) (h n (omega arith))

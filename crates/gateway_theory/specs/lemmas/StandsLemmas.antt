@@ -102,7 +102,7 @@ last_is [] e = refl
 last_is (x ∷ []) e = refl
 last_is (x ∷ y ∷ es) e = last_is (y ∷ es) e
 
-or_assoc : {A : Type 0} (x y z : Option A) → option_or (option_or x y) z ≡ option_or x (option_or y z)
+pub or_assoc : {A : Type 0} (x y z : Option A) → option_or (option_or x y) z ≡ option_or x (option_or y z)
 or_assoc None y z = refl
 or_assoc (Some a) y z = refl
 

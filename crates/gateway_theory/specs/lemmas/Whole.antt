@@ -10,10 +10,7 @@ use Rattle.gateway_model.specs.Starts.{Placed, occurrences}
 use Rattle.gateway_model.specs.declared.event.Event.{Event}
 use Rattle.gateway_model.specs.declared.event.Event.TheVariants.{Opening, Piece, HangUp, Moment, BranchResult, Drain, Closing}
 use Rattle.gateway_model.specs.Events.{Before, Gains, OccursAt, Occurs, is_open, listens, once, onto, stream, succeeds}
-
-neither : (a b : Bool) → (a || b) ≡ false → (a ≡ false) × (b ≡ false)
-neither false b e = (refl, e)
-neither true b e = absurd (cc)
+use Rattle.std.proofs.lemmas.Bool.{or_parts as neither}
 
 once_whole : (c : ℕ) (b : Bool) (o : Occurrence) → breaks c o ≡ false → list_any (breaks c) (once b o) ≡ false
 once_whole c true o e = ap (λ x. x || false) e

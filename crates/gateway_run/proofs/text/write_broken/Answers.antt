@@ -1,6 +1,7 @@
 use Rattle.gateway_run.specs.RunText.{broken_line}
-use Rattle.gateway_run.proofs.RunLemmas.{OnErr-from, AppendsSome-at, Appends-at}
+use Rattle.gateway_run.proofs.RunLemmas.{AppendsSome-at, Appends-at}
 use Rattle.gateway_run.proofs.text.write_broken.Goals as goal
+use Rattle.gateway_theory.specs.lemmas.Cases.{err_if as OnErr-from}
 
 pub loop-conn-preserved : goal.loop-conn-preserved
 loop-conn-preserved g c =

@@ -1,6 +1,7 @@
 use Rattle.gateway_run.specs.RunText.{start_line}
-use Rattle.gateway_run.proofs.RunLemmas.{OnErr-from, AppendsSome-at, Appends-at}
+use Rattle.gateway_run.proofs.RunLemmas.{AppendsSome-at, Appends-at}
 use Rattle.gateway_run.proofs.text.write_starts.Goals as goal
+use Rattle.gateway_theory.specs.lemmas.Cases.{err_if as OnErr-from}
 
 pub loop-start-preserved : goal.loop-start-preserved
 loop-start-preserved g c =
