@@ -52,7 +52,7 @@ module _ (id : Id) where
       All-cons (λ m. same m.ctx id ≡ true → m ≡ l) m ms (λ z. absurd (not_both (same m.ctx id) z n)) (only_one l ms distinct.1 (rw n at found)))
       (cases_Bool (same m.ctx id))
 
-  others_still : (ts : List Twig) (ls : List Life) → list_any (λ k. same k.ctx id) ls ≡ false → map (with_twigs id ts) ls ≡ ls
+  pub others_still : (ts : List Twig) (ls : List Life) → list_any (λ k. same k.ctx id) ls ≡ false → map (with_twigs id ts) ls ≡ ls
   others_still ts [] none = refl
   others_still ts (m ∷ ms) none = let two = or_parts (same m.ctx id) (list_any (λ k. same k.ctx id) ms) none in rw two.0 (ap (λ ks. m ∷ ks) (others_still ts ms two.1))
 

@@ -1,9 +1,10 @@
 -- The least deadline is that of a call or a branch that has not ended.
-use Rattle.std.proofs.Common.{◌≡◌, refl, sym, ap, ◌∙◌, arith, rules, ℕ, List, Option, Some, None, Bool, true, false, inl, inr, ⊎_elim, is_none, subst}
-use Rattle.std.specs.Prelude.{◌⊎◌, ◌&&◌, ◌||◌, ◌==◌, min, is_some, map, nat_le, option_map, unwrap_or}
+use Rattle.std.proofs.Common.{◌≡◌, refl, sym, ap, ◌∙◌, arith, rules, ℕ, List, [], ◌∷◌, Option, Some, None, Bool, true, false, inl, inr, ⊎_elim, is_none, subst}
+use Rattle.std.specs.Prelude.{◌⊎◌, ◌&&◌, ◌||◌, ◌==◌, min, is_some, map, nat_le, option_map, unwrap_or, All}
 use Rattle.std.specs.List.{list_any}
 use Rattle.std.specs.Option.{option_map_or}
 use Rattle.std.proofs.lemmas.Bool.{and_from, cases_Bool, or_cases, or_left, or_right}
+use Rattle.std.proofs.lemmas.List.Elements.{All-head, All-tail}
 use Rattle.std.proofs.lemmas.Option.{same_Some}
 use Rattle.context_tree.specs.declared.node.Kind.{Kind}
 use Rattle.context_tree.specs.declared.node.Kind.TheVariants.{Background, Cancel, Deadline}
@@ -13,9 +14,10 @@ use Rattle.after_funcs.specs.declared.callbacks.AfterFuncs.{AfterFuncs}
 use Rattle.call_contexts.specs.declared.life.Life.{Life}
 use Rattle.call_contexts.specs.declared.twig.Twig.{Twig}
 use Rattle.call_contexts.specs.Standing.{Branch, cause_in, has_deadline, seen_branch, seen_branches, seen_call}
-use Rattle.call_contexts.specs.Sound.{TreeLaws, IsLife, IsSound, IsTwig, contexts, is_kept, is_twig, kind_of, owns}
+use Rattle.call_contexts.specs.Sound.{TreeLaws, IsLife, IsSound, IsTwig, all_ids, contexts, ids_in, ids_of, kind_of, twig_ids}
 use Rattle.call_contexts.proofs.Trees.{base_chain, call_deadline, call_hit, conn_chain, parent_least, same_refl, same_true, shown, twig_deadline, twig_hit}
 use Rattle.call_contexts.proofs.Lists.{any_map, picked}
+use Rattle.call_contexts.proofs.Family.{among_parts}
 
 -- the least of two is one of them
 least_first : (a b first : ℕ) → nat_le a b ≡ true → min a b ≡ first → a ≡ first
@@ -36,6 +38,16 @@ itself a first e = grind (arith, rules, e)
 
 its : (first : ℕ) (d : Option ℕ) → d ≡ Some first → option_map_or (λ x. x == first) d false ≡ true
 its first d e = ap (λ o. option_map_or (λ x. x == first) o false) e ∙ itself first first refl
+
+-- a call of which that is one of the contexts; what it passes, one of these does
+picked_life : (P : Life → Type 0) (x : Id) (ls : List Life) → All P ls → is_among x (ids_in ls) ≡ true → (l : Life) × P l × (is_among x (ids_of l) ≡ true) × ((q : Life → Bool) → q l ≡ true → list_any q ls ≡ true)
+picked_life P x [] all is = cc
+picked_life P x (l ∷ ls) all is = ⊎_elim
+    (λ (y : is_among x (ids_of l) ≡ true). (l, All-head P l ls all, y, λ q here. or_left (q l) (list_any q ls) here))
+    (λ (n : is_among x (ids_in ls) ≡ true).
+    let rest = picked_life P x ls (All-tail P l ls all) n in
+    (rest.0, rest.1, rest.2, λ q here. or_right (q l) (list_any q ls) (rest.3 q here)))
+    (among_parts x (ids_of l) (ids_in ls) is)
 
 module _ {C V H : Type 0} (laws : TreeLaws C V) {f : AfterFuncs H} {base : Id} {conns : List Id} {calls : List Life} {old : TreeValue C V} (s : IsSound old f base conns calls) where
   lawful : IsLawful s.past
@@ -81,14 +93,14 @@ module _ {C V H : Type 0} (laws : TreeLaws C V) {f : AfterFuncs H} {base : Id} {
       (of_two t.at first l.deadline two)
 
   -- a context of a call has its deadline, or none
-  by_owned : (first : ℕ) (x : Id) → ending x s.past ≡ None → deadline x s.past ≡ Some first → (l : Life) → IsLife s.past base l → owns x l ≡ true → has_deadline first (seen_call old.slots l) ≡ true
+  by_owned : (first : ℕ) (x : Id) → ending x s.past ≡ None → deadline x s.past ≡ Some first → (l : Life) → IsLife s.past base l → is_among x (ids_of l) ≡ true → has_deadline first (seen_call old.slots l) ≡ true
   by_owned first x on at l is own = ⊎_elim
       (λ y. by y l.holder refl)
-      (λ (y : is_twig x l.twigs ≡ true).
-      let t = picked (IsTwig s.past l.ctx) (λ t. same x t.ctx) l.twigs is.twigs_are y in
+      (λ (y : is_among x (twig_ids l.twigs) ≡ true).
+      let t = picked (IsTwig s.past l.ctx) (λ t. same x t.ctx) l.twigs is.twigs_are (sym (any_map (same x) (λ (t : Twig). t.ctx) l.twigs) ∙ y) in
       let e : x ≡ t.0.ctx = same_true x t.0.ctx t.2 in
       by_branch first l is t.0 t.1 t.3 (subst (λ z. ending z s.past ≡ None) e on) (subst (λ z. deadline z s.past ≡ Some first) e at))
-      (or_cases (is_among x (contexts l.ctx l.holder)) (is_twig x l.twigs) own)
+      (among_parts x (contexts l.ctx l.holder) (twig_ids l.twigs) own)
     where
       by_own : same x l.ctx ≡ true → has_deadline first (seen_call old.slots l) ≡ true
       by_own y =
@@ -116,10 +128,10 @@ module _ {C V H : Type 0} (laws : TreeLaws C V) {f : AfterFuncs H} {base : Id} {
       (λ (y : is_among d.context conns ≡ true).
       let c = picked (λ c. held c s.past ≡ Some (Cancel base)) (same d.context) conns s.conns_are y in
       none_of (ap (λ z. deadline z s.past) (same_true d.context c.0 c.2) ∙ ap least (conn_chain laws s.past lawful s.root base s.root_is s.base_is c.0 c.1)))
-      (λ (y : list_any (owns d.context) calls ≡ true).
-      let l = picked (IsLife s.past base) (owns d.context) calls s.calls_are y in
+      (λ (y : is_among d.context (ids_in calls) ≡ true).
+      let l = picked_life (IsLife s.past base) d.context calls s.calls_are y in
       l.3 (λ l. has_deadline first (seen_call old.slots l)) (by_owned first d.context d.goes_on d.deadline_is l.0 l.1 l.2))
-      (or_cases (is_among d.context conns) (list_any (owns d.context) calls) n))
+      (among_parts d.context conns (ids_in calls) n))
       (or_cases (same d.context base) _ n))
       (or_cases (same d.context s.root) _ kept)
     where
@@ -129,7 +141,7 @@ module _ {C V H : Type 0} (laws : TreeLaws C V) {f : AfterFuncs H} {base : Id} {
       none_of : deadline d.context s.past ≡ None → Has
       none_of none = let bad : None ≡ Some first = sym none ∙ d.deadline_is in cc
 
-      kept : is_kept s.root base conns calls d.context ≡ true
-      kept = ⊎_elim (λ (y : is_kept s.root base conns calls d.context ≡ true). y)
-          (λ (n : is_kept s.root base conns calls d.context ≡ false). let bad : None ≡ Some d.kind = sym (s.none_else d.context n) ∙ d.is_held in cc)
-          (cases_Bool (is_kept s.root base conns calls d.context))
+      kept : is_among d.context (all_ids s.root base conns calls) ≡ true
+      kept = ⊎_elim (λ (y : is_among d.context (all_ids s.root base conns calls) ≡ true). y)
+          (λ (n : is_among d.context (all_ids s.root base conns calls) ≡ false). let bad : None ≡ Some d.kind = sym (s.none_else d.context n) ∙ d.is_held in cc)
+          (cases_Bool (is_among d.context (all_ids s.root base conns calls)))

@@ -3,6 +3,7 @@ use Rattle.std.proofs.Common.{◌≡◌, refl, sym, ap, ◌∙◌, List, [], ◌
 use Rattle.std.specs.Prelude.{◌||◌, ◌&&◌, IfNone, is_some, map, not, All, option_map, unwrap_or}
 use Rattle.std.specs.List.{list_any}
 use Rattle.std.specs.Option.{option_to_list}
+use Rattle.std.proofs.lemmas.List.Folds.{list_any_none as none_any}
 use Rattle.std.proofs.lemmas.Bool.{cases_Bool, or_parts}
 use Rattle.std.proofs.lemmas.List.Elements.{All-nil, All-cons, All-head, All-tail, All-weaker}
 use Rattle.std.proofs.lemmas.Option.{same_Some}
@@ -17,7 +18,7 @@ use Rattle.call_contexts.specs.declared.twig.Twig.{Twig}
 use Rattle.call_contexts.specs.Standing.{Slots, cause_in, has_ended, is_over, seen, seen_branch, seen_branches, seen_call}
 use Rattle.call_contexts.specs.Sound.{Op, IsLife, IsSound, IsTwig, IsUnhanded, is_row, kind_of, owner_of}
 use Rattle.call_contexts.proofs.Beginning.{seen_alike}
-use Rattle.call_contexts.proofs.Lists.{any_map, both_all, none_any}
+use Rattle.call_contexts.proofs.Lists.{any_map, both_all}
 use Rattle.call_contexts.proofs.Seeing.{sound_held}
 use Rattle.call_contexts.proofs.Trees.{same_refl, same_true, same_turned, shown}
 

@@ -15,7 +15,7 @@ use Rattle.after_funcs.specs.Stands.{StandsFor as HooksStand}
 use Rattle.call_contexts.specs.declared.life.Life.{Life}
 use Rattle.call_contexts.specs.Standing.{WithHooks, Slots, on_ctx, hook_for, seen_call}
 use Rattle.call_contexts.specs.Sound.{hook_of, kept_of, life_at, NoTwo, same_ctx}
-use Rattle.call_contexts.proofs.Trees.{same_true, none_held as not_none}
+use Rattle.call_contexts.proofs.Trees.{same_true}
 use Rattle.call_contexts.proofs.Lists.{any_map, all_stay, unmapped}
 
 pub pair_is : {C V H : Type 0} (v w : WithHooks C V H) → v.standing ≡ w.standing → v.hooks ≡ w.hooks → v ≡ w

@@ -1,27 +1,28 @@
 -- A call or a connection that is gone.
-use Rattle.std.proofs.Common.{◌≡◌, refl, sym, ap, ◌∙◌, List, [], ◌∷◌, Option, Some, None, true, false, ⊎_elim, subst}
-use Rattle.std.specs.Prelude.{◌⊎◌, not, is_some, map, filter, All, unwrap_or, option_and_then, option_map}
+use Rattle.std.proofs.Common.{◌≡◌, refl, sym, ap, ◌∙◌, append-nil, append_assoc, List, [], ◌∷◌, ◌++◌, Option, Some, None, true, false, ⊎_elim, subst}
+use Rattle.std.specs.Prelude.{not, is_some, map, filter, All, unwrap_or, option_and_then, option_map}
 use Rattle.std.specs.List.{list_any}
-use Rattle.std.specs.Option.{option_map_or}
-use Rattle.std.proofs.lemmas.Bool.{cases_Bool, or_parts}
-use Rattle.std.proofs.lemmas.List.Elements.{All-weaker}
-use Rattle.std.proofs.Math.Bool.{or-false}
+use Rattle.std.proofs.lemmas.Bool.{cases_Bool, or_parts, or_right}
+use Rattle.std.proofs.lemmas.List.Elements.{All-filter, All-weaker}
+use Rattle.std.proofs.Math.Bool.{or-false, or-true}
 use Rattle.std.proofs.lemmas.Option.{same_Some}
+use Rattle.context_tree.specs.declared.node.Kind.{Kind}
 use Rattle.context_tree.specs.declared.node.Kind.TheVariants.{Cancel, Value}
-use Rattle.context_tree.specs.Context.{Id, same, Releases, HasChild, held, nearest, line}
+use Rattle.context_tree.specs.Context.{Id, same, Releases, held, nearest, line, parent_of}
 use Rattle.context_tree.specs.Tree.{TreeValue, StandsFor, is_among}
 use Rattle.after_funcs.specs.declared.callbacks.AfterFuncs.{AfterFuncs}
 use Rattle.after_funcs.specs.Hooks.{Operation, waiting, due}
 use Rattle.after_funcs.specs.Stands.{StandsFor as HooksStand}
 use Rattle.call_contexts.specs.declared.life.Life.{Life}
 use Rattle.call_contexts.specs.Standing.{seen, seen_conn, seen_call, cause_in, ended_call, value_in, without, closed, request_for, AreApart}
-use Rattle.call_contexts.specs.Sound.{TreeLaws, IsSound, IsLife, IsConn, IsHolder, IsTwig, IsUnhanded, IsFree, AreFree, Touches, kind_of, contexts, let_go, hook_of, kept_of, life_at, NoTwo, same_ctx, same_holder, owns, is_kept, is_twig, why}
-use Rattle.call_contexts.proofs.Trees.{same_refl, same_true, same_turned, not_both, shown, touch_released, released_held, call_value}
+use Rattle.call_contexts.specs.Sound.{TreeLaws, Distinct, IsSound, IsLife, IsConn, IsHolder, IsUnhanded, IsFree, AreFree, Touches, all_ids, ids_in, ids_of, twig_ids, kind_of, contexts, let_go, hook_of, kept_of, life_at, NoTwo, same_ctx, why}
+use Rattle.call_contexts.proofs.Trees.{same_refl, same_true, not_both, shown, touch_released, released_held, call_value}
 use Rattle.call_contexts.proofs.Making.{go_touches, gone_unheld}
-use Rattle.call_contexts.proofs.Apart.{conn_root, conn_base, base_far_conn, root_far_conn, root_far_holder, base_far_holder, conn_far_holder, holder_far_conn, holder_root, holder_base, conn_holder, root_far_call, base_far_call, conn_far_call, call_far_conn, call_far_holder, holder_far_call, call_root, call_base, conn_call, holder_call, Derives, origin, twig_far_call, twig_far_holder, twig_far_conn}
-use Rattle.call_contexts.proofs.Lists.{any_map, all_stay, all_none, both_all, no_two_kept, found_in, found_any, owns_none, holders_apart, filtered, conns_filtered, among_none}
+use Rattle.call_contexts.proofs.Lists.{any_map, all_stay, all_none, both_all, found_in, found_any}
 use Rattle.call_contexts.proofs.Hooking.{filter_map_swap}
-use Rattle.call_contexts.proofs.Framing.{FarHolder, OtherConn, OtherLife, framed_sound, conns_kept, calls_kept, all_seen}
+use Rattle.call_contexts.proofs.Distinct.{ConnPlace, Far, LifePlace, among_rest, calls_apart, conn_place, conns_part, distinct_less, gone_from, life_place, none_between}
+use Rattle.call_contexts.proofs.Family.{among_in, among_left, childless, kind_parent, own_first, owned}
+use Rattle.call_contexts.proofs.Framing.{framed_sound, conns_kept, calls_kept, all_seen}
 
 pub seen_apart : {C V : Type 0} (slots : _) (ls : List Life) → NoTwo same_ctx ls → AreApart (map (seen_call {C = C} {V = V} slots) ls)
 seen_apart slots [] distinct = tt
@@ -43,154 +44,95 @@ module _ {C V H : Type 0} (laws : TreeLaws C V) {f : AfterFuncs H} {base : Id} {
   is : IsLife s.past base l
   is = one.0
 
-  none_of_its : l.twigs ≡ []
-  none_of_its = (found_in id (λ m. same m.ctx id ≡ true → m.twigs ≡ []) l calls bare found).0 (rw one.1 (same_refl id))
-
   abbrev ids : List Id
   ids = contexts l.ctx l.holder
 
-  -- what is known of each call
-  abbrev Known : Life → Type 0
-  Known m = IsLife s.past base m × (((m.ctx ≡ id) ⊎ (same_holder l m ≡ false)) × (same m.ctx id ≡ true → m.twigs ≡ []))
+  abbrev rest : List Life
+  rest = filter (λ m. not (same m.ctx id)) calls
 
-  each : All Known calls
-  each = both_all (IsLife s.past base) (λ m. ((m.ctx ≡ id) ⊎ (same_holder l m ≡ false)) × (same m.ctx id ≡ true → m.twigs ≡ [])) calls s.calls_are
-      (both_all (λ m. (m.ctx ≡ id) ⊎ (same_holder l m ≡ false)) (λ m. same m.ctx id ≡ true → m.twigs ≡ []) calls (holders_apart id l calls s.apart found) bare)
+  place : LifePlace id l calls
+  place = life_place id l calls (calls_apart s.root base conns calls s.distinct) found
 
-  twice : All (λ m. IsLife s.past base m × Known m) calls
-  twice = both_all (IsLife s.past base) Known calls s.calls_are each
+  its_ids : ids_of l ≡ contexts l.ctx l.holder
+  its_ids = ap (λ ts. contexts l.ctx l.holder ++ twig_ids ts) ((found_in id (λ m. same m.ctx id ≡ true → m.twigs ≡ []) l calls bare found).0 (rw one.1 (same_refl id))) ∙ append-nil (contexts l.ctx l.holder)
 
-  -- ---- its contexts are far from the others
+  was_ids : all_ids s.root base conns calls ≡ (s.root ∷ base ∷ conns ++ place.before) ++ (contexts l.ctx l.holder ++ place.after)
+  was_ids = ap (λ xs. s.root ∷ base ∷ conns ++ xs) (place.was ∙ ap (λ ys. place.before ++ (ys ++ place.after)) its_ids)
+      ∙ sym (append_assoc (s.root ∷ base ∷ conns) place.before (contexts l.ctx l.holder ++ place.after))
 
-  far_both : (x : Id) → same x l.ctx ≡ false → ((h : Id) → l.holder ≡ Some h → same x h ≡ false) → is_among x (contexts l.ctx l.holder) ≡ false
-  far_both x ctx_far holder_far = of l.holder holder_far
-    where
-      of : (holder : Option Id) → ((h : Id) → holder ≡ Some h → same x h ≡ false) → is_among x (contexts l.ctx holder) ≡ false
-      of None hs = or-false (same x l.ctx) ∙ ctx_far
-      of (Some h) hs = rw ctx_far (or-false (same x h) ∙ hs h refl)
+  now_ids : all_ids s.root base conns (filter (λ m. not (same m.ctx id)) calls) ≡ (s.root ∷ base ∷ conns ++ place.before) ++ place.after
+  now_ids = ap (λ xs. s.root ∷ base ∷ conns ++ xs) place.now ∙ sym (append_assoc (s.root ∷ base ∷ conns) place.before place.after)
 
-  -- the context that has the call's request id
-  holds : (h : Id) → l.holder ≡ Some h → (r : V) × (held h s.past ≡ Some (Value l.conn 0 r))
-  holds h e = of l.holder is.holder_is e
-    where
-      of : (holder : Option Id) → IsHolder s.past l.conn holder → holder ≡ Some h → (r : V) × (held h s.past ≡ Some (Value l.conn 0 r))
-      of None hs e = cc
-      of (Some x) hs e = (hs.0, subst (λ z. held z s.past ≡ Some (Value l.conn 0 hs.0)) (same_Some x h e) hs.1)
+  less : Distinct ((s.root ∷ base ∷ conns ++ place.before) ++ place.after) × (Distinct (contexts l.ctx l.holder) × Far ((s.root ∷ base ∷ conns ++ place.before) ++ place.after) (contexts l.ctx l.holder))
+  less = distinct_less (s.root ∷ base ∷ conns ++ place.before) ids place.after (subst Distinct was_ids s.distinct)
 
-  root_far : is_among s.root (contexts l.ctx l.holder) ≡ false
-  root_far = far_both s.root (root_far_call s.past s.root base s.root_is s.base_is l is)
-      (λ h e. root_far_holder s.past s.root base s.root_is s.base_is h l.conn (holds h e).0 (holds h e).1)
+  far : Far (all_ids s.root base conns (filter (λ m. not (same m.ctx id)) calls)) (contexts l.ctx l.holder)
+  far = subst (λ xs. Far xs ids) (sym now_ids) less.1.1
 
-  base_far : is_among base (contexts l.ctx l.holder) ≡ false
-  base_far = far_both base (base_far_call s.past s.root base s.root_is s.base_is l is)
-      (λ h e. base_far_holder s.past s.root base s.root_is s.base_is h l.conn (holds h e).0 (holds h e).1)
+  still : (P : Life → Type 0) → All P calls → All P (filter (λ m. not (same m.ctx id)) calls)
+  still P all = All-filter (λ m. not (same m.ctx id)) P calls all
 
-  conn_far : (c : Id) → IsConn base s.past c → is_among c (contexts l.ctx l.holder) ≡ false
-  conn_far c c_is = far_both c (conn_far_call s.past s.root base s.root_is s.base_is l is c c_is)
-      (λ h e. conn_far_holder s.past s.root base s.root_is s.base_is h l.conn (holds h e).0 (holds h e).1 c c_is)
+  rest_are : All (IsLife s.past base) (filter (λ m. not (same m.ctx id)) calls)
+  rest_are = still (IsLife s.past base) s.calls_are
 
-  not_shared : (x h : Id) (a b : Option Id) → a ≡ Some h → b ≡ Some x → option_map_or (λ y. option_map_or (same y) b false) a false ≡ false → same h x ≡ false
-  not_shared x h a b ae be none = rw (ae, be) at none
+  rest_known : All (λ m. is_among m.conn conns ≡ true) (filter (λ m. not (same m.ctx id)) calls)
+  rest_known = still (λ m. is_among m.conn conns ≡ true) s.known
 
-  other : (m : Life) → Known m × (same m.ctx id ≡ false) → OtherLife s.past base (contexts l.ctx l.holder) m
-  other m known = record {
-    life = known.0.0;
-    ctx_far = far_both m.ctx (subst (λ z. same m.ctx z ≡ false) (sym one.1) known.1) (λ h e. call_far_holder s.past s.root base s.root_is s.base_is m known.0.0 h l.conn (holds h e).0 (holds h e).1);
-    holder_far = of m.holder known.0.0.holder_is apart_holders;
-    conn_far = conn_far m.conn known.0.0.conn_is;
-    twigs_far = All-weaker (IsTwig s.past m.ctx) (λ t. is_among t.ctx (contexts l.ctx l.holder) ≡ false)
-        (λ t t_is. far_both t.ctx (twig_far_call s.past s.root base s.root_is s.base_is m known.0.0 t t_is l is)
-        (λ h e. twig_far_holder s.past s.root base s.root_is s.base_is m known.0.0 t t_is h l.conn (holds h e).0 (holds h e).1)) m.twigs known.0.0.twigs_are;
-  }
-    where
-      apart_holders : same_holder l m ≡ false
-      apart_holders = ⊎_elim
-          (λ (e : m.ctx ≡ id). absurd (not_both (same m.ctx id) (rw e (same_refl id)) known.1))
-          (λ (n : same_holder l m ≡ false). n)
-          known.0.1.0
-
-      of : (holder : Option Id) → IsHolder s.past m.conn holder → option_map_or (λ y. option_map_or (same y) holder false) l.holder false ≡ false → FarHolder (contexts l.ctx l.holder) holder
-      of None hs none = tt
-      of (Some x) hs none = far_both x (holder_far_call s.past s.root base s.root_is s.base_is l is x m.conn hs.0 hs.1)
-          (λ h e. same_turned x h ∙ not_shared x h l.holder (Some x) e refl none)
-
-  others : All (OtherLife s.past base (contexts l.ctx l.holder)) (filter (λ m. not (same m.ctx id)) calls)
-  others = All-weaker (λ m. Known m × (same m.ctx id ≡ false)) (OtherLife s.past base (contexts l.ctx l.holder)) other
-      (filter (λ m. not (same m.ctx id)) calls)
-      (filtered id Known calls each)
-
-  conns_far : All (OtherConn s.past base (contexts l.ctx l.holder)) conns
-  conns_far = All-weaker (IsConn base s.past) (OtherConn s.past base (contexts l.ctx l.holder)) (λ c c_is. (c_is, conn_far c c_is)) conns s.conns_are
-
-  no_twig : (m : Life) (x : Id) → (same m.ctx id ≡ true → m.twigs ≡ []) → m.ctx ≡ l.ctx → is_twig x m.twigs ≡ true → ⊥
-  no_twig m x none own any = not_both (is_twig x m.twigs) any (ap (is_twig x) (none (rw (own, one.1) (same_refl id))))
+  none_more : (x : Id) → is_among x (contexts l.ctx l.holder) ≡ false → is_among x (all_ids s.root base conns (filter (λ m. not (same m.ctx id)) calls)) ≡ false → is_among x (all_ids s.root base conns calls) ≡ false
+  none_more x n off = ap (is_among x) was_ids ∙ none_between x (s.root ∷ base ∷ conns ++ place.before) ids place.after (sym (ap (is_among x) now_ids) ∙ off) n
 
   -- ---- they can be let go of
 
-  -- none derives from the call's own context
-  no_child : HasChild l.ctx s.past → ⊥
-  no_child c = ⊎_elim
-      (λ (r : l.ctx ≡ s.root). call_root s.past s.root base s.root_is s.base_is l is r)
-      (λ (rest : (l.ctx ≡ base) ⊎ Derives Known l.ctx c.child). ⊎_elim
-      (λ (b : l.ctx ≡ base). call_base s.past s.root base s.root_is s.base_is l is b)
-      (λ (d : Derives Known l.ctx c.child). ⊎_elim
-      (λ (e : d.life.conn ≡ l.ctx). conn_call s.past s.root base s.root_is s.base_is l is d.life.conn d.which.0.conn_is e)
-      (λ (more : ((d.life.holder ≡ Some l.ctx) × (c.child ≡ d.life.ctx)) ⊎ ((d.life.ctx ≡ l.ctx) × (is_twig c.child d.life.twigs ≡ true))). ⊎_elim
-      (λ (e : (d.life.holder ≡ Some l.ctx) × (c.child ≡ d.life.ctx)). of d.life.conn d.life.holder d.which.0.holder_is e.0)
-      (λ (e : (d.life.ctx ≡ l.ctx) × (is_twig c.child d.life.twigs ≡ true)). no_twig d.life c.child d.which.1.1 e.0 e.1)
-      more)
-      d.from)
-      rest)
-      (origin s Known twice l.ctx c.child c.kind c.is_held c.derives)
+  -- its connection's context is none of them
+  conn_off : (x : Id) → is_among x (contexts l.ctx l.holder) ≡ true → l.conn ≡ x → ⊥
+  conn_off x there e = not_both (is_among x ids) there (subst (λ z. is_among z ids ≡ false) e (among_in (λ z. is_among z ids ≡ false) l.conn (all_ids s.root base conns rest) far conn_kept))
     where
-      of : (conn : Id) (holder : Option Id) → IsHolder s.past conn holder → holder ≡ Some l.ctx → ⊥
-      of conn None hs e = cc
-      of conn (Some x) hs e = holder_call s.past s.root base s.root_is s.base_is l is x conn hs.0 hs.1 (same_Some x l.ctx e)
+      conn_kept : is_among l.conn (all_ids s.root base conns rest) ≡ true
+      conn_kept = or_right (same l.conn s.root) (is_among l.conn (base ∷ conns ++ ids_in rest)) (or_right (same l.conn base) (is_among l.conn (conns ++ ids_in rest))
+          (among_left l.conn conns (ids_in rest) (found_in id (λ m. is_among m.conn conns ≡ true) l calls s.known found).0))
 
-  -- none but the call's own context derives from the one that has its request id
-  no_other_child : (h : Id) → l.holder ≡ Some h → HasChild h (Releases l.ctx ∷ s.past) → ⊥
-  no_other_child h e c = ⊎_elim
-      (λ (y : same l.ctx c.child ≡ true). let bad : None ≡ Some c.kind = rw y at c.is_held in cc)
-      (λ (n : same l.ctx c.child ≡ false). from n (rw n at c.is_held))
-      (cases_Bool (same l.ctx c.child))
+  -- a child of one of them
+  no_child_of : (x : Id) → is_among x (contexts l.ctx l.holder) ≡ true → (y : Id) (k : Kind C V) → held y s.past ≡ Some k → parent_of k ≡ Some x → (y ≡ l.ctx → ⊥) → ⊥
+  no_child_of x there y k y_is derives other = childless s conns rest s.conns_are rest_are rest_known ids none_more x (gone_from x (all_ids s.root base conns rest) ids far there) y k y_is derives
+      (λ m. ⊎_elim other (λ (h : l.holder ≡ Some y). by l.holder is.holder_is h) (owned y l.ctx l.holder m))
     where
-      of : (m : Life) → (m.ctx ≡ id) ⊎ (same_holder l m ≡ false) → m.holder ≡ Some h → c.child ≡ m.ctx → same l.ctx c.child ≡ false → ⊥
-      of m known hs child n = ⊎_elim
-          (λ (own : m.ctx ≡ id). not_both (same l.ctx c.child) (rw (child, own, one.1) (same_refl id)) n)
-          (λ (none : same_holder l m ≡ false). not_both (same h h) (same_refl h) (not_shared h h l.holder m.holder e hs none))
-          known
+      by : (holder : Option Id) → IsHolder s.past l.conn holder → holder ≡ Some y → ⊥
+      by None hs h = cc
+      by (Some z) hs h = conn_off x there (same_Some l.conn x (ap parent_of (same_Some (Value l.conn 0 hs.0) k (sym (subst (λ w. held w s.past ≡ Some (Value l.conn 0 hs.0)) (same_Some z y h) hs.1) ∙ y_is)) ∙ derives))
 
-      from : same l.ctx c.child ≡ false → held c.child s.past ≡ Some c.kind → ⊥
-      from n child_is = ⊎_elim
-          (λ (r : h ≡ s.root). holder_root s.past s.root base s.root_is s.base_is h l.conn (holds h e).0 (holds h e).1 r)
-          (λ (rest : (h ≡ base) ⊎ Derives Known h c.child). ⊎_elim
-          (λ (b : h ≡ base). holder_base s.past s.root base s.root_is s.base_is h l.conn (holds h e).0 (holds h e).1 b)
-          (λ (d : Derives Known h c.child). ⊎_elim
-          (λ (k : d.life.conn ≡ h). conn_holder s.past s.root base s.root_is s.base_is h l.conn (holds h e).0 (holds h e).1 d.life.conn d.which.0.conn_is k)
-          (λ (more : ((d.life.holder ≡ Some h) × (c.child ≡ d.life.ctx)) ⊎ ((d.life.ctx ≡ h) × (is_twig c.child d.life.twigs ≡ true))). ⊎_elim
-          (λ (k : (d.life.holder ≡ Some h) × (c.child ≡ d.life.ctx)). of d.life d.which.1.0 k.0 k.1 n)
-          (λ (k : (d.life.ctx ≡ h) × (is_twig c.child d.life.twigs ≡ true)). holder_call s.past s.root base s.root_is s.base_is d.life d.which.0 h l.conn (holds h e).0 (holds h e).1 (sym k.0))
-          more)
-          d.from)
-          rest)
-          (origin s Known twice h c.child c.kind child_is c.derives)
+  -- the call's own context derives from none of them but the one that has its request id
+  own_parent : (k : Kind C V) → held l.ctx s.past ≡ Some k → parent_of k ≡ Some l.ctx → ⊥
+  own_parent k k_is derives = by l.holder less.1.0 (λ e. conn_off l.ctx (own_first l.ctx l.holder) e)
+      (same_Some (unwrap_or l.holder l.conn) l.ctx (sym (kind_parent C V (unwrap_or l.holder l.conn) l.deadline)
+      ∙ ap parent_of (same_Some (kind_of (unwrap_or l.holder l.conn) l.deadline) k (sym is.call_is ∙ k_is)) ∙ derives))
+    where
+      by : (holder : Option Id) → Distinct (contexts l.ctx holder) → (l.conn ≡ l.ctx → ⊥) → unwrap_or holder l.conn ≡ l.ctx → ⊥
+      by None d off e = off e
+      by (Some h) d off e = not_both (is_among l.ctx (h ∷ [])) (rw e (rw (same_refl l.ctx) refl)) d.0
+
+  own_free : IsFree l.ctx s.past
+  own_free = record {
+    is_held = ap is_some is.call_is;
+    childless = λ c. no_child_of l.ctx (own_first l.ctx l.holder) c.child c.kind c.is_held c.derives
+        (λ e. own_parent c.kind (subst (λ z. held z s.past ≡ Some c.kind) e c.is_held) c.derives);
+  }
 
   pub call_frees : AreFree l.ctx l.holder s.past
-  call_frees = of l.holder (λ h e. e)
+  call_frees = by l.holder refl is.holder_is less.1.0
     where
-      own : IsFree l.ctx s.past
-      own = record { is_held = ap is_some is.call_is; childless = no_child }
-
-      of : (holder : Option Id) → ((h : Id) → holder ≡ Some h → l.holder ≡ Some h) → AreFree l.ctx holder s.past
-      of None same_holder_is = own
-      of (Some h) same_holder_is =
-          let e : l.holder ≡ Some h = same_holder_is h refl in (
-            own,
-            record {
-              is_held = rw (call_far_holder s.past s.root base s.root_is s.base_is l is h l.conn (holds h e).0 (holds h e).1) (ap is_some (holds h e).1);
-              childless = no_other_child h e;
-            },
-          )
+      by : (holder : Option Id) → l.holder ≡ holder → IsHolder s.past l.conn holder → Distinct (contexts l.ctx holder) → AreFree l.ctx holder s.past
+      by None h_is hs d = own_free
+      by (Some h) h_is hs d = (
+        own_free,
+        record {
+          is_held = rw (sym (or-false (same l.ctx h)) ∙ d.0) (ap is_some hs.1);
+          childless = λ c. ⊎_elim
+              (λ (y : same l.ctx c.child ≡ true). let bad : None ≡ Some c.kind = rw y at c.is_held in cc)
+              (λ (n : same l.ctx c.child ≡ false). no_child_of h (subst (λ o. is_among h (contexts l.ctx o) ≡ true) (sym h_is) (rw (same_refl h) (or-true (same h l.ctx)))) c.child c.kind (rw n at c.is_held) c.derives
+              (λ e. not_both (same l.ctx c.child) (rw e (same_refl l.ctx)) n))
+              (cases_Bool (same l.ctx c.child));
+        },
+      )
 
   -- a release under the call's own name does it
   pub call_let_go : (new : TreeValue C V) → (AreFree id l.holder s.past → StandsFor new (let_go id l.holder s.past)) → StandsFor new (let_go l.ctx l.holder s.past)
@@ -200,118 +142,95 @@ module _ {C V H : Type 0} (laws : TreeLaws C V) {f : AfterFuncs H} {base : Id} {
     touches : Touches (contexts l.ctx l.holder) s.past (let_go l.ctx l.holder s.past)
     touches = go_touches l.ctx s.past l.holder
 
-    gone_else : (x : Id) → is_kept s.root base conns (filter (λ m. not (same m.ctx id)) calls) x ≡ false → held x (let_go l.ctx l.holder s.past) ≡ None
+    gone_else : (x : Id) → is_among x (all_ids s.root base conns (filter (λ m. not (same m.ctx id)) calls)) ≡ false → held x (let_go l.ctx l.holder s.past) ≡ None
     gone_else x none = ⊎_elim
         (λ (y : is_among x (contexts l.ctx l.holder) ≡ true). gone_unheld l.ctx s.past l.holder x y)
-        (λ (n : is_among x (contexts l.ctx l.holder) ≡ false).
-        let a = or_parts (same x s.root) _ none in
-        let b = or_parts (same x base) _ a.1 in
-        let c = or_parts (is_among x conns) (list_any (owns x) (filter (λ m. not (same m.ctx id)) calls)) b.1 in
-        touches.held_is x n ∙ s.none_else x (rw (a.0, b.0, c.0, owns_none id x l calls s.distinct found (rw n (ap (is_twig x) none_of_its)) c.1) refl))
+        (λ (n : is_among x (contexts l.ctx l.holder) ≡ false). touches.held_is x n ∙ s.none_else x (none_more x n none))
         (cases_Bool (is_among x (contexts l.ctx l.holder)))
 
-    unhanded_left : (holder : Option Id) (m : Life) → IsUnhanded s.past m × (same m.ctx id ≡ false) → IsUnhanded (let_go l.ctx holder s.past) m
-    unhanded_left None m is = is.0
-    unhanded_left (Some h) m is = is.0
+    unhanded_left : (holder : Option Id) (m : Life) → IsUnhanded s.past m → IsUnhanded (let_go l.ctx holder s.past) m
+    unhanded_left None m m_is = m_is
+    unhanded_left (Some h) m m_is = m_is
 
     pub sound_left : (f' : AfterFuncs H) (hooks' : List (Operation H)) → HooksStand f' hooks' → map hook_of (waiting hooks') ≡ map kept_of (filter (λ m. not (same m.ctx id)) calls) → due hooks' ≡ []
         → IsSound new f' base conns (filter (λ m. not (same m.ctx id)) calls)
-    sound_left f' hooks' hs waits none = framed_sound laws s ids (let_go l.ctx l.holder s.past) new st touches root_far base_far f' hooks' conns (filter (λ m. not (same m.ctx id)) calls) hs
-        (conns_kept laws s ids (let_go l.ctx l.holder s.past) new st touches root_far base_far conns conns_far)
-        (calls_kept laws s ids (let_go l.ctx l.holder s.past) new st touches root_far base_far (filter (λ m. not (same m.ctx id)) calls) others)
-        gone_else
-        (no_two_kept same_ctx (λ m. not (same m.ctx id)) calls s.distinct) (no_two_kept same_holder (λ m. not (same m.ctx id)) calls s.apart) waits none
-        (All-weaker (λ m. IsUnhanded s.past m × (same m.ctx id ≡ false)) (IsUnhanded (let_go l.ctx l.holder s.past)) (unhanded_left l.holder)
-        (filter (λ m. not (same m.ctx id)) calls) (filtered id (IsUnhanded s.past) calls s.unhanded))
+    sound_left f' hooks' hs waits none = framed_sound laws s ids (let_go l.ctx l.holder s.past) new st touches conns rest s.conns_are rest_are rest_known far f' hooks' conns rest hs
+        (conns_kept laws s ids (let_go l.ctx l.holder s.past) new st touches conns rest s.conns_are rest_are rest_known far)
+        (calls_kept laws s ids (let_go l.ctx l.holder s.past) new st touches conns rest s.conns_are rest_are rest_known far)
+        rest_known gone_else (subst Distinct (sym now_ids) less.0) waits none
+        (All-weaker (IsUnhanded s.past) (IsUnhanded (let_go l.ctx l.holder s.past)) (unhanded_left l.holder) rest (still (IsUnhanded s.past) s.unhanded))
 
     pub seen_left : seen new.slots base conns (filter (λ m. not (same m.ctx id)) calls) ≡ without id (seen old.slots base conns calls)
-    seen_left = all_seen laws s ids (let_go l.ctx l.holder s.past) new st touches root_far base_far conns (filter (λ m. not (same m.ctx id)) calls) conns_far others
+    seen_left = all_seen laws s ids (let_go l.ctx l.holder s.past) new st touches conns rest s.conns_are rest_are rest_known far
         ∙ ap (λ cs. record { drained = cause_in old.slots base; conns = map (seen_conn old.slots) conns; calls = cs }) (sym (filter_map_swap (seen_call old.slots) (λ c. not (same c.id id)) calls))
 
 -- ---- a connection is gone
 
-none_of : {C V : Type 0} (slots : _) (id : Id) (ls : List Life) → list_any (λ c. same c.conn id) (map (seen_call {C = C} {V = V} slots) ls) ≡ false → All (λ m. same m.conn id ≡ false) ls
-none_of slots id ls none = all_none (λ m. same m.conn id) ls (sym (any_map (λ c. same c.conn id) (seen_call slots) ls) ∙ none)
-
 module _ {C V H : Type 0} (laws : TreeLaws C V) {f : AfterFuncs H} {base : Id} {conns : List Id} {calls : List Life} {old : TreeValue C V} (s : IsSound old f base conns calls) (id : Id)
-    (id_is : held id s.past ≡ Some (Cancel base)) (none : list_any (λ c. same c.conn id) (map (seen_call old.slots) calls) ≡ false) where
-  each_call : All (λ m. IsLife s.past base m × (same m.conn id ≡ false)) calls
-  each_call = both_all (IsLife s.past base) (λ m. same m.conn id ≡ false) calls s.calls_are (none_of old.slots id calls none)
+    (there : is_among id conns ≡ true) (none : list_any (λ c. same c.conn id) (map (seen_call old.slots) calls) ≡ false) where
+  abbrev left : List Id
+  left = filter (λ c. not (same c id)) conns
 
-  no_call : HasChild id s.past → ⊥
-  no_call c = ⊎_elim
-      (λ (r : id ≡ s.root). conn_root s.past s.root base s.root_is s.base_is id id_is r)
-      (λ (rest : (id ≡ base) ⊎ Derives (λ m. IsLife s.past base m × (same m.conn id ≡ false)) id c.child). ⊎_elim
-      (λ (b : id ≡ base). conn_base s.past s.root base s.root_is s.base_is id id_is b)
-      (λ (d : Derives (λ m. IsLife s.past base m × (same m.conn id ≡ false)) id c.child). ⊎_elim
-      (λ (e : d.life.conn ≡ id). not_both (same d.life.conn id) (rw e (same_refl id)) d.which.1)
-      (λ (more : ((d.life.holder ≡ Some id) × (c.child ≡ d.life.ctx)) ⊎ ((d.life.ctx ≡ id) × (is_twig c.child d.life.twigs ≡ true))). ⊎_elim
-      (λ (e : (d.life.holder ≡ Some id) × (c.child ≡ d.life.ctx)). of d.life.conn d.life.holder d.which.0.holder_is e.0)
-      (λ (e : (d.life.ctx ≡ id) × (is_twig c.child d.life.twigs ≡ true)). conn_call s.past s.root base s.root_is s.base_is d.life d.which.0 id id_is (sym e.0))
-      more)
-      d.from)
-      rest)
-      (origin s (λ m. IsLife s.past base m × (same m.conn id ≡ false)) twice id c.child c.kind c.is_held c.derives)
-    where
-      twice : All (λ m. IsLife s.past base m × (IsLife s.past base m × (same m.conn id ≡ false))) calls
-      twice = both_all (IsLife s.past base) (λ m. IsLife s.past base m × (same m.conn id ≡ false)) calls s.calls_are each_call
+  id_is : held id s.past ≡ Some (Cancel base)
+  id_is = among_in (IsConn base s.past) id conns s.conns_are there
 
-      of : (conn : Id) (holder : Option Id) → IsHolder s.past conn holder → holder ≡ Some id → ⊥
-      of conn None hs e = cc
-      of conn (Some x) hs e = conn_holder s.past s.root base s.root_is s.base_is x conn hs.0 hs.1 id id_is (sym (same_Some x id e))
+  conn_at : ConnPlace id conns
+  conn_at = conn_place id conns (conns_part s.root base conns calls s.distinct) there
+
+  were_ids : all_ids s.root base conns calls ≡ (s.root ∷ base ∷ conn_at.before) ++ ((id ∷ []) ++ (conn_at.after ++ ids_in calls))
+  were_ids = ap (λ cs. s.root ∷ base ∷ cs ++ ids_in calls) conn_at.was ∙ ap (λ xs. s.root ∷ base ∷ xs) (append_assoc conn_at.before (id ∷ conn_at.after) (ids_in calls))
+
+  left_ids : all_ids s.root base (filter (λ c. not (same c id)) conns) calls ≡ (s.root ∷ base ∷ conn_at.before) ++ (conn_at.after ++ ids_in calls)
+  left_ids = ap (λ cs. s.root ∷ base ∷ cs ++ ids_in calls) conn_at.now ∙ ap (λ xs. s.root ∷ base ∷ xs) (append_assoc conn_at.before conn_at.after (ids_in calls))
+
+  fewer : Distinct ((s.root ∷ base ∷ conn_at.before) ++ (conn_at.after ++ ids_in calls)) × (Distinct (id ∷ []) × Far ((s.root ∷ base ∷ conn_at.before) ++ (conn_at.after ++ ids_in calls)) (id ∷ []))
+  fewer = distinct_less (s.root ∷ base ∷ conn_at.before) (id ∷ []) (conn_at.after ++ ids_in calls) (subst Distinct were_ids s.distinct)
+
+  off_left : Far (all_ids s.root base (filter (λ c. not (same c id)) conns) calls) (id ∷ [])
+  off_left = subst (λ xs. Far xs (id ∷ [])) (sym left_ids) fewer.1.1
+
+  conns_left : All (IsConn base s.past) (filter (λ c. not (same c id)) conns)
+  conns_left = All-filter (λ c. not (same c id)) (IsConn base s.past) conns s.conns_are
+
+  known_left : All (λ m. is_among m.conn (filter (λ c. not (same c id)) conns) ≡ true) calls
+  known_left = All-weaker (λ m. (is_among m.conn conns ≡ true) × (same m.conn id ≡ false)) (λ m. is_among m.conn (filter (λ c. not (same c id)) conns) ≡ true) (λ m k. among_rest m.conn id conns k.1 k.0) calls
+      (both_all (λ m. is_among m.conn conns ≡ true) (λ m. same m.conn id ≡ false) calls s.known (all_none (λ m. same m.conn id) calls (sym (any_map (λ c. same c.conn id) (seen_call old.slots) calls) ∙ none)))
+
+  none_other : (x : Id) → is_among x (id ∷ []) ≡ false → is_among x (all_ids s.root base (filter (λ c. not (same c id)) conns) calls) ≡ false → is_among x (all_ids s.root base conns calls) ≡ false
+  none_other x n off = ap (is_among x) were_ids ∙ none_between x (s.root ∷ base ∷ conn_at.before) (id ∷ []) (conn_at.after ++ ids_in calls) (sym (ap (is_among x) left_ids) ∙ off) n
+
+  id_gone : is_among id (all_ids s.root base (filter (λ c. not (same c id)) conns) calls) ≡ false
+  id_gone = gone_from id (all_ids s.root base left calls) (id ∷ []) off_left (rw (same_refl id) refl)
 
   pub conn_free : IsFree id s.past
-  conn_free = record { is_held = ap is_some id_is; childless = no_call }
+  conn_free = record {
+    is_held = ap is_some id_is;
+    childless = λ c. childless s left calls conns_left s.calls_are known_left (id ∷ []) none_other id id_gone c.child c.kind c.is_held c.derives
+        (λ m.
+        let e : c.child ≡ id = same_true c.child id (sym (or-false (same c.child id)) ∙ m) in
+        let b : base ≡ id = same_Some base id (ap parent_of (same_Some (Cancel base) c.kind (sym id_is ∙ subst (λ z. held z s.past ≡ Some c.kind) e c.is_held)) ∙ c.derives) in
+        not_both (is_among id (all_ids s.root base left calls)) (subst (λ z. is_among z (all_ids s.root base left calls) ≡ true) b
+        (or_right (same base s.root) (is_among base (base ∷ left ++ ids_in calls)) (rw (same_refl base) refl))) id_gone);
+  }
 
   module _ (new : TreeValue C V) (st : StandsFor new (Releases id ∷ s.past)) where
     close_touches : Touches (id ∷ []) s.past (Releases id ∷ s.past)
     close_touches = touch_released id s.past
 
-    far : (x : Id) → same x id ≡ false → is_among x (id ∷ []) ≡ false
-    far x n = or-false (same x id) ∙ n
-
-    root_apart : is_among s.root (id ∷ []) ≡ false
-    root_apart = far s.root (root_far_conn s.past s.root base s.root_is s.base_is id id_is)
-
-    base_apart : is_among base (id ∷ []) ≡ false
-    base_apart = far base (base_far_conn s.past s.root base s.root_is s.base_is id id_is)
-
-    conns_left : All (OtherConn s.past base (id ∷ [])) (filter (λ c. not (same c id)) conns)
-    conns_left = All-weaker (λ c. IsConn base s.past c × (same c id ≡ false)) (OtherConn s.past base (id ∷ [])) (λ c c_is. (c_is.0, far c c_is.1))
-        (filter (λ c. not (same c id)) conns) (conns_filtered id (IsConn base s.past) conns s.conns_are)
-
-    holder_apart : (conn : Id) (holder : Option Id) → IsHolder s.past conn holder → FarHolder (id ∷ []) holder
-    holder_apart conn None hs = tt
-    holder_apart conn (Some x) hs = far x (holder_far_conn s.past s.root base s.root_is s.base_is x conn hs.0 hs.1 id id_is)
-
-    calls_left : All (OtherLife s.past base (id ∷ [])) calls
-    calls_left = All-weaker (λ m. IsLife s.past base m × (same m.conn id ≡ false)) (OtherLife s.past base (id ∷ []))
-        (λ m known. record {
-          life = known.0;
-          ctx_far = far m.ctx (call_far_conn s.past s.root base s.root_is s.base_is m known.0 id id_is);
-          holder_far = holder_apart m.conn m.holder known.0.holder_is;
-          conn_far = far m.conn known.1;
-          twigs_far = All-weaker (IsTwig s.past m.ctx) (λ t. is_among t.ctx (id ∷ []) ≡ false) (λ t t_is. far t.ctx (twig_far_conn s.past s.root base s.root_is s.base_is m known.0 t t_is id id_is)) m.twigs known.0.twigs_are;
-        }) calls each_call
-
-    close_else : (x : Id) → is_kept s.root base (filter (λ c. not (same c id)) conns) calls x ≡ false → held x (Releases id ∷ s.past) ≡ None
+    close_else : (x : Id) → is_among x (all_ids s.root base (filter (λ c. not (same c id)) conns) calls) ≡ false → held x (Releases id ∷ s.past) ≡ None
     close_else x gone = ⊎_elim
         (λ (y : same x id ≡ true). subst (λ z. held z (Releases id ∷ s.past) ≡ None) (sym (same_true x id y)) (released_held s.past id))
-        (λ (n : same x id ≡ false).
-        let a = or_parts (same x s.root) _ gone in
-        let b = or_parts (same x base) _ a.1 in
-        let c = or_parts (is_among x (filter (λ c. not (same c id)) conns)) (list_any (owns x) calls) b.1 in
-        close_touches.held_is x (far x n) ∙ s.none_else x (rw (a.0, b.0, among_none id x conns n c.0, c.1) refl))
+        (λ (n : same x id ≡ false). let off : is_among x (id ∷ []) ≡ false = or-false (same x id) ∙ n in close_touches.held_is x off ∙ s.none_else x (none_other x off gone))
         (cases_Bool (same x id))
 
     pub sound_closed : IsSound new f base (filter (λ c. not (same c id)) conns) calls
-    sound_closed = framed_sound laws s (id ∷ []) (Releases id ∷ s.past) new st close_touches root_apart base_apart f s.hooks (filter (λ c. not (same c id)) conns) calls s.hooks_are
-        (conns_kept laws s (id ∷ []) (Releases id ∷ s.past) new st close_touches root_apart base_apart (filter (λ c. not (same c id)) conns) conns_left)
-        (calls_kept laws s (id ∷ []) (Releases id ∷ s.past) new st close_touches root_apart base_apart calls calls_left)
-        close_else s.distinct s.apart s.hook_waits s.none_due s.unhanded
+    sound_closed = framed_sound laws s (id ∷ []) (Releases id ∷ s.past) new st close_touches left calls conns_left s.calls_are known_left off_left f s.hooks left calls s.hooks_are
+        (conns_kept laws s (id ∷ []) (Releases id ∷ s.past) new st close_touches left calls conns_left s.calls_are known_left off_left)
+        (calls_kept laws s (id ∷ []) (Releases id ∷ s.past) new st close_touches left calls conns_left s.calls_are known_left off_left)
+        known_left close_else (subst Distinct (sym left_ids) fewer.0) s.hook_waits s.none_due s.unhanded
 
     pub seen_closed : seen new.slots base (filter (λ c. not (same c id)) conns) calls ≡ closed id (seen old.slots base conns calls)
-    seen_closed = all_seen laws s (id ∷ []) (Releases id ∷ s.past) new st close_touches root_apart base_apart (filter (λ c. not (same c id)) conns) calls conns_left calls_left
+    seen_closed = all_seen laws s (id ∷ []) (Releases id ∷ s.past) new st close_touches left calls conns_left s.calls_are known_left off_left
         ∙ ap (λ cs. record { drained = cause_in old.slots base; conns = cs; calls = map (seen_call old.slots) calls }) (sym (filter_map_swap (seen_conn old.slots) (λ c. not (same c.id id)) conns))
 
 -- ---- what is asked of a call

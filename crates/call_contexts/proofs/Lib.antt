@@ -1,6 +1,7 @@
 pub mod Trees
 pub mod Making
-pub mod Apart
+pub mod Distinct
+pub mod Family
 pub mod Seeing
 pub mod Cancelling
 pub mod Framing

@@ -4,20 +4,21 @@ use Rattle.std.specs.Prelude.{◌&&◌, ◌||◌, min, is_some, map, All, option
 use Rattle.std.specs.Option.{option_or}
 use Rattle.std.proofs.lemmas.List.Elements.{All-nil, All-head, All-map, All-tail, All-weaker}
 use Rattle.std.proofs.lemmas.Bool.{cases_Bool, or_parts}
-use Rattle.std.proofs.Math.Bool.{or-true}
+use Rattle.std.proofs.Math.Bool.{or-false, or-true}
 use Rattle.context_tree.specs.declared.error.Cause.{Cause}
 use Rattle.context_tree.specs.declared.error.Cause.TheVariants.{Given}
 use Rattle.context_tree.specs.declared.node.Kind.{Kind}
 use Rattle.context_tree.specs.declared.node.Kind.TheVariants.{Background, Cancel, Deadline, Value}
 use Rattle.context_tree.specs.Context.{Id, Ended, same, Makes, Cancels, Advances, held, chain, deadline, sooner, has_cancel, ending}
-use Rattle.context_tree.specs.Tree.{TreeValue, StandsFor, IsFirstDeadline, IsNotAfter, IsLawful, is_ended_by_cancel}
+use Rattle.context_tree.specs.Tree.{TreeValue, StandsFor, IsFirstDeadline, IsNotAfter, IsLawful, is_among, is_ended_by_cancel}
 use Rattle.after_funcs.specs.declared.callbacks.AfterFuncs.{AfterFuncs}
 use Rattle.after_funcs.specs.Stands.{StandsFor as HooksStand}
 use Rattle.call_contexts.specs.declared.life.Life.{Life}
 use Rattle.call_contexts.specs.declared.twig.Twig.{Twig}
 use Rattle.call_contexts.specs.Standing.{Conn, Call, IsNoSooner, AreNoSooner, Slots, cause_in, value_in, seen, seen_conn, seen_call, Branch, seen_branch, seen_branches, ends_call, ends_branch, expires_branch, expires_call, ends_conn, if_cancelled, if_due, is_conn, ended_conn, expired, all_ended}
-use Rattle.call_contexts.specs.Sound.{Op, TreeLaws, IsSound, IsLife, IsConn, IsHolder, IsTwig, kind_of, is_kept, IsUnhanded, why}
+use Rattle.call_contexts.specs.Sound.{Op, TreeLaws, IsSound, IsLife, IsConn, IsHolder, IsTwig, all_ids, kind_of, IsUnhanded, why}
 use Rattle.call_contexts.proofs.Trees.{same_refl, same_true, same_turned, shown, shown_request, advanced, due_on, struck, base_chain, conn_chain, call_deadline, call_hit, call_due, twig_hit, twig_due, twig_deadline, far_new, made_held}
+use Rattle.call_contexts.proofs.Family.{among_in}
 use Rattle.call_contexts.proofs.Making.{or_none}
 
 pub maps_agree : {A B : Type 0} (f g : A → B) (xs : List A) → All (λ x. f x ≡ g x) xs → map f xs ≡ map g xs
@@ -66,20 +67,20 @@ not_after None at (Some e) each = each (min at e) refl
 not_after (Some x) at (Some e) each = let low : x ≤ min at e = each (min at e) refl in omega (arith, low)
 
 module _ {C V : Type 0} where
+  pub conn_among : (slots : Slots C V) (conns : List Id) (id : Id) → is_conn id (map (seen_conn slots) conns) ≡ is_among id conns
+  conn_among slots [] id = refl
+  conn_among slots (c ∷ cs) id = ap (λ b. b || is_conn id (map (seen_conn slots) cs)) (same_turned c id) ∙ ap (λ b. same id c || b) (conn_among slots cs id)
+
   -- a connection that is seen has its context
   pub conn_held : (base : Id) (past : List (Op C V)) (slots : Slots C V) (conns : List Id) (id : Id) → All (IsConn base past) conns → is_conn id (map (seen_conn slots) conns) ≡ true
       → held id past ≡ Some (Cancel base)
-  conn_held base past slots [] id all is = cc
-  conn_held base past slots (c ∷ cs) id all is = ⊎_elim
-      (λ (y : same c id ≡ true). let e : c ≡ id = same_true c id y in rw (← e) (All-head (IsConn base past) c cs all))
-      (λ (n : same c id ≡ false). conn_held base past slots cs id (All-tail (IsConn base past) c cs all) (rw n at is))
-      (cases_Bool (same c id))
+  conn_held base past slots conns id all is = among_in (IsConn base past) id conns all (sym (conn_among slots conns id) ∙ is)
 
-  pub ended_found : (slots : Slots C V) (conns : List Id) (id : Id) → is_conn id (map (seen_conn slots) conns) ≡ true → ended_conn id (map (seen_conn slots) conns) ≡ cause_in slots id
+  pub ended_found : (slots : Slots C V) (conns : List Id) (id : Id) → is_among id conns ≡ true → ended_conn id (map (seen_conn slots) conns) ≡ cause_in slots id
   ended_found slots [] id is = cc
   ended_found slots (c ∷ cs) id is = ⊎_elim
       (λ (y : same c id ≡ true). rw y (ap (cause_in slots) (same_true c id y)))
-      (λ (n : same c id ≡ false). rw n (ended_found slots cs id (rw n at is)))
+      (λ (n : same c id ≡ false). let turned : same id c ≡ false = same_turned id c ∙ n in rw n (ended_found slots cs id (rw turned at is)))
       (cases_Bool (same c id))
 
   pub seen_as : (slots : Slots C V) (base : Id) (conns : List Id) (calls : List Life) (d : Option (Cause C)) (cs : List (Conn C)) (ls : List (Call C V))
@@ -118,7 +119,7 @@ module _ {C V : Type 0} (laws : TreeLaws C V) (root base : Id) (t : TreeValue C 
   base_live =
       shown t _ base (Cancel root) st (made_held (Makes root Background 0 ∷ []) base (Cancel root) 0) ∙ rw (same_refl base, same_refl root) refl
 
-  not_made : (x : Id) → is_kept root base [] [] x ≡ false → held {C = C} {V = V} x (Makes base (Cancel root) 0 ∷ Makes root Background 0 ∷ []) ≡ None
+  not_made : (x : Id) → is_among x (all_ids root base [] []) ≡ false → held {C = C} {V = V} x (Makes base (Cancel root) 0 ∷ Makes root Background 0 ∷ []) ≡ None
   not_made x far =
       let r = or_parts (same x root) (same x base || false) far in
       let one : same root x ≡ false = same_turned root x ∙ r.0 in
@@ -141,9 +142,9 @@ module _ {C V : Type 0} (laws : TreeLaws C V) (root base : Id) (t : TreeValue C 
     base_is = made_held (Makes root Background 0 ∷ []) base (Cancel root) 0;
     conns_are = All-nil _;
     calls_are = All-nil _;
+    known = All-nil _;
     none_else = not_made;
-    distinct = tt;
-    apart = tt;
+    distinct = (or-false (same root base) ∙ same_turned root base ∙ base_root, (refl, tt));
     hook_waits = refl;
     none_due = refl;
     unhanded = All-nil _;
@@ -183,11 +184,10 @@ module _ {C V H : Type 0} (laws : TreeLaws C V) {f : AfterFuncs H} {base : Id} {
             holder_is = holder_later l.conn l.holder is.holder_is;
             conn_is = same_held l.conn ∙ is.conn_is;
             twigs_are = All-weaker (IsTwig s.past l.ctx) (IsTwig later l.ctx) (λ t t_is. same_held t.ctx ∙ t_is) l.twigs is.twigs_are;
-            twigs_apart = is.twigs_apart;
           }) calls s.calls_are;
+      known = s.known;
       none_else = λ x none. same_held x ∙ s.none_else x none;
       distinct = s.distinct;
-      apart = s.apart;
       hook_waits = s.hook_waits;
       none_due = s.none_due;
       unhanded = unhanded;

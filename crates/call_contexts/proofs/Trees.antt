@@ -4,7 +4,6 @@ use Rattle.std.specs.Prelude.{◌⊎◌, ◌&&◌, ◌||◌, ◌↔◌, is_some,
 use Rattle.std.specs.Option.{option_or}
 use Rattle.std.proofs.lemmas.Bool.{cases_Bool}
 use Rattle.std.proofs.Math.Bool.{or-false}
-use Rattle.std.proofs.lemmas.Option.{same_Some}
 use Rattle.context_tree.specs.declared.error.Cause.{Cause}
 use Rattle.context_tree.specs.declared.error.Cause.TheVariants.{Given, Plain}
 use Rattle.context_tree.specs.declared.error.CtxErr.TheVariants.{Canceled, DeadlineExceeded}
@@ -259,12 +258,6 @@ module _ {C V : Type 0} where
       (λ (y : same id x ≡ true). let bad : None ≡ Some kind = sym none ∙ subst (λ z. held z past ≡ Some kind) (sym (same_true id x y)) is in cc)
       (λ (n : same id x ≡ false). n)
       (cases_Bool (same id x))
-
-  pub apart_kinds : (x y : Id) (k l : Kind C V) (past : List (Op C V)) → held x past ≡ Some k → held y past ≡ Some l → (k ≡ l → ⊥) → same x y ≡ false
-  apart_kinds x y k l past xs ys other = ⊎_elim
-      (λ (h : same x y ≡ true). absurd (other (same_Some k l (sym xs ∙ subst (λ z. held z past ≡ Some l) (sym (same_true x y h)) ys))))
-      (λ (n : same x y ≡ false). n)
-      (cases_Bool (same x y))
 
   pub made_held : (past : List (Op C V)) (x : Id) (kind : Kind C V) (now : ℕ) → held x (Makes x kind now ∷ past) ≡ Some kind
   made_held past x kind now = rw (same_refl x) refl

@@ -44,13 +44,10 @@ abbrev pub NoTwo : {A : Type 0} → (A → A → Bool) → List A → Type 0
 NoTwo r [] = Unit {0}
 NoTwo r (l ∷ ls) = (list_any (r l) ls ≡ false) × NoTwo r ls
 
--- the branches have one context
-abbrev pub same_twig : Twig → Twig → Bool
-same_twig t u = same u.ctx t.ctx
-
--- the context of a branch
-abbrev pub is_twig : Id → List Twig → Bool
-is_twig x twigs = list_any (λ t. same x t.ctx) twigs
+-- all different
+abbrev pub Distinct : List Id → Type 0
+Distinct [] = Unit {0}
+Distinct (x ∷ xs) = (is_among x xs ≡ false) × Distinct xs
 
 -- the context of a call derives from the one that has its request id, or else from that of its connection
 abbrev pub parent_of_call : Option Id → Id → Id
@@ -129,7 +126,6 @@ module _ {C V : Type 0} where
     pub holder_is : IsHolder past life.conn life.holder
     pub conn_is : held life.conn past ≡ Some (Cancel base)
     pub twigs_are : All (IsTwig past life.ctx) life.twigs
-    pub twigs_apart : NoTwo same_twig life.twigs
 
 -- ---- the calls
 
@@ -141,13 +137,20 @@ kept_of l = (l.hook, l.ctx)
 abbrev pub same_ctx : Life → Life → Bool
 same_ctx l m = same m.ctx l.ctx
 
--- one of the contexts of a call, or of a branch of it
-abbrev pub owns : Id → Life → Bool
-owns x l = is_among x (contexts l.ctx l.holder) || is_twig x l.twigs
+-- the contexts of branches, of a call with its branches, and of all calls
+abbrev pub twig_ids : List Twig → List Id
+twig_ids ts = map (λ t. t.ctx) ts
 
--- the calls share a context that has a request id
-abbrev pub same_holder : Life → Life → Bool
-same_holder l m = option_map_or (λ x. option_map_or (same x) m.holder false) l.holder false
+abbrev pub ids_of : Life → List Id
+ids_of l = contexts l.ctx l.holder ++ twig_ids l.twigs
+
+abbrev pub ids_in : List Life → List Id
+ids_in [] = []
+ids_in (l ∷ ls) = ids_of l ++ ids_in ls
+
+-- all contexts that are kept
+abbrev pub all_ids : Id → Id → List Id → List Life → List Id
+all_ids root base conns calls = root ∷ base ∷ conns ++ ids_in calls
 
 -- the first call of that context
 abbrev pub life_at : Id → List Life → Option Life
@@ -199,10 +202,6 @@ owner_of x (l ∷ ls) = if is_row x l then Some l.ctx else owner_of x ls
 abbrev pub with_twigs : Id → List Twig → Life → Life
 with_twigs id ts l = record { ctx = l.ctx; holder = l.holder; conn = l.conn; deadline = l.deadline; hook = l.hook; twigs = if same l.ctx id then ts else l.twigs }
 
--- one of the contexts that are kept
-abbrev pub is_kept : Id → Id → List Id → List Life → Id → Bool
-is_kept root base conns calls x = same x root || (same x base || (is_among x conns || list_any (owns x) calls))
-
 -- the number of a hook, and the context that it waits on
 abbrev pub hook_of : {H : Type 0} → Registration H → ℕ × Id
 hook_of r = (r.id, r.ctx)
@@ -222,9 +221,9 @@ module _ {C V H : Type 0} where
     pub base_is : held base past ≡ Some (Cancel root)
     pub conns_are : All (IsConn base past) conns
     pub calls_are : All (IsLife past base) calls
-    pub none_else : (x : Id) → is_kept root base conns calls x ≡ false → held x past ≡ None
-    pub distinct : NoTwo same_ctx calls
-    pub apart : NoTwo same_holder calls
+    pub known : All (λ l. is_among l.conn conns ≡ true) calls
+    pub none_else : (x : Id) → is_among x (all_ids root base conns calls) ≡ false → held x past ≡ None
+    pub distinct : Distinct (all_ids root base conns calls)
     pub hook_waits : map hook_of (waiting hooks) ≡ map kept_of calls
     pub none_due : due hooks ≡ []
     -- what has ended of these is still to be found

@@ -4,6 +4,7 @@ use Rattle.std.specs.List.{list_any}
 use Rattle.context_tree.specs.Context.{same}
 use Rattle.call_contexts.specs.Standing.{WithHooks, IsBare, gone, without}
 use Rattle.call_contexts.specs.Sound.{life_at}
+use Rattle.call_contexts.proofs.Distinct.{calls_apart}
 use Rattle.call_contexts.proofs.Lists.{none_found}
 use Rattle.call_contexts.proofs.Leaving.{call_let_go, sound_left, seen_left, none_gone}
 use Rattle.call_contexts.proofs.Branches.{bare_gone, bare_twigs, turned_bare}
@@ -26,7 +27,7 @@ invariant_of-self g c =
     let bare = bare_twigs c.self.inside.tree.slots c.args.ctx c.self.inside.calls.items (subst (λ (v : WithHooks _ _ _). IsBare c.args.ctx v.standing.calls) (sym (c.self.view_is ∙ c.let_branches_go.ensures)) (turned_bare c.args.ctx c.args.self.now.standing.calls)) in
     rw c.remove.ensures
     (sound_left laws s c.args.ctx c.in-Some.life.now at bare c.release.new.tree (call_let_go laws s c.args.ctx c.in-Some.life.now at bare c.release.new.tree (c.release.ensures s.past s.tree_is))
-    c.stop.new.self _ (c.stop.ensures.stands s.hooks s.hooks_are) (stopped_waits c.args.ctx c.in-Some.life.now s.hooks c.self.inside.calls.items (c.order_law.ensures.registered s.hooks) s.hook_waits s.distinct at) s.none_due)
+    c.stop.new.self _ (c.stop.ensures.stands s.hooks s.hooks_are) (stopped_waits c.args.ctx c.in-Some.life.now s.hooks c.self.inside.calls.items (c.order_law.ensures.registered s.hooks) s.hook_waits (calls_apart s.root c.self.inside.base c.self.inside.conns.items c.self.inside.calls.items s.distinct) at) s.none_due)
 
 pub returns : goal.returns
 returns g c =
@@ -37,6 +38,6 @@ returns g c =
     rw c.remove.ensures
     (pair_is _ _
     (seen_left laws s c.args.ctx c.in-Some.life.now at bare c.release.new.tree (call_let_go laws s c.args.ctx c.in-Some.life.now at bare c.release.new.tree (c.release.ensures s.past s.tree_is)) ∙ ap (λ (v : WithHooks _ _ _). without c.args.ctx v.standing) c.self.view_is)
-    (stopped_hooks c.args.ctx c.in-Some.life.now s.hooks c.self.inside.calls.items (c.order_law.ensures.registered s.hooks) s.hook_waits s.distinct at c.self.inside.hooks c.stop.new.self s.hooks_are (c.stop.ensures.stands s.hooks s.hooks_are)
+    (stopped_hooks c.args.ctx c.in-Some.life.now s.hooks c.self.inside.calls.items (c.order_law.ensures.registered s.hooks) s.hook_waits (calls_apart s.root c.self.inside.base c.self.inside.conns.items c.self.inside.calls.items s.distinct) at c.self.inside.hooks c.stop.new.self s.hooks_are (c.stop.ensures.stands s.hooks s.hooks_are)
     ∙ ap (λ (v : WithHooks _ _ _). filter (λ p. not (same p.0 c.args.ctx)) v.hooks) c.self.view_is)
     ∙ ap (gone c.args.ctx) c.let_branches_go.ensures ∙ bare_gone c.args.ctx c.args.self.now)

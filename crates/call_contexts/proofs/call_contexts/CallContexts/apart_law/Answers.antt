@@ -1,9 +1,10 @@
+use Rattle.call_contexts.proofs.Distinct.{calls_apart}
 use Rattle.call_contexts.proofs.Hooking.{hooks_of_calls}
 use Rattle.call_contexts.proofs.Leaving.{seen_apart}
 use Rattle.call_contexts.proofs.call_contexts.CallContexts.apart_law.Goals as goal
 
 pub returns-clause-apart : goal.returns-clause-apart
-returns-clause-apart g c = rw (← c.self.view_is) (seen_apart c.self.inside.tree.slots c.self.inside.calls.items c.self.invariant.distinct)
+returns-clause-apart g c = rw (← c.self.view_is) (seen_apart c.self.inside.tree.slots c.self.inside.calls.items (calls_apart c.self.invariant.root c.self.inside.base c.self.inside.conns.items c.self.inside.calls.items c.self.invariant.distinct))
 
 pub returns-clause-hooked : goal.returns-clause-hooked
 returns-clause-hooked g c =

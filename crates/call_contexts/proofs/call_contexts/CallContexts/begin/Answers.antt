@@ -1,10 +1,9 @@
-use Rattle.std.proofs.Common.{◌∙◌, ◌++◌, ◌∷◌, [], ap, refl, ◌≡◌, Some}
-use Rattle.context_tree.specs.declared.node.Kind.TheVariants.{Cancel}
-use Rattle.context_tree.specs.Context.{held}
+use Rattle.std.proofs.Common.{◌∙◌, ◌++◌, ◌∷◌, [], ap, refl, sym, ◌≡◌, true}
+use Rattle.context_tree.specs.Tree.{is_among}
 use Rattle.after_funcs.specs.Hooks.{registered}
 use Rattle.call_contexts.specs.Standing.{WithHooks, is_conn, begun}
 use Rattle.call_contexts.specs.Sound.{with_call, let_go}
-use Rattle.call_contexts.proofs.Seeing.{conn_held}
+use Rattle.call_contexts.proofs.Seeing.{conn_among}
 use Rattle.call_contexts.proofs.Making.{call_free, call_unmade}
 use Rattle.call_contexts.proofs.Beginning.{sound_begun, seen_begun, begun_unheld, is_new, sound_alike, seen_alike, given_back, handed_back}
 use Rattle.call_contexts.proofs.Hooking.{pair_is, kept_hooks, more_hooks}
@@ -26,10 +25,10 @@ returns-in_default-clause-unchanged g c =
 pub invariant_of-self-in-Ok-after_func : goal.invariant_of-self-in-Ok-after_func
 invariant_of-self-in-Ok-after_func g c =
     let s = c.self.invariant in
-    let is : held c.args.conn s.past ≡ Some (Cancel c.self.inside.base) = conn_held c.self.inside.base s.past c.self.inside.tree.slots c.self.inside.conns.items c.args.conn s.conns_are (ap (λ (v : WithHooks _ _ _). is_conn c.args.conn v.standing.conns) c.self.view_is ∙ c.requires) in
+    let there : is_among c.args.conn c.self.inside.conns.items ≡ true = sym (conn_among c.self.inside.tree.slots c.self.inside.conns.items c.args.conn) ∙ ap (λ (v : WithHooks _ _ _). is_conn c.args.conn v.standing.conns) c.self.view_is ∙ c.requires in
     rw (c.push_reserved.ensures.items, c.reserve.ensures.items)
     (sound_begun s.laws s (record { ctx = c.in-Ok.made.0; holder = c.in-Ok.made.1; conn = c.args.conn; deadline = c.args.deadline; hook = c.in-Ok-after_func.id; twigs = c.new-twigs.result }) c.new-twigs.ensures c.args.now c.args.request_id
-    c.in-Ok.ensures.held c.make.new.tree is (c.in-Ok.ensures.made s.past s.tree_is) c.args.hook c.after_func.new.self
+    c.in-Ok.ensures.held c.make.new.tree there (c.in-Ok.ensures.made s.past s.tree_is) c.args.hook c.after_func.new.self
     (c.in-Ok-after_func.ensures.stands s.hooks s.hooks_are) (c.in-Ok-after_func.ensures.id s.hooks s.hooks_are))
 
 pub invariant_of-self-in-Err-after_func : goal.invariant_of-self-in-Err-after_func
@@ -47,12 +46,11 @@ invariant_of-self-in-Err-after_func g c =
 pub returns-in-Ok-after_func-clause-stands : goal.returns-in-Ok-after_func-clause-stands
 returns-in-Ok-after_func-clause-stands g c =
     let s = c.self.invariant in
-    let known = ap (λ (v : WithHooks _ _ _). is_conn c.args.conn v.standing.conns) c.self.view_is ∙ c.requires in
-    let is : held c.args.conn s.past ≡ Some (Cancel c.self.inside.base) = conn_held c.self.inside.base s.past c.self.inside.tree.slots c.self.inside.conns.items c.args.conn s.conns_are known in
+    let there : is_among c.args.conn c.self.inside.conns.items ≡ true = sym (conn_among c.self.inside.tree.slots c.self.inside.conns.items c.args.conn) ∙ ap (λ (v : WithHooks _ _ _). is_conn c.args.conn v.standing.conns) c.self.view_is ∙ c.requires in
     rw (c.push_reserved.ensures.items, c.reserve.ensures.items)
     (pair_is _ _
     (seen_begun s.laws s (record { ctx = c.in-Ok.made.0; holder = c.in-Ok.made.1; conn = c.args.conn; deadline = c.args.deadline; hook = c.in-Ok-after_func.id; twigs = c.new-twigs.result }) c.new-twigs.ensures c.args.now c.args.request_id
-    c.in-Ok.ensures.held c.make.new.tree is (c.in-Ok.ensures.made s.past s.tree_is) known
+    c.in-Ok.ensures.held c.make.new.tree there (c.in-Ok.ensures.made s.past s.tree_is)
     ∙ ap (λ (v : WithHooks _ _ _). begun c.in-Ok.made.0 c.args.conn c.args.deadline c.args.now c.args.request_id v.standing) c.self.view_is)
     (more_hooks c.self.inside.hooks c.after_func.new.self s.hooks s.hooks_are c.in-Ok.made.0 c.args.hook (c.in-Ok-after_func.ensures.stands s.hooks s.hooks_are)
     ∙ ap (λ (v : WithHooks _ _ _). v.hooks ++ (c.in-Ok.made.0, c.args.hook) ∷ []) c.self.view_is))
@@ -60,10 +58,10 @@ returns-in-Ok-after_func-clause-stands g c =
 pub returns-in-Ok-after_func-clause-fresh : goal.returns-in-Ok-after_func-clause-fresh
 returns-in-Ok-after_func-clause-fresh g c =
     let s = c.self.invariant in
-    let is : held c.args.conn s.past ≡ Some (Cancel c.self.inside.base) = conn_held c.self.inside.base s.past c.self.inside.tree.slots c.self.inside.conns.items c.args.conn s.conns_are (ap (λ (v : WithHooks _ _ _). is_conn c.args.conn v.standing.conns) c.self.view_is ∙ c.requires) in
+    let there : is_among c.args.conn c.self.inside.conns.items ≡ true = sym (conn_among c.self.inside.tree.slots c.self.inside.conns.items c.args.conn) ∙ ap (λ (v : WithHooks _ _ _). is_conn c.args.conn v.standing.conns) c.self.view_is ∙ c.requires in
     rw (← c.self.view_is)
     (is_new s c.in-Ok.made.0 (begun_unheld s.laws s (record { ctx = c.in-Ok.made.0; holder = c.in-Ok.made.1; conn = c.args.conn; deadline = c.args.deadline; hook = c.in-Ok-after_func.id; twigs = c.new-twigs.result }) c.new-twigs.ensures c.args.now c.args.request_id
-    c.in-Ok.ensures.held c.make.new.tree is (c.in-Ok.ensures.made s.past s.tree_is)))
+    c.in-Ok.ensures.held c.make.new.tree there (c.in-Ok.ensures.made s.past s.tree_is)))
 
 pub returns-in-Err-clause-back : goal.returns-in-Err-clause-back
 returns-in-Err-clause-back g c =

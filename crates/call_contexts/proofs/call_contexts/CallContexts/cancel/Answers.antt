@@ -1,8 +1,9 @@
-use Rattle.std.proofs.Common.{◌∙◌, ap, ◌≡◌, Some}
+use Rattle.std.proofs.Common.{◌∙◌, ap, sym, ◌≡◌, Some, true}
 use Rattle.context_tree.specs.declared.node.Kind.TheVariants.{Cancel}
 use Rattle.context_tree.specs.Context.{held}
+use Rattle.context_tree.specs.Tree.{is_among}
 use Rattle.call_contexts.specs.Standing.{WithHooks, cancelled, is_conn}
-use Rattle.call_contexts.proofs.Seeing.{conn_held, same_slots, sound_after_cancel}
+use Rattle.call_contexts.proofs.Seeing.{conn_among, conn_held, same_slots, sound_after_cancel}
 use Rattle.call_contexts.proofs.Cancelling.{seen_cancelled}
 use Rattle.call_contexts.proofs.Hooking.{pair_is}
 use Rattle.call_contexts.proofs.call_contexts.CallContexts.cancel.Goals as goal
@@ -16,6 +17,6 @@ invariant_of-self g c =
 pub returns : goal.returns
 returns g c =
     let s = c.self.invariant in
-    let is : held c.args.conn s.past ≡ Some (Cancel c.self.inside.base) = conn_held c.self.inside.base s.past c.self.inside.tree.slots c.self.inside.conns.items c.args.conn s.conns_are (ap (λ (v : WithHooks _ _ _). is_conn c.args.conn v.standing.conns) c.self.view_is ∙ c.requires) in
-    pair_is _ _ (seen_cancelled s.laws s c.args.conn c.args.cause is c.cancel.new.self c.cancel.result (c.cancel.ensures.answer s.past s.tree_is) (λ y. c.cancel.ensures.cancelled y s.past s.tree_is) (λ y. same_slots c.cancel.new.self c.self.inside.tree (c.cancel.ensures.unchanged y)) ∙ ap (λ (v : WithHooks _ _ _). cancelled c.args.conn c.args.cause v.standing) c.self.view_is)
+    let there : is_among c.args.conn c.self.inside.conns.items ≡ true = sym (conn_among c.self.inside.tree.slots c.self.inside.conns.items c.args.conn) ∙ ap (λ (v : WithHooks _ _ _). is_conn c.args.conn v.standing.conns) c.self.view_is ∙ c.requires in
+    pair_is _ _ (seen_cancelled s.laws s c.args.conn c.args.cause there c.cancel.new.self c.cancel.result (c.cancel.ensures.answer s.past s.tree_is) (λ y. c.cancel.ensures.cancelled y s.past s.tree_is) (λ y. same_slots c.cancel.new.self c.self.inside.tree (c.cancel.ensures.unchanged y)) ∙ ap (λ (v : WithHooks _ _ _). cancelled c.args.conn c.args.cause v.standing) c.self.view_is)
     (ap (λ (v : WithHooks _ _ _). v.hooks) c.self.view_is)

@@ -1,11 +1,11 @@
-use Rattle.std.proofs.Common.{◌∙◌, ap, ◌≡◌, false, Some, rules}
+use Rattle.std.proofs.Common.{◌∙◌, ap, sym, ◌≡◌, true, false, rules}
 use Rattle.std.specs.Prelude.{not, filter, map}
 use Rattle.std.specs.List.{list_any}
 use Rattle.std.proofs.lemmas.Fn.{filter_same}
-use Rattle.context_tree.specs.declared.node.Kind.TheVariants.{Cancel}
-use Rattle.context_tree.specs.Context.{held, same}
+use Rattle.context_tree.specs.Context.{same}
+use Rattle.context_tree.specs.Tree.{is_among}
 use Rattle.call_contexts.specs.Standing.{WithHooks, is_conn, closed, seen_call}
-use Rattle.call_contexts.proofs.Seeing.{conn_held}
+use Rattle.call_contexts.proofs.Seeing.{conn_among}
 use Rattle.call_contexts.proofs.Leaving.{conn_free, sound_closed, seen_closed}
 use Rattle.call_contexts.proofs.Hooking.{pair_is}
 use Rattle.call_contexts.proofs.call_contexts.CallContexts.close.Goals as goal
@@ -14,16 +14,16 @@ pub invariant_of-self : goal.invariant_of-self
 invariant_of-self g c =
     let s = c.self.invariant in
     let laws = s.laws in
-    let is : held c.args.conn s.past ≡ Some (Cancel c.self.inside.base) = conn_held c.self.inside.base s.past c.self.inside.tree.slots c.self.inside.conns.items c.args.conn s.conns_are (ap (λ (v : WithHooks _ _ _). is_conn c.args.conn v.standing.conns) c.self.view_is ∙ c.requires.known) in
+    let there : is_among c.args.conn c.self.inside.conns.items ≡ true = sym (conn_among c.self.inside.tree.slots c.self.inside.conns.items c.args.conn) ∙ ap (λ (v : WithHooks _ _ _). is_conn c.args.conn v.standing.conns) c.self.view_is ∙ c.requires.known in
     let none : list_any (λ d. same d.conn c.args.conn) (map (seen_call c.self.inside.tree.slots) c.self.inside.calls.items) ≡ false = ap (λ (v : WithHooks _ _ _). list_any (λ d. same d.conn c.args.conn) v.standing.calls) c.self.view_is ∙ c.requires.none in
     let left : c.retain.new.self.items ≡ filter (λ d. not (same d c.args.conn)) c.self.inside.conns.items = filter_same _ _ _ (λ x b f' k. search rules) _ _ c.retain.ensures.filtered in
-    rw left (sound_closed laws s c.args.conn is none c.free.new.tree (c.free.ensures s.past s.tree_is (conn_free laws s c.args.conn is none)))
+    rw left (sound_closed laws s c.args.conn there none c.free.new.tree (c.free.ensures s.past s.tree_is (conn_free laws s c.args.conn there none)))
 
 pub returns : goal.returns
 returns g c =
     let s = c.self.invariant in
     let laws = s.laws in
-    let is : held c.args.conn s.past ≡ Some (Cancel c.self.inside.base) = conn_held c.self.inside.base s.past c.self.inside.tree.slots c.self.inside.conns.items c.args.conn s.conns_are (ap (λ (v : WithHooks _ _ _). is_conn c.args.conn v.standing.conns) c.self.view_is ∙ c.requires.known) in
+    let there : is_among c.args.conn c.self.inside.conns.items ≡ true = sym (conn_among c.self.inside.tree.slots c.self.inside.conns.items c.args.conn) ∙ ap (λ (v : WithHooks _ _ _). is_conn c.args.conn v.standing.conns) c.self.view_is ∙ c.requires.known in
     let none : list_any (λ d. same d.conn c.args.conn) (map (seen_call c.self.inside.tree.slots) c.self.inside.calls.items) ≡ false = ap (λ (v : WithHooks _ _ _). list_any (λ d. same d.conn c.args.conn) v.standing.calls) c.self.view_is ∙ c.requires.none in
     let left : c.retain.new.self.items ≡ filter (λ d. not (same d c.args.conn)) c.self.inside.conns.items = filter_same _ _ _ (λ x b f' k. search rules) _ _ c.retain.ensures.filtered in
-    rw left (pair_is _ _ (seen_closed laws s c.args.conn is none c.free.new.tree (c.free.ensures s.past s.tree_is (conn_free laws s c.args.conn is none)) ∙ ap (λ (v : WithHooks _ _ _). closed c.args.conn v.standing) c.self.view_is) (ap (λ (v : WithHooks _ _ _). v.hooks) c.self.view_is))
+    rw left (pair_is _ _ (seen_closed laws s c.args.conn there none c.free.new.tree (c.free.ensures s.past s.tree_is (conn_free laws s c.args.conn there none)) ∙ ap (λ (v : WithHooks _ _ _). closed c.args.conn v.standing) c.self.view_is) (ap (λ (v : WithHooks _ _ _). v.hooks) c.self.view_is))

@@ -4,6 +4,7 @@ use Rattle.std.specs.List.{list_any}
 use Rattle.context_tree.specs.Context.{same}
 use Rattle.call_contexts.specs.Standing.{WithHooks, IsBare, gone, without, is_call, seen_call, hook_for}
 use Rattle.call_contexts.specs.Sound.{life_at}
+use Rattle.call_contexts.proofs.Distinct.{calls_apart}
 use Rattle.call_contexts.proofs.Lists.{any_map, none_found, found_any}
 use Rattle.call_contexts.proofs.Leaving.{call_let_go, sound_left, seen_left, none_gone}
 use Rattle.call_contexts.proofs.Branches.{bare_gone, bare_twigs, turned_bare, turned_call}
@@ -42,13 +43,13 @@ invariant_of-self g c =
     rw c.remove.ensures
     (sound_left laws s c.args.ctx c.in-Some.life.now at bare c.release.new.tree (call_let_go laws s c.args.ctx c.in-Some.life.now at bare c.release.new.tree (c.release.ensures s.past s.tree_is))
     c.run_next-ran.new.self _ (c.run_next-ran.ensures.stands _ (c.fire.ensures s.hooks s.hooks_are))
-    (fired_waits c.args.ctx s.hooks c.self.inside.calls.items s.hook_waits s.none_due s.distinct) (fired_due c.args.ctx s.hooks c.self.inside.calls.items s.hook_waits s.none_due s.distinct))
+    (fired_waits c.args.ctx s.hooks c.self.inside.calls.items s.hook_waits s.none_due (calls_apart s.root c.self.inside.base c.self.inside.conns.items c.self.inside.calls.items s.distinct)) (fired_due c.args.ctx s.hooks c.self.inside.calls.items s.hook_waits s.none_due (calls_apart s.root c.self.inside.base c.self.inside.conns.items c.self.inside.calls.items s.distinct)))
 
 pub returns-clause-ran : goal.returns-clause-ran
 returns-clause-ran g c =
     let s = c.self.invariant in
     let any : list_any (λ l. same l.ctx c.args.ctx) c.self.inside.calls.items ≡ true = found_any c.args.ctx c.in-Some.life.now c.self.inside.calls.items (ap (life_at c.args.ctx) (sym c.deref.ensures.value) ∙ sym c.find.ensures ∙ ap (option_map (λ l. l.now)) c.in-Some.is) in
-    let ran : is_some c.run_next-ran.result ≡ true = fired_answer c.args.ctx s.hooks c.self.inside.calls.items s.hook_waits s.none_due s.distinct g.H.Hook.gives c.args.event c.run_next-ran.result (c.run_next-ran.ensures.called _ (c.fire.ensures s.hooks s.hooks_are)) any in
+    let ran : is_some c.run_next-ran.result ≡ true = fired_answer c.args.ctx s.hooks c.self.inside.calls.items s.hook_waits s.none_due (calls_apart s.root c.self.inside.base c.self.inside.conns.items c.self.inside.calls.items s.distinct) g.H.Hook.gives c.args.event c.run_next-ran.result (c.run_next-ran.ensures.called _ (c.fire.ensures s.hooks s.hooks_are)) any in
     let known : true ≡ is_call c.args.ctx c.args.self.now.standing.calls = sym any ∙ sym (any_map (λ d. same d.id c.args.ctx) (seen_call c.self.inside.tree.slots) c.self.inside.calls.items) ∙ ap (λ (v : WithHooks _ _ _). is_call c.args.ctx v.standing.calls) c.self.view_is
     ∙ ap (λ (v : WithHooks _ _ _). is_call c.args.ctx v.standing.calls) c.let_branches_go.ensures ∙ turned_call c.args.ctx c.args.ctx (λ d. []) c.args.self.now.standing.calls in
     elim c.match-ran.branch [ in-Some-ran w ↦ rw w.result-is known | in-None w ↦ absurd (not_none c.run_next-ran.result w.in-None.is ran) ]
