@@ -190,7 +190,7 @@ module _ {C V H : Type 0} (laws : TreeLaws C V) {f : AfterFuncs H} {base : Id} {
               (λ (n : same h l.ctx ≡ false). rw n at none)
               (cases_Bool (same h l.ctx))
 
-  pub seen_begun : seen new.slots base conns (calls ++ l ∷ []) ≡ begun l.ctx l.conn l.deadline now request_id (seen old.slots base conns calls)
+  pub seen_begun : seen new.slots base conns (calls ++ l ∷ []) ≡ begun l.ctx l.id l.conn l.deadline now request_id (seen old.slots base conns calls)
   seen_begun =
       let e = all_seen laws s ids after new st begin_touches conns calls s.conns_are s.calls_are s.known begin_far in
       let ended : cause_in new.slots l.ctx ≡ option_or (ended_conn l.conn (map (seen_conn old.slots) conns)) (if_due now l.deadline) =

@@ -15,8 +15,8 @@ use Rattle.after_funcs.specs.declared.callbacks.AfterFuncs.{AfterFuncs}
 use Rattle.after_funcs.specs.Stands.{StandsFor as HooksStand}
 use Rattle.call_contexts.specs.declared.life.Life.{Life}
 use Rattle.call_contexts.specs.declared.twig.Twig.{Twig}
-use Rattle.call_contexts.specs.Standing.{Conn, Call, IsNoSooner, AreNoSooner, Slots, cause_in, value_in, seen, seen_conn, seen_call, Branch, seen_branch, seen_branches, ends_call, ends_branch, expires_branch, expires_call, ends_conn, if_cancelled, if_due, is_conn, ended_conn, expired, all_ended}
-use Rattle.call_contexts.specs.Sound.{Op, TreeLaws, IsSound, IsLife, IsConn, IsHolder, IsTwig, all_ids, kind_of, IsUnhanded, why}
+use Rattle.call_contexts.specs.Standing.{Conn, Call, IsNoSooner, AreNoSooner, Slots, cause_in, value_in, seen, seen_conn, seen_call, Branch, seen_branch, seen_branches, lives_in, ends_call, ends_branch, expires_branch, expires_call, ends_conn, if_cancelled, if_due, is_conn, ended_conn, expired, all_ended}
+use Rattle.call_contexts.specs.Sound.{Op, TreeLaws, IsSound, IsLife, IsConn, IsHolder, IsTwig, all_ids, kind_of, life_ties, IsUnhanded, why}
 use Rattle.call_contexts.proofs.Trees.{same_refl, same_true, same_turned, shown, shown_request, advanced, due_on, struck, base_chain, conn_chain, call_deadline, call_hit, call_due, twig_hit, twig_due, twig_deadline, far_new, made_held}
 use Rattle.call_contexts.proofs.Family.{among_in}
 use Rattle.call_contexts.proofs.Making.{or_none}
@@ -91,6 +91,11 @@ module _ {C V : Type 0} where
       ∙ ap (λ x. record { drained = d; conns = x; calls = map (seen_call slots) calls }) c
       ∙ ap (λ x. record { drained = d; conns = cs; calls = x }) l
 
+  -- the ids and contexts that are seen are those that are kept
+  pub seen_lives : (slots : Slots C V) (ls : List Life) → lives_in (map (seen_call slots) ls) ≡ life_ties ls
+  seen_lives slots [] = refl
+  seen_lives slots (l ∷ ls) = ap (λ ts. (l.id, l.ctx) ∷ ts) (seen_lives slots ls)
+
   pub conn_as : (slots : Slots C V) (x : Id) (e : Option (Cause C)) → cause_in slots x ≡ e → seen_conn slots x ≡ record { id = x; ended = e }
   conn_as slots x e is = ap (λ b. record { id = x; ended = b }) is
 
@@ -98,11 +103,11 @@ module _ {C V : Type 0} where
   branch_as slots t e is = ap (λ b. record { branch = t.branch; deadline = t.at; ended = b }) is
 
   pub call_as : (slots : Slots C V) (l : Life) (r : Option V) (e : Option (Cause C)) (bs : List (Branch C)) → option_and_then (value_in slots) l.holder ≡ r → cause_in slots l.ctx ≡ e
-      → seen_branches slots l.twigs ≡ bs → seen_call slots l ≡ record { id = l.ctx; conn = l.conn; deadline = l.deadline; request_id = r; ended = e; branches = bs }
+      → seen_branches slots l.twigs ≡ bs → seen_call slots l ≡ record { name = l.id; id = l.ctx; conn = l.conn; deadline = l.deadline; request_id = r; ended = e; branches = bs }
   call_as slots l r e bs rs es bss =
-      ap (λ q. record { id = l.ctx; conn = l.conn; deadline = l.deadline; request_id = q; ended = cause_in slots l.ctx; branches = seen_branches slots l.twigs }) rs
-      ∙ ap (λ b. record { id = l.ctx; conn = l.conn; deadline = l.deadline; request_id = r; ended = b; branches = seen_branches slots l.twigs }) es
-      ∙ ap (λ b. record { id = l.ctx; conn = l.conn; deadline = l.deadline; request_id = r; ended = e; branches = b }) bss
+      ap (λ q. record { name = l.id; id = l.ctx; conn = l.conn; deadline = l.deadline; request_id = q; ended = cause_in slots l.ctx; branches = seen_branches slots l.twigs }) rs
+      ∙ ap (λ b. record { name = l.id; id = l.ctx; conn = l.conn; deadline = l.deadline; request_id = r; ended = b; branches = seen_branches slots l.twigs }) es
+      ∙ ap (λ b. record { name = l.id; id = l.ctx; conn = l.conn; deadline = l.deadline; request_id = r; ended = e; branches = b }) bss
 
   -- a request id is seen as before, where its context is still held
   pub request_stays : (old new : TreeValue C V) (past later : List (Op C V)) (conn : Id) → StandsFor old past → StandsFor new later → (holder : Option Id)

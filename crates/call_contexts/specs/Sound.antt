@@ -13,7 +13,7 @@ use Rattle.after_funcs.specs.Hooks.{Operation, waiting, due}
 use Rattle.after_funcs.specs.Stands.{StandsFor as HooksStand}
 use Rattle.call_contexts.specs.declared.life.Life.{Life}
 use Rattle.call_contexts.specs.declared.twig.Twig.{Twig}
-use Rattle.call_contexts.specs.Standing.{bare_call, has_ended, is_over, request_id_key, seen, seen_call}
+use Rattle.call_contexts.specs.Standing.{Lives, bare_call, has_ended, is_over, request_id_key, seen, seen_call}
 
 -- an operation on the tree
 abbrev pub Op : Type 0 → Type 0 → Type 0
@@ -129,6 +129,10 @@ module _ {C V : Type 0} where
 
 -- ---- the calls
 
+-- its id and its context
+abbrev pub life_ties : List Life → Lives
+life_ties calls = map (λ l. (l.id, l.ctx)) calls
+
 -- the number of its hook, and its context
 abbrev pub kept_of : Life → ℕ × Id
 kept_of l = (l.hook, l.ctx)
@@ -200,7 +204,7 @@ owner_of x (l ∷ ls) = if is_row x l then Some l.ctx else owner_of x ls
 
 -- the call of that context with these branches
 abbrev pub with_twigs : Id → List Twig → Life → Life
-with_twigs id ts l = record { ctx = l.ctx; holder = l.holder; conn = l.conn; deadline = l.deadline; hook = l.hook; twigs = if same l.ctx id then ts else l.twigs }
+with_twigs id ts l = record { id = l.id; ctx = l.ctx; holder = l.holder; conn = l.conn; deadline = l.deadline; hook = l.hook; twigs = if same l.ctx id then ts else l.twigs }
 
 -- the number of a hook, and the context that it waits on
 abbrev pub hook_of : {H : Type 0} → Registration H → ℕ × Id

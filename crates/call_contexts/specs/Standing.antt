@@ -10,6 +10,8 @@ use Rattle.context_tree.specs.Context.{Id, same, own_value}
 use Rattle.context_tree.specs.Frames.{is_due}
 use Rattle.context_tree.specs.Tree.{IsNotAfter, ending_in, node_at}
 use Rattle.after_funcs.specs.declared.registration.Registration.{Registration}
+use Rattle.gateway_model.specs.declared.id.CallId.{CallId}
+use Rattle.gateway_model.specs.Past.{is_call as is_id}
 use Rattle.call_contexts.specs.declared.life.Life.{Life}
 use Rattle.call_contexts.specs.declared.twig.Twig.{Twig}
 
@@ -24,8 +26,9 @@ pub record Branch (C : Type 0) : Type 0 where
   pub deadline : ℕ
   pub ended : Option (Cause C)
 
--- a call's context, that of its connection, its deadline, its request id, what ended it, if anything did, and its branches, by start
+-- a call, by its id: its context, that of its connection, its deadline, its request id, what ended it, if anything did, and its branches, by start
 pub record Call (C V : Type 0) : Type 0 where
+  pub name : CallId
   pub id : Id
   pub conn : Id
   pub deadline : Option ℕ
@@ -158,27 +161,28 @@ module _ {C V : Type 0} where
   opened id v = record { drained = v.drained; conns = v.conns ++ record { id = id; ended = v.drained } ∷ []; calls = v.calls }
 
   -- a call begins
-  abbrev pub begun : Id → Id → Option ℕ → ℕ → Option V → Standing C V → Standing C V
-  begun id conn deadline now request_id v =
+  abbrev pub begun : Id → CallId → Id → Option ℕ → ℕ → Option V → Standing C V → Standing C V
+  begun id name conn deadline now request_id v =
       record {
         drained = v.drained;
         conns = v.conns;
-        calls = v.calls ++ record { id = id; conn = conn; deadline = deadline; request_id = request_id; ended = option_or (ended_conn conn v.conns) (if_due now deadline); branches = [] } ∷ [];
+        calls = v.calls ++ record { name = name; id = id; conn = conn; deadline = deadline; request_id = request_id; ended = option_or (ended_conn conn v.conns) (if_due now deadline); branches = [] } ∷ [];
       }
 
   -- the call with these branches
   abbrev pub with_branches : List (Branch C) → Call C V → Call C V
-  with_branches bs c = record { id = c.id; conn = c.conn; deadline = c.deadline; request_id = c.request_id; ended = c.ended; branches = bs }
+  with_branches bs c = record { name = c.name; id = c.id; conn = c.conn; deadline = c.deadline; request_id = c.request_id; ended = c.ended; branches = bs }
 
   -- the call, which this ends with its branches, each unless it has ended before
   abbrev pub ends_call : Option (Cause C) → Call C V → Call C V
   ends_call e c =
-      record { id = c.id; conn = c.conn; deadline = c.deadline; request_id = c.request_id; ended = option_or c.ended e; branches = map (ends_branch e) c.branches }
+      record { name = c.name; id = c.id; conn = c.conn; deadline = c.deadline; request_id = c.request_id; ended = option_or c.ended e; branches = map (ends_branch e) c.branches }
 
   -- a moment comes to a call: it ends by its own deadline and with it its branches, and each of these by its own
   abbrev pub expires_call : ℕ → Call C V → Call C V
   expires_call now c =
       record {
+        name = c.name;
         id = c.id;
         conn = c.conn;
         deadline = c.deadline;
@@ -260,6 +264,7 @@ module _ {C V : Type 0} where
   abbrev pub seen_call : Slots C V → Life → Call C V
   seen_call slots life =
       record {
+        name = life.id;
         id = life.ctx;
         conn = life.conn;
         deadline = life.deadline;
@@ -270,6 +275,30 @@ module _ {C V : Type 0} where
 
   abbrev pub seen : Slots C V → Id → List Id → List Life → Standing C V
   seen slots base conns calls = record { drained = cause_in slots base; conns = map (seen_conn slots) conns; calls = map (seen_call slots) calls }
+
+-- ---- found by their ids
+
+-- the calls' ids, each with its context
+abbrev pub Lives : Type 0
+Lives = List (CallId × Id)
+
+abbrev pub lives_in : {C V : Type 0} → List (Call C V) → Lives
+lives_in calls = map (λ c. (c.name, c.id)) calls
+
+-- the context of the call
+abbrev pub ctx_for : CallId → Lives → Option Id
+ctx_for id [] = None
+ctx_for id (l ∷ ls) = if is_id l.0 id then Some l.1 else ctx_for id ls
+
+-- the call of that context
+abbrev pub call_with : Id → Lives → Option CallId
+call_with x [] = None
+call_with x (l ∷ ls) = if same l.1 x then Some l.0 else call_with x ls
+
+-- the first call of the connection
+abbrev pub first_of : ℕ → Lives → Option CallId
+first_of number [] = None
+first_of number (l ∷ ls) = if l.0.conn == number then Some l.0 else first_of number ls
 
 -- ---- the calls' hooks
 

@@ -2,7 +2,7 @@ ghost use Rattle.std.specs.Prelude.{All, ◌≡◌, ◌∷◌, [], ◌++◌, Som
 ghost use Rattle.std.specs.List.{list_any};
 ghost use Rattle.std.specs.Option.{option_copied};
 ghost use Rattle.context_tree.specs.Context.{same};
-ghost use Rattle.call_contexts.specs.Standing.{IsNoSooner, AreNoSooner, has_deadline, has_ended, is_over, ended_branch, empty, opened, begun, expired, cancelled, all_ended, closed, gone, with_standing, with_hook, hook_for, request_for, ended_call, branched, unbranched, bare_call, AreApart, is_fresh, is_call, is_conn};
+ghost use Rattle.call_contexts.specs.Standing.{IsNoSooner, AreNoSooner, has_deadline, has_ended, is_over, ended_branch, empty, opened, begun, expired, cancelled, all_ended, closed, gone, with_standing, with_hook, hook_for, request_for, ended_call, branched, unbranched, bare_call, AreApart, is_fresh, is_call, is_conn, call_with, ctx_for, first_of, lives_in};
 
 use crate::calls;
 use crate::contexts::{REQUEST_ID, cause_of, free, free_branches, make, release, tree_laws};
@@ -12,6 +12,7 @@ use crate::twigs::{Twigs, if_before};
 use after_funcs::laws::order_law;
 use after_funcs::{AfterFuncs, Hook};
 use context_tree::{Cause, CtxId, Tree};
+use gateway_model::CallId;
 use std::alloc::{AllocError, Global};
 use std::marker::Model;
 
@@ -84,6 +85,7 @@ impl<C: Copy, V: Drop, H: Drop> CallContexts<C, V, H> {
     /// A call begins on a connection, with its context and its hook. A hook that is refused comes back.
     pub fn begin(
         &mut self,
+        id: &CallId,
         conn: CtxId,
         deadline: Option<u64>,
         now: u64,
@@ -91,7 +93,7 @@ impl<C: Copy, V: Drop, H: Drop> CallContexts<C, V, H> {
         hook: H,
     ) -> Result<CtxId, H>
         requires { is_conn conn self.old.standing.conns ≡ true }
-        ensures stands { IfOk result (λ id. self.new ≡ with_hook id hook (begun id conn deadline now request_id self.old.standing) self.old) }
+        ensures stands { IfOk result (λ ctx. self.new ≡ with_hook ctx hook (begun ctx id.now conn deadline now request_id self.old.standing) self.old) }
         ensures fresh { IfOk result (λ id. is_fresh id self.old.standing ≡ true) }
         ensures back { IfErr result (λ h. h ≡ hook) }
         ensures unchanged { OnErr result (self.new ≡ self.old) }
@@ -105,13 +107,14 @@ impl<C: Copy, V: Drop, H: Drop> CallContexts<C, V, H> {
         let (ctx, holder) = made;
         let twigs = Twigs::new(*self.calls.allocator());
         match self.hooks.after_func(ctx, false, hook) {
-            Ok(id) => {
+            Ok(hook) => {
                 self.calls.push_reserved(Life {
+                    id: *id,
                     ctx,
                     holder,
                     conn,
                     deadline,
-                    hook: id,
+                    hook,
                     twigs,
                 });
                 Ok(ctx)
@@ -121,6 +124,27 @@ impl<C: Copy, V: Drop, H: Drop> CallContexts<C, V, H> {
                 Err(refused.0)
             }
         }
+    }
+
+    /// The context of the call.
+    pub fn ctx_for(&self, id: &CallId) -> Option<CtxId>
+        ensures { result ≡ ctx_for id.now (lives_in self.now.standing.calls) }
+    {
+        calls::ctx_for(&self.calls, id)
+    }
+
+    /// The call of that context.
+    pub fn call_of(&self, ctx: CtxId) -> Option<CallId>
+        ensures { result ≡ call_with ctx (lives_in self.now.standing.calls) }
+    {
+        calls::call_of(&self.calls, ctx)
+    }
+
+    /// The first call of the connection of that number.
+    pub fn first_call(&self, number: u64) -> Option<CallId>
+        ensures { result ≡ first_of number (lives_in self.now.standing.calls) }
+    {
+        calls::first_call(&self.calls, number)
     }
 
     /// The request id of a call, if it has one.

@@ -1,10 +1,12 @@
-//! A list of calls, looked up by their contexts.
+//! A list of calls, looked up by their contexts and by their ids.
 ghost use Rattle.std.specs.Prelude.{◌≡◌, ◌<◌, IfNone, IfSome, None as Nothing, filter, length, not, option_map};
 ghost use Rattle.context_tree.specs.Context.{same};
-ghost use Rattle.call_contexts.specs.Sound.{IsPlaced, life_at};
+ghost use Rattle.call_contexts.specs.Standing.{call_with, ctx_for, first_of};
+ghost use Rattle.call_contexts.specs.Sound.{IsPlaced, life_at, life_ties};
 
 use crate::life::Life;
 use context_tree::CtxId;
+use gateway_model::CallId;
 
 /// The first call of that context.
 pub(crate) fn find(calls: &[Life], ctx: CtxId) -> Option<&Life>
@@ -37,4 +39,40 @@ pub(crate) fn remove(calls: &mut Vec<Life>, ctx: CtxId)
     ensures { calls.new.items ≡ filter (λ l. not (same l.ctx ctx)) calls.old.items }
 {
     calls.retain(|life| life.ctx != ctx);
+}
+
+/// The context of the call.
+pub(crate) fn ctx_for(calls: &[Life], id: &CallId) -> Option<CtxId>
+    ensures { result ≡ ctx_for id.now (life_ties calls.now) }
+{
+    for life in calls {
+        if life.id == *id {
+            return Some(life.ctx);
+        }
+    }
+    None
+}
+
+/// The call of that context.
+pub(crate) fn call_of(calls: &[Life], ctx: CtxId) -> Option<CallId>
+    ensures { result ≡ call_with ctx (life_ties calls.now) }
+{
+    for life in calls {
+        if life.ctx == ctx {
+            return Some(life.id);
+        }
+    }
+    None
+}
+
+/// The first call of the connection of that number.
+pub(crate) fn first_call(calls: &[Life], number: u64) -> Option<CallId>
+    ensures { result ≡ first_of number (life_ties calls.now) }
+{
+    for life in calls {
+        if life.id.conn.number() == number {
+            return Some(life.id);
+        }
+    }
+    None
 }

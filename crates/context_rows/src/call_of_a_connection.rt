@@ -3,6 +3,7 @@ ghost use Rattle.std.specs.Prelude.{◌≡◌, Ok, IfOk};
 
 use after_funcs::Hook;
 use call_contexts::CallContexts;
+use gateway_model::{CallId, ConnId};
 use std::alloc::{AllocError, Global};
 
 /// A hook that answers with the event.
@@ -27,7 +28,11 @@ pub fn begun_and_ended(alloc: Global, event: u64) -> Result<u64, AllocError>
 {
     let mut contexts: CallContexts<u32, u64, Echo> = CallContexts::new(alloc)?;
     let conn = contexts.open()?;
-    let Ok(call) = contexts.begin(conn, Some(10), 5, Some(77), Echo) else {
+    let id = CallId {
+        conn: ConnId::of(0),
+        request: 0,
+    };
+    let Ok(call) = contexts.begin(&id, conn, Some(10), 5, Some(77), Echo) else {
         return Err(AllocError);
     };
     match contexts.end(call, event) {

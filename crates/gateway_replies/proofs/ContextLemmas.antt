@@ -1,20 +1,20 @@
 -- The contexts of calls, beside those of the tree.
-use Rattle.std.proofs.Common.{◌≡◌, ℕ, ◌+◌, ◌≤◌, ◌<◌, zero, suc, refl, sym, ap, ◌∙◌, List, [], ◌∷◌, ◌++◌, Option, Some, None, Bool, true, false, inl, inr, ⊎_elim, subst, length, arith}
-use Rattle.std.specs.Prelude.{◌⊎◌, ◌&&◌, ◌||◌, ◌==◌, is_some, not, if◌then◌else◌, filter, option_map, slice_set, slice_index_or}
+use Rattle.std.proofs.Common.{◌≡◌, ℕ, ◌≤◌, ◌<◌, zero, suc, refl, sym, ap, ◌∙◌, List, [], ◌∷◌, ◌++◌, Option, Some, None, Bool, true, false, ⊎_elim, subst, length, arith}
+use Rattle.std.specs.Prelude.{◌||◌, ◌==◌, All, is_some, not, if◌then◌else◌, filter, option_map, slice_set, slice_index_or}
 use Rattle.std.specs.List.{list_any}
 use Rattle.std.specs.Option.{option_or}
 use Rattle.std.proofs.lemmas.Bool.{cases_Bool, eq-eqb, or_parts}
 use Rattle.std.proofs.Math.Bool.{or-false}
 use Rattle.std.proofs.lemmas.List.{map_push}
+use Rattle.std.proofs.lemmas.List.Elements.{All-cons, All-filter, All-head, All-nil, All-push, All-tail, All-weaker}
 use Rattle.std.proofs.lemmas.Option.{same_Some}
 use Rattle.context_tree.specs.Context.{Id, same}
-use Rattle.call_contexts.specs.Standing.{AreApart, if_due, is_conn, is_fresh, opened as standing_opened, begun as standing_begun, without as standing_without, closed as standing_closed, is_call as is_standing, has_ended as standing_ended, is_over as is_standing_over}
+use Rattle.call_contexts.specs.Standing.{AreApart, call_with, ctx_for, first_of, lives_in, if_due, is_conn, is_fresh, opened as standing_opened, begun as standing_begun, without as standing_without, closed as standing_closed, is_call as is_standing, has_ended as standing_ended, is_over as is_standing_over}
 use Rattle.gateway_model.specs.declared.id.CallId.{CallId}
 use Rattle.gateway_model.specs.Past.{ArrivedCall, is_call}
-use Rattle.gateway_replies.specs.declared.contexts.life.Life.{Life}
 use Rattle.gateway_replies.specs.declared.contexts.peer.Peer.{Peer}
-use Rattle.gateway_replies.specs.Ties.{life_tie, life_ties, peer_tie, peer_ties}
-use Rattle.gateway_replies.specs.Contexts.{AllContexts, AreTied, CallContext, ConnContext, LivesApart, PeerValue, by_deadline, by_drain, begun, contexts_of, ContextsValue, IsTied, KeepsOthers, LifeValue, Lives, NoTwo, Peers, closed, contexts_value, ctx_for, ctx_of, ends_of, first_life, first_of, call_with, has_ended, is_over, is_life, is_peer, peer, peers_of, life_with, lives_of, opened, others, same_id, same_context, same_number, without, without_calls}
+use Rattle.gateway_replies.specs.Ties.{peer_tie, peer_ties}
+use Rattle.gateway_replies.specs.Contexts.{AllContexts, OnPeer, life_of, CallContext, ConnContext, LivesApart, PeerValue, by_deadline, by_drain, begun, contexts_of, ContextsValue, IsTied, KeepsOthers, LifeValue, NoTwo, Peers, closed, contexts_value, ctx_of, ends_of, first_life, has_ended, is_over, is_life, is_peer, peer, peers_of, lives_of, opened, others, same_id, same_context, same_number, without, without_calls}
 use Rattle.gateway_theory.specs.lemmas.Cases.{all_stay, or_true}
 use Rattle.gateway_theory.specs.lemmas.LimitLemmas.{same_call}
 use Rattle.gateway_theory.specs.lemmas.StoreLemmas.{call_itself}
@@ -23,123 +23,101 @@ use Rattle.gateway_replies.proofs.PeerLemmas.{ctx_more, known_in, less_contexts,
 use Rattle.call_contexts.proofs.Lists.{any_map, no_two_kept}
 use Rattle.call_contexts.proofs.Trees.{same_refl as same_itself, same_true}
 
+pub neither : {A : Type 0} (p q : A → Bool) (xs : List A) → list_any p xs ≡ false → list_any q xs ≡ false → All (λ x. p x ≡ q x) xs
+neither p q [] no_p no_q = All-nil (λ x. p x ≡ q x)
+neither p q (x ∷ xs) no_p no_q =
+    let a = or_parts (p x) (list_any p xs) no_p in
+    let b = or_parts (q x) (list_any q xs) no_q in
+    All-cons (λ y. p y ≡ q y) x xs (a.0 ∙ sym b.0) (neither p q xs a.1 b.1)
+
+filters_agree : {A : Type 0} (p q : A → Bool) (xs : List A) → All (λ x. p x ≡ q x) xs → filter (λ x. not (p x)) xs ≡ filter (λ x. not (q x)) xs
+filters_agree p q [] all = refl
+filters_agree p q (x ∷ xs) all =
+    let here : p x ≡ q x = All-head (λ y. p y ≡ q y) x xs all in
+    rw here (ap (λ l. if not (q x) then x ∷ l else l) (filters_agree p q xs (All-tail (λ y. p y ≡ q y) x xs all)))
+
 -- ---- calls
 
 module _ {V : Type 0} where
-  tied_more : (ps : Peers) (p : ℕ × Id) (ls : Lives) (cs : List (CallContext V)) → AreTied ps ls cs → AreTied (ps ++ p ∷ []) ls cs
-  tied_more ps p [] [] tied = tt
-  tied_more ps p [] (c ∷ cs) tied = absurd tied
-  tied_more ps p (l ∷ ls) [] tied = absurd tied
-  tied_more ps p (l ∷ ls) (c ∷ cs) tied = (tied.0, ctx_more l.0.conn ps p c.conn tied.1, tied_more ps p ls cs tied.2)
-
-  tied_pushed : (ps : Peers) (ls : Lives) (cs : List (CallContext V)) (l : CallId × Id) (c : CallContext V) → AreTied ps ls cs → c.id ≡ l.1 → ctx_of l.0.conn ps ≡ Some c.conn
-      → AreTied ps (ls ++ l ∷ []) (cs ++ c ∷ [])
-  tied_pushed ps [] [] l c tied its conn = (its, conn, tt)
-  tied_pushed ps [] (d ∷ ds) l c tied its conn = absurd tied
-  tied_pushed ps (m ∷ ms) [] l c tied its conn = absurd tied
-  tied_pushed ps (m ∷ ms) (d ∷ ds) l c tied its conn = (tied.0, tied.1, tied_pushed ps ms ds l c tied.2 its conn)
-
-  pub lives_pushed : (text : V → List ℕ) (ps : Peers) (ls : Lives) (cs : List (CallContext V)) (l : CallId × Id) (c : CallContext V) → AreTied ps ls cs
-      → lives_of text (ls ++ l ∷ []) (cs ++ c ∷ []) ≡ lives_of text ls cs ++ life_with text l.0 c ∷ []
-  lives_pushed text ps [] [] l c tied = refl
-  lives_pushed text ps [] (d ∷ ds) l c tied = absurd tied
-  lives_pushed text ps (m ∷ ms) [] l c tied = absurd tied
-  lives_pushed text ps (m ∷ ms) (d ∷ ds) l c tied = ap (λ xs. life_with text m.0 d ∷ xs) (lives_pushed text ps ms ds l c tied.2)
-
-  pub life_in : (text : V → List ℕ) (ps : Peers) (ls : Lives) (cs : List (CallContext V)) (id : CallId) → AreTied ps ls cs
-      → is_life id (lives_of text ls cs) ≡ list_any (λ l. is_call l.0 id) ls
-  life_in text ps [] cs id tied = refl
-  life_in text ps (l ∷ ls) [] id tied = absurd tied
-  life_in text ps (l ∷ ls) (c ∷ cs) id tied = ap (λ b. is_call l.0 id || b) (life_in text ps ls cs id tied.2)
+  pub life_in : (text : V → List ℕ) (cs : List (CallContext V)) (id : CallId) → is_life id (lives_of text cs) ≡ list_any (λ c. is_call c.name id) cs
+  life_in text cs id = any_map (λ (l : LifeValue). is_call l.id id) (life_of text) cs
 
   -- no call has two contexts
-  pub lives_apart : (text : V → List ℕ) (ps : Peers) (ls : Lives) (cs : List (CallContext V)) → AreTied ps ls cs → NoTwo same_id ls → LivesApart (lives_of text ls cs)
-  lives_apart text ps [] cs tied apart = tt
-  lives_apart text ps (l ∷ ls) [] tied apart = absurd tied
-  lives_apart text ps (l ∷ ls) (c ∷ cs) tied apart = (life_in text ps ls cs l.0 tied.2 ∙ apart.0, lives_apart text ps ls cs tied.2 apart.1)
+  pub lives_apart : (text : V → List ℕ) (cs : List (CallContext V)) → NoTwo same_id cs → LivesApart (lives_of text cs)
+  lives_apart text [] apart = tt
+  lives_apart text (c ∷ cs) apart = (life_in text cs c.name ∙ apart.0, lives_apart text cs apart.1)
 
-  pub first_in : (text : V → List ℕ) (ps : Peers) (ls : Lives) (cs : List (CallContext V)) (number : ℕ) → AreTied ps ls cs
-      → first_life number (lives_of text ls cs) ≡ first_of number ls
-  first_in text ps [] cs number tied = refl
-  first_in text ps (l ∷ ls) [] number tied = absurd tied
-  first_in text ps (l ∷ ls) (c ∷ cs) number tied = ap (λ o. if l.0.conn == number then Some l.0 else o) (first_in text ps ls cs number tied.2)
+  pub first_in : (text : V → List ℕ) (cs : List (CallContext V)) (number : ℕ) → first_life number (lives_of text cs) ≡ first_of number (lives_in cs)
+  first_in text [] number = refl
+  first_in text (c ∷ cs) number = ap (λ o. if c.name.conn == number then Some c.name else o) (first_in text cs number)
 
-  pub as_many : (text : V → List ℕ) (ps : Peers) (ls : Lives) (cs : List (CallContext V)) → AreTied ps ls cs → length (lives_of text ls cs) ≡ length ls
-  as_many text ps [] cs tied = refl
-  as_many text ps (l ∷ ls) [] tied = absurd tied
-  as_many text ps (l ∷ ls) (c ∷ cs) tied = ap suc (as_many text ps ls cs tied.2)
+  pub no_ctx_for : (id : CallId) (cs : List (CallContext V)) → ctx_for id (lives_in cs) ≡ None → list_any (λ c. is_call c.name id) cs ≡ false
+  no_ctx_for id [] is = refl
+  no_ctx_for id (c ∷ cs) is = ⊎_elim
+      (λ (y : is_call c.name id ≡ true). let bad : Some c.id ≡ None = rw y at is in cc)
+      (λ (n : is_call c.name id ≡ false). rw n (no_ctx_for id cs (rw n at is)))
+      (cases_Bool (is_call c.name id))
 
   -- the context of a call is that of one that stands
-  pub stands_in : (ps : Peers) (ls : Lives) (cs : List (CallContext V)) (id : CallId) (x : Id) → AreTied ps ls cs → ctx_for id ls ≡ Some x → is_standing x cs ≡ true
-  stands_in ps [] cs id x tied is = cc
-  stands_in ps (l ∷ ls) [] id x tied is = absurd tied
-  stands_in ps (l ∷ ls) (c ∷ cs) id x tied is = ⊎_elim
-      (λ (y : is_call l.0 id ≡ true). let its : c.id ≡ x = tied.0 ∙ same_Some l.1 x (rw y at is) in rw (its, same_itself x) refl)
-      (λ (n : is_call l.0 id ≡ false). ap (λ b. same c.id x || b) (stands_in ps ls cs id x tied.2 (rw n at is)) ∙ or_true (same c.id x))
-      (cases_Bool (is_call l.0 id))
+  pub stands_in : (cs : List (CallContext V)) (id : CallId) (x : Id) → ctx_for id (lives_in cs) ≡ Some x → is_standing x cs ≡ true
+  stands_in [] id x is = cc
+  stands_in (c ∷ cs) id x is = ⊎_elim
+      (λ (y : is_call c.name id ≡ true). let its : c.id ≡ x = same_Some c.id x (rw y at is) in rw (its, same_itself x) refl)
+      (λ (n : is_call c.name id ≡ false). ap (λ b. same c.id x || b) (stands_in cs id x (rw n at is)) ∙ or_true (same c.id x))
+      (cases_Bool (is_call c.name id))
 
-  -- without the call
-  pub tied_less : (text : V → List ℕ) (ps : Peers) (ls : Lives) (cs : List (CallContext V)) (id : CallId) (x : Id) → AreTied ps ls cs → AreApart cs → NoTwo same_id ls
-      → ctx_for id ls ≡ Some x
-      → AreTied ps (filter (λ l. not (is_call l.0 id)) ls) (filter (λ c. not (same c.id x)) cs)
-      × (lives_of text (filter (λ l. not (is_call l.0 id)) ls) (filter (λ c. not (same c.id x)) cs) ≡ filter (λ l. not (is_call l.id id)) (lives_of text ls cs))
-  tied_less text ps [] cs id x tied apart calls is = cc
-  tied_less text ps (l ∷ ls) [] id x tied apart calls is = absurd tied
-  tied_less text ps (l ∷ ls) (c ∷ cs) id x tied apart calls is = ⊎_elim
-      (λ (y : is_call l.0 id ≡ true).
-      let id_is : l.0 ≡ id = same_call l.0 id y in
-      let x_is : c.id ≡ x = tied.0 ∙ same_Some l.1 x (rw y at is) in
-      let its : same c.id x ≡ true = ap (λ z. same z x) x_is ∙ same_itself x in
-      let no_call : list_any (λ (m : CallId × Id). is_call m.0 id) ls ≡ false = subst (λ k. list_any (λ (m : CallId × Id). is_call m.0 k) ls ≡ false) id_is calls.0 in
-      let no_ctx : list_any (λ (d : CallContext V). same d.id x) cs ≡ false = subst (λ z. list_any (λ (d : CallContext V). same d.id z) cs ≡ false) x_is apart.0 in
-      let ls_are : filter (λ (m : CallId × Id). not (is_call m.0 id)) ls ≡ ls = all_stay (λ (m : CallId × Id). is_call m.0 id) ls no_call in
-      let cs_are : filter (λ (d : CallContext V). not (same d.id x)) cs ≡ cs = all_stay (λ (d : CallContext V). same d.id x) cs no_ctx in
-      let stays : filter (λ (k : LifeValue). not (is_call k.id id)) (lives_of text ls cs) ≡ lives_of text ls cs =
-      all_stay (λ (k : LifeValue). is_call k.id id) (lives_of text ls cs) (life_in text ps ls cs id tied.2 ∙ no_call) in
-      rw (y, its, ls_are, cs_are, stays) (tied.2, refl))
-      (λ (n : is_call l.0 id ≡ false).
-      let there : ctx_for id ls ≡ Some x = rw n at is in
+  -- the context is that of the call, or neither
+  abbrev pub Agree : CallId → Id → List (CallContext V) → Type 0
+  Agree id x cs = All (λ (c : CallContext V). same c.id x ≡ is_call c.name id) cs
+
+  pub agree : (cs : List (CallContext V)) (id : CallId) (x : Id) → AreApart cs → NoTwo same_id cs → ctx_for id (lives_in cs) ≡ Some x → Agree id x cs
+  agree [] id x apart ids is = All-nil (λ (c : CallContext V). same c.id x ≡ is_call c.name id)
+  agree (c ∷ cs) id x apart ids is = ⊎_elim
+      (λ (y : is_call c.name id ≡ true).
+      let x_is : c.id ≡ x = same_Some c.id x (rw y at is) in
+      let no_id : list_any (λ (d : CallContext V). is_call d.name id) cs ≡ false = subst (λ k. list_any (λ (d : CallContext V). is_call d.name k) cs ≡ false) (same_call c.name id y) ids.0 in
+      All-cons (λ (d : CallContext V). same d.id x ≡ is_call d.name id) c cs (ap (λ z. same z x) x_is ∙ same_itself x ∙ sym y)
+      (neither (λ d. same d.id x) (λ d. is_call d.name id) cs (subst (λ z. is_standing z cs ≡ false) x_is apart.0) no_id))
+      (λ (n : is_call c.name id ≡ false).
+      let there : ctx_for id (lives_in cs) ≡ Some x = rw n at is in
       let far : same c.id x ≡ false = ⊎_elim
       (λ (e : same c.id x ≡ true).
       let bad : is_standing x cs ≡ false = subst (λ z. is_standing z cs ≡ false) (same_true c.id x e) apart.0 in
-      let clash : true ≡ false = sym (stands_in ps ls cs id x tied.2 there) ∙ bad in cc)
+      let clash : true ≡ false = sym (stands_in cs id x there) ∙ bad in cc)
       (λ (f : same c.id x ≡ false). f)
       (cases_Bool (same c.id x)) in
-      let rest = tied_less text ps ls cs id x tied.2 apart.1 calls.1 there in
-      rw (n, far) ((tied.0, tied.1, rest.0), ap (λ k. life_with text l.0 c ∷ k) rest.1))
-      (cases_Bool (is_call l.0 id))
+      All-cons (λ (d : CallContext V). same d.id x ≡ is_call d.name id) c cs (far ∙ sym n) (agree cs id x apart.1 ids.1 there))
+      (cases_Bool (is_call c.name id))
 
   -- no call is of the connection
-  pub none_of_it : (ps : Peers) (ls : Lives) (cs : List (CallContext V)) (number : ℕ) (x : Id) → AreTied ps ls cs → first_of number ls ≡ None → NoTwo same_context ps
+  pub none_of_it : (ps : Peers) (cs : List (CallContext V)) (number : ℕ) (x : Id) → All (OnPeer ps) cs → first_of number (lives_in cs) ≡ None → NoTwo same_context ps
       → ctx_of number ps ≡ Some x → list_any (λ c. same c.conn x) cs ≡ false
-  none_of_it ps [] [] number x tied none apart is = refl
-  none_of_it ps [] (c ∷ cs) number x tied none apart is = absurd tied
-  none_of_it ps (l ∷ ls) [] number x tied none apart is = absurd tied
-  none_of_it ps (l ∷ ls) (c ∷ cs) number x tied none apart is = ⊎_elim
-      (λ (y : (l.0.conn == number) ≡ true). let bad : Some l.0 ≡ None = rw y at none in cc)
-      (λ (n : (l.0.conn == number) ≡ false).
-      let far : same c.conn x ≡ false = two_apart l.0.conn number ps c.conn x apart tied.1 is n in
-      rw far (none_of_it ps ls cs number x tied.2 (rw n at none) apart is))
-      (cases_Bool (l.0.conn == number))
+  none_of_it ps [] number x tied none apart is = refl
+  none_of_it ps (c ∷ cs) number x tied none apart is = ⊎_elim
+      (λ (y : (c.name.conn == number) ≡ true). let bad : Some c.name ≡ None = rw y at none in cc)
+      (λ (n : (c.name.conn == number) ≡ false).
+      let far : same c.conn x ≡ false = two_apart c.name.conn number ps c.conn x apart (All-head (OnPeer ps) c cs tied) is n in
+      rw far (none_of_it ps cs number x (All-tail (OnPeer ps) c cs tied) (rw n at none) apart is))
+      (cases_Bool (c.name.conn == number))
 
-  tied_without : (ps : Peers) (ls : Lives) (cs : List (CallContext V)) (number : ℕ) → AreTied ps ls cs → first_of number ls ≡ None
-      → AreTied (filter (λ p. not (p.0 == number)) ps) ls cs
-  tied_without ps [] [] number tied none = tt
-  tied_without ps [] (c ∷ cs) number tied none = absurd tied
-  tied_without ps (l ∷ ls) [] number tied none = absurd tied
-  tied_without ps (l ∷ ls) (c ∷ cs) number tied none = ⊎_elim
-      (λ (y : (l.0.conn == number) ≡ true). let bad : Some l.0 ≡ None = rw y at none in cc)
-      (λ (n : (l.0.conn == number) ≡ false). (tied.0, less_ctx l.0.conn number ps n ∙ tied.1, tied_without ps ls cs number tied.2 (rw n at none)))
-      (cases_Bool (l.0.conn == number))
+  tied_without : (ps : Peers) (cs : List (CallContext V)) (number : ℕ) → All (OnPeer ps) cs → first_of number (lives_in cs) ≡ None
+      → All (OnPeer (filter (λ p. not (p.0 == number)) ps)) cs
+  tied_without ps [] number tied none = All-nil (OnPeer (filter (λ p. not (p.0 == number)) ps))
+  tied_without ps (c ∷ cs) number tied none = ⊎_elim
+      (λ (y : (c.name.conn == number) ≡ true). let bad : Some c.name ≡ None = rw y at none in cc)
+      (λ (n : (c.name.conn == number) ≡ false).
+      All-cons (OnPeer (filter (λ p. not (p.0 == number)) ps)) c cs (less_ctx c.name.conn number ps n ∙ All-head (OnPeer ps) c cs tied)
+      (tied_without ps cs number (All-tail (OnPeer ps) c cs tied) (rw n at none)))
+      (cases_Bool (c.name.conn == number))
 
   -- ---- all of it
 
-  pub tied_opened : (ps : Peers) (ls : Lives) (v : AllContexts V) (number : ℕ) (x : Id) → IsTied ps ls v → is_fresh x v ≡ true
-      → is_peer number (peers_of ps v.conns) ≡ false → IsTied (ps ++ (number, x) ∷ []) ls (standing_opened x v)
-  tied_opened ps ls v number x tied fresh none = record {
+  tied_opened : (ps : Peers) (v : AllContexts V) (number : ℕ) (x : Id) → IsTied ps v → is_fresh x v ≡ true
+      → is_peer number (peers_of ps v.conns) ≡ false → IsTied (ps ++ (number, x) ∷ []) (standing_opened x v)
+  tied_opened ps v number x tied fresh none = record {
     drained_is = tied.drained_is;
     conns_are = map_push (λ (c : ConnContext). c.id) v.conns (record { id = x; ended = v.drained }) ∙ ap (λ xs. xs ++ x ∷ []) tied.conns_are ∙ sym (map_push (λ (p : ℕ × Id). p.1) ps (number, x));
-    calls_are = tied_more ps (number, x) ls v.calls tied.calls_are;
+    calls_are = All-weaker (OnPeer ps) (OnPeer (ps ++ (number, x) ∷ [])) (λ c. ctx_more c.name.conn ps (number, x) c.conn) v.calls tied.calls_are;
     numbers_apart = no_two_pushed same_number number_turned ps (number, x) tied.numbers_apart (sym (peer_in number ps v.conns tied.conns_are) ∙ none);
     contexts_apart = no_two_pushed same_context context_turned ps (number, x) tied.contexts_apart (sym (any_map (λ z. same z x) (λ (p : ℕ × Id). p.1) ps)
         ∙ ap (list_any (λ z. same z x)) (sym tied.conns_are) ∙ any_map (λ z. same z x) (λ (c : ConnContext). c.id) v.conns ∙ unknown (is_conn x v.conns) (is_standing x v.calls) fresh);
@@ -150,50 +128,21 @@ module _ {V : Type 0} where
       unknown true b e = cc
       unknown false b e = refl
 
-  pub tied_begun : (ps : Peers) (ls : Lives) (v : AllContexts V) (id : CallId) (x conn : Id) (deadline : Option ℕ) (now : ℕ) (request_id : Option V) → IsTied ps ls v
-      → ctx_of id.conn ps ≡ Some conn → list_any (λ l. is_call l.0 id) ls ≡ false → IsTied ps (ls ++ (id, x) ∷ []) (standing_begun x conn deadline now request_id v)
-  tied_begun ps ls v id x conn deadline now request_id tied known none = record {
-    drained_is = tied.drained_is;
-    conns_are = tied.conns_are;
-    calls_are = tied_pushed ps ls v.calls (id, x) _ tied.calls_are refl known;
-    numbers_apart = tied.numbers_apart;
-    contexts_apart = tied.contexts_apart;
-    calls_apart = no_two_pushed same_id call_turned ls (id, x) tied.calls_apart none;
-  }
-
-  pub tied_gone : (text : V → List ℕ) (ps : Peers) (ls : Lives) (v : AllContexts V) (id : CallId) (x : Id) → IsTied ps ls v → AreApart v.calls → ctx_for id ls ≡ Some x
-      → IsTied ps (filter (λ l. not (is_call l.0 id)) ls) (standing_without x v)
-  tied_gone text ps ls v id x tied apart is = record {
-    drained_is = tied.drained_is;
-    conns_are = tied.conns_are;
-    calls_are = (tied_less text ps ls v.calls id x tied.calls_are apart tied.calls_apart is).0;
-    numbers_apart = tied.numbers_apart;
-    contexts_apart = tied.contexts_apart;
-    calls_apart = no_two_kept same_id (λ l. not (is_call l.0 id)) ls tied.calls_apart;
-  }
-
-  pub known_conn : (ps : Peers) (ls : Lives) (v : AllContexts V) (number : ℕ) (x : Id) → IsTied ps ls v → ctx_of number ps ≡ Some x → is_conn x v.conns ≡ true
-  known_conn ps ls v number x tied is =
+  pub known_conn : (ps : Peers) (v : AllContexts V) (number : ℕ) (x : Id) → IsTied ps v → ctx_of number ps ≡ Some x → is_conn x v.conns ≡ true
+  known_conn ps v number x tied is =
       sym (any_map (λ z. same z x) (λ (c : ConnContext). c.id) v.conns) ∙ ap (list_any (λ z. same z x)) tied.conns_are ∙ known_in number ps x is
 
-  pub tied_closed : (ps : Peers) (ls : Lives) (v : AllContexts V) (number : ℕ) (x : Id) → IsTied ps ls v → ctx_of number ps ≡ Some x → first_of number ls ≡ None
-      → IsTied (filter (λ p. not (p.0 == number)) ps) ls (standing_closed x v)
-  tied_closed ps ls v number x tied is none = record {
+  tied_closed : (ps : Peers) (v : AllContexts V) (number : ℕ) (x : Id) → IsTied ps v → ctx_of number ps ≡ Some x → first_of number (lives_in v.calls) ≡ None
+      → IsTied (filter (λ p. not (p.0 == number)) ps) (standing_closed x v)
+  tied_closed ps v number x tied is none = record {
     drained_is = tied.drained_is;
     conns_are = filter_map_both (λ z. not (same z x)) (λ (c : ConnContext). c.id) v.conns ∙ ap (filter (λ z. not (same z x))) tied.conns_are
         ∙ less_contexts number ps x is tied.numbers_apart tied.contexts_apart;
-    calls_are = tied_without ps ls v.calls number tied.calls_are none;
+    calls_are = tied_without ps v.calls number tied.calls_are none;
     numbers_apart = no_two_kept same_number (λ p. not (p.0 == number)) ps tied.numbers_apart;
     contexts_apart = no_two_kept same_context (λ p. not (p.0 == number)) ps tied.contexts_apart;
     calls_apart = tied.calls_apart;
   }
-
-pub no_ctx_for : (id : CallId) (ls : Lives) → ctx_for id ls ≡ None → list_any (λ l. is_call l.0 id) ls ≡ false
-no_ctx_for id [] is = refl
-no_ctx_for id (l ∷ ls) is = ⊎_elim
-    (λ (y : is_call l.0 id ≡ true). let bad : Some l.1 ≡ None = rw y at is in cc)
-    (λ (n : is_call l.0 id ≡ false). rw n (no_ctx_for id ls (rw n at is)))
-    (cases_Bool (is_call l.0 id))
 
 -- ---- the calls of a connection, one after another
 
@@ -268,44 +217,42 @@ pub not_known : (number : ℕ) (v : ContextsValue) (ps : Peers) (cs : List ConnC
 not_known number v ps cs is none = ap (is_peer number) (sym is) ∙ not_in number ps cs none
 
 module _ {V : Type 0} where
-  pub no_life : (text : V → List ℕ) (ps : Peers) (ls : Lives) (v : AllContexts V) (u : ContextsValue) (id : CallId) → IsTied ps ls v → contexts_of text ps ls v ≡ u
-      → ctx_for id ls ≡ None → is_life id u.calls ≡ false
-  no_life text ps ls v u id tied is none = ap (λ (x : ContextsValue). is_life id x.calls) (sym is) ∙ life_in text ps ls v.calls id tied.calls_are ∙ no_ctx_for id ls none
+  pub no_life : (text : V → List ℕ) (ps : Peers) (v : AllContexts V) (u : ContextsValue) (id : CallId) → contexts_of text ps v ≡ u
+      → ctx_for id (lives_in v.calls) ≡ None → is_life id u.calls ≡ false
+  no_life text ps v u id is none = ap (λ (x : ContextsValue). is_life id x.calls) (sym is) ∙ life_in text v.calls id ∙ no_ctx_for id v.calls none
 
-  pub no_such : (text : V → List ℕ) (ps : Peers) (ls : Lives) (v : AllContexts V) (u : ContextsValue) (id : CallId) → IsTied ps ls v → contexts_of text ps ls v ≡ u
-      → is_life id u.calls ≡ false → list_any (λ l. is_call l.0 id) ls ≡ false
-  no_such text ps ls v u id tied is none = sym (life_in text ps ls v.calls id tied.calls_are) ∙ ap (λ (x : ContextsValue). is_life id x.calls) is ∙ none
+  pub left_tied : (ps : Peers) (v w : AllContexts V) (x : Id) → w ≡ standing_without x v → IsTied ps v → IsTied ps w
+  left_tied ps v w x w_is tied = subst (IsTied ps) (sym w_is) (record {
+    drained_is = tied.drained_is;
+    conns_are = tied.conns_are;
+    calls_are = All-filter (λ c. not (same c.id x)) (OnPeer ps) v.calls tied.calls_are;
+    numbers_apart = tied.numbers_apart;
+    contexts_apart = tied.contexts_apart;
+    calls_apart = no_two_kept same_id (λ c. not (same c.id x)) v.calls tied.calls_apart;
+  })
 
-  pub left_tied : (ps : Peers) (lives left : List Life) (v w : AllContexts V) (id : CallId) (x : Id) → left ≡ filter (λ l. not (is_call l.id id)) lives
-      → w ≡ standing_without x v → IsTied ps (life_ties lives) v → AreApart v.calls → ctx_for id (life_ties lives) ≡ Some x → IsTied ps (life_ties left) w
-  left_tied ps lives left v w id x then_is w_is tied apart is =
-      subst (IsTied ps (life_ties left)) (sym w_is)
-      (subst (λ ls. IsTied ps ls (standing_without x v)) (sym (ap life_ties then_is ∙ filter_map_both (λ t. not (is_call t.0 id)) life_tie lives))
-      (tied_gone (λ y. []) ps (life_ties lives) v id x tied apart is))
-
-  pub left_value : (text : V → List ℕ) (ps : Peers) (lives left : List Life) (v w : AllContexts V) (u : ContextsValue) (id : CallId) (x : Id) → left ≡ filter (λ l. not (is_call l.id id)) lives
-      → w ≡ standing_without x v → IsTied ps (life_ties lives) v → AreApart v.calls → ctx_for id (life_ties lives) ≡ Some x → contexts_of text ps (life_ties lives) v ≡ u
-      → contexts_of text ps (life_ties left) w ≡ without id u
-  left_value text ps lives left v w u id x then_is w_is tied apart is u_is =
-      ap (contexts_of text ps (life_ties left)) w_is
-      ∙ ap (λ ls. contexts_of text ps ls (standing_without x v)) (ap life_ties then_is ∙ filter_map_both (λ t. not (is_call t.0 id)) life_tie lives)
-      ∙ ap (contexts_value (is_some v.drained) (peers_of ps v.conns)) (tied_less text ps (life_ties lives) v.calls id x tied.calls_are apart tied.calls_apart is).1
+  pub left_value : (text : V → List ℕ) (ps : Peers) (v w : AllContexts V) (u : ContextsValue) (id : CallId) (x : Id) → w ≡ standing_without x v
+      → Agree id x v.calls → contexts_of text ps v ≡ u → contexts_of text ps w ≡ without id u
+  left_value text ps v w u id x w_is all u_is =
+      ap (contexts_of text ps) w_is
+      ∙ ap (λ cs. contexts_value (is_some v.drained) (peers_of ps v.conns) (lives_of text cs)) (filters_agree (λ c. same c.id x) (λ c. is_call c.name id) v.calls all)
+      ∙ ap (contexts_value (is_some v.drained) (peers_of ps v.conns)) (filter_map_both (λ (l : LifeValue). not (is_call l.id id)) (life_of text) v.calls)
       ∙ ap (without id) u_is
 
-  pub peer_gone : {H : Type 0} (peers left : List (Peer H)) (ls : Lives) (v w : AllContexts V) (number : ℕ) (x : Id) → left ≡ filter (λ p. not (p.number == number)) peers
-      → w ≡ standing_closed x v → IsTied (peer_ties peers) ls v → ctx_of number (peer_ties peers) ≡ Some x → first_of number ls ≡ None → IsTied (peer_ties left) ls w
-  peer_gone peers left ls v w number x then_is w_is tied is none =
-      subst (IsTied (peer_ties left) ls) (sym w_is)
-      (subst (λ ps. IsTied ps ls (standing_closed x v)) (sym (ap peer_ties then_is ∙ filter_map_both (λ t. not (t.0 == number)) peer_tie peers))
-      (tied_closed (peer_ties peers) ls v number x tied is none))
+  pub peer_gone : {H : Type 0} (peers left : List (Peer H)) (v w : AllContexts V) (number : ℕ) (x : Id) → left ≡ filter (λ p. not (p.number == number)) peers
+      → w ≡ standing_closed x v → IsTied (peer_ties peers) v → ctx_of number (peer_ties peers) ≡ Some x → first_of number (lives_in v.calls) ≡ None → IsTied (peer_ties left) w
+  peer_gone peers left v w number x then_is w_is tied is none =
+      subst (IsTied (peer_ties left)) (sym w_is)
+      (subst (λ ps. IsTied ps (standing_closed x v)) (sym (ap peer_ties then_is ∙ filter_map_both (λ t. not (t.0 == number)) peer_tie peers))
+      (tied_closed (peer_ties peers) v number x tied is none))
 
-  pub peer_gone_value : {H : Type 0} (text : V → List ℕ) (peers left : List (Peer H)) (ls : Lives) (v w : AllContexts V) (u : ContextsValue) (number : ℕ) (x : Id)
-      → left ≡ filter (λ p. not (p.number == number)) peers → w ≡ standing_closed x v → IsTied (peer_ties peers) ls v → ctx_of number (peer_ties peers) ≡ Some x
-      → contexts_of text (peer_ties peers) ls v ≡ u → first_life number u.calls ≡ None → contexts_of text (peer_ties left) ls w ≡ closed number u
-  peer_gone_value text peers left ls v w u number x then_is w_is tied is u_is none =
-      ap (contexts_of text (peer_ties left) ls) w_is
-      ∙ ap (λ ps. contexts_of text ps ls (standing_closed x v)) (ap peer_ties then_is ∙ filter_map_both (λ t. not (t.0 == number)) peer_tie peers)
-      ∙ ap (λ cs. contexts_value (is_some v.drained) cs (lives_of text ls v.calls)) (peers_less number x (peer_ties peers) v.conns tied.conns_are is tied.numbers_apart tied.contexts_apart)
+  pub peer_gone_value : {H : Type 0} (text : V → List ℕ) (peers left : List (Peer H)) (v w : AllContexts V) (u : ContextsValue) (number : ℕ) (x : Id)
+      → left ≡ filter (λ p. not (p.number == number)) peers → w ≡ standing_closed x v → IsTied (peer_ties peers) v → ctx_of number (peer_ties peers) ≡ Some x
+      → contexts_of text (peer_ties peers) v ≡ u → first_life number u.calls ≡ None → contexts_of text (peer_ties left) w ≡ closed number u
+  peer_gone_value text peers left v w u number x then_is w_is tied is u_is none =
+      ap (contexts_of text (peer_ties left)) w_is
+      ∙ ap (λ ps. contexts_of text ps (standing_closed x v)) (ap peer_ties then_is ∙ filter_map_both (λ t. not (t.0 == number)) peer_tie peers)
+      ∙ ap (λ cs. contexts_value (is_some v.drained) cs (lives_of text v.calls)) (peers_less number x (peer_ties peers) v.conns tied.conns_are is tied.numbers_apart tied.contexts_apart)
       ∙ ap (λ (y : ContextsValue). contexts_value y.drained (filter (λ p. not (p.number == number)) y.conns) y.calls) u_is
       ∙ ap (contexts_value u.drained (filter (λ p. not (p.number == number)) u.conns)) (sym (others_stay number u.calls none))
 
@@ -326,77 +273,75 @@ module _ {H : Type 0} where
   ties_set (p ∷ ps) (suc i) x y same is = ap (λ ts. peer_tie p ∷ ts) (ties_set ps i x y same is)
 
 module _ {V : Type 0} where
-  pub begun_tied : (ps qs : Peers) (lives more : List Life) (v w : AllContexts V) (l : Life) (conn : Id) (deadline : Option ℕ) (now : ℕ) (request_id : Option V) → qs ≡ ps
-      → more ≡ lives ++ l ∷ [] → w ≡ standing_begun l.ctx conn deadline now request_id v → IsTied ps (life_ties lives) v → ctx_of l.id.conn ps ≡ Some conn
-      → list_any (λ t. is_call t.0 l.id) (life_ties lives) ≡ false → IsTied qs (life_ties more) w
-  begun_tied ps qs lives more v w l conn deadline now request_id qs_are more_is w_is tied known none =
-      subst (λ xs. IsTied xs (life_ties more) w) (sym qs_are)
-      (subst (IsTied ps (life_ties more)) (sym w_is)
-      (subst (λ ls. IsTied ps ls (standing_begun l.ctx conn deadline now request_id v)) (sym (ap life_ties more_is ∙ map_push life_tie lives l))
-      (tied_begun ps (life_ties lives) v l.id l.ctx conn deadline now request_id tied known none)))
+  pub begun_tied : (text : V → List ℕ) (ps qs : Peers) (v w : AllContexts V) (u : ContextsValue) (id : CallId) (x conn : Id) (deadline : Option ℕ) (now : ℕ) (request_id : Option V) → qs ≡ ps
+      → w ≡ standing_begun x id conn deadline now request_id v → IsTied ps v → ctx_of id.conn ps ≡ Some conn
+      → contexts_of text ps v ≡ u → is_life id u.calls ≡ false → IsTied qs w
+  begun_tied text ps qs v w u id x conn deadline now request_id qs_are w_is tied known u_is none =
+      subst (λ xs. IsTied xs w) (sym qs_are)
+      (subst (IsTied ps) (sym w_is)
+      (record {
+        drained_is = tied.drained_is;
+        conns_are = tied.conns_are;
+        calls_are = All-push (OnPeer ps) v.calls _ tied.calls_are known;
+        numbers_apart = tied.numbers_apart;
+        contexts_apart = tied.contexts_apart;
+        calls_apart = no_two_pushed same_id call_turned v.calls _ tied.calls_apart
+            (sym (life_in text v.calls id) ∙ ap (λ (y : ContextsValue). is_life id y.calls) u_is ∙ none);
+      }))
 
-  pub begun_value : (text : V → List ℕ) (ps qs : Peers) (lives more : List Life) (v w : AllContexts V) (u : ContextsValue) (a : ArrivedCall) (l : Life) (conn : Id) (deadline : Option ℕ) (now : ℕ)
-      (request_id : Option V) → qs ≡ ps → more ≡ lives ++ l ∷ [] → w ≡ standing_begun l.ctx conn deadline now request_id v → IsTied ps (life_ties lives) v → ctx_of l.id.conn ps ≡ Some conn
-      → contexts_of text ps (life_ties lives) v ≡ u → deadline ≡ a.deadline → option_map text request_id ≡ a.request_id → contexts_of text qs (life_ties more) w ≡ begun now l.id a u
-  begun_value text ps qs lives more v w u a l conn deadline now request_id qs_are more_is w_is tied known u_is deadline_is id_is =
-      ap (λ xs. contexts_of text xs (life_ties more) w) qs_are
-      ∙ ap (contexts_of text ps (life_ties more)) w_is
-      ∙ ap (λ ls. contexts_of text ps ls (standing_begun l.ctx conn deadline now request_id v)) (ap life_ties more_is ∙ map_push life_tie lives l)
-      ∙ ap (contexts_value (is_some v.drained) (peers_of ps v.conns)) (lives_pushed text ps (life_ties lives) v.calls (life_tie l) _ tied.calls_are)
-      ∙ ap (λ b. contexts_value (is_some v.drained) (peers_of ps v.conns) (lives_of text (life_ties lives) v.calls
-      ++ record { id = l.id; deadline = deadline; request_id = option_map text request_id; ended = option_or b (if_due now deadline); branches = [] } ∷ []))
-      (peer_ended l.id.conn conn (by_drain (is_some v.drained)) ps v.conns tied.conns_are known tied.contexts_apart)
+  pub begun_value : (text : V → List ℕ) (ps qs : Peers) (v w : AllContexts V) (u : ContextsValue) (a : ArrivedCall) (id : CallId) (x conn : Id) (deadline : Option ℕ) (now : ℕ)
+      (request_id : Option V) → qs ≡ ps → w ≡ standing_begun x id conn deadline now request_id v → IsTied ps v → ctx_of id.conn ps ≡ Some conn
+      → contexts_of text ps v ≡ u → deadline ≡ a.deadline → option_map text request_id ≡ a.request_id → contexts_of text qs w ≡ begun now id a u
+  begun_value text ps qs v w u a id x conn deadline now request_id qs_are w_is tied known u_is deadline_is id_is =
+      ap (λ xs. contexts_of text xs w) qs_are
+      ∙ ap (contexts_of text ps) w_is
+      ∙ ap (contexts_value (is_some v.drained) (peers_of ps v.conns)) (map_push (life_of text) v.calls _)
+      ∙ ap (λ b. contexts_value (is_some v.drained) (peers_of ps v.conns) (lives_of text v.calls
+      ++ record { id = id; deadline = deadline; request_id = option_map text request_id; ended = option_or b (if_due now deadline); branches = [] } ∷ []))
+      (peer_ended id.conn conn (by_drain (is_some v.drained)) ps v.conns tied.conns_are known tied.contexts_apart)
       ∙ ap (λ (y : ContextsValue). contexts_value y.drained y.conns (y.calls
-      ++ record { id = l.id; deadline = deadline; request_id = option_map text request_id; ended = option_or (ends_of y l.id.conn) (if_due now deadline); branches = [] } ∷ [])) u_is
-      ∙ ap (λ b. contexts_value u.drained u.conns (u.calls ++ record { id = l.id; deadline = deadline; request_id = option_map text request_id; ended = option_or (ends_of u l.id.conn) b; branches = [] } ∷ [])) (due_same now deadline)
-      ∙ ap (λ d. contexts_value u.drained u.conns (u.calls ++ record { id = l.id; deadline = d; request_id = option_map text request_id; ended = option_or (ends_of u l.id.conn) (by_deadline now d); branches = [] } ∷ [])) deadline_is
-      ∙ ap (λ r. contexts_value u.drained u.conns (u.calls ++ record { id = l.id; deadline = a.deadline; request_id = r; ended = option_or (ends_of u l.id.conn) (by_deadline now a.deadline); branches = [] } ∷ [])) id_is
+      ++ record { id = id; deadline = deadline; request_id = option_map text request_id; ended = option_or (ends_of y id.conn) (if_due now deadline); branches = [] } ∷ [])) u_is
+      ∙ ap (λ b. contexts_value u.drained u.conns (u.calls ++ record { id = id; deadline = deadline; request_id = option_map text request_id; ended = option_or (ends_of u id.conn) b; branches = [] } ∷ [])) (due_same now deadline)
+      ∙ ap (λ d. contexts_value u.drained u.conns (u.calls ++ record { id = id; deadline = d; request_id = option_map text request_id; ended = option_or (ends_of u id.conn) (by_deadline now d); branches = [] } ∷ [])) deadline_is
+      ∙ ap (λ r. contexts_value u.drained u.conns (u.calls ++ record { id = id; deadline = a.deadline; request_id = r; ended = option_or (ends_of u id.conn) (by_deadline now a.deadline); branches = [] } ∷ [])) id_is
 
-  pub opened_tied : {H : Type 0} (peers more : List (Peer H)) (lives : Lives) (v w : AllContexts V) (u : ContextsValue) (text : V → List ℕ) (p : Peer H) → more ≡ peers ++ p ∷ []
-      → w ≡ standing_opened p.ctx v → IsTied (peer_ties peers) lives v → is_fresh p.ctx v ≡ true → contexts_of text (peer_ties peers) lives v ≡ u → is_peer p.number u.conns ≡ false
-      → IsTied (peer_ties more) lives w
-  opened_tied peers more lives v w u text p more_is w_is tied fresh u_is none =
-      subst (IsTied (peer_ties more) lives) (sym w_is)
-      (subst (λ ps. IsTied ps lives (standing_opened p.ctx v)) (sym (ap peer_ties more_is ∙ map_push peer_tie peers p))
-      (tied_opened (peer_ties peers) lives v p.number p.ctx tied fresh (ap (λ (y : ContextsValue). is_peer p.number y.conns) u_is ∙ none)))
+  pub opened_tied : {H : Type 0} (peers more : List (Peer H)) (v w : AllContexts V) (u : ContextsValue) (text : V → List ℕ) (p : Peer H) → more ≡ peers ++ p ∷ []
+      → w ≡ standing_opened p.ctx v → IsTied (peer_ties peers) v → is_fresh p.ctx v ≡ true → contexts_of text (peer_ties peers) v ≡ u → is_peer p.number u.conns ≡ false
+      → IsTied (peer_ties more) w
+  opened_tied peers more v w u text p more_is w_is tied fresh u_is none =
+      subst (IsTied (peer_ties more)) (sym w_is)
+      (subst (λ ps. IsTied ps (standing_opened p.ctx v)) (sym (ap peer_ties more_is ∙ map_push peer_tie peers p))
+      (tied_opened (peer_ties peers) v p.number p.ctx tied fresh (ap (λ (y : ContextsValue). is_peer p.number y.conns) u_is ∙ none)))
 
-  pub opened_value : {H : Type 0} (peers more : List (Peer H)) (lives : Lives) (v w : AllContexts V) (u : ContextsValue) (text : V → List ℕ) (p : Peer H) → more ≡ peers ++ p ∷ []
-      → w ≡ standing_opened p.ctx v → IsTied (peer_ties peers) lives v → contexts_of text (peer_ties peers) lives v ≡ u → contexts_of text (peer_ties more) lives w ≡ opened p.number u
-  opened_value peers more lives v w u text p more_is w_is tied u_is =
-      ap (contexts_of text (peer_ties more) lives) w_is
-      ∙ ap (λ ps. contexts_of text ps lives (standing_opened p.ctx v)) (ap peer_ties more_is ∙ map_push peer_tie peers p)
-      ∙ ap (λ ns. contexts_value (is_some v.drained) ns (lives_of text lives v.calls)) (peers_pushed (peer_ties peers) v.conns (peer_tie p) (record { id = p.ctx; ended = v.drained }) tied.conns_are)
-      ∙ ap (λ e. contexts_value (is_some v.drained) (peers_of (peer_ties peers) v.conns ++ peer p.number e ∷ []) (lives_of text lives v.calls)) tied.drained_is
+  pub opened_value : {H : Type 0} (peers more : List (Peer H)) (v w : AllContexts V) (u : ContextsValue) (text : V → List ℕ) (p : Peer H) → more ≡ peers ++ p ∷ []
+      → w ≡ standing_opened p.ctx v → IsTied (peer_ties peers) v → contexts_of text (peer_ties peers) v ≡ u → contexts_of text (peer_ties more) w ≡ opened p.number u
+  opened_value peers more v w u text p more_is w_is tied u_is =
+      ap (contexts_of text (peer_ties more)) w_is
+      ∙ ap (λ ps. contexts_of text ps (standing_opened p.ctx v)) (ap peer_ties more_is ∙ map_push peer_tie peers p)
+      ∙ ap (λ ns. contexts_value (is_some v.drained) ns (lives_of text v.calls)) (peers_pushed (peer_ties peers) v.conns (peer_tie p) (record { id = p.ctx; ended = v.drained }) tied.conns_are)
+      ∙ ap (λ e. contexts_value (is_some v.drained) (peers_of (peer_ties peers) v.conns ++ peer p.number e ∷ []) (lives_of text v.calls)) tied.drained_is
       ∙ ap (opened p.number) u_is
 
 -- ---- what is over
 
 module _ {V : Type 0} where
   -- the call of a context that is over is found, and over
-  pub over_found : (text : V → List ℕ) (ps : Peers) (ls : Lives) (cs : List (CallContext V)) (x : Id) → AreTied ps ls cs → AreApart cs → list_any (standing_ended x) cs ≡ true
-      → (id : CallId) × (call_with x ls ≡ Some id) × (list_any (has_ended id) (lives_of text ls cs) ≡ true)
-  over_found text ps [] [] x tied apart any = absurd (cc)
-  over_found text ps [] (c ∷ cs) x tied apart any = absurd tied
-  over_found text ps (l ∷ ls) [] x tied apart any = absurd tied
-  over_found text ps (l ∷ ls) (c ∷ cs) x tied apart any = ⊎_elim
+  pub over_found : (text : V → List ℕ) (cs : List (CallContext V)) (x : Id) → AreApart cs → list_any (standing_ended x) cs ≡ true
+      → (id : CallId) × (call_with x (lives_in cs) ≡ Some id) × (list_any (has_ended id) (lives_of text cs) ≡ true)
+  over_found text [] x apart any = absurd (cc)
+  over_found text (c ∷ cs) x apart any = ⊎_elim
       (λ (y : same c.id x ≡ true).
-      let here : same l.1 x ≡ true = ap (λ z. same z x) (sym tied.0) ∙ y in
       let none : list_any (standing_ended x) cs ≡ false = no_more cs (subst (λ z. is_standing z cs ≡ false) (same_true c.id x y) apart.0) in
       let over : is_standing_over c ≡ true = sym (or-false (is_standing_over c)) ∙ ap (λ b. is_standing_over c || b) (sym none) ∙ rw y at any in
-      (l.0, rw here refl, rw (call_itself l.0, over) refl))
+      (c.name, rw y refl, rw (call_itself c.name, over) refl))
       (λ (n : same c.id x ≡ false).
-      let there : same l.1 x ≡ false = ap (λ z. same z x) (sym tied.0) ∙ n in
-      let r = over_found text ps ls cs x tied.2 apart.1 (rw n at any) in
-      (r.0, rw there r.1, ap (λ b. has_ended r.0 (life_with text l.0 c) || b) r.2 ∙ or_true (has_ended r.0 (life_with text l.0 c))))
+      let r = over_found text cs x apart.1 (rw n at any) in
+      (r.0, rw n r.1, ap (λ b. has_ended r.0 (life_of text c) || b) r.2 ∙ or_true (has_ended r.0 (life_of text c))))
       (cases_Bool (same c.id x))
     where
       no_more : (ds : List (CallContext V)) → is_standing x ds ≡ false → list_any (standing_ended x) ds ≡ false
       no_more [] none = refl
       no_more (d ∷ ds) none = let two = or_parts (same d.id x) (is_standing x ds) none in rw two.0 (no_more ds two.1)
 
-  pub none_over : (text : V → List ℕ) (ps : Peers) (ls : Lives) (cs : List (CallContext V)) → AreTied ps ls cs → list_any is_standing_over cs ≡ false → list_any is_over (lives_of text ls cs) ≡ false
-  none_over text ps [] cs tied none = refl
-  none_over text ps (l ∷ ls) [] tied none = refl
-  none_over text ps (l ∷ ls) (c ∷ cs) tied none =
-      let two = or_parts (is_standing_over c) (list_any is_standing_over cs) none in
-      ap (λ b. b || list_any is_over (lives_of text ls cs)) two.0 ∙ none_over text ps ls cs tied.2 two.1
+  pub none_over : (text : V → List ℕ) (cs : List (CallContext V)) → list_any is_standing_over cs ≡ false → list_any is_over (lives_of text cs) ≡ false
+  none_over text cs none = any_map is_over (life_of text) cs ∙ none

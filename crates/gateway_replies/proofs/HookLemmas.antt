@@ -1,12 +1,13 @@
 -- The hooks of connections and of calls, beside their contexts.
-use Rattle.std.proofs.Common.{◌≡◌, ℕ, ◌<◌, zero, suc, refl, sym, ap, ◌∙◌, List, [], ◌∷◌, ◌++◌, append-nil, Option, Some, None, true, false, ⊎_elim, inl, inr, subst, map, length, arith}
-use Rattle.std.specs.Prelude.{◌⊎◌, IfNone, IfOk, IfSome, OnErr, OnOk, Result, Ok, Err, ◌==◌, ◌||◌, not, if◌then◌else◌, filter, slice_set, slice_index_or}
+use Rattle.std.proofs.Common.{◌≡◌, ℕ, ◌<◌, zero, suc, refl, sym, ap, ◌∙◌, List, [], ◌∷◌, ◌++◌, append-nil, Option, Some, None, true, false, ⊎_elim, inl, inr, subst, length, arith}
+use Rattle.std.specs.Prelude.{◌⊎◌, IfNone, IfOk, IfSome, OnErr, OnOk, Result, Ok, Err, ◌==◌, not, if◌then◌else◌, filter, slice_set, slice_index_or}
 use Rattle.std.specs.List.{list_any}
 use Rattle.std.proofs.lemmas.Bool.{cases_Bool, eqb-true, or_parts}
 use Rattle.std.proofs.lemmas.List.{map_push}
+use Rattle.std.proofs.lemmas.List.Elements.{All-head, All-tail}
 use Rattle.std.proofs.lemmas.Option.{same_Some}
 use Rattle.context_tree.specs.Context.{Id, same}
-use Rattle.call_contexts.specs.Standing.{AreApart, WithHooks, with_standing, hook_for, is_call as is_standing}
+use Rattle.call_contexts.specs.Standing.{Lives, WithHooks, with_standing, ctx_for, first_of, hook_for, lives_in}
 use Rattle.http_pieces.specs.Request.{most_requests}
 use Rattle.std.specs.declared.alloc.AllocError.{AllocError}
 use Rattle.gateway_model.specs.declared.ending.Ending.{Ending}
@@ -16,15 +17,12 @@ use Rattle.gateway_theory.specs.lemmas.Cases.{all_stay, sym_eqb}
 use Rattle.gateway_theory.specs.lemmas.LimitLemmas.{same_call}
 use Rattle.gateway_replies.specs.declared.contexts.peer.Peer.{Peer}
 use Rattle.gateway_replies.specs.declared.contexts.cancelled.CancelledBy.{CancelledBy}
-use Rattle.gateway_replies.specs.declared.contexts.life.Life.{Life}
-use Rattle.gateway_replies.specs.Contexts.{AllContexts, AreTied, CallContext, ContextsValue, Lives, NoTwo, Peers, ctx_for, ctx_of, first_of, same_id}
+use Rattle.gateway_replies.specs.Contexts.{AllContexts, CallContext, ContextsValue, ctx_of}
 use Rattle.gateway_replies.specs.Hooks.{BringsHooks, Called, DropsHooks, GivesBytes, HookedContexts, Hooks, KeepsHooks, LosesHook, KeepsStocks, Stocks, TakesHook, hook_of, hooked, hooks_but, hooks_of_others, stock_in, stock_of}
-use Rattle.gateway_replies.specs.Ties.{AreHooked, Takes, hooks_of, life_tie, life_ties, peer_ties, stock_tie, stock_ties}
+use Rattle.gateway_replies.specs.Ties.{AreHooked, Takes, hooks_of, peer_ties, stock_tie, stock_ties}
 use Rattle.gateway_replies.proofs.ListLemmas.{filter_map_both}
 use Rattle.gateway_replies.proofs.PeerLemmas.{first_same, rest_same}
-use Rattle.gateway_replies.proofs.ContextLemmas.{no_ctx_for, stands_in}
-use Rattle.call_contexts.proofs.Lists.{any_map}
-use Rattle.call_contexts.proofs.Trees.{same_refl as same_itself, same_true}
+use Rattle.gateway_replies.proofs.ContextLemmas.{Agree, no_ctx_for}
 
 -- ---- the hooks of calls
 
@@ -36,93 +34,55 @@ first_of_it number (l ∷ ls) id is = ⊎_elim
     (λ (n : (l.0.conn == number) ≡ false). first_of_it number ls id (rw n at is))
     (cases_Bool (l.0.conn == number))
 
-module _ {V : Type 0} where
-  -- as many contexts as calls have this one
-  as_tied : (ps : Peers) (ls : Lives) (cs : List (CallContext V)) (x : Id) → AreTied ps ls cs → list_any (λ (c : CallContext V). same c.id x) cs ≡ list_any (λ (l : CallId × Id). same l.1 x) ls
-  as_tied ps [] [] x tied = refl
-  as_tied ps [] (c ∷ cs) x tied = absurd tied
-  as_tied ps (l ∷ ls) [] x tied = absurd tied
-  as_tied ps (l ∷ ls) (c ∷ cs) x tied = ap (λ z. same z x || list_any (λ (d : CallContext V). same d.id x) cs) tied.0
-      ∙ ap (λ b. same l.1 x || b) (as_tied ps ls cs x tied.2)
-
-  -- the context of another call is another one
-  far_from : (ps : Peers) (ls : Lives) (cs : List (CallContext V)) (c : CallContext V) (id : CallId) (x : Id) → AreTied ps ls cs → is_standing c.id cs ≡ false → ctx_for id ls ≡ Some x → same c.id x ≡ false
-  far_from ps ls cs c id x tied apart there = ⊎_elim
-      (λ (e : same c.id x ≡ true).
-      let bad : is_standing x cs ≡ false = subst (λ z. is_standing z cs ≡ false) (same_true c.id x e) apart in
-      let clash : true ≡ false = sym (stands_in ps ls cs id x tied there) ∙ bad in cc)
-      (λ (f : same c.id x ≡ false). f)
-      (cases_Bool (same c.id x))
-
-module _ {H : Type 0} where
-  -- one that is not there stays away
-  hook_in : (id : CallId) (ls : Lives) (hs : List (Id × H)) → AreHooked ls hs → list_any (λ h. is_call h.0 id) (hooks_of ls hs) ≡ list_any (λ l. is_call l.0 id) ls
-  hook_in id [] hs hooked = refl
-  hook_in id (l ∷ ls) [] hooked = cc
-  hook_in id (l ∷ ls) (h ∷ hs) hooked = ap (λ b. is_call l.0 id || b) (hook_in id ls hs (rest_same _ _ _ _ hooked))
+module _ {V H : Type 0} where
+  -- one that is not there has no hook
+  none_hooked : (id : CallId) (cs : List (CallContext V)) (hs : List (Id × H)) → list_any (λ c. is_call c.name id) cs ≡ false → list_any (λ h. is_call h.0 id) (hooks_of (lives_in cs) hs) ≡ false
+  none_hooked id [] hs none = refl
+  none_hooked id (c ∷ cs) [] none = refl
+  none_hooked id (c ∷ cs) (h ∷ hs) none =
+      let two = or_parts (is_call c.name id) (list_any (λ d. is_call d.name id) cs) none in
+      rw two.0 (none_hooked id cs hs two.1)
 
   -- a call begins with a hook
-  pub hooked_more : (ls : Lives) (hs : List (Id × H)) (l : CallId × Id) (hook : H) → AreHooked ls hs → AreHooked (ls ++ l ∷ []) (hs ++ (l.1, hook) ∷ [])
-  hooked_more ls hs l hook hooked = map_push (λ (h : Id × H). h.0) hs (l.1, hook) ∙ ap (λ ids. ids ++ l.1 ∷ []) hooked ∙ sym (map_push (λ (m : CallId × Id). m.1) ls l)
-
-  pub hooks_more : (ls : Lives) (hs : List (Id × H)) (l : CallId × Id) (hook : H) → AreHooked ls hs → hooks_of (ls ++ l ∷ []) (hs ++ (l.1, hook) ∷ []) ≡ hooks_of ls hs ++ (l.0, hook) ∷ []
-  hooks_more [] [] l hook hooked = refl
-  hooks_more [] (h ∷ hs) l hook hooked = cc
-  hooks_more (m ∷ ms) [] l hook hooked = cc
-  hooks_more (m ∷ ms) (h ∷ hs) l hook hooked = ap (λ xs. (m.0, h.1) ∷ xs) (hooks_more ms hs l hook (rest_same _ _ _ _ hooked))
-
-  none_hooked_there : {V : Type 0} (ps : Peers) (ls : Lives) (cs : List (CallContext V)) (hs : List (Id × H)) (x : Id) → AreTied ps ls cs → AreHooked ls hs
-      → list_any (λ (c : CallContext V). same c.id x) cs ≡ false → list_any (λ (h : Id × H). same h.0 x) hs ≡ false
-  none_hooked_there ps ls cs hs x tied hooked none = sym (any_map (λ z. same z x) (λ (h : Id × H). h.0) hs) ∙ ap (list_any (λ z. same z x)) hooked
-      ∙ any_map (λ z. same z x) (λ (l : CallId × Id). l.1) ls ∙ sym (as_tied ps ls cs x tied) ∙ none
+  pub hooks_more : (cs : List (CallContext V)) (hs : List (Id × H)) (l : CallId × Id) (h : Id × H) → AreHooked cs hs
+      → hooks_of (lives_in cs ++ l ∷ []) (hs ++ h ∷ []) ≡ hooks_of (lives_in cs) hs ++ (l.0, h.1) ∷ []
+  hooks_more [] [] l h hooked = refl
+  hooks_more [] (k ∷ hs) l h hooked = cc
+  hooks_more (c ∷ cs) [] l h hooked = cc
+  hooks_more (c ∷ cs) (k ∷ hs) l h hooked = ap (λ xs. (c.name, k.1) ∷ xs) (hooks_more cs hs l h (rest_same _ _ _ _ hooked))
 
   -- without the call
-  pub hooks_less : {V : Type 0} (ps : Peers) (ls : Lives) (cs : List (CallContext V)) (hs : List (Id × H)) (id : CallId) (x : Id) → AreTied ps ls cs → AreApart cs → NoTwo same_id ls → AreHooked ls hs
-      → ctx_for id ls ≡ Some x
-      → AreHooked (filter (λ l. not (is_call l.0 id)) ls) (filter (λ h. not (same h.0 x)) hs)
-      × (hooks_of (filter (λ l. not (is_call l.0 id)) ls) (filter (λ h. not (same h.0 x)) hs) ≡ hooks_but id (hooks_of ls hs))
-  hooks_less ps [] cs hs id x tied apart calls hooked is = cc
-  hooks_less ps (l ∷ ls) [] hs id x tied apart calls hooked is = absurd tied
-  hooks_less ps (l ∷ ls) (c ∷ cs) [] id x tied apart calls hooked is = cc
-  hooks_less {V = V} ps (l ∷ ls) (c ∷ cs) (h ∷ hs) id x tied apart calls hooked is = ⊎_elim
-      (λ (y : is_call l.0 id ≡ true).
-      let id_is : l.0 ≡ id = same_call l.0 id y in
-      let x_is : l.1 ≡ x = same_Some l.1 x (rw y at is) in
-      let its : same h.0 x ≡ true = ap (λ z. same z x) (first_same _ _ _ _ hooked ∙ x_is) ∙ same_itself x in
-      let no_call : list_any (λ (m : CallId × Id). is_call m.0 id) ls ≡ false = subst (λ k. list_any (λ (m : CallId × Id). is_call m.0 k) ls ≡ false) id_is calls.0 in
-      let no_ctx : list_any (λ (d : CallContext V). same d.id x) cs ≡ false = subst (λ z. list_any (λ (d : CallContext V). same d.id z) cs ≡ false) (tied.0 ∙ x_is) apart.0 in
-      let no_hook : list_any (λ (k : Id × H). same k.0 x) hs ≡ false = none_hooked_there ps ls cs hs x tied.2 (rest_same _ _ _ _ hooked) no_ctx in
-      let ls_are : filter (λ (m : CallId × Id). not (is_call m.0 id)) ls ≡ ls = all_stay (λ (m : CallId × Id). is_call m.0 id) ls no_call in
-      let hs_are : filter (λ (k : Id × H). not (same k.0 x)) hs ≡ hs = all_stay (λ (k : Id × H). same k.0 x) hs no_hook in
-      let stays : filter (λ (k : CallId × H). not (is_call k.0 id)) (hooks_of ls hs) ≡ hooks_of ls hs =
-      all_stay (λ (k : CallId × H). is_call k.0 id) (hooks_of ls hs) (hook_in id ls hs (rest_same _ _ _ _ hooked) ∙ no_call) in
-      rw (y, its, ls_are, hs_are, stays) (rest_same _ _ _ _ hooked, refl))
-      (λ (n : is_call l.0 id ≡ false).
-      let there : ctx_for id ls ≡ Some x = rw n at is in
-      let far : same h.0 x ≡ false = ap (λ z. same z x) (first_same _ _ _ _ hooked ∙ sym tied.0) ∙ far_from ps ls cs c id x tied.2 apart.0 there in
-      let rest = hooks_less ps ls cs hs id x tied.2 apart.1 calls.1 (rest_same _ _ _ _ hooked) there in
-      rw (n, far) (
-        ap (λ ids. h.0 ∷ ids) rest.0 ∙ ap (λ i. i ∷ map (λ (m : CallId × Id). m.1) (filter (λ (m : CallId × Id). not (is_call m.0 id)) ls)) (first_same _ _ _ _ hooked),
-        ap (λ k. (l.0, h.1) ∷ k) rest.1,
-      ))
-      (cases_Bool (is_call l.0 id))
+  pub hooks_less : (cs : List (CallContext V)) (hs : List (Id × H)) (id : CallId) (x : Id) → AreHooked cs hs → Agree id x cs
+      → hooks_of (lives_in (filter (λ c. not (same c.id x)) cs)) (filter (λ h. not (same h.0 x)) hs) ≡ hooks_but id (hooks_of (lives_in cs) hs)
+  hooks_less [] hs id x hooked all = refl
+  hooks_less (c ∷ cs) [] id x hooked all = cc
+  hooks_less (c ∷ cs) (h ∷ hs) id x hooked all =
+      let here : same c.id x ≡ is_call c.name id = All-head (λ (d : CallContext V). same d.id x ≡ is_call d.name id) c cs all in
+      let there : same h.0 x ≡ is_call c.name id = ap (λ z. same z x) (first_same _ _ _ _ hooked) ∙ here in
+      let rest = hooks_less cs hs id x (rest_same _ _ _ _ hooked) (All-tail (λ (d : CallContext V). same d.id x ≡ is_call d.name id) c cs all) in
+      ⊎_elim
+      (λ (y : is_call c.name id ≡ true). let c_is : same c.id x ≡ true = here ∙ y in let h_is : same h.0 x ≡ true = there ∙ y in rw (y, c_is, h_is) rest)
+      (λ (n : is_call c.name id ≡ false).
+      let c_is : same c.id x ≡ false = here ∙ n in
+      let h_is : same h.0 x ≡ false = there ∙ n in
+      rw (n, c_is, h_is) (ap (λ k. (c.name, h.1) ∷ k) rest))
+      (cases_Bool (is_call c.name id))
 
   -- the hook on the context of a call is the call's
-  pub its_hook : {V : Type 0} (ps : Peers) (ls : Lives) (cs : List (CallContext V)) (hs : List (Id × H)) (id : CallId) (x : Id) → AreTied ps ls cs → AreApart cs → AreHooked ls hs
-      → ctx_for id ls ≡ Some x → hook_for x hs ≡ hook_of id (hooks_of ls hs)
-  its_hook ps [] cs hs id x tied apart hooked is = cc
-  its_hook ps (l ∷ ls) [] hs id x tied apart hooked is = absurd tied
-  its_hook ps (l ∷ ls) (c ∷ cs) [] id x tied apart hooked is = cc
-  its_hook {V = V} ps (l ∷ ls) (c ∷ cs) (h ∷ hs) id x tied apart hooked is = ⊎_elim
-      (λ (y : is_call l.0 id ≡ true).
-      let its : same h.0 x ≡ true = ap (λ z. same z x) (first_same _ _ _ _ hooked ∙ same_Some l.1 x (rw y at is)) ∙ same_itself x in
-      rw (y, its) refl)
-      (λ (n : is_call l.0 id ≡ false).
-      let there : ctx_for id ls ≡ Some x = rw n at is in
-      let far : same h.0 x ≡ false = ap (λ z. same z x) (first_same _ _ _ _ hooked ∙ sym tied.0) ∙ far_from ps ls cs c id x tied.2 apart.0 there in
-      rw (n, far) (its_hook ps ls cs hs id x tied.2 apart.1 (rest_same _ _ _ _ hooked) there))
-      (cases_Bool (is_call l.0 id))
+  pub its_hook : (cs : List (CallContext V)) (hs : List (Id × H)) (id : CallId) (x : Id) → AreHooked cs hs → Agree id x cs → hook_for x hs ≡ hook_of id (hooks_of (lives_in cs) hs)
+  its_hook [] [] id x hooked all = refl
+  its_hook [] (h ∷ hs) id x hooked all = cc
+  its_hook (c ∷ cs) [] id x hooked all = cc
+  its_hook (c ∷ cs) (h ∷ hs) id x hooked all =
+      let here : same h.0 x ≡ is_call c.name id = ap (λ z. same z x) (first_same _ _ _ _ hooked) ∙ All-head (λ (d : CallContext V). same d.id x ≡ is_call d.name id) c cs all in
+      rw here (ap (λ o. if is_call c.name id then Some h.1 else o)
+      (its_hook cs hs id x (rest_same _ _ _ _ hooked) (All-tail (λ (d : CallContext V). same d.id x ≡ is_call d.name id) c cs all)))
 
+  -- a call that has no hook loses none
+  pub no_hook_but : (id : CallId) (cs : List (CallContext V)) (hs : List (Id × H)) → list_any (λ c. is_call c.name id) cs ≡ false → hooks_of (lives_in cs) hs ≡ hooks_but id (hooks_of (lives_in cs) hs)
+  no_hook_but id cs hs none = sym (all_stay (λ (k : CallId × H). is_call k.0 id) (hooks_of (lives_in cs) hs) (none_hooked id cs hs none))
+
+module _ {H : Type 0} where
   -- without one of the connection's calls the hooks of others are the same
   pub same_hooks : (number : ℕ) (id : CallId) (hooks : Hooks H) → (id.conn == number) ≡ true → hooks_of_others number (hooks_but id hooks) ≡ hooks_of_others number hooks
   same_hooks number id [] its = refl
@@ -141,10 +101,6 @@ module _ {H : Type 0} where
       (λ (y : (l.0.conn == number) ≡ true). let bad : Some l.0 ≡ None = rw y at none in cc)
       (λ (n : (l.0.conn == number) ≡ false). rw n (ap (λ k. (l.0, h.1) ∷ k) (hooks_stay number ls hs (rw n at none))))
       (cases_Bool (l.0.conn == number))
-
-  -- a call that has no hook loses none
-  pub no_hook_but : (id : CallId) (ls : Lives) (hs : List (Id × H)) → AreHooked ls hs → list_any (λ l. is_call l.0 id) ls ≡ false → hooks_of ls hs ≡ hooks_but id (hooks_of ls hs)
-  no_hook_but id ls hs hooked none = sym (all_stay (λ (k : CallId × H). is_call k.0 id) (hooks_of ls hs) (hook_in id ls hs hooked ∙ none))
 
 -- ---- the hooks that connections have
 
@@ -278,84 +234,68 @@ module _ {H : Type 0} where
 -- ---- what becomes of them, as the code keeps them
 
 module _ {H : Type 0} where
-  pub still_hooked : (ls : Lives) (hs is : List (Id × H)) → is ≡ hs → AreHooked ls hs → AreHooked ls is
-  still_hooked ls hs is e hooked = ap (map (λ (h : Id × H). h.0)) e ∙ hooked
-
-  pub keeps : {log : Called} (u : HookedContexts H) (x y : ContextsValue) (ps : List (Peer H)) (ls : Lives) (hs is : List (Id × H)) → hooked x (stock_ties ps) (hooks_of ls hs) log ≡ u → is ≡ hs
-      → KeepsHooks u (hooked y (stock_ties ps) (hooks_of ls is) log)
-  keeps u x y ps ls hs is u_is e = record {
+  pub keeps : {log : Called} (u : HookedContexts H) (x y : ContextsValue) (ps : List (Peer H)) (ls ms : Lives) (hs is : List (Id × H)) → hooked x (stock_ties ps) (hooks_of ls hs) log ≡ u → ms ≡ ls → is ≡ hs
+      → KeepsHooks u (hooked y (stock_ties ps) (hooks_of ms is) log)
+  keeps u x y ps ls ms hs is u_is ms_is e = record {
     stocks_are = ap (λ (v : HookedContexts H). v.stocks) u_is;
-    hooks_are = ap (hooks_of ls) e ∙ ap (λ (v : HookedContexts H). v.hooks) u_is;
+    hooks_are = ap (λ m. hooks_of m is) ms_is ∙ ap (hooks_of ls) e ∙ ap (λ (v : HookedContexts H). v.hooks) u_is;
     called_are = ap (λ (v : HookedContexts H). v.called) u_is;
   }
 
-  pub brings : {log : Called} (u : HookedContexts H) (x y : ContextsValue) (ps more : List (Peer H)) (p : Peer H) (stock : List H) (ls : Lives) (hs is : List (Id × H)) → hooked x (stock_ties ps) (hooks_of ls hs) log ≡ u → is ≡ hs
-      → more ≡ ps ++ p ∷ [] → p.stock.items ≡ stock → length stock ≡ most_requests → stock_in p.number (stock_ties ps) ≡ None
-      → BringsHooks p.number stock u (hooked y (stock_ties more) (hooks_of ls is) log)
-  brings u x y ps more p stock ls hs is u_is e more_is stock_is full new = record {
-    full = full;
-    none = ap (λ (v : HookedContexts H). stock_in p.number v.stocks) (sym u_is) ∙ new;
-    stocks_are = ap stock_ties more_is ∙ map_push stock_tie ps p ∙ ap (λ (v : HookedContexts H). v.stocks ++ (p.number, p.stock.items) ∷ []) u_is
-        ∙ ap (λ s. u.stocks ++ (p.number, s) ∷ []) stock_is;
-    hooks_are = ap (hooks_of ls) e ∙ ap (λ (v : HookedContexts H). v.hooks) u_is;
-    called_are = ap (λ (v : HookedContexts H). v.called) u_is;
-  }
+  pub brings : {log : Called} (u : HookedContexts H) (x y : ContextsValue) (ps more : List (Peer H)) (p : Peer H) (stock : List H) (ls ms : Lives) (hs is : List (Id × H)) → hooked x (stock_ties ps) (hooks_of ls hs) log ≡ u
+      → ms ≡ ls → is ≡ hs → more ≡ ps ++ p ∷ [] → p.stock.items ≡ stock → length stock ≡ most_requests → stock_in p.number (stock_ties ps) ≡ None
+      → BringsHooks p.number stock u (hooked y (stock_ties more) (hooks_of ms is) log)
+  brings u x y ps more p stock ls ms hs is u_is ms_is e more_is stock_is full new =
+      let same_all = keeps u x y ps ls ms hs is u_is ms_is e in
+      record {
+        full = full;
+        none = ap (λ (v : HookedContexts H). stock_in p.number v.stocks) (sym u_is) ∙ new;
+        stocks_are = ap stock_ties more_is ∙ map_push stock_tie ps p ∙ ap (λ (v : HookedContexts H). v.stocks ++ (p.number, p.stock.items) ∷ []) u_is
+            ∙ ap (λ s. u.stocks ++ (p.number, s) ∷ []) stock_is;
+        hooks_are = same_all.hooks_are;
+        called_are = same_all.called_are;
+      }
 
-  pub begun_hooked : (lives more : List Life) (hs is : List (Id × H)) (l : Life) (hook : H) → AreHooked (life_ties lives) hs → more ≡ lives ++ l ∷ [] → is ≡ hs ++ (l.ctx, hook) ∷ []
-      → AreHooked (life_ties more) is
-  begun_hooked lives more hs is l hook hooked more_is is_is =
-      subst (λ ls. AreHooked ls is) (sym (ap life_ties more_is ∙ map_push life_tie lives l))
-      (still_hooked (life_ties lives ++ life_tie l ∷ []) (hs ++ (l.ctx, hook) ∷ []) is is_is (hooked_more (life_ties lives) hs (life_tie l) hook hooked))
-
-  pub takes_one : {log : Called} (u : HookedContexts H) (x y : ContextsValue) (ps qs : List (Peer H)) (lives more : List Life) (hs is : List (Id × H)) (l : Life) (hook : H)
-      → hooked x (stock_ties ps) (hooks_of (life_ties lives) hs) log ≡ u → stock_of l.id.conn (stock_ties ps) ≡ hook ∷ stock_of l.id.conn (stock_ties qs) → AreHooked (life_ties lives) hs
-      → more ≡ lives ++ l ∷ [] → is ≡ hs ++ (l.ctx, hook) ∷ [] → TakesHook l.id u (hooked y (stock_ties qs) (hooks_of (life_ties more) is) log)
-  takes_one u x y ps qs lives more hs is l hook u_is first hooked more_is is_is = record {
+  pub takes_one : {V : Type 0} {log : Called} (u : HookedContexts H) (x y : ContextsValue) (ps qs : List (Peer H)) (cs : List (CallContext V)) (ms : Lives) (hs is : List (Id × H)) (l : CallId × Id) (hook : H)
+      → hooked x (stock_ties ps) (hooks_of (lives_in cs) hs) log ≡ u → stock_of l.0.conn (stock_ties ps) ≡ hook ∷ stock_of l.0.conn (stock_ties qs) → AreHooked cs hs
+      → ms ≡ lives_in cs ++ l ∷ [] → is ≡ hs ++ (l.1, hook) ∷ [] → TakesHook l.0 u (hooked y (stock_ties qs) (hooks_of ms is) log)
+  takes_one u x y ps qs cs ms hs is l hook u_is first hooked more_is is_is = record {
     hook = hook;
-    first = sym (ap (λ (v : HookedContexts H). stock_of l.id.conn v.stocks) u_is) ∙ first;
-    hooks_are = ap (λ ls. hooks_of ls is) (ap life_ties more_is ∙ map_push life_tie lives l) ∙ ap (hooks_of (life_ties lives ++ life_tie l ∷ [])) is_is
-        ∙ hooks_more (life_ties lives) hs (life_tie l) hook hooked ∙ ap (λ (v : HookedContexts H). v.hooks ++ (l.id, hook) ∷ []) u_is;
+    first = sym (ap (λ (v : HookedContexts H). stock_of l.0.conn v.stocks) u_is) ∙ first;
+    hooks_are = ap (λ m. hooks_of m is) more_is ∙ ap (hooks_of (lives_in cs ++ l ∷ [])) is_is
+        ∙ hooks_more cs hs l (l.1, hook) hooked ∙ ap (λ (v : HookedContexts H). v.hooks ++ (l.0, hook) ∷ []) u_is;
     called_are = ap (λ (v : HookedContexts H). v.called) u_is;
   }
-
-  pub gone_hooked : {V : Type 0} (ps : Peers) (lives left : List Life) (cs : List (CallContext V)) (hs is : List (Id × H)) (id : CallId) (x : Id) → AreTied ps (life_ties lives) cs → AreApart cs
-      → NoTwo same_id (life_ties lives) → AreHooked (life_ties lives) hs → ctx_for id (life_ties lives) ≡ Some x → left ≡ filter (λ l. not (is_call l.id id)) lives
-      → is ≡ filter (λ h. not (same h.0 x)) hs → AreHooked (life_ties left) is
-  gone_hooked ps lives left cs hs is id x tied apart calls hooked at left_is is_is =
-      subst (λ ls. AreHooked ls is) (sym (ap life_ties left_is ∙ filter_map_both (λ (t : CallId × Id). not (is_call t.0 id)) life_tie lives))
-      (still_hooked (filter (λ (t : CallId × Id). not (is_call t.0 id)) (life_ties lives)) (filter (λ (h : Id × H). not (same h.0 x)) hs) is is_is (hooks_less ps (life_ties lives) cs hs id x tied apart calls hooked at).0)
 
   -- and these are called
-  pub drops_one : {V : Type 0} {log later : Called} (more : Called) (u : HookedContexts H) (y z : ContextsValue) (peers : List (Peer H)) (ps : Peers) (lives left : List Life) (cs : List (CallContext V)) (hs is : List (Id × H)) (id : CallId) (x : Id)
-      → hooked y (stock_ties peers) (hooks_of (life_ties lives) hs) log ≡ u → AreTied ps (life_ties lives) cs → AreApart cs → NoTwo same_id (life_ties lives) → AreHooked (life_ties lives) hs
-      → ctx_for id (life_ties lives) ≡ Some x → left ≡ filter (λ l. not (is_call l.id id)) lives → is ≡ filter (λ h. not (same h.0 x)) hs
-      → later ≡ log ++ more → LosesHook id more u (hooked z (stock_ties peers) (hooks_of (life_ties left) is) later)
-  drops_one more u y z peers ps lives left cs hs is id x u_is tied apart calls hooked at left_is is_is later_is = record {
+  pub drops_one : {V : Type 0} {log later : Called} (more : Called) (u : HookedContexts H) (y z : ContextsValue) (peers : List (Peer H)) (cs left : List (CallContext V)) (hs is : List (Id × H)) (id : CallId) (x : Id)
+      → hooked y (stock_ties peers) (hooks_of (lives_in cs) hs) log ≡ u → AreHooked cs hs → Agree id x cs → left ≡ filter (λ c. not (same c.id x)) cs → is ≡ filter (λ h. not (same h.0 x)) hs
+      → later ≡ log ++ more → LosesHook id more u (hooked z (stock_ties peers) (hooks_of (lives_in left) is) later)
+  drops_one more u y z peers cs left hs is id x u_is hooked all left_is is_is later_is = record {
     stocks_are = ap (λ (v : HookedContexts H). v.stocks) u_is;
-    hooks_are = ap (λ ls. hooks_of ls is) (ap life_ties left_is ∙ filter_map_both (λ (t : CallId × Id). not (is_call t.0 id)) life_tie lives)
-        ∙ ap (hooks_of (filter (λ (t : CallId × Id). not (is_call t.0 id)) (life_ties lives))) is_is ∙ (hooks_less ps (life_ties lives) cs hs id x tied apart calls hooked at).1
-        ∙ ap (λ (v : HookedContexts H). hooks_but id v.hooks) u_is;
+    hooks_are = ap (λ ds. hooks_of (lives_in ds) is) left_is ∙ ap (hooks_of (lives_in (filter (λ c. not (same c.id x)) cs))) is_is
+        ∙ hooks_less cs hs id x hooked all ∙ ap (λ (v : HookedContexts H). hooks_but id v.hooks) u_is;
     called_are = later_is ∙ ap (λ (v : HookedContexts H). v.called ++ more) u_is;
   }
 
-  pub drops_none : {log : Called} (u : HookedContexts H) (y : ContextsValue) (ss : Stocks H) (ls : Lives) (hs : List (Id × H)) (id : CallId) → hooked y ss (hooks_of ls hs) log ≡ u → AreHooked ls hs
-      → ctx_for id ls ≡ None → LosesHook id [] u u
-  drops_none u y ss ls hs id u_is hooked none = record {
+  pub drops_none : {V : Type 0} {log : Called} (u : HookedContexts H) (y : ContextsValue) (ss : Stocks H) (cs : List (CallContext V)) (hs : List (Id × H)) (id : CallId)
+      → hooked y ss (hooks_of (lives_in cs) hs) log ≡ u → ctx_for id (lives_in cs) ≡ None → LosesHook id [] u u
+  drops_none u y ss cs hs id u_is none = record {
     stocks_are = refl;
-    hooks_are = subst (λ (v : HookedContexts H). v.hooks ≡ hooks_but id v.hooks) u_is (no_hook_but id ls hs hooked (no_ctx_for id ls none));
+    hooks_are = subst (λ (v : HookedContexts H). v.hooks ≡ hooks_but id v.hooks) u_is (no_hook_but id cs hs (no_ctx_for id cs none));
     called_are = sym (append-nil u.called);
   }
 
-  pub calls_hook : {V : Type 0} {log : Called} (u : HookedContexts H) (y : ContextsValue) (ss : Stocks H) (ps : Peers) (ls : Lives) (cs : List (CallContext V)) (hs : List (Id × H)) (id : CallId) (x : Id) (hook : H)
-      → hooked y ss (hooks_of ls hs) log ≡ u → AreTied ps ls cs → AreApart cs → AreHooked ls hs → ctx_for id ls ≡ Some x → hook_of id u.hooks ≡ Some hook → hook_for x hs ≡ Some hook
-  calls_hook u y ss ps ls cs hs id x hook u_is tied apart hooked at its = its_hook ps ls cs hs id x tied apart hooked at ∙ ap (λ (v : HookedContexts H). hook_of id v.hooks) u_is ∙ its
+  pub calls_hook : {V : Type 0} {log : Called} (u : HookedContexts H) (y : ContextsValue) (ss : Stocks H) (cs : List (CallContext V)) (hs : List (Id × H)) (id : CallId) (x : Id) (hook : H)
+      → hooked y ss (hooks_of (lives_in cs) hs) log ≡ u → AreHooked cs hs → Agree id x cs → hook_of id u.hooks ≡ Some hook → hook_for x hs ≡ Some hook
+  calls_hook u y ss cs hs id x hook u_is hooked all its = its_hook cs hs id x hooked all ∙ ap (λ (v : HookedContexts H). hook_of id v.hooks) u_is ∙ its
 
   -- a connection goes of which no call has a context
-  pub drops_its : {log : Called} (u : HookedContexts H) (y z : ContextsValue) (peers left : List (Peer H)) (ls : Lives) (hs is : List (Id × H)) (number : ℕ) → hooked y (stock_ties peers) (hooks_of ls hs) log ≡ u
-      → left ≡ filter (λ p. not (p.number == number)) peers → is ≡ hs → first_of number ls ≡ None → DropsHooks number u (hooked z (stock_ties left) (hooks_of ls is) log)
-  drops_its u y z peers left ls hs is number u_is left_is is_is none = record {
+  pub drops_its : {log : Called} (u : HookedContexts H) (y z : ContextsValue) (peers left : List (Peer H)) (ls ms : Lives) (hs is : List (Id × H)) (number : ℕ) → hooked y (stock_ties peers) (hooks_of ls hs) log ≡ u
+      → left ≡ filter (λ p. not (p.number == number)) peers → ms ≡ ls → is ≡ hs → first_of number ls ≡ None → DropsHooks number u (hooked z (stock_ties left) (hooks_of ms is) log)
+  drops_its u y z peers left ls ms hs is number u_is left_is ms_is is_is none = record {
     stocks_are = ap stock_ties left_is ∙ stocks_less number peers ∙ ap (λ (v : HookedContexts H). filter (λ s. not (s.0 == number)) v.stocks) u_is;
-    hooks_are = ap (hooks_of ls) is_is ∙ hooks_stay number ls hs none ∙ ap (λ (v : HookedContexts H). hooks_of_others number v.hooks) u_is;
+    hooks_are = ap (λ m. hooks_of m is) ms_is ∙ ap (hooks_of ls) is_is ∙ hooks_stay number ls hs none ∙ ap (λ (v : HookedContexts H). hooks_of_others number v.hooks) u_is;
     called_are = ap (λ (v : HookedContexts H). v.called) u_is;
   }
 
@@ -379,10 +319,6 @@ module _ {V H : Type 0} where
   pub same_hooks_then : {A E : Type 0} (v w : WithHooks CancelledBy V H) (r : Result A E) (standing : AllContexts V) → IfOk r (λ _. w ≡ with_standing standing v) → OnErr r (w ≡ v) → w.hooks ≡ v.hooks
   same_hooks_then v w (Ok a) standing made refused = ap (λ (y : WithHooks CancelledBy V H). y.hooks) made
   same_hooks_then v w (Err e) standing made refused = ap (λ (y : WithHooks CancelledBy V H). y.hooks) refused
-
-  pub started_hooked : {A E : Type 0} (ls : Lives) (v w : WithHooks CancelledBy V H) (r : Result A E) (standing : AllContexts V) → IfOk r (λ _. w ≡ with_standing standing v) → OnErr r (w ≡ v)
-      → AreHooked ls v.hooks → AreHooked ls w.hooks
-  started_hooked ls v w r standing made refused hooked = still_hooked ls v.hooks w.hooks (same_hooks_then v w r standing made refused) hooked
 
 -- ---- what the reply to a decided call makes of its hook
 

@@ -5,7 +5,7 @@ use Rattle.std.specs.List.{list_any}
 use Rattle.std.specs.Option.{option_map_or}
 use Rattle.call_contexts.specs.Standing.{AreNoSooner, IsNoSooner, has_deadline}
 use Rattle.gateway_model.specs.Past.{is_due, least_of}
-use Rattle.gateway_replies.specs.Contexts.{AreTied, CallContext, Ended, LifeValue, Lives, Peers, TimedBranch, has_due, lives_of}
+use Rattle.gateway_replies.specs.Contexts.{CallContext, Ended, LifeValue, TimedBranch, has_due, lives_of}
 use Rattle.gateway_replies.specs.Least.{branch_deadline, first_deadline, life_deadline}
 use Rattle.gateway_replies.proofs.ToldLemmas.{any_due, due_is}
 use Rattle.gateway_theory.specs.lemmas.Deadlines.{due_smaller}
@@ -49,8 +49,8 @@ due_as m None = refl
 due_as m (Some at) = refl
 
 module _ {V : Type 0} where
-  pub first_is : (text : V → List ℕ) (ps : Peers) (ls : Lives) (cs : List (CallContext V)) (first : Option ℕ) → AreTied ps ls cs
-      → All (IsNoSooner first) cs → All (AreNoSooner first) cs → IfSome first (λ at. list_any (has_deadline at) cs ≡ true) → first ≡ first_deadline (lives_of text ls cs)
-  first_is text ps ls cs first tied all branches its =
-      same_due first (first_deadline (lives_of text ls cs))
-      (λ m. due_as m first ∙ due_is text ps ls cs m first tied all branches its ∙ sym (lives_due m (lives_of text ls cs)))
+  pub first_is : (text : V → List ℕ) (cs : List (CallContext V)) (first : Option ℕ)
+      → All (IsNoSooner first) cs → All (AreNoSooner first) cs → IfSome first (λ at. list_any (has_deadline at) cs ≡ true) → first ≡ first_deadline (lives_of text cs)
+  first_is text cs first all branches its =
+      same_due first (first_deadline (lives_of text cs))
+      (λ m. due_as m first ∙ due_is text cs m first all branches its ∙ sym (lives_due m (lives_of text cs)))

@@ -1,17 +1,14 @@
 -- Lists of which no two are alike, and what is the same in two words.
 use Rattle.std.proofs.Common.{◌≡◌, ℕ, refl, ap, ◌∙◌, List, [], ◌∷◌, ◌++◌, Option, Some, None, Bool, true, false, ⊎_elim, map, arith, rules}
-use Rattle.std.specs.Prelude.{◌||◌, filter}
+use Rattle.std.specs.Prelude.{filter}
 use Rattle.std.specs.List.{list_any}
 use Rattle.std.specs.Option.{option_or}
 use Rattle.std.proofs.lemmas.Bool.{cases_Bool, or_parts}
 use Rattle.std.proofs.lemmas.List.Folds.{list_any-append}
-use Rattle.context_tree.specs.Context.{Id, same}
+use Rattle.context_tree.specs.Context.{Id}
 use Rattle.call_contexts.specs.Standing.{ends_branch, if_due}
-use Rattle.gateway_model.specs.declared.id.CallId.{CallId}
-use Rattle.gateway_replies.specs.Contexts.{by_deadline, NoTwo, TimedBranch, same_id, same_context, same_number}
+use Rattle.gateway_replies.specs.Contexts.{CallContext, by_deadline, NoTwo, TimedBranch, same_id, same_context, same_number}
 use Rattle.gateway_theory.specs.lemmas.Cases.{sym_eqb}
-use Rattle.call_contexts.proofs.Lists.{any_map, any_kept, no_two_kept}
-use Rattle.call_contexts.proofs.Trees.{same_refl as same_itself, same_true, same_turned}
 
 pub filter_map_both : {A B : Type 0} (p : B → Bool) (f : A → B) (xs : List A) → map f (filter (λ x. p (f x)) xs) ≡ filter p (map f xs)
 filter_map_both p f [] = refl
@@ -32,8 +29,8 @@ number_turned p q = sym_eqb q.0 p.0
 pub context_turned : (p q : ℕ × Id) → same_context p q ≡ same_context q p
 context_turned p q = grind (arith, rules)
 
-pub call_turned : (l m : CallId × Id) → same_id l m ≡ same_id m l
-call_turned l m = rw (sym_eqb m.0.conn l.0.conn, sym_eqb m.0.request l.0.request) refl
+pub call_turned : {V : Type 0} (c d : CallContext V) → same_id c d ≡ same_id d c
+call_turned c d = rw (sym_eqb d.name.conn c.name.conn, sym_eqb d.name.request c.name.request) refl
 
 -- a deadline ends what it does in both words
 pub due_same : (now : ℕ) (deadline : Option ℕ) → if_due now deadline ≡ by_deadline now deadline

@@ -4,21 +4,21 @@ use Rattle.std.specs.Prelude.{IfSome, ◌&&◌, ◌==◌, All, is_some, is_none,
 use Rattle.std.specs.List.{list_any}
 use Rattle.std.specs.Option.{option_map_or, option_or}
 use Rattle.context_tree.specs.Tree.{IsNotAfter}
-use Rattle.std.proofs.lemmas.List.Elements.{All-cons, All-head, All-nil, All-tail, All-weaker}
+use Rattle.std.proofs.lemmas.List.Elements.{All-cons, All-head, All-map, All-nil, All-tail, All-weaker}
 use Rattle.context_tree.specs.declared.error.Cause.TheVariants.{Given}
-use Rattle.std.proofs.lemmas.Bool.{and_from, and_parts, cases_Bool, or_cases, or_from, or_left, or_right, eqb-true}
+use Rattle.std.proofs.lemmas.Bool.{and_from, and_parts, cases_Bool, or_cases, or_from, or_left, or_parts, or_right, eqb-true}
 use Rattle.std.proofs.lemmas.Option.{same_Some}
 use Rattle.context_tree.specs.Context.{Id, same}
-use Rattle.call_contexts.specs.Standing.{AreApart, AreNoSooner, IsNoSooner, has_deadline, ended_call, ends_branch, ends_call, ends_conn, ended_branch, expires_branch, expires_call, if_cancelled, expired as standing_expired, cancelled as standing_cancelled, all_ended as standing_ended, is_call as is_standing}
+use Rattle.call_contexts.specs.Standing.{ctx_for, lives_in, AreNoSooner, IsNoSooner, has_deadline, ended_call, ends_branch, ends_call, ends_conn, ended_branch, expires_branch, expires_call, if_cancelled, expired as standing_expired, cancelled as standing_cancelled, all_ended as standing_ended}
 use Rattle.gateway_theory.specs.declared.trigger.Trigger.TheVariants.{Reached, HungUp, Drained}
 use Rattle.gateway_model.specs.declared.id.CallId.{CallId}
 use Rattle.gateway_model.specs.Past.{is_call, is_due}
 use Rattle.gateway_replies.specs.declared.contexts.cancelled.CancelledBy.TheVariants.{HangUp, Drain}
-use Rattle.gateway_replies.specs.Contexts.{AllContexts, AreTied, IsNotDue, CallContext, ConnContext, Ended, by_drain, by_hang_up, contexts_of, ContextsValue, IsTied, LifeValue, Lives, Peers, TimedBranch, contexts_value, ctx_for, ctx_of, ending_life, ends_life, event_of, expires_life, ends_peer, first_life, has_due, is_peer, peers_of, told, life_with, lives_of}
+use Rattle.gateway_replies.specs.Contexts.{AllContexts, NoTwo, OnPeer, life_of, same_id, IsNotDue, CallContext, ConnContext, Ended, by_drain, by_hang_up, contexts_of, ContextsValue, IsTied, LifeValue, Peers, TimedBranch, contexts_value, ctx_of, ending_life, ends_life, event_of, expires_life, ends_peer, first_life, has_due, is_peer, peers_of, told, lives_of}
 use Rattle.gateway_replies.proofs.ListLemmas.{due_same}
 use Rattle.gateway_replies.proofs.PeerLemmas.{lives_stay, not_in, peers_drained, peers_hung, peers_stay, two_apart}
-use Rattle.gateway_replies.proofs.ContextLemmas.{stands_in}
-use Rattle.call_contexts.proofs.Trees.{same_refl as same_itself, same_true}
+use Rattle.gateway_replies.proofs.ContextLemmas.{Agree}
+use Rattle.call_contexts.proofs.Trees.{same_refl as same_itself}
 
 conns_told : (g : ConnContext → Ended) (cs : List ConnContext) → map (λ (c : ConnContext). c.id) (map (λ (c : ConnContext). ends_conn (g c) c) cs) ≡ map (λ (c : ConnContext). c.id) cs
 conns_told g [] = refl
@@ -55,38 +55,48 @@ not_one_due moment (l ∷ ls) all =
 module _ {V : Type 0} where
   -- told what may end it, a context stays that of its call, and of its connection
   abbrev pub Stays : (CallContext V → CallContext V) → Type 0
-  Stays f = (c : CallContext V) → ((f c).id ≡ c.id) × ((f c).conn ≡ c.conn)
+  Stays f = (c : CallContext V) → ((f c).name ≡ c.name) × (((f c).id ≡ c.id) × ((f c).conn ≡ c.conn))
 
-  calls_told : (ps : Peers) (ls : Lives) (cs : List (CallContext V)) (f : CallContext V → CallContext V) → Stays f → AreTied ps ls cs → AreTied ps ls (map f cs)
-  calls_told ps [] [] f same tied = tt
-  calls_told ps [] (c ∷ cs) f same tied = absurd tied
-  calls_told ps (l ∷ ls) [] f same tied = absurd tied
-  calls_told ps (l ∷ ls) (c ∷ cs) f same tied = ((same c).0 ∙ tied.0, tied.1 ∙ ap (λ x. Some x) (sym (same c).1), calls_told ps ls cs f same tied.2)
+  pub lives_stay_in : (f : CallContext V → CallContext V) → Stays f → (cs : List (CallContext V)) → lives_in (map f cs) ≡ lives_in cs
+  lives_stay_in f same_there [] = refl
+  lives_stay_in f same_there (c ∷ cs) = ap (λ i. (i, (f c).id) ∷ lives_in (map f cs)) (same_there c).0 ∙ ap (λ x. (c.name, x) ∷ lives_in (map f cs)) (same_there c).1.0
+      ∙ ap (λ ls. (c.name, c.id) ∷ ls) (lives_stay_in f same_there cs)
+
+  ids_stay : (f : CallContext V → CallContext V) → Stays f → (cs : List (CallContext V)) → NoTwo same_id cs → NoTwo same_id (map f cs)
+  ids_stay f same_there [] apart = tt
+  ids_stay f same_there (c ∷ cs) apart = (others cs apart.0, ids_stay f same_there cs apart.1)
+    where
+      others : (ds : List (CallContext V)) → list_any (same_id c) ds ≡ false → list_any (same_id (f c)) (map f ds) ≡ false
+      others [] none = refl
+      others (d ∷ ds) none =
+          let two = or_parts (is_call d.name c.name) (list_any (same_id c) ds) none in
+          or_from (is_call (f d).name (f c).name) (list_any (same_id (f c)) (map f ds))
+          (ap (λ k. is_call k (f c).name) (same_there d).0 ∙ ap (is_call d.name) (same_there c).0 ∙ two.0) (others ds two.1)
 
   -- what becomes of each context becomes of its call
-  lives_told : (text : V → List ℕ) (ps : Peers) (ls : Lives) (cs : List (CallContext V)) (f : CallContext V → CallContext V) (h : LifeValue → LifeValue)
-      → ((l : CallId × Id) (c : CallContext V) → ctx_of l.0.conn ps ≡ Some c.conn → life_with text l.0 (f c) ≡ h (life_with text l.0 c)) → AreTied ps ls cs
-      → lives_of text ls (map f cs) ≡ map h (lives_of text ls cs)
-  lives_told text ps [] cs f h each tied = refl
-  lives_told text ps (l ∷ ls) [] f h each tied = refl
-  lives_told text ps (l ∷ ls) (c ∷ cs) f h each tied =
-      ap (λ x. x ∷ lives_of text ls (map f cs)) (each l c tied.1)
-      ∙ ap (λ xs. h (life_with text l.0 c) ∷ xs) (lives_told text ps ls cs f h each tied.2)
+  lives_told : (text : V → List ℕ) (ps : Peers) (cs : List (CallContext V)) (f : CallContext V → CallContext V) (h : LifeValue → LifeValue)
+      → ((c : CallContext V) → OnPeer ps c → life_of text (f c) ≡ h (life_of text c)) → All (OnPeer ps) cs
+      → lives_of text (map f cs) ≡ map h (lives_of text cs)
+  lives_told text ps [] f h each tied = refl
+  lives_told text ps (c ∷ cs) f h each tied =
+      ap (λ x. x ∷ lives_of text (map f cs)) (each c (All-head (OnPeer ps) c cs tied))
+      ∙ ap (λ xs. h (life_of text c) ∷ xs) (lives_told text ps cs f h each (All-tail (OnPeer ps) c cs tied))
 
-  pub told_tied : (ps : Peers) (ls : Lives) (v w : AllContexts V) (f : CallContext V → CallContext V) → Stays f → w.drained ≡ by_drain (is_some w.drained) → w.calls ≡ map f v.calls
-      → map (λ (c : ConnContext). c.id) w.conns ≡ map (λ (c : ConnContext). c.id) v.conns → IsTied ps ls v → IsTied ps ls w
-  told_tied ps ls v w f same drained_is calls_is conns_is tied = record {
+  pub told_tied : (ps : Peers) (v w : AllContexts V) (f : CallContext V → CallContext V) → Stays f → w.drained ≡ by_drain (is_some w.drained) → w.calls ≡ map f v.calls
+      → map (λ (c : ConnContext). c.id) w.conns ≡ map (λ (c : ConnContext). c.id) v.conns → IsTied ps v → IsTied ps w
+  told_tied ps v w f same_there drained_is calls_is conns_is tied = record {
     drained_is = drained_is;
     conns_are = conns_is ∙ tied.conns_are;
-    calls_are = subst (AreTied ps ls) (sym calls_is) (calls_told ps ls v.calls f same tied.calls_are);
+    calls_are = subst (All (OnPeer ps)) (sym calls_is) (All-map (OnPeer ps) f v.calls (All-weaker (OnPeer ps) (λ c. OnPeer ps (f c))
+        (λ c at. ap (λ k. ctx_of k.conn ps) (same_there c).0 ∙ at ∙ ap (λ x. Some x) (sym (same_there c).1.1)) v.calls tied.calls_are));
     numbers_apart = tied.numbers_apart;
     contexts_apart = tied.contexts_apart;
-    calls_apart = tied.calls_apart;
+    calls_apart = subst (NoTwo same_id) (sym calls_is) (ids_stay f same_there v.calls tied.calls_apart);
   }
 
   -- a drain is what all were drained for
-  pub drained_by : (ps : Peers) (ls : Lives) (v w : AllContexts V) → w ≡ standing_ended Drain v → IsTied ps ls v → w.drained ≡ by_drain (is_some w.drained)
-  drained_by ps ls v w w_is tied = subst (λ (x : AllContexts V). x.drained ≡ by_drain (is_some x.drained)) (sym w_is)
+  pub drained_by : (ps : Peers) (v w : AllContexts V) → w ≡ standing_ended Drain v → IsTied ps v → w.drained ≡ by_drain (is_some w.drained)
+  drained_by ps v w w_is tied = subst (λ (x : AllContexts V). x.drained ≡ by_drain (is_some x.drained)) (sym w_is)
       (subst (λ d. option_or d (Some (Given Drain)) ≡ by_drain (is_some (option_or d (Some (Given Drain))))) (sym tied.drained_is) (by (is_some v.drained)))
     where
       by : (b : Bool) → option_or (by_drain b) (Some (Given Drain)) ≡ by_drain (is_some (option_or (by_drain b) (Some (Given Drain))))
@@ -94,26 +104,26 @@ module _ {V : Type 0} where
       by false = refl
 
   -- it stays what it was
-  pub drained_stays : (ps : Peers) (ls : Lives) (v w : AllContexts V) → w.drained ≡ v.drained → IsTied ps ls v → w.drained ≡ by_drain (is_some w.drained)
-  drained_stays ps ls v w same_drained tied = same_drained ∙ tied.drained_is ∙ ap (λ d. by_drain (is_some d)) (sym same_drained)
+  pub drained_stays : (ps : Peers) (v w : AllContexts V) → w.drained ≡ v.drained → IsTied ps v → w.drained ≡ by_drain (is_some w.drained)
+  drained_stays ps v w same_drained tied = same_drained ∙ tied.drained_is ∙ ap (λ d. by_drain (is_some d)) (sym same_drained)
 
-  pub reached_value : (text : V → List ℕ) (ps : Peers) (ls : Lives) (v w : AllContexts V) (u : ContextsValue) (now : ℕ) → w ≡ standing_expired now v → IsTied ps ls v
-      → contexts_of text ps ls v ≡ u → contexts_of text ps ls w ≡ told (Reached now) u
-  reached_value text ps ls v w u now w_is tied u_is = ap (contexts_of text ps ls) w_is
+  pub reached_value : (text : V → List ℕ) (ps : Peers) (v w : AllContexts V) (u : ContextsValue) (now : ℕ) → w ≡ standing_expired now v → IsTied ps v
+      → contexts_of text ps v ≡ u → contexts_of text ps w ≡ told (Reached now) u
+  reached_value text ps v w u now w_is tied u_is = ap (contexts_of text ps) w_is
       ∙ ap (contexts_value (is_some v.drained) (peers_of ps v.conns))
-      (lives_told text ps ls v.calls (expires_call now) (expires_life now)
-      (λ l c is. ap (λ e. record { id = l.0; deadline = c.deadline; request_id = option_map text c.request_id; ended = option_or c.ended e; branches = map (λ (b : TimedBranch). expires_branch now (ends_branch e b)) c.branches })
+      (lives_told text ps v.calls (expires_call now) (expires_life now)
+      (λ c is. ap (λ e. record { id = c.name; deadline = c.deadline; request_id = option_map text c.request_id; ended = option_or c.ended e; branches = map (λ (b : TimedBranch). expires_branch now (ends_branch e b)) c.branches })
       (due_same now c.deadline)) tied.calls_are)
       ∙ ap (told (Reached now)) u_is
 
-  pub hung_value : (text : V → List ℕ) (ps : Peers) (ls : Lives) (v w : AllContexts V) (u : ContextsValue) (number : ℕ) (x : Id) → w ≡ standing_cancelled x HangUp v → IsTied ps ls v
-      → ctx_of number ps ≡ Some x → contexts_of text ps ls v ≡ u → contexts_of text ps ls w ≡ told (HungUp number) u
-  hung_value text ps ls v w u number x w_is tied is u_is = ap (contexts_of text ps ls) w_is
-      ∙ ap (λ cs. contexts_value (is_some v.drained) cs (lives_of text ls (map (λ c. ends_call (if_cancelled (same c.conn x) HangUp) c) v.calls)))
+  pub hung_value : (text : V → List ℕ) (ps : Peers) (v w : AllContexts V) (u : ContextsValue) (number : ℕ) (x : Id) → w ≡ standing_cancelled x HangUp v → IsTied ps v
+      → ctx_of number ps ≡ Some x → contexts_of text ps v ≡ u → contexts_of text ps w ≡ told (HungUp number) u
+  hung_value text ps v w u number x w_is tied is u_is = ap (contexts_of text ps) w_is
+      ∙ ap (λ cs. contexts_value (is_some v.drained) cs (lives_of text (map (λ c. ends_call (if_cancelled (same c.conn x) HangUp) c) v.calls)))
       (peers_hung number x ps v.conns tied.conns_are is tied.numbers_apart tied.contexts_apart)
       ∙ ap (contexts_value (is_some v.drained) (map (λ p. ends_peer (by_hang_up (p.number == number)) p) (peers_of ps v.conns)))
-      (lives_told text ps ls v.calls (λ c. ends_call (if_cancelled (same c.conn x) HangUp) c) (λ l. ends_life (by_hang_up (l.id.conn == number)) l)
-      (λ l c at. ap (λ e. ends_life e (life_with text l.0 c)) (ap by_hang_up (its l.0.conn c.conn at))) tied.calls_are)
+      (lives_told text ps v.calls (λ c. ends_call (if_cancelled (same c.conn x) HangUp) c) (λ l. ends_life (by_hang_up (l.id.conn == number)) l)
+      (λ c at. ap (λ e. ends_life e (life_of text c)) (ap by_hang_up (its c.name.conn c.conn at))) tied.calls_are)
       ∙ ap (told (HungUp number)) u_is
     where
       its : (m : ℕ) (y : Id) → ctx_of m ps ≡ Some y → same y x ≡ (m == number)
@@ -122,13 +132,13 @@ module _ {V : Type 0} where
           (λ (n : (m == number) ≡ false). two_apart m number ps y x tied.contexts_apart at is n ∙ sym n)
           (cases_Bool (m == number))
 
-  pub drained_value : (text : V → List ℕ) (ps : Peers) (ls : Lives) (v w : AllContexts V) (u : ContextsValue) → w ≡ standing_ended Drain v → IsTied ps ls v
-      → contexts_of text ps ls v ≡ u → contexts_of text ps ls w ≡ told Drained u
-  drained_value text ps ls v w u w_is tied u_is = ap (contexts_of text ps ls) w_is
-      ∙ ap (λ b. contexts_value b (peers_of ps (map (ends_conn (Some (Given Drain))) v.conns)) (lives_of text ls (map (λ c. ends_call (Some (Given Drain)) c) v.calls))) (is_there v.drained)
-      ∙ ap (λ cs. contexts_value true cs (lives_of text ls (map (λ c. ends_call (Some (Given Drain)) c) v.calls))) (peers_drained ps v.conns)
+  pub drained_value : (text : V → List ℕ) (ps : Peers) (v w : AllContexts V) (u : ContextsValue) → w ≡ standing_ended Drain v → IsTied ps v
+      → contexts_of text ps v ≡ u → contexts_of text ps w ≡ told Drained u
+  drained_value text ps v w u w_is tied u_is = ap (contexts_of text ps) w_is
+      ∙ ap (λ b. contexts_value b (peers_of ps (map (ends_conn (Some (Given Drain))) v.conns)) (lives_of text (map (λ c. ends_call (Some (Given Drain)) c) v.calls))) (is_there v.drained)
+      ∙ ap (λ cs. contexts_value true cs (lives_of text (map (λ c. ends_call (Some (Given Drain)) c) v.calls))) (peers_drained ps v.conns)
       ∙ ap (contexts_value true (map (λ p. ends_peer (by_drain true) p) (peers_of ps v.conns)))
-      (lives_told text ps ls v.calls (λ c. ends_call (Some (Given Drain)) c) (λ l. ends_life (by_drain true) l) (λ l c at. refl) tied.calls_are)
+      (lives_told text ps v.calls (λ c. ends_call (Some (Given Drain)) c) (λ l. ends_life (by_drain true) l) (λ c at. refl) tied.calls_are)
       ∙ ap (told Drained) u_is
     where
       is_there : (d : Ended) → is_some (option_or d (Some (Given Drain))) ≡ true
@@ -136,64 +146,55 @@ module _ {V : Type 0} where
       is_there (Some e) = refl
 
   -- of a connection that is not there there is nothing to tell
-  pub untold_value : (text : V → List ℕ) (ps : Peers) (ls : Lives) (v : AllContexts V) (u : ContextsValue) (number : ℕ) → IsTied ps ls v → ctx_of number ps ≡ None
-      → contexts_of text ps ls v ≡ u → u ≡ told (HungUp number) u
-  untold_value text ps ls v u number tied none u_is =
+  pub untold_value : (text : V → List ℕ) (ps : Peers) (v : AllContexts V) (u : ContextsValue) (number : ℕ) → IsTied ps v → ctx_of number ps ≡ None
+      → contexts_of text ps v ≡ u → u ≡ told (HungUp number) u
+  untold_value text ps v u number tied none u_is =
       let no_peer : is_peer number u.conns ≡ false = ap (λ (y : ContextsValue). is_peer number y.conns) (sym u_is) ∙ not_in number ps v.conns none in
-      let no_life : first_life number u.calls ≡ None = ap (λ (y : ContextsValue). first_life number y.calls) (sym u_is) ∙ no_first ls v.calls tied.calls_are in
+      let no_life : first_life number u.calls ≡ None = ap (λ (y : ContextsValue). first_life number y.calls) (sym u_is) ∙ no_first v.calls tied.calls_are in
       ap (λ cs. contexts_value u.drained cs u.calls) (sym (peers_stay number u.conns no_peer))
       ∙ ap (contexts_value u.drained (map (λ p. ends_peer (by_hang_up (p.number == number)) p) u.conns)) (sym (lives_stay number u.calls no_life))
     where
-      no_first : (ls : Lives) (cs : List (CallContext V)) → AreTied ps ls cs → first_life number (lives_of text ls cs) ≡ None
-      no_first [] cs tied = refl
-      no_first (l ∷ ls) [] tied = refl
-      no_first (l ∷ ls) (c ∷ cs) tied = ⊎_elim
-          (λ (y : (l.0.conn == number) ≡ true). let bad : None ≡ Some c.conn = sym none ∙ ap (λ k. ctx_of k ps) (sym (eqb-true l.0.conn number y)) ∙ tied.1 in cc)
-          (λ (n : (l.0.conn == number) ≡ false). rw n (no_first ls cs tied.2))
-          (cases_Bool (l.0.conn == number))
+      no_first : (cs : List (CallContext V)) → All (OnPeer ps) cs → first_life number (lives_of text cs) ≡ None
+      no_first [] tied = refl
+      no_first (c ∷ cs) tied = ⊎_elim
+          (λ (y : (c.name.conn == number) ≡ true). let bad : None ≡ Some c.conn = sym none ∙ ap (λ k. ctx_of k ps) (sym (eqb-true c.name.conn number y)) ∙ All-head (OnPeer ps) c cs tied in cc)
+          (λ (n : (c.name.conn == number) ≡ false). rw n (no_first cs (All-tail (OnPeer ps) c cs tied)))
+          (cases_Bool (c.name.conn == number))
 
   pub conns_ended : (w : AllContexts V) (g : ConnContext → Ended) (cs : List ConnContext) → w.conns ≡ map (λ (c : ConnContext). ends_conn (g c) c) cs
       → map (λ (c : ConnContext). c.id) w.conns ≡ map (λ (c : ConnContext). c.id) cs
   conns_ended w g cs is = ap (map (λ (c : ConnContext). c.id)) is ∙ conns_told g cs
 
   -- the event by which a call ends, as its contexts tell it
-  pub life_ended : (text : V → List ℕ) (moment : ℕ) (ps : Peers) (ls : Lives) (cs : List (CallContext V)) (id : CallId) (x : Id) → AreTied ps ls cs → AreApart cs → ctx_for id ls ≡ Some x
-      → event_of moment (ended_call x cs) (ended_branch x cs) ≡ ending_life moment id (lives_of text ls cs)
-  life_ended text moment ps [] cs id x tied apart is = cc
-  life_ended text moment ps (l ∷ ls) [] id x tied apart is = absurd tied
-  life_ended text moment ps (l ∷ ls) (c ∷ cs) id x tied apart is = ⊎_elim
-      (λ (y : is_call l.0 id ≡ true). let its : c.id ≡ x = tied.0 ∙ same_Some l.1 x (rw y at is) in rw (y, its, same_itself x) refl)
-      (λ (n : is_call l.0 id ≡ false).
-      let there : ctx_for id ls ≡ Some x = rw n at is in
-      let far : same c.id x ≡ false = ⊎_elim
-      (λ (e : same c.id x ≡ true).
-      let bad : is_standing x cs ≡ false = subst (λ z. is_standing z cs ≡ false) (same_true c.id x e) apart.0 in
-      let clash : true ≡ false = sym (stands_in ps ls cs id x tied.2 there) ∙ bad in cc)
-      (λ (f : same c.id x ≡ false). f)
-      (cases_Bool (same c.id x)) in
-      rw (n, far) (life_ended text moment ps ls cs id x tied.2 apart.1 there))
-      (cases_Bool (is_call l.0 id))
+  pub life_ended : (text : V → List ℕ) (moment : ℕ) (cs : List (CallContext V)) (id : CallId) (x : Id) → Agree id x cs
+      → event_of moment (ended_call x cs) (ended_branch x cs) ≡ ending_life moment id (lives_of text cs)
+  life_ended text moment [] id x all = refl
+  life_ended text moment (c ∷ cs) id x all =
+      let here : same c.id x ≡ is_call c.name id = All-head (λ (d : CallContext V). same d.id x ≡ is_call d.name id) c cs all in
+      let rest = life_ended text moment cs id x (All-tail (λ (d : CallContext V). same d.id x ≡ is_call d.name id) c cs all) in
+      ⊎_elim
+      (λ (y : is_call c.name id ≡ true). let its : same c.id x ≡ true = here ∙ y in rw (y, its) refl)
+      (λ (n : is_call c.name id ≡ false). let far : same c.id x ≡ false = here ∙ n in rw (n, far) rest)
+      (cases_Bool (is_call c.name id))
 
-  pub no_life_ended : (text : V → List ℕ) (moment : ℕ) (ps : Peers) (ls : Lives) (cs : List (CallContext V)) (id : CallId) → AreTied ps ls cs → ctx_for id ls ≡ None → ending_life moment id (lives_of text ls cs) ≡ None
-  no_life_ended text moment ps [] cs id tied is = refl
-  no_life_ended text moment ps (l ∷ ls) [] id tied is = absurd tied
-  no_life_ended text moment ps (l ∷ ls) (c ∷ cs) id tied is = ⊎_elim
-      (λ (y : is_call l.0 id ≡ true). let bad : Some l.1 ≡ None = rw y at is in cc)
-      (λ (n : is_call l.0 id ≡ false). rw n (no_life_ended text moment ps ls cs id tied.2 (rw n at is)))
-      (cases_Bool (is_call l.0 id))
+  pub no_life_ended : (text : V → List ℕ) (moment : ℕ) (cs : List (CallContext V)) (id : CallId) → ctx_for id (lives_in cs) ≡ None → ending_life moment id (lives_of text cs) ≡ None
+  no_life_ended text moment [] id is = refl
+  no_life_ended text moment (c ∷ cs) id is = ⊎_elim
+      (λ (y : is_call c.name id ≡ true). let bad : Some c.id ≡ None = rw y at is in cc)
+      (λ (n : is_call c.name id ≡ false). rw n (no_life_ended text moment cs id (rw n at is)))
+      (cases_Bool (is_call c.name id))
 
   -- where the least deadline is not reached, none is
-  pub none_due : (text : V → List ℕ) (ps : Peers) (ls : Lives) (cs : List (CallContext V)) (moment : ℕ) (first : Option ℕ) → option_map_or (λ at. nat_le at moment) first false ≡ false
-      → AreTied ps ls cs → All (IsNoSooner first) cs → All (AreNoSooner first) cs → All (IsNotDue moment) (lives_of text ls cs)
-  none_due text ps [] cs moment first low tied all branches = All-nil (IsNotDue moment)
-  none_due text ps (l ∷ ls) [] moment first low tied all branches = absurd tied
-  none_due text ps (l ∷ ls) (c ∷ cs) moment first low tied all branches = All-cons (IsNotDue moment) (life_with text l.0 c) (lives_of text ls cs)
+  pub none_due : (text : V → List ℕ) (cs : List (CallContext V)) (moment : ℕ) (first : Option ℕ) → option_map_or (λ at. nat_le at moment) first false ≡ false
+      → All (IsNoSooner first) cs → All (AreNoSooner first) cs → All (IsNotDue moment) (lives_of text cs)
+  none_due text [] moment first low all branches = All-nil (IsNotDue moment)
+  none_due text (c ∷ cs) moment first low all branches = All-cons (IsNotDue moment) (life_of text c) (lives_of text cs)
       (record {
         call = λ on. by c.deadline refl on;
         each = All-weaker (λ (b : TimedBranch). b.ended ≡ None → IsNotAfter first b.deadline) (λ (b : TimedBranch). b.ended ≡ None → nat_le b.deadline moment ≡ false)
             (λ b after on. later first b.deadline low (after on)) c.branches (All-head (AreNoSooner first) c cs branches);
       })
-      (none_due text ps ls cs moment first low tied.2 (All-tail (IsNoSooner first) c cs all) (All-tail (AreNoSooner first) c cs branches))
+      (none_due text cs moment first low (All-tail (IsNoSooner first) c cs all) (All-tail (AreNoSooner first) c cs branches))
     where
       later : (o : Option ℕ) (at : ℕ) → option_map_or (λ a. nat_le a moment) o false ≡ false → IsNotAfter o at → nat_le at moment ≡ false
       later None at none after = absurd after
@@ -204,8 +205,8 @@ module _ {V : Type 0} where
       by (Some at) d_is on = later first at low (All-head (IsNoSooner first) c cs all at on d_is)
 
   -- where it is reached, the call or the branch is due that has it
-  is_reached : (moment at : ℕ) (c : CallContext V) (text : V → List ℕ) (id : CallId) → nat_le at moment ≡ true → has_deadline at c ≡ true → has_due moment (life_with text id c) ≡ true
-  is_reached moment at c text id low has = ⊎_elim
+  is_reached : (moment at : ℕ) (c : CallContext V) (text : V → List ℕ) → nat_le at moment ≡ true → has_deadline at c ≡ true → has_due moment (life_of text c) ≡ true
+  is_reached moment at c text low has = ⊎_elim
       (λ (own : (is_none c.ended && option_map_or (λ d. d == at) c.deadline false) ≡ true).
       let two = and_parts (is_none c.ended) (option_map_or (λ d. d == at) c.deadline false) own in
       or_left (is_none c.ended && is_due moment c.deadline) (any_due moment c.branches) (and_from (is_none c.ended) (is_due moment c.deadline) two.0 (by c.deadline two.1)))
@@ -228,23 +229,19 @@ module _ {V : Type 0} where
           (λ (there : any_at at bs ≡ true). or_right (is_none b.ended && nat_le b.deadline moment) (any_due moment bs) (each bs there))
           (or_cases (is_none b.ended && (b.deadline == at)) (any_at at bs) one)
 
-  some_due : (text : V → List ℕ) (ps : Peers) (ls : Lives) (cs : List (CallContext V)) (moment at : ℕ) → nat_le at moment ≡ true → AreTied ps ls cs
-      → list_any (has_deadline at) cs ≡ true → list_any (has_due moment) (lives_of text ls cs) ≡ true
-  some_due text ps [] [] moment at low tied has = cc
-  some_due text ps [] (c ∷ cs) moment at low tied has = absurd tied
-  some_due text ps (l ∷ ls) [] moment at low tied has = absurd tied
-  some_due text ps (l ∷ ls) (c ∷ cs) moment at low tied has = ⊎_elim
-      (λ (here : has_deadline at c ≡ true). or_left (has_due moment (life_with text l.0 c)) (list_any (has_due moment) (lives_of text ls cs)) (is_reached moment at c text l.0 low here))
-      (λ (there : list_any (has_deadline at) cs ≡ true).
-      or_right (has_due moment (life_with text l.0 c)) (list_any (has_due moment) (lives_of text ls cs)) (some_due text ps ls cs moment at low tied.2 there))
+  some_due : (text : V → List ℕ) (cs : List (CallContext V)) (moment at : ℕ) → nat_le at moment ≡ true → list_any (has_deadline at) cs ≡ true → list_any (has_due moment) (lives_of text cs) ≡ true
+  some_due text [] moment at low has = cc
+  some_due text (c ∷ cs) moment at low has = ⊎_elim
+      (λ (here : has_deadline at c ≡ true). or_left (has_due moment (life_of text c)) (list_any (has_due moment) (lives_of text cs)) (is_reached moment at c text low here))
+      (λ (there : list_any (has_deadline at) cs ≡ true). or_right (has_due moment (life_of text c)) (list_any (has_due moment) (lives_of text cs)) (some_due text cs moment at low there))
       (or_cases (has_deadline at c) (list_any (has_deadline at) cs) has)
 
   -- the moment has reached the least deadline where it has reached one
-  pub due_is : (text : V → List ℕ) (ps : Peers) (ls : Lives) (cs : List (CallContext V)) (moment : ℕ) (first : Option ℕ) → AreTied ps ls cs
+  pub due_is : (text : V → List ℕ) (cs : List (CallContext V)) (moment : ℕ) (first : Option ℕ)
       → All (IsNoSooner first) cs → All (AreNoSooner first) cs → IfSome first (λ at. list_any (has_deadline at) cs ≡ true)
-      → option_map_or (λ at. nat_le at moment) first false ≡ list_any (has_due moment) (lives_of text ls cs)
-  due_is text ps ls cs moment None tied all branches its = sym (not_one_due moment (lives_of text ls cs) (none_due text ps ls cs moment None refl tied all branches))
-  due_is text ps ls cs moment (Some at) tied all branches its = ⊎_elim
-      (λ (low : nat_le at moment ≡ true). low ∙ sym (some_due text ps ls cs moment at low tied its))
-      (λ (high : nat_le at moment ≡ false). high ∙ sym (not_one_due moment (lives_of text ls cs) (none_due text ps ls cs moment (Some at) high tied all branches)))
+      → option_map_or (λ at. nat_le at moment) first false ≡ list_any (has_due moment) (lives_of text cs)
+  due_is text cs moment None all branches its = sym (not_one_due moment (lives_of text cs) (none_due text cs moment None refl all branches))
+  due_is text cs moment (Some at) all branches its = ⊎_elim
+      (λ (low : nat_le at moment ≡ true). low ∙ sym (some_due text cs moment at low its))
+      (λ (high : nat_le at moment ≡ false). high ∙ sym (not_one_due moment (lives_of text cs) (none_due text cs moment (Some at) high all branches)))
       (cases_Bool (nat_le at moment))

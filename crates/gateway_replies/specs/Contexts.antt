@@ -195,41 +195,20 @@ pub record KeepsOthers (number : ℕ) (v w : ContextsValue) : Type 0 where
 
 -- ---- how they are kept
 
--- the connections' numbers and the calls' ids, each with its context
+-- the connections' numbers, each with its context
 abbrev pub Peers : Type 0
 Peers = List (ℕ × Id)
-
-abbrev pub Lives : Type 0
-Lives = List (CallId × Id)
 
 -- the context of the connection of that number
 abbrev pub ctx_of : ℕ → Peers → Option Id
 ctx_of number [] = None
 ctx_of number (p ∷ ps) = if p.0 == number then Some p.1 else ctx_of number ps
 
--- the context of the call
-abbrev pub ctx_for : CallId → Lives → Option Id
-ctx_for id [] = None
-ctx_for id (l ∷ ls) = if is_call l.0 id then Some l.1 else ctx_for id ls
-
--- the call of that context
-abbrev pub call_with : Id → Lives → Option CallId
-call_with x [] = None
-call_with x (l ∷ ls) = if same l.1 x then Some l.0 else call_with x ls
-
--- the first call of the connection
-abbrev pub first_of : ℕ → Lives → Option CallId
-first_of number [] = None
-first_of number (l ∷ ls) = if l.0.conn == number then Some l.0 else first_of number ls
-
 abbrev pub same_number : ℕ × Id → ℕ × Id → Bool
 same_number p q = q.0 == p.0
 
 abbrev pub same_context : ℕ × Id → ℕ × Id → Bool
 same_context p q = same q.1 p.1
-
-abbrev pub same_id : CallId × Id → CallId × Id → Bool
-same_id l m = is_call m.0 l.0
 
 module _ {A : Type 0} where
   -- no two of them stand in this relation
@@ -262,29 +241,28 @@ peers_of (p ∷ ps) (c ∷ cs) = peer p.0 c.ended ∷ peers_of ps cs
 
 module _ {V : Type 0} where
   -- what a call's context has
-  abbrev pub life_with : (V → List ℕ) → CallId → CallContext V → LifeValue
-  life_with text id c = record { id = id; deadline = c.deadline; request_id = option_map text c.request_id; ended = c.ended; branches = c.branches }
+  abbrev pub life_of : (V → List ℕ) → CallContext V → LifeValue
+  life_of text c = record { id = c.name; deadline = c.deadline; request_id = option_map text c.request_id; ended = c.ended; branches = c.branches }
 
-  abbrev pub lives_of : (V → List ℕ) → Lives → List (CallContext V) → List LifeValue
-  lives_of text [] cs = []
-  lives_of text (l ∷ ls) [] = []
-  lives_of text (l ∷ ls) (c ∷ cs) = life_with text l.0 c ∷ lives_of text ls cs
+  abbrev pub lives_of : (V → List ℕ) → List (CallContext V) → List LifeValue
+  lives_of text cs = map (life_of text) cs
 
-  abbrev pub contexts_of : (V → List ℕ) → Peers → Lives → AllContexts V → ContextsValue
-  contexts_of text peers lives v = contexts_value (is_some v.drained) (peers_of peers v.conns) (lives_of text lives v.calls)
+  abbrev pub contexts_of : (V → List ℕ) → Peers → AllContexts V → ContextsValue
+  contexts_of text peers v = contexts_value (is_some v.drained) (peers_of peers v.conns) (lives_of text v.calls)
 
-  -- each call has its context, which derives from that of its connection
-  abbrev pub AreTied : Peers → Lives → List (CallContext V) → Type 0
-  AreTied peers [] [] = Unit {0}
-  AreTied peers [] (c ∷ cs) = ⊥
-  AreTied peers (l ∷ ls) [] = ⊥
-  AreTied peers (l ∷ ls) (c ∷ cs) = (c.id ≡ l.1) × (ctx_of l.0.conn peers ≡ Some c.conn) × AreTied peers ls cs
+  -- the context of the call derives from that of its connection
+  abbrev pub OnPeer : Peers → CallContext V → Type 0
+  OnPeer peers c = ctx_of c.name.conn peers ≡ Some c.conn
 
-  -- there are contexts of these connections and calls, and no others
-  pub record IsTied (peers : Peers) (lives : Lives) (v : AllContexts V) : Type 0 where
+  -- no two are of one call
+  abbrev pub same_id : CallContext V → CallContext V → Bool
+  same_id c d = is_call d.name c.name
+
+  -- there are contexts of these connections, and no others
+  pub record IsTied (peers : Peers) (v : AllContexts V) : Type 0 where
     pub drained_is : v.drained ≡ by_drain (is_some v.drained)
     pub conns_are : map (λ c. c.id) v.conns ≡ map (λ p. p.1) peers
-    pub calls_are : AreTied peers lives v.calls
+    pub calls_are : All (OnPeer peers) v.calls
     pub numbers_apart : NoTwo same_number peers
     pub contexts_apart : NoTwo same_context peers
-    pub calls_apart : NoTwo same_id lives
+    pub calls_apart : NoTwo same_id v.calls

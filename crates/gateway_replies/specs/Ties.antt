@@ -1,18 +1,10 @@
--- What is kept of a connection and of a call beside their contexts.
+-- What is kept of a connection beside its context, and the hooks of calls.
 use Rattle.std.specs.Prelude.{◌≡◌, ℕ, List, [], ◌∷◌, Option, None, Some, map}
 use Rattle.context_tree.specs.Context.{Id}
-use Rattle.gateway_replies.specs.declared.contexts.life.Life.{Life}
+use Rattle.call_contexts.specs.Standing.{Lives}
 use Rattle.gateway_replies.specs.declared.contexts.peer.Peer.{Peer}
-use Rattle.gateway_model.specs.declared.id.CallId.{CallId}
-use Rattle.gateway_replies.specs.Contexts.{Lives, Peers}
+use Rattle.gateway_replies.specs.Contexts.{CallContext, Peers}
 use Rattle.gateway_replies.specs.Hooks.{Hooks, KeepsStocks, Stocks, stock_of}
-
--- a call's id, with its context
-abbrev pub life_tie : Life → CallId × Id
-life_tie l = (l.id, l.ctx)
-
-abbrev pub life_ties : List Life → Lives
-life_ties lives = map life_tie lives
 
 module _ {H : Type 0} where
   -- a connection's number, with its context
@@ -34,12 +26,12 @@ module _ {H : Type 0} where
   Takes number None v w = (stock_of number v ≡ []) × (w ≡ v)
   Takes number (Some hook) v w = (stock_of number v ≡ hook ∷ stock_of number w) × KeepsStocks number v w
 
-  -- the calls' hooks, by their contexts
+  -- the calls' hooks
   abbrev pub hooks_of : Lives → List (Id × H) → Hooks H
   hooks_of [] hs = []
   hooks_of (l ∷ ls) [] = []
   hooks_of (l ∷ ls) (h ∷ hs) = (l.0, h.1) ∷ hooks_of ls hs
 
   -- each call has its hook, in their order
-  abbrev pub AreHooked : Lives → List (Id × H) → Type 0
-  AreHooked ls hs = map (λ h. h.0) hs ≡ map (λ l. l.1) ls
+  abbrev pub AreHooked : {V : Type 0} → List (CallContext V) → List (Id × H) → Type 0
+  AreHooked cs hs = map (λ h. h.0) hs ≡ map (λ c. c.id) cs

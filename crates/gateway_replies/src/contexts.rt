@@ -2,22 +2,19 @@
 //! numbers, the calls' ids and the branches' numbers.
 mod cancelled;
 mod deadline;
-mod life;
 mod peer;
 
 ghost use Rattle.std.specs.Prelude.{All, ◌≡◌, ◌==◌, [], IfErr, IfNone, IfOk, IfSome, None as Nothing, OnErr, OnOk, Some as Just, filter, false, not, option_map, true};
 ghost use Rattle.std.specs.Arc.{arc_value};
 ghost use Rattle.std.specs.List.{list_any};
-ghost use Rattle.gateway_replies.specs.Contexts.{IsNotDue, KeepsOthers, LivesApart, begun, call_with, closed, ctx_for, ctx_of, ending_life, event_of, finished, first_life, first_of, has_due, has_ended, is_life, is_over, is_peer, no_contexts, opened, started, told, without, without_calls};
+ghost use Rattle.gateway_replies.specs.Contexts.{IsNotDue, KeepsOthers, LivesApart, begun, closed, ctx_of, ending_life, event_of, finished, first_life, has_due, has_ended, is_life, is_over, is_peer, no_contexts, opened, started, told, without, without_calls};
 ghost use Rattle.gateway_model.specs.Duty.{MeetsDuty};
-ghost use Rattle.gateway_model.specs.Past.{is_call};
 ghost use Rattle.gateway_model.specs.declared.id.CallId.{CallId as AnyCall};
 ghost use Rattle.gateway_replies.specs.Hooks.{BringsHooks, CallsHook, DropsHook, DropsHooks, KeepsHooks, KeepsStocks, MayLoseHook, TakesAtMostOne, TakesHook, hook_of, hooks_of_others, none_hooked, stock_in};
-ghost use Rattle.gateway_replies.specs.Ties.{Takes, life_ties, peer_ties, stock_ties};
+ghost use Rattle.gateway_replies.specs.Ties.{Takes, peer_ties, stock_ties};
 
 use crate::arrived_call::ArrivedCall;
 use crate::contexts::cancelled::CancelledBy;
-use crate::contexts::life::Life;
 use crate::contexts::peer::{Peer, take_first};
 use crate::hook::ReplyHook;
 use crate::stock::Stock;
@@ -38,28 +35,26 @@ pub struct Contexts<H> {
     contexts: CallContexts<CancelledBy, Arc<Bytes>, H>,
     /// One of each connection that is open and not broken.
     peers: Vec<Peer<H>>,
-    /// One of each call that can be decided.
-    lives: Vec<Life>,
     /// The calls whose hooks were called, with what each was told.
     called: Log<CallId, Ending>,
 }
 
 impl<H> Model for Contexts<H> {
     ghost use Rattle.std.specs.Arc.{arc_value};
+    ghost use Rattle.call_contexts.specs.Standing.{lives_in};
     ghost use Rattle.gateway_replies.specs.Contexts.{IsTied, contexts_of};
     ghost use Rattle.gateway_replies.specs.Hooks.{HookedContexts, hooked};
-    ghost use Rattle.gateway_replies.specs.Ties.{AreHooked, hooks_of, life_ties, peer_ties, stock_ties};
+    ghost use Rattle.gateway_replies.specs.Ties.{hooks_of, peer_ties, stock_ties};
 
     ghost Value = { HookedContexts H };
 
     ghost view = { λ c. hooked
-        (contexts_of arc_value (peer_ties c.peers.items) (life_ties c.lives.items) c.contexts.standing)
+        (contexts_of arc_value (peer_ties c.peers.items) c.contexts.standing)
         (stock_ties c.peers.items)
-        (hooks_of (life_ties c.lives.items) c.contexts.hooks)
+        (hooks_of (lives_in c.contexts.standing.calls) c.contexts.hooks)
         c.called.items };
 
-    ghost invariant = { λ c. IsTied (peer_ties c.peers.items) (life_ties c.lives.items) c.contexts.standing
-        × AreHooked (life_ties c.lives.items) c.contexts.hooks };
+    ghost invariant = { λ c. IsTied (peer_ties c.peers.items) c.contexts.standing };
 }
 
 impl<H: ReplyHook + Drop> Contexts<H> {
@@ -70,7 +65,6 @@ impl<H: ReplyHook + Drop> Contexts<H> {
         Ok(Contexts {
             contexts: CallContexts::new(alloc)?,
             peers: Vec::new(alloc),
-            lives: Vec::new(alloc),
             called: Log::new(),
         })
     }
@@ -106,7 +100,7 @@ impl<H: ReplyHook + Drop> Contexts<H> {
         ensures lost { OnErr result (MayLoseHook id.now.conn self.old self.new) }
         ensures takes { TakesAtMostOne id.now.conn self.old self.new }
     {
-        self.lives.reserve(1)?;
+        self.contexts.apart_law();
         let request_id = shared(&asked.request_id)?;
         let Some(conn) = ctx_of(&self.peers, id.conn.number()) else {
             unreachable!();
@@ -114,13 +108,12 @@ impl<H: ReplyHook + Drop> Contexts<H> {
         let Some(hook) = take_hook(&mut self.peers, id.conn.number()) else {
             unreachable!();
         };
-        let Ok(ctx) = self
+        let Ok(_) = self
             .contexts
-            .begin(conn, asked.deadline, now, request_id, hook)
+            .begin(id, conn, asked.deadline, now, request_id, hook)
         else {
             return Err(AllocError);
         };
-        self.lives.push_reserved(Life { id: *id, ctx });
         Ok(())
     }
 
@@ -158,7 +151,7 @@ impl<H: ReplyHook + Drop> Contexts<H> {
         ensures { result ≡ ending_life moment id.now self.now.standing.calls }
     {
         self.contexts.apart_law();
-        let ctx = ctx_for(&self.lives, id)?;
+        let ctx = self.contexts.ctx_for(id)?;
         let ended = self.contexts.ended(ctx);
         let branch = self.contexts.ended_branch(ctx);
         event_of(ended, branch, moment)
@@ -172,7 +165,7 @@ impl<H: ReplyHook + Drop> Contexts<H> {
     {
         self.contexts.apart_law();
         let ctx = self.contexts.first_ended()?;
-        let Some(id) = call_of(&self.lives, ctx) else {
+        let Some(id) = self.contexts.call_of(ctx) else {
             unreachable!();
         };
         Some(id)
@@ -185,7 +178,7 @@ impl<H: ReplyHook + Drop> Contexts<H> {
         ensures hooks { KeepsHooks self.old self.new }
         ensures err { OnErr result (self.new ≡ self.old) }
     {
-        let Some(ctx) = ctx_for(&self.lives, id) else {
+        let Some(ctx) = self.contexts.ctx_for(id) else {
             unreachable!();
         };
         self.contexts.apart_law();
@@ -197,7 +190,7 @@ impl<H: ReplyHook + Drop> Contexts<H> {
         ensures finished { self.new.standing ≡ finished id.now branch self.old.standing }
         ensures hooks { KeepsHooks self.old self.new }
     {
-        let Some(ctx) = ctx_for(&self.lives, id) else {
+        let Some(ctx) = self.contexts.ctx_for(id) else {
             return;
         };
         self.contexts.apart_law();
@@ -212,11 +205,10 @@ impl<H: ReplyHook + Drop> Contexts<H> {
         ensures gone { self.new.standing ≡ without id.now self.old.standing }
         ensures hooks { CallsHook id.now ending self.old self.new }
     {
-        let Some(ctx) = ctx_for(&self.lives, id) else {
+        let Some(ctx) = self.contexts.ctx_for(id) else {
             unreachable!();
         };
         self.contexts.apart_law();
-        remove_life(&mut self.lives, id);
         self.called = self.called.and(id, &ending);
         match self.contexts.end(ctx, ending) {
             Some(answer) => answer,
@@ -229,11 +221,10 @@ impl<H: ReplyHook + Drop> Contexts<H> {
         ensures gone { self.new.standing ≡ without id.now self.old.standing }
         ensures hooks { DropsHook id.now self.old self.new }
     {
-        let Some(ctx) = ctx_for(&self.lives, id) else {
+        let Some(ctx) = self.contexts.ctx_for(id) else {
             return;
         };
         self.contexts.apart_law();
-        remove_life(&mut self.lives, id);
         self.contexts.abandon(ctx);
     }
 
@@ -250,14 +241,14 @@ impl<H: ReplyHook + Drop> Contexts<H> {
     pub fn apart_law(&self)
         ensures { LivesApart self.now.standing.calls }
     {
-        let _ = &self.lives;
+        let _ = &self.peers;
     }
 
     /// Where a call's context goes, nothing changes but for the calls of its connection. It does nothing.
     pub fn others_law(&self)
         ensures { (id : AnyCall) → KeepsOthers id.conn self.now.standing (without id self.now.standing) }
     {
-        let _ = &self.lives;
+        let _ = &self.peers;
     }
 
     /// Lets go of the context of a connection, of which no call has one.
@@ -281,7 +272,7 @@ impl<H: ReplyHook + Drop> Contexts<H> {
         ensures hooks { hooks_of_others number self.new.hooks ≡ hooks_of_others number self.old.hooks }
         ensures called { self.new.called ≡ self.old.called }
     {
-        while let Some(id) = first_call(&self.lives, number) {
+        while let Some(id) = self.contexts.first_call(number) {
             self.abandon(&id);
         }
     }
@@ -339,49 +330,6 @@ fn remove_peer<H: Drop>(peers: &mut Vec<Peer<H>>, number: u64)
     ensures { peers.new.items ≡ filter (λ p. not (p.number == number)) peers.old.items }
 {
     peers.retain(|peer| peer.number != number);
-}
-
-/// The context of the call.
-fn ctx_for(lives: &[Life], id: &CallId) -> Option<CtxId>
-    ensures { result ≡ ctx_for id.now (life_ties lives.now) }
-{
-    for life in lives {
-        if life.id == *id {
-            return Some(life.ctx);
-        }
-    }
-    None
-}
-
-/// The call of that context.
-fn call_of(lives: &[Life], ctx: CtxId) -> Option<CallId>
-    ensures { result ≡ call_with ctx (life_ties lives.now) }
-{
-    for life in lives {
-        if life.ctx == ctx {
-            return Some(life.id);
-        }
-    }
-    None
-}
-
-/// The first call of the connection of that number.
-fn first_call(lives: &[Life], number: u64) -> Option<CallId>
-    ensures { result ≡ first_of number (life_ties lives.now) }
-{
-    for life in lives {
-        if life.id.conn.number() == number {
-            return Some(life.id);
-        }
-    }
-    None
-}
-
-/// Leaves the other calls.
-fn remove_life(lives: &mut Vec<Life>, id: &CallId)
-    ensures { lives.new.items ≡ filter (λ l. not (is_call l.id id.now)) lives.old.items }
-{
-    lives.retain(|life| life.id != *id);
 }
 
 /// The request id, shared once more.

@@ -27,7 +27,7 @@ invariant_of-self-in-Ok-after_func g c =
     let s = c.self.invariant in
     let there : is_among c.args.conn c.self.inside.conns.items ≡ true = sym (conn_among c.self.inside.tree.slots c.self.inside.conns.items c.args.conn) ∙ ap (λ (v : WithHooks _ _ _). is_conn c.args.conn v.standing.conns) c.self.view_is ∙ c.requires in
     rw (c.push_reserved.ensures.items, c.reserve.ensures.items)
-    (sound_begun s.laws s (record { ctx = c.in-Ok.made.0; holder = c.in-Ok.made.1; conn = c.args.conn; deadline = c.args.deadline; hook = c.in-Ok-after_func.id; twigs = c.new-twigs.result }) c.new-twigs.ensures c.args.now c.args.request_id
+    (sound_begun s.laws s (record { id = c.args.id.now; ctx = c.in-Ok.made.0; holder = c.in-Ok.made.1; conn = c.args.conn; deadline = c.args.deadline; hook = c.in-Ok-after_func.hook; twigs = c.new-twigs.result }) c.new-twigs.ensures c.args.now c.args.request_id
     c.in-Ok.ensures.held c.make.new.tree there (c.in-Ok.ensures.made s.past s.tree_is) c.args.hook c.after_func.new.self
     (c.in-Ok-after_func.ensures.stands s.hooks s.hooks_are) (c.in-Ok-after_func.ensures.id s.hooks s.hooks_are))
 
@@ -49,9 +49,9 @@ returns-in-Ok-after_func-clause-stands g c =
     let there : is_among c.args.conn c.self.inside.conns.items ≡ true = sym (conn_among c.self.inside.tree.slots c.self.inside.conns.items c.args.conn) ∙ ap (λ (v : WithHooks _ _ _). is_conn c.args.conn v.standing.conns) c.self.view_is ∙ c.requires in
     rw (c.push_reserved.ensures.items, c.reserve.ensures.items)
     (pair_is _ _
-    (seen_begun s.laws s (record { ctx = c.in-Ok.made.0; holder = c.in-Ok.made.1; conn = c.args.conn; deadline = c.args.deadline; hook = c.in-Ok-after_func.id; twigs = c.new-twigs.result }) c.new-twigs.ensures c.args.now c.args.request_id
+    (seen_begun s.laws s (record { id = c.args.id.now; ctx = c.in-Ok.made.0; holder = c.in-Ok.made.1; conn = c.args.conn; deadline = c.args.deadline; hook = c.in-Ok-after_func.hook; twigs = c.new-twigs.result }) c.new-twigs.ensures c.args.now c.args.request_id
     c.in-Ok.ensures.held c.make.new.tree there (c.in-Ok.ensures.made s.past s.tree_is)
-    ∙ ap (λ (v : WithHooks _ _ _). begun c.in-Ok.made.0 c.args.conn c.args.deadline c.args.now c.args.request_id v.standing) c.self.view_is)
+    ∙ ap (λ (v : WithHooks _ _ _). begun c.in-Ok.made.0 c.args.id.now c.args.conn c.args.deadline c.args.now c.args.request_id v.standing) c.self.view_is)
     (more_hooks c.self.inside.hooks c.after_func.new.self s.hooks s.hooks_are c.in-Ok.made.0 c.args.hook (c.in-Ok-after_func.ensures.stands s.hooks s.hooks_are)
     ∙ ap (λ (v : WithHooks _ _ _). v.hooks ++ (c.in-Ok.made.0, c.args.hook) ∷ []) c.self.view_is))
 
@@ -60,7 +60,7 @@ returns-in-Ok-after_func-clause-fresh g c =
     let s = c.self.invariant in
     let there : is_among c.args.conn c.self.inside.conns.items ≡ true = sym (conn_among c.self.inside.tree.slots c.self.inside.conns.items c.args.conn) ∙ ap (λ (v : WithHooks _ _ _). is_conn c.args.conn v.standing.conns) c.self.view_is ∙ c.requires in
     rw (← c.self.view_is)
-    (is_new s c.in-Ok.made.0 (begun_unheld s.laws s (record { ctx = c.in-Ok.made.0; holder = c.in-Ok.made.1; conn = c.args.conn; deadline = c.args.deadline; hook = c.in-Ok-after_func.id; twigs = c.new-twigs.result }) c.new-twigs.ensures c.args.now c.args.request_id
+    (is_new s c.in-Ok.made.0 (begun_unheld s.laws s (record { id = c.args.id.now; ctx = c.in-Ok.made.0; holder = c.in-Ok.made.1; conn = c.args.conn; deadline = c.args.deadline; hook = c.in-Ok-after_func.hook; twigs = c.new-twigs.result }) c.new-twigs.ensures c.args.now c.args.request_id
     c.in-Ok.ensures.held c.make.new.tree there (c.in-Ok.ensures.made s.past s.tree_is)))
 
 pub returns-in-Err-clause-back : goal.returns-in-Err-clause-back

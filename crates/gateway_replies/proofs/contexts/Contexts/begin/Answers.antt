@@ -1,12 +1,13 @@
-use Rattle.std.proofs.Common.{◌≡◌, ◌∙◌, ◌++◌, ◌∷◌, [], Some, None, true, false, ap, subst, sym}
+use Rattle.std.proofs.Common.{◌≡◌, ◌∙◌, ◌∷◌, Some, None, true, false, ap, subst, sym}
+use Rattle.std.proofs.lemmas.List.{map_push}
 use Rattle.std.specs.Arc.{arc_value}
-use Rattle.call_contexts.specs.Standing.{WithHooks}
+use Rattle.call_contexts.specs.Standing.{WithHooks, lives_in}
 use Rattle.gateway_model.specs.Past.{ArrivedCall}
-use Rattle.gateway_replies.specs.Contexts.{ContextsValue, ctx_of}
+use Rattle.gateway_replies.specs.Contexts.{CallContext, ContextsValue, ctx_of}
 use Rattle.gateway_replies.specs.Hooks.{HookedContexts, stock_in, stock_of}
-use Rattle.gateway_replies.specs.Ties.{Takes, life_ties, peer_ties, stock_ties}
-use Rattle.gateway_replies.proofs.ContextLemmas.{begun_tied, begun_value, known_conn, no_such, not_known}
-use Rattle.gateway_replies.proofs.HookLemmas.{begun_hooked, has_stock, takes_most, takes_one}
+use Rattle.gateway_replies.specs.Ties.{Takes, peer_ties, stock_ties}
+use Rattle.gateway_replies.proofs.ContextLemmas.{begun_tied, begun_value, known_conn, not_known}
+use Rattle.gateway_replies.proofs.HookLemmas.{has_stock, takes_most, takes_one}
 use Rattle.gateway_replies.proofs.contexts.Contexts.begin.Goals as goal
 
 pub unreachable-requires : goal.unreachable-requires
@@ -21,39 +22,34 @@ pub begin-requires : goal.begin-requires
 begin-requires g c =
     let at : ctx_of c.args.id.now.conn (peer_ties c.self.inside.peers.items) ≡ Some c.in-Some.conn =
     ap (λ ps. ctx_of c.args.id.now.conn (peer_ties ps)) (sym c.deref.ensures.value) ∙ ap (λ n. ctx_of n (peer_ties c.deref.result.now)) (sym c.number.ensures) ∙ sym c.ctx_of.ensures ∙ c.in-Some.is in
-    known_conn (peer_ties c.self.inside.peers.items) (life_ties c.self.inside.lives.items) c.self.inside.contexts.standing c.args.id.now.conn c.in-Some.conn c.self.invariant.0 at
+    known_conn (peer_ties c.self.inside.peers.items) c.self.inside.contexts.standing c.args.id.now.conn c.in-Some.conn c.self.invariant at
 
 pub invariant_of-self-2 : goal.invariant_of-self-2
 invariant_of-self-2 g c =
-    let at : ctx_of c.args.id.now.conn (peer_ties c.self.inside.peers.items) ≡ Some c.in-Some.conn =
-    ap (λ ps. ctx_of c.args.id.now.conn (peer_ties ps)) (sym c.deref.ensures.value) ∙ ap (λ n. ctx_of n (peer_ties c.deref.result.now)) (sym c.number.ensures) ∙ sym c.ctx_of.ensures ∙ c.in-Some.is in (
-      begun_tied (peer_ties c.self.inside.peers.items) (peer_ties c.take_hook.new.peers.items) c.self.inside.lives.items c.push_reserved.new.self.items c.self.inside.contexts.standing c.begin.new.self.standing
-          (record { id = c.args.id.now; ctx = c.in-Ok.ctx }) c.in-Some.conn _ _ _ c.take_hook.ensures.ties
-          (c.push_reserved.ensures.items ∙ ap (λ ls. ls ++ record { id = c.args.id.now; ctx = c.in-Ok.ctx } ∷ []) c.in_ok-reserve.ensures.items)
-          (ap (λ (v : WithHooks _ _ _). v.standing) c.in-Ok.ensures.stands) c.self.invariant.0 at
-          (no_such arc_value (peer_ties c.self.inside.peers.items) (life_ties c.self.inside.lives.items) c.self.inside.contexts.standing c.args.self.now.standing c.args.id.now c.self.invariant.0 (ap (λ (u : HookedContexts _). u.standing) c.self.view_is) c.requires.fresh),
-      begun_hooked c.self.inside.lives.items c.push_reserved.new.self.items c.self.inside.contexts.hooks c.begin.new.self.hooks (record { id = c.args.id.now; ctx = c.in-Ok.ctx }) c.in-Some-take_hook.hook
-          c.self.invariant.1 (c.push_reserved.ensures.items ∙ ap (λ ls. ls ++ record { id = c.args.id.now; ctx = c.in-Ok.ctx } ∷ []) c.in_ok-reserve.ensures.items)
-          (ap (λ (v : WithHooks _ _ _). v.hooks) c.in-Ok.ensures.stands),
-    )
+    let s = c.self.inside in
+    let at : ctx_of c.args.id.now.conn (peer_ties s.peers.items) ≡ Some c.in-Some.conn =
+    ap (λ ps. ctx_of c.args.id.now.conn (peer_ties ps)) (sym c.deref.ensures.value) ∙ ap (λ n. ctx_of n (peer_ties c.deref.result.now)) (sym c.number.ensures) ∙ sym c.ctx_of.ensures ∙ c.in-Some.is in
+    begun_tied arc_value (peer_ties s.peers.items) (peer_ties c.take_hook.new.peers.items) s.contexts.standing c.begin.new.self.standing c.args.self.now.standing c.args.id.now c.in-Ok.field-0 c.in-Some.conn _ _ _
+    c.take_hook.ensures.ties (ap (λ (v : WithHooks _ _ _). v.standing) c.in-Ok.ensures.stands) c.self.invariant at (ap (λ (u : HookedContexts _). u.standing) c.self.view_is) c.requires.fresh
 
 pub returns-clause-ok : goal.returns-clause-ok
 returns-clause-ok g c =
-    let at : ctx_of c.args.id.now.conn (peer_ties c.self.inside.peers.items) ≡ Some c.in-Some.conn =
+    let s = c.self.inside in
+    let at : ctx_of c.args.id.now.conn (peer_ties s.peers.items) ≡ Some c.in-Some.conn =
     ap (λ ps. ctx_of c.args.id.now.conn (peer_ties ps)) (sym c.deref.ensures.value) ∙ ap (λ n. ctx_of n (peer_ties c.deref.result.now)) (sym c.number.ensures) ∙ sym c.ctx_of.ensures ∙ c.in-Some.is in
-    begun_value arc_value (peer_ties c.self.inside.peers.items) (peer_ties c.take_hook.new.peers.items) c.self.inside.lives.items c.push_reserved.new.self.items c.self.inside.contexts.standing
-    c.begin.new.self.standing c.args.self.now.standing c.args.asked.now (record { id = c.args.id.now; ctx = c.in-Ok.ctx }) c.in-Some.conn _ _ _ c.take_hook.ensures.ties
-    (c.push_reserved.ensures.items ∙ ap (λ ls. ls ++ record { id = c.args.id.now; ctx = c.in-Ok.ctx } ∷ []) c.in_ok-reserve.ensures.items)
-    (ap (λ (v : WithHooks _ _ _). v.standing) c.in-Ok.ensures.stands) c.self.invariant.0 at (ap (λ (u : HookedContexts _). u.standing) c.self.view_is)
+    begun_value arc_value (peer_ties s.peers.items) (peer_ties c.take_hook.new.peers.items) s.contexts.standing c.begin.new.self.standing c.args.self.now.standing c.args.asked.now c.args.id.now c.in-Ok.field-0 c.in-Some.conn _ _ _
+    c.take_hook.ensures.ties (ap (λ (v : WithHooks _ _ _). v.standing) c.in-Ok.ensures.stands) c.self.invariant at (ap (λ (u : HookedContexts _). u.standing) c.self.view_is)
     (ap (λ (a : ArrivedCall). a.deadline) c.asked.view_is)
     (c.in_ok-request_id.ensures ∙ ap (λ (a : ArrivedCall). a.request_id) c.asked.view_is)
 
 pub returns-clause-hook : goal.returns-clause-hook
 returns-clause-hook g c =
-    takes_one c.args.self.now _ _ c.self.inside.peers.items c.take_hook.new.peers.items c.self.inside.lives.items c.push_reserved.new.self.items c.self.inside.contexts.hooks c.begin.new.self.hooks
-    (record { id = c.args.id.now; ctx = c.in-Ok.ctx }) c.in-Some-take_hook.hook c.self.view_is
-    (subst (λ n. stock_of n (stock_ties c.self.inside.peers.items) ≡ c.in-Some-take_hook.hook ∷ stock_of n (stock_ties c.take_hook.new.peers.items)) c.number-2.ensures c.in-Some-take_hook.ensures.taken.0)
-    c.self.invariant.1 (c.push_reserved.ensures.items ∙ ap (λ ls. ls ++ record { id = c.args.id.now; ctx = c.in-Ok.ctx } ∷ []) c.in_ok-reserve.ensures.items)
+    let s = c.self.inside in
+    takes_one c.args.self.now _ _ s.peers.items c.take_hook.new.peers.items s.contexts.standing.calls (lives_in c.begin.new.self.standing.calls) s.contexts.hooks c.begin.new.self.hooks
+    (c.args.id.now, c.in-Ok.field-0) c.in-Some-take_hook.hook c.self.view_is
+    (subst (λ n. stock_of n (stock_ties s.peers.items) ≡ c.in-Some-take_hook.hook ∷ stock_of n (stock_ties c.take_hook.new.peers.items)) c.number-2.ensures c.in-Some-take_hook.ensures.taken.0)
+    c.apart_law.ensures.hooked
+    (ap (λ (v : WithHooks _ _ _). lives_in v.standing.calls) c.in-Ok.ensures.stands ∙ map_push (λ (d : CallContext _). (d.name, d.id)) s.contexts.standing.calls _)
     (ap (λ (v : WithHooks _ _ _). v.hooks) c.in-Ok.ensures.stands)
 
 pub unreachable-requires-in_default-take_hook : goal.unreachable-requires-in_default-take_hook

@@ -3,11 +3,10 @@ use Rattle.std.specs.Arc.{arc_value}
 use Rattle.gateway_replies.specs.Contexts.{ContextsValue}
 use Rattle.gateway_replies.specs.Hooks.{HookedContexts}
 use Rattle.gateway_replies.specs.Least.{first_deadline}
-use Rattle.gateway_replies.specs.Ties.{life_ties, peer_ties}
 use Rattle.gateway_replies.proofs.LeastLemmas.{first_is}
 use Rattle.gateway_replies.proofs.contexts.Contexts.next_deadline.Goals as goal
 
 pub returns : goal.returns
 returns g c = subst (λ (v : ContextsValue). c.next_deadline.result ≡ first_deadline v.calls) (ap (λ (u : HookedContexts _). u.standing) c.self.view_is)
-    (first_is arc_value (peer_ties c.self.inside.peers.items) (life_ties c.self.inside.lives.items) c.self.inside.contexts.standing.calls c.next_deadline.result
-    c.self.invariant.0.calls_are c.next_deadline.ensures.calls c.next_deadline.ensures.branches c.next_deadline.ensures.its)
+    (first_is arc_value c.self.inside.contexts.standing.calls c.next_deadline.result
+    c.next_deadline.ensures.calls c.next_deadline.ensures.branches c.next_deadline.ensures.its)

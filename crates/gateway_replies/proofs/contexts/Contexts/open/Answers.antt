@@ -1,35 +1,34 @@
 use Rattle.std.proofs.Common.{◌∙◌, ◌++◌, ◌∷◌, [], ap, sym}
 use Rattle.std.specs.Arc.{arc_value}
-use Rattle.call_contexts.specs.Standing.{WithHooks}
+use Rattle.call_contexts.specs.Standing.{WithHooks, lives_in}
 use Rattle.gateway_replies.specs.Hooks.{HookedContexts}
-use Rattle.gateway_replies.specs.Ties.{life_ties, peer_ties}
+use Rattle.gateway_replies.specs.Ties.{peer_ties}
 use Rattle.gateway_replies.proofs.ContextLemmas.{opened_tied, opened_value}
-use Rattle.gateway_replies.proofs.HookLemmas.{brings, no_stock_yet, still_hooked}
+use Rattle.gateway_replies.proofs.HookLemmas.{brings, no_stock_yet}
 use Rattle.gateway_replies.proofs.PeerLemmas.{peer_in}
 use Rattle.gateway_replies.specs.Contexts.{is_peer}
 use Rattle.gateway_replies.proofs.contexts.Contexts.open.Goals as goal
 
 pub invariant_of-self-2 : goal.invariant_of-self-2
-invariant_of-self-2 g c = (
-  opened_tied c.self.inside.peers.items c.push_reserved.new.self.items (life_ties c.self.inside.lives.items) c.self.inside.contexts.standing c.open.new.self.standing c.args.self.now.standing arc_value
-      (record { number = c.args.number; ctx = c.in-Ok.ctx; stock = c.into_hooks-stock.result })
-      (c.push_reserved.ensures.items ∙ ap (λ ps. ps ++ record { number = c.args.number; ctx = c.in-Ok.ctx; stock = c.into_hooks-stock.result } ∷ []) c.reserve.ensures.items)
-      (ap (λ (v : WithHooks _ _ _). v.standing) c.in-Ok.ensures.stands) c.self.invariant.0 c.in-Ok.ensures.fresh (ap (λ (u : HookedContexts _). u.standing) c.self.view_is) c.requires,
-  still_hooked (life_ties c.self.inside.lives.items) c.self.inside.contexts.hooks c.open.new.self.hooks (ap (λ (v : WithHooks _ _ _). v.hooks) c.in-Ok.ensures.stands) c.self.invariant.1,
-)
+invariant_of-self-2 g c =
+    opened_tied c.self.inside.peers.items c.push_reserved.new.self.items c.self.inside.contexts.standing c.open.new.self.standing c.args.self.now.standing arc_value
+    (record { number = c.args.number; ctx = c.in-Ok.ctx; stock = c.into_hooks-stock.result })
+    (c.push_reserved.ensures.items ∙ ap (λ ps. ps ++ record { number = c.args.number; ctx = c.in-Ok.ctx; stock = c.into_hooks-stock.result } ∷ []) c.reserve.ensures.items)
+    (ap (λ (v : WithHooks _ _ _). v.standing) c.in-Ok.ensures.stands) c.self.invariant c.in-Ok.ensures.fresh (ap (λ (u : HookedContexts _). u.standing) c.self.view_is) c.requires
 
 pub returns-clause-ok : goal.returns-clause-ok
 returns-clause-ok g c =
-    opened_value c.self.inside.peers.items c.push_reserved.new.self.items (life_ties c.self.inside.lives.items) c.self.inside.contexts.standing c.open.new.self.standing c.args.self.now.standing arc_value
+    opened_value c.self.inside.peers.items c.push_reserved.new.self.items c.self.inside.contexts.standing c.open.new.self.standing c.args.self.now.standing arc_value
     (record { number = c.args.number; ctx = c.in-Ok.ctx; stock = c.into_hooks-stock.result })
     (c.push_reserved.ensures.items ∙ ap (λ ps. ps ++ record { number = c.args.number; ctx = c.in-Ok.ctx; stock = c.into_hooks-stock.result } ∷ []) c.reserve.ensures.items)
-    (ap (λ (v : WithHooks _ _ _). v.standing) c.in-Ok.ensures.stands) c.self.invariant.0 (ap (λ (u : HookedContexts _). u.standing) c.self.view_is)
+    (ap (λ (v : WithHooks _ _ _). v.standing) c.in-Ok.ensures.stands) c.self.invariant (ap (λ (u : HookedContexts _). u.standing) c.self.view_is)
 
 pub returns-clause-hooks : goal.returns-clause-hooks
 returns-clause-hooks g c =
     brings c.args.self.now _ _ c.self.inside.peers.items c.push_reserved.new.self.items (record { number = c.args.number; ctx = c.in-Ok.ctx; stock = c.into_hooks-stock.result }) c.args.stock
-    (life_ties c.self.inside.lives.items) c.self.inside.contexts.hooks c.open.new.self.hooks c.self.view_is (ap (λ (v : WithHooks _ _ _). v.hooks) c.in-Ok.ensures.stands)
+    (lives_in c.self.inside.contexts.standing.calls) (lives_in c.open.new.self.standing.calls) c.self.inside.contexts.hooks c.open.new.self.hooks c.self.view_is
+    (ap (λ (v : WithHooks _ _ _). lives_in v.standing.calls) c.in-Ok.ensures.stands) (ap (λ (v : WithHooks _ _ _). v.hooks) c.in-Ok.ensures.stands)
     (c.push_reserved.ensures.items ∙ ap (λ ps. ps ++ record { number = c.args.number; ctx = c.in-Ok.ctx; stock = c.into_hooks-stock.result } ∷ []) c.reserve.ensures.items)
     c.into_hooks-stock.ensures.all c.into_hooks-stock.ensures.full
-    (no_stock_yet c.args.number c.self.inside.peers.items (sym (peer_in c.args.number (peer_ties c.self.inside.peers.items) c.self.inside.contexts.standing.conns c.self.invariant.0.conns_are)
+    (no_stock_yet c.args.number c.self.inside.peers.items (sym (peer_in c.args.number (peer_ties c.self.inside.peers.items) c.self.inside.contexts.standing.conns c.self.invariant.conns_are)
     ∙ ap (λ (u : HookedContexts _). is_peer c.args.number u.standing.conns) c.self.view_is ∙ c.requires))
