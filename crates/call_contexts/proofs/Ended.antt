@@ -4,7 +4,7 @@ use Rattle.std.specs.Prelude.{◌||◌, ◌&&◌, IfNone, is_some, map, not, All
 use Rattle.std.specs.List.{list_any}
 use Rattle.std.specs.Option.{option_to_list}
 use Rattle.std.proofs.lemmas.List.Folds.{list_any_none as none_any}
-use Rattle.std.proofs.lemmas.Bool.{cases_Bool, or_parts}
+use Rattle.std.proofs.lemmas.Bool.{cases_Bool, eq-eqb, or_parts}
 use Rattle.std.proofs.lemmas.List.Elements.{All-nil, All-cons, All-head, All-tail, All-weaker}
 use Rattle.std.proofs.lemmas.Option.{same_Some}
 use Rattle.std.proofs.Math.Bool.{or-true}
@@ -13,6 +13,8 @@ use Rattle.context_tree.specs.Tree.{TreeValue, StandsFor}
 use Rattle.context_tree.specs.declared.node.Kind.{Kind}
 use Rattle.context_tree.specs.declared.node.Kind.TheVariants.{Deadline}
 use Rattle.after_funcs.specs.declared.callbacks.AfterFuncs.{AfterFuncs}
+use Rattle.gateway_model.specs.declared.id.CallId.{CallId}
+use Rattle.gateway_model.specs.Past.{is_call}
 use Rattle.call_contexts.specs.declared.life.Life.{Life}
 use Rattle.call_contexts.specs.declared.twig.Twig.{Twig}
 use Rattle.call_contexts.specs.Standing.{Slots, cause_in, has_ended, is_over, seen, seen_branch, seen_branches, seen_call}
@@ -20,7 +22,7 @@ use Rattle.call_contexts.specs.Sound.{Op, IsLife, IsSound, IsTwig, IsUnhanded, i
 use Rattle.call_contexts.proofs.Beginning.{seen_alike}
 use Rattle.call_contexts.proofs.Lists.{any_map, both_all}
 use Rattle.call_contexts.proofs.Seeing.{sound_held}
-use Rattle.call_contexts.proofs.Trees.{same_refl, same_true, same_turned, shown}
+use Rattle.call_contexts.proofs.Trees.{same_true, same_turned, shown}
 
 -- ---- whose it is
 
@@ -28,7 +30,7 @@ use Rattle.call_contexts.proofs.Trees.{same_refl, same_true, same_turned, shown}
 pub no_owner : (x : Id) (calls : List Life) → owner_of x calls ≡ None → All (λ l. is_row x l ≡ false) calls
 no_owner x [] e = All-nil (λ l. is_row x l ≡ false)
 no_owner x (l ∷ ls) e = ⊎_elim
-    (λ (y : is_row x l ≡ true). let bad : Some l.ctx ≡ None = rw y at e in absurd (cc))
+    (λ (y : is_row x l ≡ true). let bad : Some l.id ≡ None = rw y at e in absurd (cc))
     (λ (n : is_row x l ≡ false). All-cons (λ l. is_row x l ≡ false) l ls n (no_owner x ls (rw n at e)))
     (cases_Bool (is_row x l))
 
@@ -78,12 +80,12 @@ module _ {C V : Type 0} (slots : Slots C V) where
       (λ (n : same l.ctx x ≡ false). ap (λ b. is_some (cause_in slots l.ctx) || b) (over_twig x l.twigs (rw n at row) over) ∙ or-true (is_some (cause_in slots l.ctx)))
       (cases_Bool (same l.ctx x))
 
-  pub over_owner : (x id : Id) (ls : List Life) → owner_of x ls ≡ Some id → is_some (cause_in slots x) ≡ true → list_any (has_ended id) (map (seen_call slots) ls) ≡ true
+  pub over_owner : (x : Id) (id : CallId) (ls : List Life) → owner_of x ls ≡ Some id → is_some (cause_in slots x) ≡ true → list_any (has_ended id) (map (seen_call slots) ls) ≡ true
   over_owner x id [] found over = absurd (cc)
   over_owner x id (l ∷ ls) found over = ⊎_elim
       (λ (y : is_row x l ≡ true).
-      let e : l.ctx ≡ id = same_Some l.ctx id (rw y at found) in
-      let own : same l.ctx id ≡ true = ap (same l.ctx) (sym e) ∙ same_refl l.ctx in
+      let e : l.id ≡ id = same_Some l.id id (rw y at found) in
+      let own : is_call l.id id ≡ true = ap (is_call l.id) (sym e) ∙ rw (eq-eqb l.id.conn l.id.conn refl, eq-eqb l.id.request l.id.request refl) refl in
       rw (own, over_row x l y over) refl)
       (λ (n : is_row x l ≡ false). ap (λ b. has_ended id (seen_call slots l) || b) (over_owner x id ls (rw n at found) over) ∙ or-true (has_ended id (seen_call slots l)))
       (cases_Bool (is_row x l))
@@ -117,7 +119,7 @@ module _ {C V H : Type 0} {f : AfterFuncs H} (base : Id) (conns : List Id) (call
     seen_passed = seen_alike s.laws s (HandsOut x ∷ s.past) new st (record { held_is = λ y far. refl; ending_is = λ y kind far is. refl })
 
   -- it is that of a call or of a branch
-  pub found_over : (x id : Id) → is_waiting x s.past ≡ true → owner_of x calls ≡ Some id → list_any (has_ended id) (map (seen_call now.slots) calls) ≡ true
+  pub found_over : (x : Id) (id : CallId) → is_waiting x s.past ≡ true → owner_of x calls ≡ Some id → list_any (has_ended id) (map (seen_call now.slots) calls) ≡ true
   found_over x id waits owner = over_owner now.slots x id calls owner (waits_ended now s.past s.tree_is x waits)
 
   -- where nothing waits, none is over

@@ -11,16 +11,18 @@ use Rattle.context_tree.specs.declared.node.Kind.TheVariants.{Cancel, Value}
 use Rattle.context_tree.specs.Context.{Id, same, Releases, held, nearest, line, parent_of}
 use Rattle.context_tree.specs.Tree.{TreeValue, StandsFor, is_among}
 use Rattle.after_funcs.specs.declared.callbacks.AfterFuncs.{AfterFuncs}
+use Rattle.gateway_model.specs.declared.id.CallId.{CallId}
 use Rattle.after_funcs.specs.Hooks.{Operation, waiting, due}
 use Rattle.after_funcs.specs.Stands.{StandsFor as HooksStand}
 use Rattle.call_contexts.specs.declared.life.Life.{Life}
 use Rattle.call_contexts.specs.Standing.{seen, seen_conn, seen_call, cause_in, ended_call, value_in, without, closed, request_for, AreApart}
-use Rattle.call_contexts.specs.Sound.{TreeLaws, Distinct, IsSound, IsLife, IsConn, IsHolder, IsUnhanded, IsFree, AreFree, Touches, all_ids, ids_in, ids_of, twig_ids, kind_of, contexts, let_go, hook_of, kept_of, life_at, NoTwo, same_ctx, why}
+use Rattle.call_contexts.specs.Sound.{TreeLaws, Distinct, IsSound, IsLife, IsConn, IsHolder, IsUnhanded, IsFree, AreFree, Touches, all_ids, ids_in, ids_of, twig_ids, kind_of, contexts, let_go, hook_of, kept_of, life_at, life_for, NoTwo, same_ctx, why}
 use Rattle.call_contexts.proofs.Trees.{same_refl, same_true, not_both, shown, touch_released, released_held, call_value}
 use Rattle.call_contexts.proofs.Making.{go_touches, gone_unheld}
-use Rattle.call_contexts.proofs.Lists.{any_map, all_stay, all_none, both_all, found_in, found_any}
+use Rattle.call_contexts.proofs.Lists.{found_for, any_map, all_stay, all_none, both_all, found_in, found_any}
 use Rattle.call_contexts.proofs.Hooking.{filter_map_swap}
 use Rattle.call_contexts.proofs.Distinct.{ConnPlace, Far, LifePlace, among_rest, calls_apart, conn_place, conns_part, distinct_less, gone_from, life_place, none_between}
+use Rattle.call_contexts.proofs.Seeing.{asked}
 use Rattle.call_contexts.proofs.Family.{among_in, among_left, childless, kind_parent, own_first, owned}
 use Rattle.call_contexts.proofs.Framing.{framed_sound, conns_kept, calls_kept, all_seen}
 
@@ -235,52 +237,25 @@ module _ {C V H : Type 0} (laws : TreeLaws C V) {f : AfterFuncs H} {base : Id} {
 
 -- ---- what is asked of a call
 
--- the first call that is seen is the one that is kept
-pub ended_seen : {C V : Type 0} (slots : _) (id : Id) (ls : List Life) → list_any (λ m. same m.ctx id) ls ≡ true → ended_call id (map (seen_call {C = C} {V = V} slots) ls) ≡ cause_in slots id
-ended_seen slots id [] any = cc
-ended_seen slots id (m ∷ ms) any = ⊎_elim
-    (λ (y : same m.ctx id ≡ true). rw y (ap (cause_in slots) (same_true m.ctx id y)))
-    (λ (n : same m.ctx id ≡ false). rw n (ended_seen slots id ms (rw n at any)))
-    (cases_Bool (same m.ctx id))
+module _ {C V H : Type 0} {f : AfterFuncs H} {base : Id} {conns : List Id} {calls : List Life} {old : TreeValue C V} (s : IsSound old f base conns calls)
+    (id : CallId) (l : Life) (found : life_for id calls ≡ Some l) where
+  pub life_is : IsLife s.past base l
+  life_is = found_for (IsLife s.past base) id l calls s.calls_are found
 
-pub none_ended : {C V : Type 0} (slots : _) (id : Id) (ls : List Life) → list_any (λ m. same m.ctx id) ls ≡ false → ended_call id (map (seen_call {C = C} {V = V} slots) ls) ≡ None
-none_ended slots id [] none = refl
-none_ended slots id (m ∷ ms) none =
-    let two = or_parts (same m.ctx id) (list_any (λ k. same k.ctx id) ms) none in
-    rw two.0 (none_ended slots id ms two.1)
-
-pub request_seen : {C V : Type 0} (slots : _) (id : Id) (l : Life) (ls : List Life) → life_at id ls ≡ Some l → request_for id (map (seen_call {C = C} {V = V} slots) ls) ≡ option_and_then (value_in slots) l.holder
-request_seen slots id l [] found = cc
-request_seen slots id l (m ∷ ms) found = ⊎_elim
-    (λ (y : same m.ctx id ≡ true). rw y (ap (λ (k : Life). option_and_then (value_in slots) k.holder) (same_Some m l (rw y at found))))
-    (λ (n : same m.ctx id ≡ false). rw n (request_seen slots id l ms (rw n at found)))
-    (cases_Bool (same m.ctx id))
-
-pub no_request : {C V : Type 0} (slots : _) (id : Id) (ls : List Life) → list_any (λ m. same m.ctx id) ls ≡ false → request_for id (map (seen_call {C = C} {V = V} slots) ls) ≡ None
-no_request slots id [] none = refl
-no_request slots id (m ∷ ms) none =
-    let two = or_parts (same m.ctx id) (list_any (λ k. same k.ctx id) ms) none in
-    rw two.0 (no_request slots id ms two.1)
-
-module _ {C V H : Type 0} (laws : TreeLaws C V) {f : AfterFuncs H} {base : Id} {conns : List Id} {calls : List Life} {old : TreeValue C V} (s : IsSound old f base conns calls)
-    (id : Id) (l : Life) (found : life_at id calls ≡ Some l) where
-  pub call_known : is_some (held id s.past) ≡ true
-  call_known = let it = found_in id (IsLife s.past base) l calls s.calls_are found in subst (λ z. is_some (held z s.past) ≡ true) it.1 (ap is_some it.0.call_is)
+  pub call_known : is_some (held l.ctx s.past) ≡ true
+  call_known = ap is_some life_is.call_is
 
   -- the request id that the tree tells is the one that is seen
-  pub request_told : nearest 0 (line id s.past) ≡ request_for id (map (seen_call old.slots) calls)
+  pub request_told : nearest 0 (line l.ctx s.past) ≡ request_for id (map (seen_call old.slots) calls)
   request_told =
-      let it = found_in id (IsLife s.past base) l calls s.calls_are found in
-      subst (λ z. nearest 0 (line z s.past) ≡ option_and_then (value_in old.slots) l.holder) it.1
-      (call_value laws s.past s.tree_is.contexts.lawful s.root base s.root_is s.base_is l.conn it.0.conn_is l.ctx l.holder it.0.holder_is old s.tree_is l.deadline it.0.call_is)
-      ∙ sym (request_seen old.slots id l calls found)
+      call_value s.laws s.past s.tree_is.contexts.lawful s.root base s.root_is s.base_is l.conn life_is.conn_is l.ctx l.holder life_is.holder_is old s.tree_is l.deadline life_is.call_is
+      ∙ sym (asked old.slots (λ c. c.request_id) id calls ∙ ap (option_and_then (λ (m : Life). option_and_then (value_in old.slots) m.holder)) found)
 
   -- the tree tells what ended the call as it is seen
-  pub ended_told : why id s.past ≡ ended_call id (map (seen_call old.slots) calls)
+  pub ended_told : why l.ctx s.past ≡ ended_call id (map (seen_call old.slots) calls)
   ended_told =
-      let it = found_in id (IsLife s.past base) l calls s.calls_are found in
-      subst (λ z. why z s.past ≡ cause_in old.slots z) it.1 (sym (shown old s.past l.ctx (kind_of (unwrap_or l.holder l.conn) l.deadline) s.tree_is it.0.call_is))
-      ∙ sym (ended_seen old.slots id calls (found_any id l calls found))
+      sym (shown old s.past l.ctx (kind_of (unwrap_or l.holder l.conn) l.deadline) s.tree_is life_is.call_is)
+      ∙ sym (asked old.slots (λ c. c.ended) id calls ∙ ap (option_and_then (λ (m : Life). cause_in old.slots m.ctx)) found)
 
 -- the answer about a context that is held
 pub asked_held : {K A : Type 0} (o : Option K) (a : A) → is_some o ≡ true → option_map (λ kind. a) o ≡ Some a

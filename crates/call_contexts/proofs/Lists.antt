@@ -6,8 +6,10 @@ use Rattle.std.proofs.lemmas.Bool.{cases_Bool, or_left, or_parts, or_right}
 use Rattle.std.proofs.lemmas.List.Elements.{All-nil, All-cons, All-head, All-tail}
 use Rattle.std.proofs.lemmas.Option.{same_Some}
 use Rattle.context_tree.specs.Context.{Id, same}
+use Rattle.gateway_model.specs.declared.id.CallId.{CallId}
+use Rattle.gateway_model.specs.Past.{is_call}
 use Rattle.call_contexts.specs.declared.life.Life.{Life}
-use Rattle.call_contexts.specs.Sound.{NoTwo, same_ctx, life_at}
+use Rattle.call_contexts.specs.Sound.{NoTwo, same_ctx, life_at, life_for}
 use Rattle.call_contexts.proofs.Trees.{same_true}
 
 pub any_map : {A B : Type 0} (p : B → Bool) (f : A → B) (xs : List A) → list_any p (map f xs) ≡ list_any (λ x. p (f x)) xs
@@ -78,7 +80,14 @@ pub on_err : {T E Q R G : Type 0} (r : Result T E) → OnErr r Q → OnErr r R �
 on_err (Ok a) q r err = tt
 on_err (Err e) q r err = err q r
 
--- ---- the call of a context
+-- ---- the call of an id, and of a context
+
+pub found_for : (P : Life → Type 0) (id : CallId) (l : Life) (ls : List Life) → All P ls → life_for id ls ≡ Some l → P l
+found_for P id l [] all is = cc
+found_for P id l (m ∷ ms) all is = ⊎_elim
+    (λ (y : is_call m.id id ≡ true). subst P (same_Some m l (rw y at is)) (All-head P m ms all))
+    (λ (n : is_call m.id id ≡ false). found_for P id l ms (All-tail P m ms all) (rw n at is))
+    (cases_Bool (is_call m.id id))
 
 module _ (id : Id) where
   pub found_in : (P : Life → Type 0) (l : Life) (ls : List Life) → All P ls → life_at id ls ≡ Some l → P l × (l.ctx ≡ id)

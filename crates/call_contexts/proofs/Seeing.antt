@@ -1,6 +1,7 @@
 -- What is seen after a moment, a cancel and a drain.
 use Rattle.std.proofs.Common.{◌≡◌, refl, sym, ap, ◌∙◌, arith, ℕ, ◌≤◌, List, [], ◌∷◌, Option, Some, None, Bool, true, false, ⊎_elim, is_none}
-use Rattle.std.specs.Prelude.{◌&&◌, ◌||◌, min, is_some, map, All, option_map, option_and_then, unwrap_or}
+use Rattle.std.specs.List.{find}
+use Rattle.std.specs.Prelude.{◌&&◌, ◌||◌, ◌==◌, min, is_some, map, All, option_map, option_and_then, unwrap_or}
 use Rattle.std.specs.Option.{option_or}
 use Rattle.std.proofs.lemmas.List.Elements.{All-nil, All-head, All-map, All-tail, All-weaker}
 use Rattle.std.proofs.lemmas.Bool.{cases_Bool, or_parts}
@@ -12,11 +13,13 @@ use Rattle.context_tree.specs.declared.node.Kind.TheVariants.{Background, Cancel
 use Rattle.context_tree.specs.Context.{Id, Ended, same, Makes, Cancels, Advances, held, chain, deadline, sooner, has_cancel, ending}
 use Rattle.context_tree.specs.Tree.{TreeValue, StandsFor, IsFirstDeadline, IsNotAfter, IsLawful, is_among, is_ended_by_cancel}
 use Rattle.after_funcs.specs.declared.callbacks.AfterFuncs.{AfterFuncs}
+use Rattle.gateway_model.specs.declared.id.CallId.{CallId}
+use Rattle.gateway_model.specs.Past.{is_call}
 use Rattle.after_funcs.specs.Stands.{StandsFor as HooksStand}
 use Rattle.call_contexts.specs.declared.life.Life.{Life}
 use Rattle.call_contexts.specs.declared.twig.Twig.{Twig}
-use Rattle.call_contexts.specs.Standing.{Conn, Call, IsNoSooner, AreNoSooner, Slots, cause_in, value_in, seen, seen_conn, seen_call, Branch, seen_branch, seen_branches, lives_in, ends_call, ends_branch, expires_branch, expires_call, ends_conn, if_cancelled, if_due, is_conn, ended_conn, expired, all_ended}
-use Rattle.call_contexts.specs.Sound.{Op, TreeLaws, IsSound, IsLife, IsConn, IsHolder, IsTwig, all_ids, kind_of, life_ties, IsUnhanded, why}
+use Rattle.call_contexts.specs.Standing.{Conn, Call, IsNoSooner, AreNoSooner, Slots, cause_in, value_in, seen, seen_conn, seen_call, Branch, seen_branch, seen_branches, call_for, ctx_for, first_of, ends_call, ends_branch, expires_branch, expires_call, ends_conn, if_cancelled, if_due, is_conn, ended_conn, expired, all_ended}
+use Rattle.call_contexts.specs.Sound.{Op, TreeLaws, IsSound, IsLife, IsConn, IsHolder, IsTwig, all_ids, kind_of, life_for, IsUnhanded, why}
 use Rattle.call_contexts.proofs.Trees.{same_refl, same_true, same_turned, shown, shown_request, advanced, due_on, struck, base_chain, conn_chain, call_deadline, call_hit, call_due, twig_hit, twig_due, twig_deadline, far_new, made_held}
 use Rattle.call_contexts.proofs.Family.{among_in}
 use Rattle.call_contexts.proofs.Making.{or_none}
@@ -91,10 +94,22 @@ module _ {C V : Type 0} where
       ∙ ap (λ x. record { drained = d; conns = x; calls = map (seen_call slots) calls }) c
       ∙ ap (λ x. record { drained = d; conns = cs; calls = x }) l
 
-  -- the ids and contexts that are seen are those that are kept
-  pub seen_lives : (slots : Slots C V) (ls : List Life) → lives_in (map (seen_call slots) ls) ≡ life_ties ls
-  seen_lives slots [] = refl
-  seen_lives slots (l ∷ ls) = ap (λ ts. (l.id, l.ctx) ∷ ts) (seen_lives slots ls)
+  -- what is asked of a call that is seen is asked of the one that is kept
+  pub asked : {A : Type 0} (slots : Slots C V) (q : Call C V → Option A) (id : CallId) (ls : List Life)
+      → option_and_then q (call_for id (map (seen_call slots) ls)) ≡ option_and_then (λ l. q (seen_call slots l)) (life_for id ls)
+  asked slots q id [] = refl
+  asked slots q id (l ∷ ls) = ⊎_elim (λ (y : is_call l.id id ≡ true). rw y refl) (λ (n : is_call l.id id ≡ false). rw n (asked slots q id ls)) (cases_Bool (is_call l.id id))
+
+  pub ctx_kept : (slots : Slots C V) (id : CallId) (ls : List Life) → ctx_for id (map (seen_call slots) ls) ≡ option_map (λ l. l.ctx) (life_for id ls)
+  ctx_kept slots id [] = refl
+  ctx_kept slots id (l ∷ ls) = ⊎_elim (λ (y : is_call l.id id ≡ true). rw y refl) (λ (n : is_call l.id id ≡ false). rw n (ctx_kept slots id ls)) (cases_Bool (is_call l.id id))
+
+  pub first_kept : (slots : Slots C V) (number : ℕ) (ls : List Life) → first_of number (map (seen_call slots) ls) ≡ option_map (λ l. l.id) (find (λ l. l.id.conn == number) ls)
+  first_kept slots number [] = refl
+  first_kept slots number (l ∷ ls) = ⊎_elim
+      (λ (y : (l.id.conn == number) ≡ true). rw y refl)
+      (λ (n : (l.id.conn == number) ≡ false). rw n (first_kept slots number ls))
+      (cases_Bool (l.id.conn == number))
 
   pub conn_as : (slots : Slots C V) (x : Id) (e : Option (Cause C)) → cause_in slots x ≡ e → seen_conn slots x ≡ record { id = x; ended = e }
   conn_as slots x e is = ap (λ b. record { id = x; ended = b }) is

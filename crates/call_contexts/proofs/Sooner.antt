@@ -8,12 +8,14 @@ use Rattle.context_tree.specs.declared.node.Kind.TheVariants.{Deadline}
 use Rattle.context_tree.specs.Context.{Id, same, held}
 use Rattle.context_tree.specs.Tree.{TreeValue}
 use Rattle.after_funcs.specs.declared.callbacks.AfterFuncs.{AfterFuncs}
+use Rattle.gateway_model.specs.declared.id.CallId.{CallId}
 use Rattle.call_contexts.specs.declared.life.Life.{Life}
+use Rattle.call_contexts.proofs.Seeing.{asked}
 use Rattle.call_contexts.specs.declared.twig.Twig.{Twig}
-use Rattle.call_contexts.specs.Standing.{Branch, Slots, cause_in, ended_branch, seen_branch, seen_branches, seen_call, sooner_branch, first_branch, if_before}
-use Rattle.call_contexts.specs.Sound.{IsLife, IsSound, IsTwig, sooner_twig, soonest_of, life_at, why}
+use Rattle.call_contexts.specs.Standing.{Branch, Slots, branch_before, cause_in, ended_branch, seen_branch, seen_branches, seen_call, sooner_branch, first_branch, if_before}
+use Rattle.call_contexts.specs.Sound.{IsLife, IsSound, IsTwig, sooner_twig, soonest_of, life_for, why}
 use Rattle.call_contexts.proofs.Trees.{shown}
-use Rattle.call_contexts.proofs.Lists.{found_in}
+use Rattle.call_contexts.proofs.Lists.{found_for}
 
 -- the first of what was passed and of the rest
 abbrev pub merged : Option Twig → Option Twig → Option Twig
@@ -35,28 +37,21 @@ module _ {C V : Type 0} (slots : Slots C V) where
   abbrev pub kept_before : Option ℕ → Option Twig → Option ℕ
   kept_before call o = option_and_then (λ (t : Twig). if is_some (cause_in slots t.ctx) then if_before call t.at t.branch else None) o
 
-  -- of the first call of that context
-  pub ended_found : (id : Id) (l : Life) (ls : List Life) → life_at id ls ≡ Some l → ended_branch id (map (seen_call slots) ls) ≡ kept_before l.deadline (soonest_of l.twigs)
-  ended_found id l [] found = cc
-  ended_found id l (m ∷ ms) found = ⊎_elim
-      (λ (y : same m.ctx id ≡ true).
-      rw y (ap (option_and_then (λ (b : Branch C). if is_some b.ended then if_before m.deadline b.deadline b.branch else None)) (soonest_seen m.twigs)
-      ∙ through m.deadline (soonest_of m.twigs)
-      ∙ ap (λ (k : Life). kept_before k.deadline (soonest_of k.twigs)) (same_Some m l (rw y at found))))
-      (λ (n : same m.ctx id ≡ false). rw n (ended_found id l ms (rw n at found)))
-      (cases_Bool (same m.ctx id))
+  branch_kept : (d : Option ℕ) (ts : List Twig) → branch_before d (seen_branches slots ts) ≡ kept_before d (soonest_of ts)
+  branch_kept d ts = ap (option_and_then (λ (b : Branch C). if is_some b.ended then if_before d b.deadline b.branch else None)) (soonest_seen ts) ∙ through (soonest_of ts)
     where
-      through : (d : Option ℕ) (o : Option Twig)
+      through : (o : Option Twig)
           → option_and_then (λ (b : Branch C). if is_some b.ended then if_before d b.deadline b.branch else None) (option_map (seen_branch slots) o) ≡ kept_before d o
-      through d None = refl
-      through d (Some t) = refl
+      through None = refl
+      through (Some t) = refl
 
-  pub ended_none : (id : Id) (ls : List Life) → life_at id ls ≡ None → ended_branch id (map (seen_call slots) ls) ≡ None
-  ended_none id [] none = refl
-  ended_none id (m ∷ ms) none = ⊎_elim
-      (λ (y : same m.ctx id ≡ true). let bad : Some m ≡ None = rw y at none in cc)
-      (λ (n : same m.ctx id ≡ false). rw n (ended_none id ms (rw n at none)))
-      (cases_Bool (same m.ctx id))
+  -- of the call of that id
+  pub ended_found : (id : CallId) (ls : List Life) → ended_branch id (map (seen_call slots) ls) ≡ option_and_then (λ l. kept_before l.deadline (soonest_of l.twigs)) (life_for id ls)
+  ended_found id ls = asked slots (λ c. branch_before c.deadline c.branches) id ls ∙ each (life_for id ls)
+    where
+      each : (o : Option Life) → option_and_then (λ l. branch_before l.deadline (seen_branches slots l.twigs)) o ≡ option_and_then (λ l. kept_before l.deadline (soonest_of l.twigs)) o
+      each None = refl
+      each (Some l) = branch_kept l.deadline l.twigs
 
 -- the soonest is one of them
 pub soonest_all : (P : Twig → Type 0) (ts : List Twig) (t : Twig) → All P ts → soonest_of ts ≡ Some t → P t
@@ -73,9 +68,9 @@ soonest_all P (u ∷ ts) t all is = by (soonest_of ts) refl (soonest_all P ts) i
 -- ---- the tree tells what ended it
 
 module _ {C V H : Type 0} {f : AfterFuncs H} {base : Id} {conns : List Id} {calls : List Life} {old : TreeValue C V} (s : IsSound old f base conns calls)
-    (id : Id) (l : Life) (at : life_at id calls ≡ Some l) (t : Twig) (found : soonest_of l.twigs ≡ Some t) where
+    (id : CallId) (l : Life) (at : life_for id calls ≡ Some l) (t : Twig) (found : soonest_of l.twigs ≡ Some t) where
   it_is : IsTwig s.past l.ctx t
-  it_is = soonest_all (IsTwig s.past l.ctx) l.twigs t (found_in id (IsLife s.past base) l calls s.calls_are at).0.twigs_are found
+  it_is = soonest_all (IsTwig s.past l.ctx) l.twigs t (found_for (IsLife s.past base) id l calls s.calls_are at).twigs_are found
 
   pub soonest_held : is_some (held t.ctx s.past) ≡ true
   soonest_held = ap is_some it_is

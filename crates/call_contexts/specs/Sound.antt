@@ -1,6 +1,6 @@
 -- How the connections and calls are kept in a tree of contexts and a table of hooks.
 use Rattle.std.specs.Prelude.{◌≡◌, ◌||◌, ◌==◌, ℕ, Bool, true, false, is_some, nat_le, List, [], ◌∷◌, ◌++◌, map, slice_index_or, if◌then◌else◌, All, IfNone, IfSome, Option, Some, None, option_map, unwrap_or}
-use Rattle.std.specs.List.{list_any}
+use Rattle.std.specs.List.{find, list_any}
 use Rattle.std.specs.Option.{option_map_or}
 use Rattle.context_tree.specs.declared.error.Cause.{Cause}
 use Rattle.context_tree.specs.declared.node.Kind.{Kind}
@@ -11,9 +11,11 @@ use Rattle.after_funcs.specs.declared.callbacks.AfterFuncs.{AfterFuncs}
 use Rattle.after_funcs.specs.declared.registration.Registration.{Registration}
 use Rattle.after_funcs.specs.Hooks.{Operation, waiting, due}
 use Rattle.after_funcs.specs.Stands.{StandsFor as HooksStand}
+use Rattle.gateway_model.specs.declared.id.CallId.{CallId}
+use Rattle.gateway_model.specs.Past.{is_call}
 use Rattle.call_contexts.specs.declared.life.Life.{Life}
 use Rattle.call_contexts.specs.declared.twig.Twig.{Twig}
-use Rattle.call_contexts.specs.Standing.{Lives, bare_call, has_ended, is_over, request_id_key, seen, seen_call}
+use Rattle.call_contexts.specs.Standing.{bare_call, has_ended, is_over, request_id_key, seen, seen_call}
 
 -- an operation on the tree
 abbrev pub Op : Type 0 → Type 0 → Type 0
@@ -129,10 +131,6 @@ module _ {C V : Type 0} where
 
 -- ---- the calls
 
--- its id and its context
-abbrev pub life_ties : List Life → Lives
-life_ties calls = map (λ l. (l.id, l.ctx)) calls
-
 -- the number of its hook, and its context
 abbrev pub kept_of : Life → ℕ × Id
 kept_of l = (l.hook, l.ctx)
@@ -156,10 +154,12 @@ ids_in (l ∷ ls) = ids_of l ++ ids_in ls
 abbrev pub all_ids : Id → Id → List Id → List Life → List Id
 all_ids root base conns calls = root ∷ base ∷ conns ++ ids_in calls
 
--- the first call of that context
+-- the first call of that context, and that of that id
 abbrev pub life_at : Id → List Life → Option Life
-life_at id [] = None
-life_at id (l ∷ ls) = if same l.ctx id then Some l else life_at id ls
+life_at id ls = find (λ l. same l.ctx id) ls
+
+abbrev pub life_for : CallId → List Life → Option Life
+life_for id ls = find (λ l. is_call l.id id) ls
 
 -- of these two the branch of the lesser deadline, and of equal ones the first
 abbrev pub sooner_twig : Twig → Option Twig → Twig
@@ -198,9 +198,9 @@ abbrev pub is_row : Id → Life → Bool
 is_row x l = same l.ctx x || list_any (λ t. same t.ctx x) l.twigs
 
 -- the first call that has that context
-abbrev pub owner_of : Id → List Life → Option Id
+abbrev pub owner_of : Id → List Life → Option CallId
 owner_of x [] = None
-owner_of x (l ∷ ls) = if is_row x l then Some l.ctx else owner_of x ls
+owner_of x (l ∷ ls) = if is_row x l then Some l.id else owner_of x ls
 
 -- the call of that context with these branches
 abbrev pub with_twigs : Id → List Twig → Life → Life
@@ -243,7 +243,7 @@ pub record BranchesGo {C V H : Type 0} (id : Id) (old new : TreeValue C V) (f : 
   pub seen_is : seen new.slots base conns left ≡ bare_call id (seen old.slots base conns calls)
 
 -- nothing else changes, and this call is over, or none is
-pub record FindsEnded {C V H : Type 0} (found : Option Id) (old new : TreeValue C V) (f : AfterFuncs H) (base : Id) (conns : List Id) (calls : List Life) : Type 0 where
+pub record FindsEnded {C V H : Type 0} (found : Option CallId) (old new : TreeValue C V) (f : AfterFuncs H) (base : Id) (conns : List Id) (calls : List Life) : Type 0 where
   pub sound : IsSound new f base conns calls
   pub seen_is : seen new.slots base conns calls ≡ seen old.slots base conns calls
   pub its : IfSome found (λ id. list_any (has_ended id) (map (seen_call old.slots) calls) ≡ true)

@@ -1,6 +1,6 @@
 -- What is seen of the connections and calls of a gateway: who stands, and who has ended.
 use Rattle.std.specs.Prelude.{◌≡◌, ℕ, ◌==◌, Bool, true, false, ◌||◌, ◌&&◌, not, nat_le, if◌then◌else◌, List, [], ◌∷◌, ◌++◌, is_some, is_none, map, filter, All, Option, Some, None, option_map, option_and_then}
-use Rattle.std.specs.List.{list_any}
+use Rattle.std.specs.List.{find, list_any}
 use Rattle.std.specs.Option.{option_or, option_map_or}
 use Rattle.context_tree.specs.declared.error.Cause.{Cause}
 use Rattle.context_tree.specs.declared.error.Cause.TheVariants.{Given, Plain}
@@ -107,10 +107,27 @@ module _ {C V : Type 0} where
   abbrev pub is_call : Id → List (Call C V) → Bool
   is_call id calls = list_any (λ c. same c.id id) calls
 
-  -- what ended the call of that context
-  abbrev pub ended_call : Id → List (Call C V) → Option (Cause C)
-  ended_call id [] = None
-  ended_call id (c ∷ cs) = if same c.id id then c.ended else ended_call id cs
+  -- the call of that id
+  abbrev pub call_for : CallId → List (Call C V) → Option (Call C V)
+  call_for id calls = find (λ c. is_id c.name id) calls
+
+  -- its context, its request id, and what ended it
+  abbrev pub ctx_for : CallId → List (Call C V) → Option Id
+  ctx_for id calls = option_map (λ c. c.id) (call_for id calls)
+
+  abbrev pub request_for : CallId → List (Call C V) → Option V
+  request_for id calls = option_and_then (λ c. c.request_id) (call_for id calls)
+
+  abbrev pub ended_call : CallId → List (Call C V) → Option (Cause C)
+  ended_call id calls = option_and_then (λ c. c.ended) (call_for id calls)
+
+  -- its branch that ended before it
+  abbrev pub ended_branch : CallId → List (Call C V) → Option ℕ
+  ended_branch id calls = option_and_then (λ c. branch_before c.deadline c.branches) (call_for id calls)
+
+  -- the first call of the connection of that number
+  abbrev pub first_of : ℕ → List (Call C V) → Option CallId
+  first_of number calls = option_map (λ c. c.name) (find (λ c. c.name.conn == number) calls)
 
   -- where the call has not ended, its deadline is not before this one; without one, it has none
   abbrev pub IsNoSooner : Option ℕ → Call C V → Type 0
@@ -128,19 +145,9 @@ module _ {C V : Type 0} where
   abbrev pub is_over : Call C V → Bool
   is_over c = is_some c.ended || list_any (λ b. is_some b.ended) c.branches
 
-  -- it is the call of that context, and over
-  abbrev pub has_ended : Id → Call C V → Bool
-  has_ended id c = same c.id id && is_over c
-
-  -- of the call of that context the branch that ended before it
-  abbrev pub ended_branch : Id → List (Call C V) → Option ℕ
-  ended_branch id [] = None
-  ended_branch id (c ∷ cs) = if same c.id id then branch_before c.deadline c.branches else ended_branch id cs
-
-  -- the request id of the call of that context
-  abbrev pub request_for : Id → List (Call C V) → Option V
-  request_for id [] = None
-  request_for id (c ∷ cs) = if same c.id id then c.request_id else request_for id cs
+  -- it is that call, and over
+  abbrev pub has_ended : CallId → Call C V → Bool
+  has_ended id c = is_id c.name id && is_over c
 
   -- the calls are of different contexts
   abbrev pub AreApart : List (Call C V) → Type 0
@@ -275,30 +282,6 @@ module _ {C V : Type 0} where
 
   abbrev pub seen : Slots C V → Id → List Id → List Life → Standing C V
   seen slots base conns calls = record { drained = cause_in slots base; conns = map (seen_conn slots) conns; calls = map (seen_call slots) calls }
-
--- ---- found by their ids
-
--- the calls' ids, each with its context
-abbrev pub Lives : Type 0
-Lives = List (CallId × Id)
-
-abbrev pub lives_in : {C V : Type 0} → List (Call C V) → Lives
-lives_in calls = map (λ c. (c.name, c.id)) calls
-
--- the context of the call
-abbrev pub ctx_for : CallId → Lives → Option Id
-ctx_for id [] = None
-ctx_for id (l ∷ ls) = if is_id l.0 id then Some l.1 else ctx_for id ls
-
--- the call of that context
-abbrev pub call_with : Id → Lives → Option CallId
-call_with x [] = None
-call_with x (l ∷ ls) = if same l.1 x then Some l.0 else call_with x ls
-
--- the first call of the connection
-abbrev pub first_of : ℕ → Lives → Option CallId
-first_of number [] = None
-first_of number (l ∷ ls) = if l.0.conn == number then Some l.0 else first_of number ls
 
 -- ---- the calls' hooks
 

@@ -2,7 +2,7 @@ ghost use Rattle.std.specs.Prelude.{All, ◌≡◌, ◌∷◌, [], ◌++◌, Som
 ghost use Rattle.std.specs.List.{list_any};
 ghost use Rattle.std.specs.Option.{option_copied};
 ghost use Rattle.context_tree.specs.Context.{same};
-ghost use Rattle.call_contexts.specs.Standing.{IsNoSooner, AreNoSooner, has_deadline, has_ended, is_over, ended_branch, empty, opened, begun, expired, cancelled, all_ended, closed, gone, with_standing, with_hook, hook_for, request_for, ended_call, branched, unbranched, bare_call, AreApart, is_fresh, is_call, is_conn, call_with, ctx_for, first_of, lives_in};
+ghost use Rattle.call_contexts.specs.Standing.{IsNoSooner, AreNoSooner, has_deadline, has_ended, is_over, ended_branch, empty, opened, begun, expired, cancelled, all_ended, closed, gone, with_standing, with_hook, hook_for, request_for, ended_call, branched, unbranched, bare_call, AreApart, is_fresh, is_call, is_conn, ctx_for, first_of};
 
 use crate::calls;
 use crate::contexts::{REQUEST_ID, cause_of, free, free_branches, make, release, tree_laws};
@@ -128,33 +128,27 @@ impl<C: Copy, V: Drop, H: Drop> CallContexts<C, V, H> {
 
     /// The context of the call.
     pub fn ctx_for(&self, id: &CallId) -> Option<CtxId>
-        ensures { result ≡ ctx_for id.now (lives_in self.now.standing.calls) }
+        ensures { result ≡ ctx_for id.now self.now.standing.calls }
     {
-        calls::ctx_for(&self.calls, id)
-    }
-
-    /// The call of that context.
-    pub fn call_of(&self, ctx: CtxId) -> Option<CallId>
-        ensures { result ≡ call_with ctx (lives_in self.now.standing.calls) }
-    {
-        calls::call_of(&self.calls, ctx)
+        let life = calls::named(&self.calls, id)?;
+        Some(life.ctx)
     }
 
     /// The first call of the connection of that number.
     pub fn first_call(&self, number: u64) -> Option<CallId>
-        ensures { result ≡ first_of number (lives_in self.now.standing.calls) }
+        ensures { result ≡ first_of number self.now.standing.calls }
     {
         calls::first_call(&self.calls, number)
     }
 
     /// The request id of a call, if it has one.
-    pub fn request_id(&self, ctx: CtxId) -> Option<&V>
-        ensures { option_copied result ≡ request_for ctx self.now.standing.calls }
+    pub fn request_id(&self, id: &CallId) -> Option<&V>
+        ensures { option_copied result ≡ request_for id.now self.now.standing.calls }
     {
-        let Some(_) = calls::find(&self.calls, ctx) else {
+        let Some(life) = calls::named(&self.calls, id) else {
             return None;
         };
-        match self.tree.value(ctx, REQUEST_ID) {
+        match self.tree.value(life.ctx, REQUEST_ID) {
             Ok(request_id) => request_id,
             Err(_) => unreachable!(),
         }
@@ -182,24 +176,24 @@ impl<C: Copy, V: Drop, H: Drop> CallContexts<C, V, H> {
         self.tree.cancel(self.base, Some(cause));
     }
 
-    /// What ended the call of that context, if it stands and anything did (Go `context`, `Cause`): its deadline, or what its
-    /// connection or all ended for.
-    pub fn ended(&self, ctx: CtxId) -> Option<Cause<C>>
-        ensures { result ≡ ended_call ctx self.now.standing.calls }
+    /// What ended the call, if it stands and anything did (Go `context`, `Cause`): its deadline, or what its connection or all
+    /// ended for.
+    pub fn ended(&self, id: &CallId) -> Option<Cause<C>>
+        ensures { result ≡ ended_call id.now self.now.standing.calls }
     {
-        match calls::find(&self.calls, ctx) {
-            Some(_) => cause_of(&self.tree, ctx),
+        match calls::named(&self.calls, id) {
+            Some(life) => cause_of(&self.tree, life.ctx),
             None => None,
         }
     }
 
-    /// The branch of the call of that context which ended before the call, or while that has not: of the deadlines of those that
-    /// have ended, the call's among them, it has the least, of equal ones the call's stands first, and then that of the branch
-    /// that started first. None where that is the call's, or no branch has ended.
-    pub fn ended_branch(&self, ctx: CtxId) -> Option<u32>
-        ensures { result ≡ ended_branch ctx self.now.standing.calls }
+    /// The branch of the call which ended before the call, or while that has not: of the deadlines of those that have ended, the
+    /// call's among them, it has the least, of equal ones the call's stands first, and then that of the branch that started
+    /// first. None where that is the call's, or no branch has ended.
+    pub fn ended_branch(&self, id: &CallId) -> Option<u32>
+        ensures { result ≡ ended_branch id.now self.now.standing.calls }
     {
-        let life = calls::find(&self.calls, ctx)?;
+        let life = calls::named(&self.calls, id)?;
         let twig = life.twigs.soonest()?;
         if cause_of(&self.tree, twig.ctx).is_some() {
             if_before(twig, life.deadline)
@@ -209,7 +203,7 @@ impl<C: Copy, V: Drop, H: Drop> CallContexts<C, V, H> {
     }
 
     /// A call that has ended, by its own context or by that of a branch, if one is left.
-    pub fn first_ended(&mut self) -> Option<CtxId>
+    pub fn first_ended(&mut self) -> Option<CallId>
         ensures same { self.new ≡ self.old }
         ensures its { IfSome result (λ id. list_any (has_ended id) self.old.standing.calls ≡ true) }
         ensures none { IfNone result (list_any is_over self.old.standing.calls ≡ false) }

@@ -1,8 +1,8 @@
 //! A list of calls, looked up by their contexts and by their ids.
-ghost use Rattle.std.specs.Prelude.{◌≡◌, ◌<◌, IfNone, IfSome, None as Nothing, filter, length, not, option_map};
+ghost use Rattle.std.specs.Prelude.{◌≡◌, ◌==◌, ◌<◌, IfNone, IfSome, None as Nothing, filter, length, not, option_map};
 ghost use Rattle.context_tree.specs.Context.{same};
-ghost use Rattle.call_contexts.specs.Standing.{call_with, ctx_for, first_of};
-ghost use Rattle.call_contexts.specs.Sound.{IsPlaced, life_at, life_ties};
+ghost use Rattle.std.specs.List.{find};
+ghost use Rattle.call_contexts.specs.Sound.{IsPlaced, life_at, life_for};
 
 use crate::life::Life;
 use context_tree::CtxId;
@@ -41,25 +41,13 @@ pub(crate) fn remove(calls: &mut Vec<Life>, ctx: CtxId)
     calls.retain(|life| life.ctx != ctx);
 }
 
-/// The context of the call.
-pub(crate) fn ctx_for(calls: &[Life], id: &CallId) -> Option<CtxId>
-    ensures { result ≡ ctx_for id.now (life_ties calls.now) }
+/// The call of that id.
+pub(crate) fn named<'a>(calls: &'a [Life], id: &CallId) -> Option<&'a Life>
+    ensures { option_map (λ l. l.now) result ≡ life_for id.now calls.now }
 {
     for life in calls {
         if life.id == *id {
-            return Some(life.ctx);
-        }
-    }
-    None
-}
-
-/// The call of that context.
-pub(crate) fn call_of(calls: &[Life], ctx: CtxId) -> Option<CallId>
-    ensures { result ≡ call_with ctx (life_ties calls.now) }
-{
-    for life in calls {
-        if life.ctx == ctx {
-            return Some(life.id);
+            return Some(life);
         }
     }
     None
@@ -67,7 +55,7 @@ pub(crate) fn call_of(calls: &[Life], ctx: CtxId) -> Option<CallId>
 
 /// The first call of the connection of that number.
 pub(crate) fn first_call(calls: &[Life], number: u64) -> Option<CallId>
-    ensures { result ≡ first_of number (life_ties calls.now) }
+    ensures { result ≡ option_map (λ l. l.id) (find (λ l. l.id.conn == number) calls.now) }
 {
     for life in calls {
         if life.id.conn.number() == number {

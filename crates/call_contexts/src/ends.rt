@@ -6,6 +6,7 @@ ghost use Rattle.call_contexts.specs.Sound.{FindsEnded, IsSound, owner_of};
 use crate::life::Life;
 use after_funcs::AfterFuncs;
 use context_tree::{CtxId, Tree};
+use gateway_model::CallId;
 
 /// The first of these calls of which a context ended, its own or a branch's, in the order of their endings. Other contexts
 /// that ended before it are passed over for good.
@@ -13,7 +14,7 @@ pub(crate) fn first_ended<C: Copy, V: Drop, H>(
     tree: &mut Tree<C, V>,
     hooks: &AfterFuncs<H>,
     calls: &[Life],
-) -> Option<CtxId>
+) -> Option<CallId>
     ensures { (base : Id) (conns : List Id) → IsSound tree.old hooks.now base conns calls.now
         → FindsEnded result tree.old tree.new hooks.now base conns calls.now }
 {
@@ -29,12 +30,12 @@ pub(crate) fn first_ended<C: Copy, V: Drop, H>(
 }
 
 /// The call that a context is of, or a branch of it.
-fn owner(calls: &[Life], ctx: CtxId) -> Option<CtxId>
+fn owner(calls: &[Life], ctx: CtxId) -> Option<CallId>
     ensures { result ≡ owner_of ctx calls.now }
 {
     for life in calls {
         if life.has(ctx) {
-            return Some(life.ctx);
+            return Some(life.id);
         }
     }
     None

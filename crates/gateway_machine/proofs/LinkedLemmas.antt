@@ -1,4 +1,5 @@
 -- The contexts of the calls of a machine, and of the machine, of which these calls are over.
+use Rattle.gateway_theory.specs.lemmas.StoreMore.{conn_found}
 use Rattle.std.proofs.Common.{◌≡◌, ℕ, ◌<◌, zero, suc, refl, sym, ap, ◌∙◌, List, [], ◌∷◌, ◌++◌, Option, Some, None, Bool, true, false, ⊎_elim, subst, map, length, arith}
 use Rattle.std.specs.Prelude.{◌||◌, ◌==◌, not, is_some, if◌then◌else◌, filter, slice_set}
 use Rattle.std.specs.List.{list_any}
@@ -170,18 +171,13 @@ module _ (e : ℕ → Ended) (over : Over) where
   pub next_fresh : (v : MachineValue) (i : ℕ) → i < length v.conns → IsOrderly v → is_life (next_of (conn_at i v.conns)) (linked_calls over v.calls) ≡ false
   next_fresh v i lt orderly = none v.calls orderly.calls_are
     where
-      first_conn : (ks : List ConnValue) (j : ℕ) → j < length ks → ConnsApart ks → conn_of (conn_at j ks).number ks ≡ Some (conn_at j ks)
-      first_conn [] j l apart = absurd (omega (arith, l))
-      first_conn (k ∷ ks) zero l apart = rw (eq-eqb k.number k.number refl) refl
-      first_conn (k ∷ ks) (suc j) l apart = rw (apart 0 (suc j) (omega arith) l) (first_conn ks j (omega (arith, l)) (λ a b m n. apart (suc a) (suc b) (omega (arith, m)) (omega (arith, n))))
-
       none : (ks : List KeptValue) → All (IsInOrder v.conns) ks → is_life (next_of (conn_at i v.conns)) (linked_calls over ks) ≡ false
       none [] all = refl
       none (k ∷ ks) all =
           let far : is_call k.id (next_of (conn_at i v.conns)) ≡ false = ⊎_elim
           (λ (e : is_call k.id (next_of (conn_at i v.conns)) ≡ true).
           let its : k.id ≡ next_of (conn_at i v.conns) = same_call k.id (next_of (conn_at i v.conns)) e in
-          let less = (All-head (IsInOrder v.conns) k ks all).came (conn_at i v.conns) (ap (λ (d : CallId). conn_of d.conn v.conns) its ∙ first_conn v.conns i lt orderly.conns_apart) in
+          let less = (All-head (IsInOrder v.conns) k ks all).came (conn_at i v.conns) (ap (λ (d : CallId). conn_of d.conn v.conns) its ∙ conn_found i v.conns lt orderly.conns_apart) in
           absurd (omega (arith, less, ap (λ (d : CallId). d.request) its)))
           (λ (f : is_call k.id (next_of (conn_at i v.conns)) ≡ false). f)
           (cases_Bool (is_call k.id (next_of (conn_at i v.conns)))) in

@@ -5,13 +5,13 @@ use Rattle.std.specs.List.{list_any}
 use Rattle.std.proofs.lemmas.Bool.{cases_Bool, cond_both, or_parts}
 use Rattle.std.proofs.lemmas.List.Elements.{All-head, All-tail}
 use Rattle.context_tree.specs.Context.{Id, same}
-use Rattle.call_contexts.specs.Standing.{WithHooks, lives_in, with_standing, on_branches as standing_on, with_branches as standing_with}
+use Rattle.call_contexts.specs.Standing.{WithHooks, with_standing, on_branches as standing_on, with_branches as standing_with}
 use Rattle.gateway_model.specs.declared.id.CallId.{CallId}
 use Rattle.gateway_model.specs.Past.{is_call}
 use Rattle.gateway_replies.specs.declared.contexts.cancelled.CancelledBy.{CancelledBy}
-use Rattle.gateway_replies.specs.Contexts.{AllContexts, CallContext, ConnContext, contexts_of, ContextsValue, IsTied, LifeValue, Peers, TimedBranch, contexts_value, is_life, life_of, peers_of, lives_of, on_branches, with_branches}
+use Rattle.gateway_replies.specs.Contexts.{names_in, AllContexts, CallContext, ConnContext, contexts_of, ContextsValue, IsTied, LifeValue, Peers, TimedBranch, contexts_value, is_life, life_of, peers_of, lives_of, on_branches, with_branches}
 use Rattle.gateway_replies.proofs.ContextLemmas.{Agree}
-use Rattle.gateway_replies.proofs.ToldLemmas.{Stays, drained_stays, lives_stay_in, told_tied}
+use Rattle.gateway_replies.proofs.ToldLemmas.{Stays, drained_stays, names_stay, told_tied}
 
 map_stays : {A : Type 0} (p : A → Bool) (g : A → A) (xs : List A) → list_any p xs ≡ false → map (λ y. if p y then g y else y) xs ≡ xs
 map_stays p g [] none = refl
@@ -29,7 +29,7 @@ module _ {V : Type 0} where
 
   pub rebranched_stays : (x : Id) (f : CallContext V → List TimedBranch) → Stays (rebranched x f)
   rebranched_stays x f c =
-      cond_both (same c.id x) (standing_with (f c) c) c (λ d. (d.name ≡ c.name) × ((d.id ≡ c.id) × (d.conn ≡ c.conn))) (λ _. (refl, (refl, refl))) (λ _. (refl, (refl, refl)))
+      cond_both (same c.id x) (standing_with (f c) c) c (λ d. (d.name ≡ c.name) × (d.conn ≡ c.conn)) (λ _. (refl, refl)) (λ _. (refl, refl))
 
   lives_branched : (text : V → List ℕ) (cs : List (CallContext V)) (id : CallId) (x : Id) (f : CallContext V → List TimedBranch) (g : LifeValue → List TimedBranch)
       → ((c : CallContext V) → f c ≡ g (life_of text c)) → Agree id x cs
@@ -56,8 +56,8 @@ module _ {V : Type 0} where
       told_tied ps v w (rebranched x f) (rebranched_stays x f) (drained_stays ps v w (ap (λ (y : AllContexts V). y.drained) w_is) tied) (ap (λ (y : AllContexts V). y.calls) w_is)
       (ap (λ (y : AllContexts V). map (λ (c : ConnContext). c.id) y.conns) w_is) tied
 
-  pub branched_lives : (v w : AllContexts V) (x : Id) (f : CallContext V → List TimedBranch) → w ≡ standing_on x f v → lives_in w.calls ≡ lives_in v.calls
-  branched_lives v w x f w_is = ap (λ (y : AllContexts V). lives_in y.calls) w_is ∙ lives_stay_in (rebranched x f) (rebranched_stays x f) v.calls
+  pub branched_lives : (v w : AllContexts V) (x : Id) (f : CallContext V → List TimedBranch) → w ≡ standing_on x f v → names_in w.calls ≡ names_in v.calls
+  branched_lives v w x f w_is = ap (λ (y : AllContexts V). names_in y.calls) w_is ∙ names_stay (rebranched x f) (rebranched_stays x f) v.calls
 
   -- where the branch has its context, and where memory was refused
   pub started_tied : {H A E : Type 0} (ps : Peers) (v w : WithHooks CancelledBy V H) (r : Result A E) (x : Id) (f : CallContext V → List TimedBranch)
@@ -66,9 +66,9 @@ module _ {V : Type 0} where
   started_tied {H = H} ps v w (Err e) x f made refused tied = subst (λ (y : WithHooks CancelledBy V H). IsTied ps y.standing) (sym refused) tied
 
   pub started_lives : {H A E : Type 0} (v w : WithHooks CancelledBy V H) (r : Result A E) (x : Id) (f : CallContext V → List TimedBranch)
-      → IfOk r (λ _. w ≡ with_standing (standing_on x f v.standing) v) → OnErr r (w ≡ v) → lives_in w.standing.calls ≡ lives_in v.standing.calls
+      → IfOk r (λ _. w ≡ with_standing (standing_on x f v.standing) v) → OnErr r (w ≡ v) → names_in w.standing.calls ≡ names_in v.standing.calls
   started_lives {H = H} v w (Ok a) x f made refused = branched_lives v.standing w.standing x f (ap (λ (y : WithHooks CancelledBy V H). y.standing) made)
-  started_lives {H = H} v w (Err e) x f made refused = ap (λ (y : WithHooks CancelledBy V H). lives_in y.standing.calls) refused
+  started_lives {H = H} v w (Err e) x f made refused = ap (λ (y : WithHooks CancelledBy V H). names_in y.standing.calls) refused
 
   pub started_value : {H A E : Type 0} (text : V → List ℕ) (ps : Peers) (v w : WithHooks CancelledBy V H) (u : ContextsValue) (id : CallId) (r : Result A E) (x : Id) (f : CallContext V → List TimedBranch)
       (g : LifeValue → List TimedBranch) → ((c : CallContext V) → f c ≡ g (life_of text c)) → IfOk r (λ _. w ≡ with_standing (standing_on x f v.standing) v)

@@ -1,15 +1,14 @@
 -- The contexts of calls, beside those of the tree.
 use Rattle.std.proofs.Common.{◌≡◌, ℕ, ◌≤◌, ◌<◌, zero, suc, refl, sym, ap, ◌∙◌, List, [], ◌∷◌, ◌++◌, Option, Some, None, Bool, true, false, ⊎_elim, subst, length, arith}
-use Rattle.std.specs.Prelude.{◌||◌, ◌==◌, All, is_some, not, if◌then◌else◌, filter, option_map, slice_set, slice_index_or}
+use Rattle.std.specs.Prelude.{IfNone, IfSome, ◌||◌, ◌==◌, All, is_some, not, if◌then◌else◌, filter, option_map, slice_set, slice_index_or}
 use Rattle.std.specs.List.{list_any}
 use Rattle.std.specs.Option.{option_or}
 use Rattle.std.proofs.lemmas.Bool.{cases_Bool, eq-eqb, or_parts}
-use Rattle.std.proofs.Math.Bool.{or-false}
 use Rattle.std.proofs.lemmas.List.{map_push}
 use Rattle.std.proofs.lemmas.List.Elements.{All-cons, All-filter, All-head, All-nil, All-push, All-tail, All-weaker}
 use Rattle.std.proofs.lemmas.Option.{same_Some}
 use Rattle.context_tree.specs.Context.{Id, same}
-use Rattle.call_contexts.specs.Standing.{AreApart, call_with, ctx_for, first_of, lives_in, if_due, is_conn, is_fresh, opened as standing_opened, begun as standing_begun, without as standing_without, closed as standing_closed, is_call as is_standing, has_ended as standing_ended, is_over as is_standing_over}
+use Rattle.call_contexts.specs.Standing.{AreApart, ctx_for, first_of, if_due, is_conn, is_fresh, opened as standing_opened, begun as standing_begun, without as standing_without, closed as standing_closed, is_call as is_standing, has_ended as standing_ended, is_over as is_standing_over}
 use Rattle.gateway_model.specs.declared.id.CallId.{CallId}
 use Rattle.gateway_model.specs.Past.{ArrivedCall, is_call}
 use Rattle.gateway_replies.specs.declared.contexts.peer.Peer.{Peer}
@@ -47,11 +46,14 @@ module _ {V : Type 0} where
   lives_apart text [] apart = tt
   lives_apart text (c ∷ cs) apart = (life_in text cs c.name ∙ apart.0, lives_apart text cs apart.1)
 
-  pub first_in : (text : V → List ℕ) (cs : List (CallContext V)) (number : ℕ) → first_life number (lives_of text cs) ≡ first_of number (lives_in cs)
+  pub first_in : (text : V → List ℕ) (cs : List (CallContext V)) (number : ℕ) → first_life number (lives_of text cs) ≡ first_of number cs
   first_in text [] number = refl
-  first_in text (c ∷ cs) number = ap (λ o. if c.name.conn == number then Some c.name else o) (first_in text cs number)
+  first_in text (c ∷ cs) number = ⊎_elim
+      (λ (y : (c.name.conn == number) ≡ true). rw y refl)
+      (λ (n : (c.name.conn == number) ≡ false). rw n (first_in text cs number))
+      (cases_Bool (c.name.conn == number))
 
-  pub no_ctx_for : (id : CallId) (cs : List (CallContext V)) → ctx_for id (lives_in cs) ≡ None → list_any (λ c. is_call c.name id) cs ≡ false
+  pub no_ctx_for : (id : CallId) (cs : List (CallContext V)) → ctx_for id cs ≡ None → list_any (λ c. is_call c.name id) cs ≡ false
   no_ctx_for id [] is = refl
   no_ctx_for id (c ∷ cs) is = ⊎_elim
       (λ (y : is_call c.name id ≡ true). let bad : Some c.id ≡ None = rw y at is in cc)
@@ -59,7 +61,7 @@ module _ {V : Type 0} where
       (cases_Bool (is_call c.name id))
 
   -- the context of a call is that of one that stands
-  pub stands_in : (cs : List (CallContext V)) (id : CallId) (x : Id) → ctx_for id (lives_in cs) ≡ Some x → is_standing x cs ≡ true
+  pub stands_in : (cs : List (CallContext V)) (id : CallId) (x : Id) → ctx_for id cs ≡ Some x → is_standing x cs ≡ true
   stands_in [] id x is = cc
   stands_in (c ∷ cs) id x is = ⊎_elim
       (λ (y : is_call c.name id ≡ true). let its : c.id ≡ x = same_Some c.id x (rw y at is) in rw (its, same_itself x) refl)
@@ -70,7 +72,7 @@ module _ {V : Type 0} where
   abbrev pub Agree : CallId → Id → List (CallContext V) → Type 0
   Agree id x cs = All (λ (c : CallContext V). same c.id x ≡ is_call c.name id) cs
 
-  pub agree : (cs : List (CallContext V)) (id : CallId) (x : Id) → AreApart cs → NoTwo same_id cs → ctx_for id (lives_in cs) ≡ Some x → Agree id x cs
+  pub agree : (cs : List (CallContext V)) (id : CallId) (x : Id) → AreApart cs → NoTwo same_id cs → ctx_for id cs ≡ Some x → Agree id x cs
   agree [] id x apart ids is = All-nil (λ (c : CallContext V). same c.id x ≡ is_call c.name id)
   agree (c ∷ cs) id x apart ids is = ⊎_elim
       (λ (y : is_call c.name id ≡ true).
@@ -79,7 +81,7 @@ module _ {V : Type 0} where
       All-cons (λ (d : CallContext V). same d.id x ≡ is_call d.name id) c cs (ap (λ z. same z x) x_is ∙ same_itself x ∙ sym y)
       (neither (λ d. same d.id x) (λ d. is_call d.name id) cs (subst (λ z. is_standing z cs ≡ false) x_is apart.0) no_id))
       (λ (n : is_call c.name id ≡ false).
-      let there : ctx_for id (lives_in cs) ≡ Some x = rw n at is in
+      let there : ctx_for id cs ≡ Some x = rw n at is in
       let far : same c.id x ≡ false = ⊎_elim
       (λ (e : same c.id x ≡ true).
       let bad : is_standing x cs ≡ false = subst (λ z. is_standing z cs ≡ false) (same_true c.id x e) apart.0 in
@@ -90,7 +92,7 @@ module _ {V : Type 0} where
       (cases_Bool (is_call c.name id))
 
   -- no call is of the connection
-  pub none_of_it : (ps : Peers) (cs : List (CallContext V)) (number : ℕ) (x : Id) → All (OnPeer ps) cs → first_of number (lives_in cs) ≡ None → NoTwo same_context ps
+  pub none_of_it : (ps : Peers) (cs : List (CallContext V)) (number : ℕ) (x : Id) → All (OnPeer ps) cs → first_of number cs ≡ None → NoTwo same_context ps
       → ctx_of number ps ≡ Some x → list_any (λ c. same c.conn x) cs ≡ false
   none_of_it ps [] number x tied none apart is = refl
   none_of_it ps (c ∷ cs) number x tied none apart is = ⊎_elim
@@ -100,7 +102,7 @@ module _ {V : Type 0} where
       rw far (none_of_it ps cs number x (All-tail (OnPeer ps) c cs tied) (rw n at none) apart is))
       (cases_Bool (c.name.conn == number))
 
-  tied_without : (ps : Peers) (cs : List (CallContext V)) (number : ℕ) → All (OnPeer ps) cs → first_of number (lives_in cs) ≡ None
+  tied_without : (ps : Peers) (cs : List (CallContext V)) (number : ℕ) → All (OnPeer ps) cs → first_of number cs ≡ None
       → All (OnPeer (filter (λ p. not (p.0 == number)) ps)) cs
   tied_without ps [] number tied none = All-nil (OnPeer (filter (λ p. not (p.0 == number)) ps))
   tied_without ps (c ∷ cs) number tied none = ⊎_elim
@@ -132,7 +134,7 @@ module _ {V : Type 0} where
   known_conn ps v number x tied is =
       sym (any_map (λ z. same z x) (λ (c : ConnContext). c.id) v.conns) ∙ ap (list_any (λ z. same z x)) tied.conns_are ∙ known_in number ps x is
 
-  tied_closed : (ps : Peers) (v : AllContexts V) (number : ℕ) (x : Id) → IsTied ps v → ctx_of number ps ≡ Some x → first_of number (lives_in v.calls) ≡ None
+  tied_closed : (ps : Peers) (v : AllContexts V) (number : ℕ) (x : Id) → IsTied ps v → ctx_of number ps ≡ Some x → first_of number v.calls ≡ None
       → IsTied (filter (λ p. not (p.0 == number)) ps) (standing_closed x v)
   tied_closed ps v number x tied is none = record {
     drained_is = tied.drained_is;
@@ -218,7 +220,7 @@ not_known number v ps cs is none = ap (is_peer number) (sym is) ∙ not_in numbe
 
 module _ {V : Type 0} where
   pub no_life : (text : V → List ℕ) (ps : Peers) (v : AllContexts V) (u : ContextsValue) (id : CallId) → contexts_of text ps v ≡ u
-      → ctx_for id (lives_in v.calls) ≡ None → is_life id u.calls ≡ false
+      → ctx_for id v.calls ≡ None → is_life id u.calls ≡ false
   no_life text ps v u id is none = ap (λ (x : ContextsValue). is_life id x.calls) (sym is) ∙ life_in text v.calls id ∙ no_ctx_for id v.calls none
 
   pub left_tied : (ps : Peers) (v w : AllContexts V) (x : Id) → w ≡ standing_without x v → IsTied ps v → IsTied ps w
@@ -240,7 +242,7 @@ module _ {V : Type 0} where
       ∙ ap (without id) u_is
 
   pub peer_gone : {H : Type 0} (peers left : List (Peer H)) (v w : AllContexts V) (number : ℕ) (x : Id) → left ≡ filter (λ p. not (p.number == number)) peers
-      → w ≡ standing_closed x v → IsTied (peer_ties peers) v → ctx_of number (peer_ties peers) ≡ Some x → first_of number (lives_in v.calls) ≡ None → IsTied (peer_ties left) w
+      → w ≡ standing_closed x v → IsTied (peer_ties peers) v → ctx_of number (peer_ties peers) ≡ Some x → first_of number v.calls ≡ None → IsTied (peer_ties left) w
   peer_gone peers left v w number x then_is w_is tied is none =
       subst (IsTied (peer_ties left)) (sym w_is)
       (subst (λ ps. IsTied ps (standing_closed x v)) (sym (ap peer_ties then_is ∙ filter_map_both (λ t. not (t.0 == number)) peer_tie peers))
@@ -325,23 +327,11 @@ module _ {V : Type 0} where
 -- ---- what is over
 
 module _ {V : Type 0} where
-  -- the call of a context that is over is found, and over
-  pub over_found : (text : V → List ℕ) (cs : List (CallContext V)) (x : Id) → AreApart cs → list_any (standing_ended x) cs ≡ true
-      → (id : CallId) × (call_with x (lives_in cs) ≡ Some id) × (list_any (has_ended id) (lives_of text cs) ≡ true)
-  over_found text [] x apart any = absurd (cc)
-  over_found text (c ∷ cs) x apart any = ⊎_elim
-      (λ (y : same c.id x ≡ true).
-      let none : list_any (standing_ended x) cs ≡ false = no_more cs (subst (λ z. is_standing z cs ≡ false) (same_true c.id x y) apart.0) in
-      let over : is_standing_over c ≡ true = sym (or-false (is_standing_over c)) ∙ ap (λ b. is_standing_over c || b) (sym none) ∙ rw y at any in
-      (c.name, rw y refl, rw (call_itself c.name, over) refl))
-      (λ (n : same c.id x ≡ false).
-      let r = over_found text cs x apart.1 (rw n at any) in
-      (r.0, rw n r.1, ap (λ b. has_ended r.0 (life_of text c) || b) r.2 ∙ or_true (has_ended r.0 (life_of text c))))
-      (cases_Bool (same c.id x))
-    where
-      no_more : (ds : List (CallContext V)) → is_standing x ds ≡ false → list_any (standing_ended x) ds ≡ false
-      no_more [] none = refl
-      no_more (d ∷ ds) none = let two = or_parts (same d.id x) (is_standing x ds) none in rw two.0 (no_more ds two.1)
+  pub over_found : (text : V → List ℕ) (cs : List (CallContext V)) (o : Option CallId) → IfSome o (λ id. list_any (standing_ended id) cs ≡ true)
+      → IfSome o (λ id. list_any (has_ended id) (lives_of text cs) ≡ true)
+  over_found text cs None its = tt
+  over_found text cs (Some id) its = any_map (has_ended id) (life_of text) cs ∙ its
 
-  pub none_over : (text : V → List ℕ) (cs : List (CallContext V)) → list_any is_standing_over cs ≡ false → list_any is_over (lives_of text cs) ≡ false
-  none_over text cs none = any_map is_over (life_of text) cs ∙ none
+  pub none_over : (text : V → List ℕ) (cs : List (CallContext V)) (o : Option CallId) → IfNone o (list_any is_standing_over cs ≡ false) → IfNone o (list_any is_over (lives_of text cs) ≡ false)
+  none_over text cs None none = any_map is_over (life_of text) cs ∙ none
+  none_over text cs (Some id) none = tt

@@ -7,7 +7,7 @@ use Rattle.std.proofs.lemmas.List.{map_push}
 use Rattle.std.proofs.lemmas.List.Elements.{All-head, All-tail}
 use Rattle.std.proofs.lemmas.Option.{same_Some}
 use Rattle.context_tree.specs.Context.{Id, same}
-use Rattle.call_contexts.specs.Standing.{Lives, WithHooks, with_standing, ctx_for, first_of, hook_for, lives_in}
+use Rattle.call_contexts.specs.Standing.{WithHooks, with_standing, ctx_for, first_of, hook_for}
 use Rattle.http_pieces.specs.Request.{most_requests}
 use Rattle.std.specs.declared.alloc.AllocError.{AllocError}
 use Rattle.gateway_model.specs.declared.ending.Ending.{Ending}
@@ -17,7 +17,7 @@ use Rattle.gateway_theory.specs.lemmas.Cases.{all_stay, sym_eqb}
 use Rattle.gateway_theory.specs.lemmas.LimitLemmas.{same_call}
 use Rattle.gateway_replies.specs.declared.contexts.peer.Peer.{Peer}
 use Rattle.gateway_replies.specs.declared.contexts.cancelled.CancelledBy.{CancelledBy}
-use Rattle.gateway_replies.specs.Contexts.{AllContexts, CallContext, ContextsValue, ctx_of}
+use Rattle.gateway_replies.specs.Contexts.{names_in, AllContexts, CallContext, ContextsValue, ctx_of}
 use Rattle.gateway_replies.specs.Hooks.{BringsHooks, Called, DropsHooks, GivesBytes, HookedContexts, Hooks, KeepsHooks, LosesHook, KeepsStocks, Stocks, TakesHook, hook_of, hooked, hooks_but, hooks_of_others, stock_in, stock_of}
 use Rattle.gateway_replies.specs.Ties.{AreHooked, Takes, hooks_of, peer_ties, stock_tie, stock_ties}
 use Rattle.gateway_replies.proofs.ListLemmas.{filter_map_both}
@@ -27,16 +27,16 @@ use Rattle.gateway_replies.proofs.ContextLemmas.{Agree, no_ctx_for}
 -- ---- the hooks of calls
 
 -- the first call of a connection is one of it
-pub first_of_it : (number : ℕ) (ls : Lives) (id : CallId) → first_of number ls ≡ Some id → (id.conn == number) ≡ true
+pub first_of_it : {V : Type 0} (number : ℕ) (cs : List (CallContext V)) (id : CallId) → first_of number cs ≡ Some id → (id.conn == number) ≡ true
 first_of_it number [] id is = cc
-first_of_it number (l ∷ ls) id is = ⊎_elim
-    (λ (y : (l.0.conn == number) ≡ true). ap (λ (k : CallId). k.conn == number) (sym (same_Some l.0 id (rw y at is))) ∙ y)
-    (λ (n : (l.0.conn == number) ≡ false). first_of_it number ls id (rw n at is))
-    (cases_Bool (l.0.conn == number))
+first_of_it number (c ∷ cs) id is = ⊎_elim
+    (λ (y : (c.name.conn == number) ≡ true). ap (λ (k : CallId). k.conn == number) (sym (same_Some c.name id (rw y at is))) ∙ y)
+    (λ (n : (c.name.conn == number) ≡ false). first_of_it number cs id (rw n at is))
+    (cases_Bool (c.name.conn == number))
 
 module _ {V H : Type 0} where
   -- one that is not there has no hook
-  none_hooked : (id : CallId) (cs : List (CallContext V)) (hs : List (Id × H)) → list_any (λ c. is_call c.name id) cs ≡ false → list_any (λ h. is_call h.0 id) (hooks_of (lives_in cs) hs) ≡ false
+  none_hooked : (id : CallId) (cs : List (CallContext V)) (hs : List (Id × H)) → list_any (λ c. is_call c.name id) cs ≡ false → list_any (λ h. is_call h.0 id) (hooks_of (names_in cs) hs) ≡ false
   none_hooked id [] hs none = refl
   none_hooked id (c ∷ cs) [] none = refl
   none_hooked id (c ∷ cs) (h ∷ hs) none =
@@ -44,8 +44,8 @@ module _ {V H : Type 0} where
       rw two.0 (none_hooked id cs hs two.1)
 
   -- a call begins with a hook
-  pub hooks_more : (cs : List (CallContext V)) (hs : List (Id × H)) (l : CallId × Id) (h : Id × H) → AreHooked cs hs
-      → hooks_of (lives_in cs ++ l ∷ []) (hs ++ h ∷ []) ≡ hooks_of (lives_in cs) hs ++ (l.0, h.1) ∷ []
+  pub hooks_more : (cs : List (CallContext V)) (hs : List (Id × H)) (i : CallId) (h : Id × H) → AreHooked cs hs
+      → hooks_of (names_in cs ++ i ∷ []) (hs ++ h ∷ []) ≡ hooks_of (names_in cs) hs ++ (i, h.1) ∷ []
   hooks_more [] [] l h hooked = refl
   hooks_more [] (k ∷ hs) l h hooked = cc
   hooks_more (c ∷ cs) [] l h hooked = cc
@@ -53,7 +53,7 @@ module _ {V H : Type 0} where
 
   -- without the call
   pub hooks_less : (cs : List (CallContext V)) (hs : List (Id × H)) (id : CallId) (x : Id) → AreHooked cs hs → Agree id x cs
-      → hooks_of (lives_in (filter (λ c. not (same c.id x)) cs)) (filter (λ h. not (same h.0 x)) hs) ≡ hooks_but id (hooks_of (lives_in cs) hs)
+      → hooks_of (names_in (filter (λ c. not (same c.id x)) cs)) (filter (λ h. not (same h.0 x)) hs) ≡ hooks_but id (hooks_of (names_in cs) hs)
   hooks_less [] hs id x hooked all = refl
   hooks_less (c ∷ cs) [] id x hooked all = cc
   hooks_less (c ∷ cs) (h ∷ hs) id x hooked all =
@@ -69,7 +69,7 @@ module _ {V H : Type 0} where
       (cases_Bool (is_call c.name id))
 
   -- the hook on the context of a call is the call's
-  pub its_hook : (cs : List (CallContext V)) (hs : List (Id × H)) (id : CallId) (x : Id) → AreHooked cs hs → Agree id x cs → hook_for x hs ≡ hook_of id (hooks_of (lives_in cs) hs)
+  pub its_hook : (cs : List (CallContext V)) (hs : List (Id × H)) (id : CallId) (x : Id) → AreHooked cs hs → Agree id x cs → hook_for x hs ≡ hook_of id (hooks_of (names_in cs) hs)
   its_hook [] [] id x hooked all = refl
   its_hook [] (h ∷ hs) id x hooked all = cc
   its_hook (c ∷ cs) [] id x hooked all = cc
@@ -79,8 +79,8 @@ module _ {V H : Type 0} where
       (its_hook cs hs id x (rest_same _ _ _ _ hooked) (All-tail (λ (d : CallContext V). same d.id x ≡ is_call d.name id) c cs all)))
 
   -- a call that has no hook loses none
-  pub no_hook_but : (id : CallId) (cs : List (CallContext V)) (hs : List (Id × H)) → list_any (λ c. is_call c.name id) cs ≡ false → hooks_of (lives_in cs) hs ≡ hooks_but id (hooks_of (lives_in cs) hs)
-  no_hook_but id cs hs none = sym (all_stay (λ (k : CallId × H). is_call k.0 id) (hooks_of (lives_in cs) hs) (none_hooked id cs hs none))
+  pub no_hook_but : (id : CallId) (cs : List (CallContext V)) (hs : List (Id × H)) → list_any (λ c. is_call c.name id) cs ≡ false → hooks_of (names_in cs) hs ≡ hooks_but id (hooks_of (names_in cs) hs)
+  no_hook_but id cs hs none = sym (all_stay (λ (k : CallId × H). is_call k.0 id) (hooks_of (names_in cs) hs) (none_hooked id cs hs none))
 
 module _ {H : Type 0} where
   -- without one of the connection's calls the hooks of others are the same
@@ -94,13 +94,13 @@ module _ {H : Type 0} where
       (cases_Bool (is_call h.0 id))
 
   -- of a connection without calls none has a hook
-  pub hooks_stay : (number : ℕ) (ls : Lives) (hs : List (Id × H)) → first_of number ls ≡ None → hooks_of ls hs ≡ hooks_of_others number (hooks_of ls hs)
+  pub hooks_stay : {V : Type 0} (number : ℕ) (cs : List (CallContext V)) (hs : List (Id × H)) → first_of number cs ≡ None → hooks_of (names_in cs) hs ≡ hooks_of_others number (hooks_of (names_in cs) hs)
   hooks_stay number [] hs none = refl
-  hooks_stay number (l ∷ ls) [] none = refl
-  hooks_stay number (l ∷ ls) (h ∷ hs) none = ⊎_elim
-      (λ (y : (l.0.conn == number) ≡ true). let bad : Some l.0 ≡ None = rw y at none in cc)
-      (λ (n : (l.0.conn == number) ≡ false). rw n (ap (λ k. (l.0, h.1) ∷ k) (hooks_stay number ls hs (rw n at none))))
-      (cases_Bool (l.0.conn == number))
+  hooks_stay number (c ∷ cs) [] none = refl
+  hooks_stay number (c ∷ cs) (h ∷ hs) none = ⊎_elim
+      (λ (y : (c.name.conn == number) ≡ true). let bad : Some c.name ≡ None = rw y at none in cc)
+      (λ (n : (c.name.conn == number) ≡ false). rw n (ap (λ k. (c.name, h.1) ∷ k) (hooks_stay number cs hs (rw n at none))))
+      (cases_Bool (c.name.conn == number))
 
 -- ---- the hooks that connections have
 
@@ -234,7 +234,7 @@ module _ {H : Type 0} where
 -- ---- what becomes of them, as the code keeps them
 
 module _ {H : Type 0} where
-  pub keeps : {log : Called} (u : HookedContexts H) (x y : ContextsValue) (ps : List (Peer H)) (ls ms : Lives) (hs is : List (Id × H)) → hooked x (stock_ties ps) (hooks_of ls hs) log ≡ u → ms ≡ ls → is ≡ hs
+  pub keeps : {log : Called} (u : HookedContexts H) (x y : ContextsValue) (ps : List (Peer H)) (ls ms : List CallId) (hs is : List (Id × H)) → hooked x (stock_ties ps) (hooks_of ls hs) log ≡ u → ms ≡ ls → is ≡ hs
       → KeepsHooks u (hooked y (stock_ties ps) (hooks_of ms is) log)
   keeps u x y ps ls ms hs is u_is ms_is e = record {
     stocks_are = ap (λ (v : HookedContexts H). v.stocks) u_is;
@@ -242,7 +242,7 @@ module _ {H : Type 0} where
     called_are = ap (λ (v : HookedContexts H). v.called) u_is;
   }
 
-  pub brings : {log : Called} (u : HookedContexts H) (x y : ContextsValue) (ps more : List (Peer H)) (p : Peer H) (stock : List H) (ls ms : Lives) (hs is : List (Id × H)) → hooked x (stock_ties ps) (hooks_of ls hs) log ≡ u
+  pub brings : {log : Called} (u : HookedContexts H) (x y : ContextsValue) (ps more : List (Peer H)) (p : Peer H) (stock : List H) (ls ms : List CallId) (hs is : List (Id × H)) → hooked x (stock_ties ps) (hooks_of ls hs) log ≡ u
       → ms ≡ ls → is ≡ hs → more ≡ ps ++ p ∷ [] → p.stock.items ≡ stock → length stock ≡ most_requests → stock_in p.number (stock_ties ps) ≡ None
       → BringsHooks p.number stock u (hooked y (stock_ties more) (hooks_of ms is) log)
   brings u x y ps more p stock ls ms hs is u_is ms_is e more_is stock_is full new =
@@ -256,30 +256,30 @@ module _ {H : Type 0} where
         called_are = same_all.called_are;
       }
 
-  pub takes_one : {V : Type 0} {log : Called} (u : HookedContexts H) (x y : ContextsValue) (ps qs : List (Peer H)) (cs : List (CallContext V)) (ms : Lives) (hs is : List (Id × H)) (l : CallId × Id) (hook : H)
-      → hooked x (stock_ties ps) (hooks_of (lives_in cs) hs) log ≡ u → stock_of l.0.conn (stock_ties ps) ≡ hook ∷ stock_of l.0.conn (stock_ties qs) → AreHooked cs hs
-      → ms ≡ lives_in cs ++ l ∷ [] → is ≡ hs ++ (l.1, hook) ∷ [] → TakesHook l.0 u (hooked y (stock_ties qs) (hooks_of ms is) log)
+  pub takes_one : {V : Type 0} {log : Called} (u : HookedContexts H) (x y : ContextsValue) (ps qs : List (Peer H)) (cs : List (CallContext V)) (ms : List CallId) (hs is : List (Id × H)) (l : CallId × Id) (hook : H)
+      → hooked x (stock_ties ps) (hooks_of (names_in cs) hs) log ≡ u → stock_of l.0.conn (stock_ties ps) ≡ hook ∷ stock_of l.0.conn (stock_ties qs) → AreHooked cs hs
+      → ms ≡ names_in cs ++ l.0 ∷ [] → is ≡ hs ++ (l.1, hook) ∷ [] → TakesHook l.0 u (hooked y (stock_ties qs) (hooks_of ms is) log)
   takes_one u x y ps qs cs ms hs is l hook u_is first hooked more_is is_is = record {
     hook = hook;
     first = sym (ap (λ (v : HookedContexts H). stock_of l.0.conn v.stocks) u_is) ∙ first;
-    hooks_are = ap (λ m. hooks_of m is) more_is ∙ ap (hooks_of (lives_in cs ++ l ∷ [])) is_is
-        ∙ hooks_more cs hs l (l.1, hook) hooked ∙ ap (λ (v : HookedContexts H). v.hooks ++ (l.0, hook) ∷ []) u_is;
+    hooks_are = ap (λ m. hooks_of m is) more_is ∙ ap (hooks_of (names_in cs ++ l.0 ∷ [])) is_is
+        ∙ hooks_more cs hs l.0 (l.1, hook) hooked ∙ ap (λ (v : HookedContexts H). v.hooks ++ (l.0, hook) ∷ []) u_is;
     called_are = ap (λ (v : HookedContexts H). v.called) u_is;
   }
 
   -- and these are called
   pub drops_one : {V : Type 0} {log later : Called} (more : Called) (u : HookedContexts H) (y z : ContextsValue) (peers : List (Peer H)) (cs left : List (CallContext V)) (hs is : List (Id × H)) (id : CallId) (x : Id)
-      → hooked y (stock_ties peers) (hooks_of (lives_in cs) hs) log ≡ u → AreHooked cs hs → Agree id x cs → left ≡ filter (λ c. not (same c.id x)) cs → is ≡ filter (λ h. not (same h.0 x)) hs
-      → later ≡ log ++ more → LosesHook id more u (hooked z (stock_ties peers) (hooks_of (lives_in left) is) later)
+      → hooked y (stock_ties peers) (hooks_of (names_in cs) hs) log ≡ u → AreHooked cs hs → Agree id x cs → left ≡ filter (λ c. not (same c.id x)) cs → is ≡ filter (λ h. not (same h.0 x)) hs
+      → later ≡ log ++ more → LosesHook id more u (hooked z (stock_ties peers) (hooks_of (names_in left) is) later)
   drops_one more u y z peers cs left hs is id x u_is hooked all left_is is_is later_is = record {
     stocks_are = ap (λ (v : HookedContexts H). v.stocks) u_is;
-    hooks_are = ap (λ ds. hooks_of (lives_in ds) is) left_is ∙ ap (hooks_of (lives_in (filter (λ c. not (same c.id x)) cs))) is_is
+    hooks_are = ap (λ ds. hooks_of (names_in ds) is) left_is ∙ ap (hooks_of (names_in (filter (λ c. not (same c.id x)) cs))) is_is
         ∙ hooks_less cs hs id x hooked all ∙ ap (λ (v : HookedContexts H). hooks_but id v.hooks) u_is;
     called_are = later_is ∙ ap (λ (v : HookedContexts H). v.called ++ more) u_is;
   }
 
   pub drops_none : {V : Type 0} {log : Called} (u : HookedContexts H) (y : ContextsValue) (ss : Stocks H) (cs : List (CallContext V)) (hs : List (Id × H)) (id : CallId)
-      → hooked y ss (hooks_of (lives_in cs) hs) log ≡ u → ctx_for id (lives_in cs) ≡ None → LosesHook id [] u u
+      → hooked y ss (hooks_of (names_in cs) hs) log ≡ u → ctx_for id cs ≡ None → LosesHook id [] u u
   drops_none u y ss cs hs id u_is none = record {
     stocks_are = refl;
     hooks_are = subst (λ (v : HookedContexts H). v.hooks ≡ hooks_but id v.hooks) u_is (no_hook_but id cs hs (no_ctx_for id cs none));
@@ -287,15 +287,16 @@ module _ {H : Type 0} where
   }
 
   pub calls_hook : {V : Type 0} {log : Called} (u : HookedContexts H) (y : ContextsValue) (ss : Stocks H) (cs : List (CallContext V)) (hs : List (Id × H)) (id : CallId) (x : Id) (hook : H)
-      → hooked y ss (hooks_of (lives_in cs) hs) log ≡ u → AreHooked cs hs → Agree id x cs → hook_of id u.hooks ≡ Some hook → hook_for x hs ≡ Some hook
+      → hooked y ss (hooks_of (names_in cs) hs) log ≡ u → AreHooked cs hs → Agree id x cs → hook_of id u.hooks ≡ Some hook → hook_for x hs ≡ Some hook
   calls_hook u y ss cs hs id x hook u_is hooked all its = its_hook cs hs id x hooked all ∙ ap (λ (v : HookedContexts H). hook_of id v.hooks) u_is ∙ its
 
   -- a connection goes of which no call has a context
-  pub drops_its : {log : Called} (u : HookedContexts H) (y z : ContextsValue) (peers left : List (Peer H)) (ls ms : Lives) (hs is : List (Id × H)) (number : ℕ) → hooked y (stock_ties peers) (hooks_of ls hs) log ≡ u
-      → left ≡ filter (λ p. not (p.number == number)) peers → ms ≡ ls → is ≡ hs → first_of number ls ≡ None → DropsHooks number u (hooked z (stock_ties left) (hooks_of ms is) log)
-  drops_its u y z peers left ls ms hs is number u_is left_is ms_is is_is none = record {
+  pub drops_its : {V : Type 0} {log : Called} (u : HookedContexts H) (y z : ContextsValue) (peers left : List (Peer H)) (cs : List (CallContext V)) (ms : List CallId) (hs is : List (Id × H)) (number : ℕ)
+      → hooked y (stock_ties peers) (hooks_of (names_in cs) hs) log ≡ u → left ≡ filter (λ p. not (p.number == number)) peers → ms ≡ names_in cs → is ≡ hs → first_of number cs ≡ None
+      → DropsHooks number u (hooked z (stock_ties left) (hooks_of ms is) log)
+  drops_its u y z peers left cs ms hs is number u_is left_is ms_is is_is none = record {
     stocks_are = ap stock_ties left_is ∙ stocks_less number peers ∙ ap (λ (v : HookedContexts H). filter (λ s. not (s.0 == number)) v.stocks) u_is;
-    hooks_are = ap (λ m. hooks_of m is) ms_is ∙ ap (hooks_of ls) is_is ∙ hooks_stay number ls hs none ∙ ap (λ (v : HookedContexts H). hooks_of_others number v.hooks) u_is;
+    hooks_are = ap (λ m. hooks_of m is) ms_is ∙ ap (hooks_of (names_in cs)) is_is ∙ hooks_stay number cs hs none ∙ ap (λ (v : HookedContexts H). hooks_of_others number v.hooks) u_is;
     called_are = ap (λ (v : HookedContexts H). v.called) u_is;
   }
 
@@ -306,11 +307,11 @@ module _ {H : Type 0} where
       (λ (n : (p.number == number) ≡ false). rw n (no_peer number ps (rw n at none)))
       (cases_Bool (p.number == number))
 
-  pub drops_nothing : {log : Called} (u : HookedContexts H) (y : ContextsValue) (peers : List (Peer H)) (ls : Lives) (hs : List (Id × H)) (number : ℕ) → hooked y (stock_ties peers) (hooks_of ls hs) log ≡ u
-      → ctx_of number (peer_ties peers) ≡ None → first_of number ls ≡ None → DropsHooks number u u
-  drops_nothing u y peers ls hs number u_is no_conn none = record {
+  pub drops_nothing : {V : Type 0} {log : Called} (u : HookedContexts H) (y : ContextsValue) (peers : List (Peer H)) (cs : List (CallContext V)) (hs : List (Id × H)) (number : ℕ)
+      → hooked y (stock_ties peers) (hooks_of (names_in cs) hs) log ≡ u → ctx_of number (peer_ties peers) ≡ None → first_of number cs ≡ None → DropsHooks number u u
+  drops_nothing u y peers cs hs number u_is no_conn none = record {
     stocks_are = subst (λ (v : HookedContexts H). v.stocks ≡ filter (λ s. not (s.0 == number)) v.stocks) u_is (stocks_stay number peers (no_peer number peers no_conn));
-    hooks_are = subst (λ (v : HookedContexts H). v.hooks ≡ hooks_of_others number v.hooks) u_is (hooks_stay number ls hs none);
+    hooks_are = subst (λ (v : HookedContexts H). v.hooks ≡ hooks_of_others number v.hooks) u_is (hooks_stay number cs hs none);
     called_are = refl;
   }
 

@@ -9,15 +9,14 @@ use Rattle.context_tree.specs.declared.error.Cause.TheVariants.{Given}
 use Rattle.std.proofs.lemmas.Bool.{and_from, and_parts, cases_Bool, or_cases, or_from, or_left, or_parts, or_right, eqb-true}
 use Rattle.std.proofs.lemmas.Option.{same_Some}
 use Rattle.context_tree.specs.Context.{Id, same}
-use Rattle.call_contexts.specs.Standing.{ctx_for, lives_in, AreNoSooner, IsNoSooner, has_deadline, ended_call, ends_branch, ends_call, ends_conn, ended_branch, expires_branch, expires_call, if_cancelled, expired as standing_expired, cancelled as standing_cancelled, all_ended as standing_ended}
+use Rattle.call_contexts.specs.Standing.{AreNoSooner, IsNoSooner, has_deadline, ended_call, ends_branch, ends_call, ends_conn, ended_branch, expires_branch, expires_call, if_cancelled, expired as standing_expired, cancelled as standing_cancelled, all_ended as standing_ended}
 use Rattle.gateway_theory.specs.declared.trigger.Trigger.TheVariants.{Reached, HungUp, Drained}
 use Rattle.gateway_model.specs.declared.id.CallId.{CallId}
 use Rattle.gateway_model.specs.Past.{is_call, is_due}
 use Rattle.gateway_replies.specs.declared.contexts.cancelled.CancelledBy.TheVariants.{HangUp, Drain}
-use Rattle.gateway_replies.specs.Contexts.{AllContexts, NoTwo, OnPeer, life_of, same_id, IsNotDue, CallContext, ConnContext, Ended, by_drain, by_hang_up, contexts_of, ContextsValue, IsTied, LifeValue, Peers, TimedBranch, contexts_value, ctx_of, ending_life, ends_life, event_of, expires_life, ends_peer, first_life, has_due, is_peer, peers_of, told, lives_of}
+use Rattle.gateway_replies.specs.Contexts.{names_in, AllContexts, NoTwo, OnPeer, life_of, same_id, IsNotDue, CallContext, ConnContext, Ended, by_drain, by_hang_up, contexts_of, ContextsValue, IsTied, LifeValue, Peers, TimedBranch, contexts_value, ctx_of, ending_life, ends_life, event_of, expires_life, ends_peer, first_life, has_due, is_peer, peers_of, told, lives_of}
 use Rattle.gateway_replies.proofs.ListLemmas.{due_same}
 use Rattle.gateway_replies.proofs.PeerLemmas.{lives_stay, not_in, peers_drained, peers_hung, peers_stay, two_apart}
-use Rattle.gateway_replies.proofs.ContextLemmas.{Agree}
 use Rattle.call_contexts.proofs.Trees.{same_refl as same_itself}
 
 conns_told : (g : ConnContext → Ended) (cs : List ConnContext) → map (λ (c : ConnContext). c.id) (map (λ (c : ConnContext). ends_conn (g c) c) cs) ≡ map (λ (c : ConnContext). c.id) cs
@@ -55,12 +54,11 @@ not_one_due moment (l ∷ ls) all =
 module _ {V : Type 0} where
   -- told what may end it, a context stays that of its call, and of its connection
   abbrev pub Stays : (CallContext V → CallContext V) → Type 0
-  Stays f = (c : CallContext V) → ((f c).name ≡ c.name) × (((f c).id ≡ c.id) × ((f c).conn ≡ c.conn))
+  Stays f = (c : CallContext V) → ((f c).name ≡ c.name) × ((f c).conn ≡ c.conn)
 
-  pub lives_stay_in : (f : CallContext V → CallContext V) → Stays f → (cs : List (CallContext V)) → lives_in (map f cs) ≡ lives_in cs
-  lives_stay_in f same_there [] = refl
-  lives_stay_in f same_there (c ∷ cs) = ap (λ i. (i, (f c).id) ∷ lives_in (map f cs)) (same_there c).0 ∙ ap (λ x. (c.name, x) ∷ lives_in (map f cs)) (same_there c).1.0
-      ∙ ap (λ ls. (c.name, c.id) ∷ ls) (lives_stay_in f same_there cs)
+  pub names_stay : (f : CallContext V → CallContext V) → Stays f → (cs : List (CallContext V)) → names_in (map f cs) ≡ names_in cs
+  names_stay f same_there [] = refl
+  names_stay f same_there (c ∷ cs) = ap (λ i. i ∷ names_in (map f cs)) (same_there c).0 ∙ ap (λ is. c.name ∷ is) (names_stay f same_there cs)
 
   ids_stay : (f : CallContext V → CallContext V) → Stays f → (cs : List (CallContext V)) → NoTwo same_id cs → NoTwo same_id (map f cs)
   ids_stay f same_there [] apart = tt
@@ -88,7 +86,7 @@ module _ {V : Type 0} where
     drained_is = drained_is;
     conns_are = conns_is ∙ tied.conns_are;
     calls_are = subst (All (OnPeer ps)) (sym calls_is) (All-map (OnPeer ps) f v.calls (All-weaker (OnPeer ps) (λ c. OnPeer ps (f c))
-        (λ c at. ap (λ k. ctx_of k.conn ps) (same_there c).0 ∙ at ∙ ap (λ x. Some x) (sym (same_there c).1.1)) v.calls tied.calls_are));
+        (λ c at. ap (λ k. ctx_of k.conn ps) (same_there c).0 ∙ at ∙ ap (λ x. Some x) (sym (same_there c).1)) v.calls tied.calls_are));
     numbers_apart = tied.numbers_apart;
     contexts_apart = tied.contexts_apart;
     calls_apart = subst (NoTwo same_id) (sym calls_is) (ids_stay f same_there v.calls tied.calls_apart);
@@ -166,22 +164,11 @@ module _ {V : Type 0} where
   conns_ended w g cs is = ap (map (λ (c : ConnContext). c.id)) is ∙ conns_told g cs
 
   -- the event by which a call ends, as its contexts tell it
-  pub life_ended : (text : V → List ℕ) (moment : ℕ) (cs : List (CallContext V)) (id : CallId) (x : Id) → Agree id x cs
-      → event_of moment (ended_call x cs) (ended_branch x cs) ≡ ending_life moment id (lives_of text cs)
-  life_ended text moment [] id x all = refl
-  life_ended text moment (c ∷ cs) id x all =
-      let here : same c.id x ≡ is_call c.name id = All-head (λ (d : CallContext V). same d.id x ≡ is_call d.name id) c cs all in
-      let rest = life_ended text moment cs id x (All-tail (λ (d : CallContext V). same d.id x ≡ is_call d.name id) c cs all) in
-      ⊎_elim
-      (λ (y : is_call c.name id ≡ true). let its : same c.id x ≡ true = here ∙ y in rw (y, its) refl)
-      (λ (n : is_call c.name id ≡ false). let far : same c.id x ≡ false = here ∙ n in rw (n, far) rest)
-      (cases_Bool (is_call c.name id))
-
-  pub no_life_ended : (text : V → List ℕ) (moment : ℕ) (cs : List (CallContext V)) (id : CallId) → ctx_for id (lives_in cs) ≡ None → ending_life moment id (lives_of text cs) ≡ None
-  no_life_ended text moment [] id is = refl
-  no_life_ended text moment (c ∷ cs) id is = ⊎_elim
-      (λ (y : is_call c.name id ≡ true). let bad : Some c.id ≡ None = rw y at is in cc)
-      (λ (n : is_call c.name id ≡ false). rw n (no_life_ended text moment cs id (rw n at is)))
+  pub life_ended : (text : V → List ℕ) (moment : ℕ) (cs : List (CallContext V)) (id : CallId) → event_of moment (ended_call id cs) (ended_branch id cs) ≡ ending_life moment id (lives_of text cs)
+  life_ended text moment [] id = refl
+  life_ended text moment (c ∷ cs) id = ⊎_elim
+      (λ (y : is_call c.name id ≡ true). rw y refl)
+      (λ (n : is_call c.name id ≡ false). rw n (life_ended text moment cs id))
       (cases_Bool (is_call c.name id))
 
   -- where the least deadline is not reached, none is

@@ -247,6 +247,9 @@ module _ {V : Type 0} where
   abbrev pub lives_of : (V → List ℕ) → List (CallContext V) → List LifeValue
   lives_of text cs = map (life_of text) cs
 
+  abbrev pub names_in : List (CallContext V) → List CallId
+  names_in cs = map (λ c. c.name) cs
+
   abbrev pub contexts_of : (V → List ℕ) → Peers → AllContexts V → ContextsValue
   contexts_of text peers v = contexts_value (is_some v.drained) (peers_of peers v.conns) (lives_of text v.calls)
 

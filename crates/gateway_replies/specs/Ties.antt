@@ -1,7 +1,7 @@
 -- What is kept of a connection beside its context, and the hooks of calls.
 use Rattle.std.specs.Prelude.{◌≡◌, ℕ, List, [], ◌∷◌, Option, None, Some, map}
 use Rattle.context_tree.specs.Context.{Id}
-use Rattle.call_contexts.specs.Standing.{Lives}
+use Rattle.gateway_model.specs.declared.id.CallId.{CallId}
 use Rattle.gateway_replies.specs.declared.contexts.peer.Peer.{Peer}
 use Rattle.gateway_replies.specs.Contexts.{CallContext, Peers}
 use Rattle.gateway_replies.specs.Hooks.{Hooks, KeepsStocks, Stocks, stock_of}
@@ -27,10 +27,10 @@ module _ {H : Type 0} where
   Takes number (Some hook) v w = (stock_of number v ≡ hook ∷ stock_of number w) × KeepsStocks number v w
 
   -- the calls' hooks
-  abbrev pub hooks_of : Lives → List (Id × H) → Hooks H
+  abbrev pub hooks_of : List CallId → List (Id × H) → Hooks H
   hooks_of [] hs = []
-  hooks_of (l ∷ ls) [] = []
-  hooks_of (l ∷ ls) (h ∷ hs) = (l.0, h.1) ∷ hooks_of ls hs
+  hooks_of (i ∷ is) [] = []
+  hooks_of (i ∷ is) (h ∷ hs) = (i, h.1) ∷ hooks_of is hs
 
   -- each call has its hook, in their order
   abbrev pub AreHooked : {V : Type 0} → List (CallContext V) → List (Id × H) → Type 0

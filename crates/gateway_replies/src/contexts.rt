@@ -41,8 +41,7 @@ pub struct Contexts<H> {
 
 impl<H> Model for Contexts<H> {
     ghost use Rattle.std.specs.Arc.{arc_value};
-    ghost use Rattle.call_contexts.specs.Standing.{lives_in};
-    ghost use Rattle.gateway_replies.specs.Contexts.{IsTied, contexts_of};
+    ghost use Rattle.gateway_replies.specs.Contexts.{IsTied, contexts_of, names_in};
     ghost use Rattle.gateway_replies.specs.Hooks.{HookedContexts, hooked};
     ghost use Rattle.gateway_replies.specs.Ties.{hooks_of, peer_ties, stock_ties};
 
@@ -51,7 +50,7 @@ impl<H> Model for Contexts<H> {
     ghost view = { λ c. hooked
         (contexts_of arc_value (peer_ties c.peers.items) c.contexts.standing)
         (stock_ties c.peers.items)
-        (hooks_of (lives_in c.contexts.standing.calls) c.contexts.hooks)
+        (hooks_of (names_in c.contexts.standing.calls) c.contexts.hooks)
         c.called.items };
 
     ghost invariant = { λ c. IsTied (peer_ties c.peers.items) c.contexts.standing };
@@ -150,10 +149,8 @@ impl<H: ReplyHook + Drop> Contexts<H> {
     pub fn ending(&self, id: &CallId, moment: u64) -> Option<CallEvent>
         ensures { result ≡ ending_life moment id.now self.now.standing.calls }
     {
-        self.contexts.apart_law();
-        let ctx = self.contexts.ctx_for(id)?;
-        let ended = self.contexts.ended(ctx);
-        let branch = self.contexts.ended_branch(ctx);
+        let ended = self.contexts.ended(id);
+        let branch = self.contexts.ended_branch(id);
         event_of(ended, branch, moment)
     }
 
@@ -163,12 +160,7 @@ impl<H: ReplyHook + Drop> Contexts<H> {
         ensures its { IfSome result (λ id. list_any (has_ended id) self.old.standing.calls ≡ true) }
         ensures none { IfNone result (list_any is_over self.old.standing.calls ≡ false) }
     {
-        self.contexts.apart_law();
-        let ctx = self.contexts.first_ended()?;
-        let Some(id) = self.contexts.call_of(ctx) else {
-            unreachable!();
-        };
-        Some(id)
+        self.contexts.first_ended()
     }
 
     /// A branch of the call that has a timeout starts at this moment: its context ends at `at`, or with its call's.

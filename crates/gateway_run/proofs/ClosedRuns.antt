@@ -1,4 +1,5 @@
 -- A connection that was closed: nothing more is queued for it, and it does not break any more.
+use Rattle.gateway_theory.specs.lemmas.Cases.{and_none}
 use Rattle.std.proofs.Common.{◌≡◌, ℕ, zero, suc, ◌<◌, Bool, true, false, List, [], ◌∷◌, ◌++◌, map, length, Option, None, Some, refl, sym, ap, ◌∙◌, subst, arith, ⊎_elim, inl, inr}
 use Rattle.std.specs.Prelude.{⊤, ◌⊎◌, if◌then◌else◌, ◌&&◌, ◌||◌, not, ◌==◌, is_some, is_none, nat_lt, reverse, option_and_then, MatchBool}
 use Rattle.std.specs.Option.{option_map_or}
@@ -187,12 +188,7 @@ can_not opened c (events.BranchResult d k i r) es past off shut can = by_conn (d
     by_conn false e x = cc
     by_conn true e x =
         let gone : is_shut d past ≡ true = ap (λ n. is_shut n past) (eqb-true d c e) ∙ shut in
-        let clash : true ≡ false = sym x ∙ ap (λ b. is_out (call_id d k) i past && (is_none (decided (call_id d k) past) && not b)) gone ∙ none (is_out (call_id d k) i past) (is_none (decided (call_id d k) past)) in cc
-      where
-        none : (a b : Bool) → (a && (b && false)) ≡ false
-        none true true = refl
-        none true false = refl
-        none false b = refl
+        let clash : true ≡ false = sym x ∙ ap (λ b. is_out (call_id d k) i past && (is_none (decided (call_id d k) past) && not b)) gone ∙ and_none (is_out (call_id d k) i past) (is_none (decided (call_id d k) past)) in cc
 can_not opened c events.Drain es past off shut can = let clash : true ≡ false = sym can ∙ undecided_none c Drain past shut in cc
 can_not opened c (events.Closing d) es past off shut can = cc
 

@@ -1,4 +1,5 @@
 -- How a run goes on with one event more.
+use Rattle.gateway_theory.specs.lemmas.Cases.{and_off}
 use Rattle.std.proofs.Common.{◌≡◌, ℕ, ◌+◌, ◌<◌, ◌≤◌, Bool, true, false, List, [], ◌∷◌, ◌++◌, length, map, Option, None, Some, refl, sym, ap, ◌∙◌, subst, arith, append-nil, append_assoc}
 use Rattle.std.specs.Prelude.{if◌then◌else◌, ◌&&◌, ◌==◌, not, is_some, nat_lt, reverse}
 use Rattle.std.proofs.lemmas.Bool.{eqb-true, lt-ltb, ltb-true, ltb-false}
@@ -82,11 +83,6 @@ module _ (e : Event) (es : Before) (v w : GatewayValue) (log next : LogValue) (h
   open_now c = served.conns.open_are c
 
   -- a connection that is open behind the event and was known before was open, and does not close by it
-  parts : (a b : Bool) → (a && not b) ≡ true → (a ≡ true) × (b ≡ false)
-  parts true false x = (refl, refl)
-  parts true true x = absurd (cc)
-  parts false b x = absurd (cc)
-
   -- the connection was opened before the event, where it is not open behind it
   known_before : (c : ℕ) → c < w.opened → is_open_conn c w ≡ false → c < connections next.opened es
   known_before c lt off = by_known (nat_lt c (connections next.opened es)) refl
@@ -216,7 +212,7 @@ module _ (e : Event) (es : Before) (v w : GatewayValue) (log next : LogValue) (h
           by_known true y =
               let on : (is_open next.opened c es && not (is_closing_of c e)) ≡ true =
               sym (ap (λ b. if b then is_open next.opened c es && not (is_closing_of c e) else nat_lt c (connections next.opened (e ∷ es))) y) ∙ open_now c ∙ there in
-              let both = parts (is_open next.opened c es) (is_closing_of c e) on in
+              let both = and_off (is_open next.opened c es) (is_closing_of c e) on in
               by_open (is_open_conn c v) refl both.0 both.1
             where
               by_open : (b : Bool) → is_open_conn c v ≡ b → is_open next.opened c es ≡ true → is_closing_of c e ≡ false → flag_at c log ≡ false

@@ -36,3 +36,14 @@ err_if (Err e) p = p
 pub all_stay : {A : Type 0} (p : A → Bool) (xs : List A) → list_any p xs ≡ false → filter (λ x. not (p x)) xs ≡ xs
 all_stay p [] is = refl
 all_stay p (x ∷ xs) is = let two = or_parts (p x) (list_any p xs) is in rw two.0 (ap (λ l. x ∷ l) (all_stay p xs two.1))
+
+-- the one and not the other
+pub and_off : (a b : Bool) → (a && not b) ≡ true → (a ≡ true) × (b ≡ false)
+and_off true false e = (refl, refl)
+and_off true true e = absurd (cc)
+and_off false b e = absurd (cc)
+
+pub and_none : (a b : Bool) → (a && (b && false)) ≡ false
+and_none true true = refl
+and_none true false = refl
+and_none false b = refl

@@ -1,4 +1,5 @@
 -- What the gateway stands for after a piece of a stream.
+use Rattle.gateway_theory.specs.lemmas.Cases.{and_off}
 use Rattle.std.proofs.Common.{◌≡◌, ℕ, ◌+◌, ◌≤◌, ◌<◌, Bool, true, false, List, [], ◌∷◌, ◌++◌, take, length, None, Some, refl, sym, ap, ◌∙◌, subst, arith, ⊎_elim, inl, inr, append-nil, All}
 use Rattle.std.specs.Prelude.{◌⊎◌, if◌then◌else◌, ◌&&◌, ◌||◌, not, ◌==◌}
 use Rattle.std.specs.Option.{option_map_or}
@@ -251,16 +252,11 @@ module _ (i n : ℕ) (bytes : List ℕ) (v w : GatewayValue) (texts : ℕ → Li
     fed_may P may = breaks_each P os (newly_broken v.machine.conns w.machine.conns)
         (filter_once (λ d. is_broken_in d w.machine.conns && not (is_broken_in d v.machine.conns)) (numbers w.machine.conns) (numbers_once w.machine.conns order_then.conns_apart))
         (λ d ds on off.
-        let which = both_parts (is_broken_in d w.machine.conns) (is_broken_in d v.machine.conns) (sym (newly_is d v.machine.conns w.machine.conns) ∙ on) in
+        let which = and_off (is_broken_in d w.machine.conns) (is_broken_in d v.machine.conns) (sym (newly_is d v.machine.conns w.machine.conns) ∙ on) in
         let its : d ≡ c = which_broke c d v.machine.conns w.machine.conns which.0 which.1
         (λ ne. ap (λ o. option_map_or (λ (y : ConnValue). y.broken) o false) (other_conn i x v.machine w.machine within orderly unbroken enters d ne)) in
         subst (λ m. P m (breaks_of ds ++ os)) (sym its)
         (may (breaks_of ds ++ os) (broken_behind c ds os ∙ ap (λ b. b || is_broken c (marked os)) (ap (λ m. listed ds m) (sym its) ∙ off) ∙ sym (h.conns_live.broken_are c k conn_is) ∙ unbroken)))
-      where
-        both_parts : (a b : Bool) → (a && not b) ≡ true → (a ≡ true) × (b ≡ false)
-        both_parts true false e = (refl, refl)
-        both_parts true true e = absurd (cc)
-        both_parts false b e = absurd (cc)
 
   -- nothing comes
   pub still_lives : w.machine ≡ v.machine → calls_brought v.plans f.pushed.reading ≡ 0 → Brought v.plans (texts c) (texts c ++ more) come.given f.new [] → GatewayLives w (with_bytes c more texts) taken handed os

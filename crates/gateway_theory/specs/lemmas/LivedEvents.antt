@@ -34,7 +34,7 @@ use Rattle.gateway_theory.specs.Task.{HandedJob}
 use Rattle.gateway_theory.specs.declared.fault.Took.{Took}
 use Rattle.gateway_theory.specs.declared.trigger.Trigger.{Trigger}
 use Rattle.gateway_theory.specs.lemmas.Adding.{AreBreaks, MayBreak}
-use Rattle.gateway_theory.specs.lemmas.Cases.{and_false, or_none, or_true, sym_eqb}
+use Rattle.gateway_theory.specs.lemmas.Cases.{and_off, and_false, or_none, or_true, sym_eqb}
 use Rattle.gateway_theory.specs.lemmas.GoingOn.{flipped}
 use Rattle.gateway_theory.specs.lemmas.Concerned.{BrokeBy, ends_by, failure, lived_concerns, result_by, starved_by}
 use Rattle.gateway_theory.specs.lemmas.EndSteps.{ends_breaks}
@@ -104,16 +104,11 @@ module _ (opened : List ℕ) (e : Event) (es : Before) (o : Occurrence) (can : (
           by_way (inl k) = sym (conns.broken_are c k.0 k.1) ∙ sym (in_conns c v.conns k.0 k.1) ∙ before
           by_way (inr new) = absurd (let clash : true ≡ false = sym now ∙ in_conns c w.conns l l_is ∙ new.1 in cc)
 
-  both_parts : (a b : Bool) → (a && not b) ≡ true → (a ≡ true) × (b ≡ false)
-  both_parts true false e = (refl, refl)
-  both_parts true true e = absurd (cc)
-  both_parts false b e = absurd (cc)
-
   pub newly_may : AreBreaks (MayBreak opened e es) (breaks_of (newly_broken v.conns w.conns)) os
   newly_may = breaks_each (MayBreak opened e es) os (newly_broken v.conns w.conns)
       (filter_once (λ c. is_broken_in c w.conns && not (is_broken_in c v.conns)) (numbers w.conns) (numbers_once w.conns apart))
       (λ c ds on off.
-      let which = both_parts (is_broken_in c w.conns) (is_broken_in c v.conns) (sym (newly_is c v.conns w.conns) ∙ on) in
+      let which = and_off (is_broken_in c w.conns) (is_broken_in c v.conns) (sym (newly_is c v.conns w.conns) ∙ on) in
       let its = by c which.0 which.1 in (
         broken_behind c ds os ∙ ap (λ x. x || is_broken c (marked os)) off ∙ not_before c which.0 which.1,
         can c (marked (breaks_of ds ++ os)) (ap (λ n. concerns n o (marked (breaks_of ds ++ os))) (sym its.1)

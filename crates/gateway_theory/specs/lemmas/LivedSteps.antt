@@ -18,7 +18,7 @@ use Rattle.gateway_theory.specs.Lived.{ConnLives, LivedStands, breaks_of, broken
 use Rattle.gateway_theory.specs.Machine.{MachineState, arriving, is_coming, next_id, with_slot, slot_at, starting, step_of}
 use Rattle.gateway_theory.specs.Standing.{ConnStands, SlotsStand}
 use Rattle.gateway_theory.specs.Step.{CallState, call_state, has_out, kept, step}
-use Rattle.gateway_theory.specs.lemmas.Cases.{and_false, and_true, or_none, or_true}
+use Rattle.gateway_theory.specs.lemmas.Cases.{and_none, and_false, and_true, or_none, or_true}
 use Rattle.gateway_theory.specs.lemmas.GoingOn.{comes_on, elsewhere, flipped, next_of, other_goes}
 use Rattle.gateway_theory.specs.lemmas.ShutConns.{quiet_shut}
 use Rattle.gateway_theory.specs.lemmas.GoingOn.{call_goes, conn_goes}
@@ -116,12 +116,7 @@ plain_coming c (Break d) b e = refl
 
 -- of a connection that is shut no call can be decided
 shut_dead : (id : CallId) (past : Past) → is_shut id.conn past ≡ true → is_live id past ≡ false
-shut_dead id past e = rw e (dead (is_some (call id past)) (is_none (decided id past)))
-  where
-    dead : (a b : Bool) → (a && (b && false)) ≡ false
-    dead true true = refl
-    dead true false = refl
-    dead false b = refl
+shut_dead id past e = rw e (and_none (is_some (call id past)) (is_none (decided id past)))
 
 -- ---- an occurrence at which nothing comes on a stream
 

@@ -1,4 +1,5 @@
 -- The words of Past by places in the finished list.
+use Rattle.std.proofs.lemmas.Option.{slice_get_past}
 use Rattle.std.proofs.Common.{◌≡◌, ℕ, zero, suc, ◌≤◌, ◌<◌, List, [], ◌∷◌, ◌++◌, length, reverse, Option, None, Some, refl, sym, ap, ◌∙◌, subst, arith, ⊎_elim, inl, inr}
 use Rattle.std.specs.Prelude.{◌⊎◌, slice_get}
 use Rattle.std.specs.Option.{option_or}
@@ -30,11 +31,6 @@ get_old (x ∷ xs) e (suc u) lt = get_old xs e u (omega arith)
 pub get_last : (xs : List Occurrence) (e : Occurrence) → slice_get (xs ++ e ∷ []) (length xs) ≡ Some e
 get_last [] e = refl
 get_last (x ∷ xs) e = get_last xs e
-
-pub get_past : (xs : List Occurrence) (u : ℕ) → length xs ≤ u → slice_get xs u ≡ None
-get_past [] u le = refl
-get_past (x ∷ xs) zero le = absurd (omega arith)
-get_past (x ∷ xs) (suc u) le = get_past xs u (omega arith)
 
 -- what stood before a place depends on the events before it alone
 pub before-old : (xs : List Occurrence) (e : Occurrence) (t : ℕ) → t ≤ length xs → before (xs ++ e ∷ []) t ≡ before xs t
@@ -99,7 +95,7 @@ decided_only events id t r h =
     let d = decides id events in
     ⊎_elim (λ (pending : decided id (past_of events) ≡ None).
     ⊎_elim (λ (lt : t < length events). let bad : Some r ≡ None = sym h.here ∙ d.none_yet pending t lt in cc)
-    (λ (le : length events ≤ t). let bad : Some r ≡ None = sym h.here ∙ rw (get_past events t le) refl in cc)
+    (λ (le : length events ≤ t). let bad : Some r ≡ None = sym h.here ∙ rw (slice_get_past events t le) refl in cc)
     (cases_lt t (length events)))
     (λ (some : (s : CallEvent) × (decided id (past_of events) ≡ Some s)).
     let place = d.found some.0 some.1 in

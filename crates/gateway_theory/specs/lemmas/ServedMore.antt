@@ -25,7 +25,7 @@ use Rattle.gateway_theory.specs.Serving.{Ends, HangsUp, hung, unnoticed, NotList
 use Rattle.gateway_theory.specs.Step.{CallState, Live, call_state}
 use Rattle.gateway_theory.specs.Store.{MachineValue, call_at, conn_at, conn_of, hung_at}
 use Rattle.gateway_theory.specs.lemmas.Adding.{adds_none, adds_one}
-use Rattle.gateway_theory.specs.lemmas.Cases.{or_none, sym_eqb}
+use Rattle.gateway_theory.specs.lemmas.Cases.{and_off, or_none, sym_eqb}
 use Rattle.gateway_theory.specs.lemmas.EndingSteps.{goes_ended, hang_up_ends}
 use Rattle.gateway_theory.specs.lemmas.GatewaySteps.{hung_listens}
 use Rattle.gateway_theory.specs.lemmas.LivedEvents.{ended_lives, ended_may, hung_lives}
@@ -106,13 +106,8 @@ module _ (n : ℕ) (s : MachineValue) (h : IsOrderly s) (broken : is_broken_in n
 pub not_listening_broken : (n : ℕ) (v : GatewayValue) (opened : List ℕ) (es : Before) → HasConns v opened es → NotListening n v → listens opened n es ≡ true → is_broken_in n v.machine.conns ≡ true
 not_listening_broken n v opened es h not_listening on = by_conn (conn_of n v.machine.conns) refl
   where
-    parts : (a b : Bool) → (a && not b) ≡ true → (a ≡ true) × (b ≡ false)
-    parts true false e = (refl, refl)
-    parts true true e = absurd (cc)
-    parts false b e = absurd (cc)
-
     both : (is_open opened n es ≡ true) × (hung_up opened n es ≡ false)
-    both = parts (is_open opened n es) (hung_up opened n es) on
+    both = and_off (is_open opened n es) (hung_up opened n es) on
 
     by_conn : (k : Option ConnValue) → conn_of n v.machine.conns ≡ k → is_broken_in n v.machine.conns ≡ true
     by_conn None k_is = absurd (let clash : true ≡ false = sym both.0 ∙ h.open_are n ∙ ap (λ o. is_some o) k_is in cc)

@@ -22,7 +22,7 @@ use Rattle.gateway_model.specs.Queue.{came, own_events, record_deadlines, record
 use Rattle.gateway_model.specs.Starts.{jobs_started, branches_started}
 use Rattle.gateway_theory.specs.lemmas.LimitLemmas.{out_started, same_call}
 use Rattle.gateway_theory.specs.lemmas.Unborn.{unborn}
-use Rattle.gateway_theory.specs.lemmas.Cases.{and_true, and_false, or_none}
+use Rattle.gateway_theory.specs.lemmas.Cases.{and_none, and_true, and_false, or_none}
 use Rattle.gateway_theory.specs.Step.{Live, call_state, kept, ended, ended_by, ended_live, ending, entry_as, deadlines_in, deadlines_then, first_of, rest_of, next_out, is_last_answer, counted, result_on, step, moment_after}
 use Rattle.gateway_theory.specs.LiveStands.{is_live, tasks_from, LiveStands, MayLive, CallStands, Stepped}
 use Rattle.gateway_theory.specs.lemmas.Deadlines.{deadlines_same, deadlines_more, expires, outs_are}
@@ -223,15 +223,10 @@ shutting id o conn out live past shuts_is uncounted no_result no_event_at none h
     by_own : (b : Bool) → (conn == id.conn) ≡ b → (live : Option Live) → MayLive id live out past
         → Stepped id (if b then kept (call_state out None) else kept (call_state out live)) m past
     by_own true b_is live l = record {
-      stands = record { out_is = outs; live_is = rw (shuts_is, b_is) (closed_shut (is_some (call id (m ∷ past))) (is_none (decided id (m ∷ past)))) };
+      stands = record { out_is = outs; live_is = rw (shuts_is, b_is) (and_none (is_some (call id (m ∷ past))) (is_none (decided id (m ∷ past)))) };
       replies = same_replies id m past none (decided_same id m past no_event);
       starts = sym (none_start id m past same);
     }
-      where
-        closed_shut : (a b : Bool) → (a && (b && false)) ≡ false
-        closed_shut true true = refl
-        closed_shut true false = refl
-        closed_shut false b = refl
     by_own false b_is None l = shut_stepped id out m past l none no_answer outs
     by_own false b_is (Some s) l = live_stepped id s out m past l none no_answer no_event (rw (shuts_is, b_is, l.unshut) refl) outs
 

@@ -1,11 +1,12 @@
 use Rattle.std.proofs.Common.{◌∙◌, ap, sym}
-use Rattle.call_contexts.specs.Standing.{WithHooks, first_of, lives_in}
-use Rattle.call_contexts.specs.Sound.{life_ties}
-use Rattle.call_contexts.proofs.Seeing.{seen_lives}
+use Rattle.std.specs.Prelude.{◌==◌, option_map}
+use Rattle.std.specs.List.{find}
+use Rattle.call_contexts.specs.Standing.{WithHooks, first_of}
+use Rattle.call_contexts.proofs.Seeing.{first_kept}
 use Rattle.call_contexts.proofs.call_contexts.CallContexts.first_call.Goals as goal
 
 pub returns : goal.returns
 returns g c =
-    c.first_call.ensures ∙ ap (λ ls. first_of c.args.number (life_ties ls)) c.deref.ensures.value
-    ∙ ap (first_of c.args.number) (sym (seen_lives c.self.inside.tree.slots c.self.inside.calls.items))
-    ∙ ap (λ (v : WithHooks _ _ _). first_of c.args.number (lives_in v.standing.calls)) c.self.view_is
+    c.first_call.ensures ∙ ap (λ ls. option_map (λ l. l.id) (find (λ l. l.id.conn == c.args.number) ls)) c.deref.ensures.value
+    ∙ sym (first_kept c.self.inside.tree.slots c.args.number c.self.inside.calls.items)
+    ∙ ap (λ (v : WithHooks _ _ _). first_of c.args.number v.standing.calls) c.self.view_is

@@ -1,29 +1,32 @@
 use Rattle.std.proofs.Common.{◌∙◌, ap, sym, ◌≡◌, None, Some}
-use Rattle.std.specs.Prelude.{option_map}
+use Rattle.std.specs.Prelude.{option_and_then, option_map}
 use Rattle.std.proofs.lemmas.Option.{same_Some}
 use Rattle.std.specs.Option.{option_copied}
 use Rattle.context_tree.specs.Context.{held, line, nearest}
-use Rattle.call_contexts.specs.Standing.{WithHooks, request_for}
-use Rattle.call_contexts.specs.Sound.{life_at}
-use Rattle.call_contexts.proofs.Lists.{none_found}
-use Rattle.call_contexts.proofs.Leaving.{call_known, request_told, no_request, asked_held, none_is_some}
+use Rattle.call_contexts.specs.Standing.{WithHooks, request_for, value_in}
+use Rattle.call_contexts.specs.Sound.{life_for}
+use Rattle.call_contexts.proofs.Leaving.{call_known, request_told, asked_held, none_is_some}
+use Rattle.call_contexts.proofs.Seeing.{asked}
 use Rattle.call_contexts.proofs.call_contexts.CallContexts.request_id.Goals as goal
 
 pub returns-in_default : goal.returns-in_default
 returns-in_default g c =
-    let none : life_at c.args.ctx c.self.inside.calls.items ≡ None = ap (life_at c.args.ctx) (sym c.deref.ensures.value) ∙ sym c.find.ensures ∙ ap (option_map (λ l. l.now)) c.in_default.is in
-    sym (no_request c.self.inside.tree.slots c.args.ctx c.self.inside.calls.items (none_found c.args.ctx c.self.inside.calls.items none)) ∙ ap (λ (v : WithHooks _ _ _). request_for c.args.ctx v.standing.calls) c.self.view_is
+    let none : life_for c.args.id.now c.self.inside.calls.items ≡ None = ap (life_for c.args.id.now) (sym c.deref.ensures.value) ∙ sym c.named.ensures ∙ ap (option_map (λ l. l.now)) c.in_default.is in
+    sym (asked c.self.inside.tree.slots (λ d. d.request_id) c.args.id.now c.self.inside.calls.items ∙ ap (option_and_then (λ l. option_and_then (value_in c.self.inside.tree.slots) l.holder)) none)
+    ∙ ap (λ (v : WithHooks _ _ _). request_for c.args.id.now v.standing.calls) c.self.view_is
 
 pub unreachable-requires : goal.unreachable-requires
 unreachable-requires g c =
     let s = c.self.invariant in
-    let at : life_at c.args.ctx c.self.inside.calls.items ≡ Some c.in-Some.field-0.now = ap (life_at c.args.ctx) (sym c.deref.ensures.value) ∙ sym c.find.ensures ∙ ap (option_map (λ l. l.now)) c.in-Some.is in
-    none_is_some (c.in-Err.ensures s.past s.tree_is ∙ asked_held (held c.args.ctx s.past) (nearest 0 (line c.args.ctx s.past)) (call_known s.laws s c.args.ctx c.in-Some.field-0.now at))
+    let x = c.in-Some.life.now.ctx in
+    let at : life_for c.args.id.now c.self.inside.calls.items ≡ Some c.in-Some.life.now = ap (life_for c.args.id.now) (sym c.deref.ensures.value) ∙ sym c.named.ensures ∙ ap (option_map (λ l. l.now)) c.in-Some.is in
+    none_is_some (c.in-Err.ensures s.past s.tree_is ∙ asked_held (held x s.past) (nearest 0 (line x s.past)) (call_known s c.args.id.now c.in-Some.life.now at))
 
 pub returns : goal.returns
 returns g c =
     let s = c.self.invariant in
-    let at : life_at c.args.ctx c.self.inside.calls.items ≡ Some c.in-Some.field-0.now = ap (life_at c.args.ctx) (sym c.deref.ensures.value) ∙ sym c.find.ensures ∙ ap (option_map (λ l. l.now)) c.in-Some.is in
-    same_Some (option_copied c.in-Ok.request_id) (nearest 0 (line c.args.ctx s.past))
-    (c.in-Ok.ensures s.past s.tree_is ∙ asked_held (held c.args.ctx s.past) (nearest 0 (line c.args.ctx s.past)) (call_known s.laws s c.args.ctx c.in-Some.field-0.now at))
-    ∙ request_told s.laws s c.args.ctx c.in-Some.field-0.now at ∙ ap (λ (v : WithHooks _ _ _). request_for c.args.ctx v.standing.calls) c.self.view_is
+    let x = c.in-Some.life.now.ctx in
+    let at : life_for c.args.id.now c.self.inside.calls.items ≡ Some c.in-Some.life.now = ap (life_for c.args.id.now) (sym c.deref.ensures.value) ∙ sym c.named.ensures ∙ ap (option_map (λ l. l.now)) c.in-Some.is in
+    same_Some (option_copied c.in-Ok.request_id) (nearest 0 (line x s.past))
+    (c.in-Ok.ensures s.past s.tree_is ∙ asked_held (held x s.past) (nearest 0 (line x s.past)) (call_known s c.args.id.now c.in-Some.life.now at))
+    ∙ request_told s c.args.id.now c.in-Some.life.now at ∙ ap (λ (v : WithHooks _ _ _). request_for c.args.id.now v.standing.calls) c.self.view_is

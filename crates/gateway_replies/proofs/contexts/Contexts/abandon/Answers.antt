@@ -1,6 +1,6 @@
 use Rattle.std.proofs.Common.{◌≡◌, ◌∙◌, [], None, Some, ap, append-nil, sym}
 use Rattle.std.specs.Arc.{arc_value}
-use Rattle.call_contexts.specs.Standing.{WithHooks, ctx_for, lives_in}
+use Rattle.call_contexts.specs.Standing.{WithHooks, ctx_for}
 use Rattle.gateway_replies.specs.Hooks.{HookedContexts}
 use Rattle.gateway_replies.specs.Ties.{peer_ties, stock_ties}
 use Rattle.gateway_replies.proofs.ContextLemmas.{agree, left_tied, left_value, no_life, without_none}
@@ -10,7 +10,7 @@ use Rattle.gateway_replies.proofs.contexts.Contexts.abandon.Goals as goal
 pub returns-in_default : goal.returns-in_default
 returns-in_default g c =
     let s = c.self.inside in
-    let none : ctx_for c.args.id.now (lives_in s.contexts.standing.calls) ≡ None = sym c.ctx_for.ensures ∙ c.in_default.is in
+    let none : ctx_for c.args.id.now s.contexts.standing.calls ≡ None = sym c.ctx_for.ensures ∙ c.in_default.is in
     record {
       gone =
           without_none c.args.id.now c.args.self.now.standing
@@ -25,7 +25,7 @@ invariant_of-self g c =
 pub returns : goal.returns
 returns g c =
     let s = c.self.inside in
-    let at : ctx_for c.args.id.now (lives_in s.contexts.standing.calls) ≡ Some c.in-Some.ctx = sym c.ctx_for.ensures ∙ c.in-Some.is in
+    let at : ctx_for c.args.id.now s.contexts.standing.calls ≡ Some c.in-Some.ctx = sym c.ctx_for.ensures ∙ c.in-Some.is in
     let all = agree s.contexts.standing.calls c.args.id.now c.in-Some.ctx c.apart_law.ensures.apart c.self.invariant.calls_apart at in
     record {
       gone =

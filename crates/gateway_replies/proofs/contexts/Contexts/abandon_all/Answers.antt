@@ -1,6 +1,6 @@
 use Rattle.std.proofs.Common.{◌≡◌, ◌∙◌, None, Some, ap, append-nil, arith, length, sym}
 use Rattle.std.specs.Arc.{arc_value}
-use Rattle.call_contexts.specs.Standing.{first_of, lives_in}
+use Rattle.call_contexts.specs.Standing.{first_of}
 use Rattle.gateway_replies.specs.Contexts.{ContextsValue, first_life}
 use Rattle.gateway_replies.specs.Hooks.{HookedContexts, hooks_of_others}
 use Rattle.gateway_replies.proofs.ContextLemmas.{drops_all, drops_one, first_gone, first_in}
@@ -9,8 +9,8 @@ use Rattle.gateway_replies.proofs.contexts.Contexts.abandon_all.Goals as goal
 
 pub loop-id-preserved : goal.loop-id-preserved
 loop-id-preserved g c =
-    let found : first_of c.args.number (lives_in c.self.inside.contexts.standing.calls) ≡ Some c.in-Some.id = sym c.first_call.ensures ∙ c.in-Some.is in
-    let its = first_of_it c.args.number (lives_in c.self.inside.contexts.standing.calls) c.in-Some.id found in (
+    let found : first_of c.args.number c.self.inside.contexts.standing.calls ≡ Some c.in-Some.id = sym c.first_call.ensures ∙ c.in-Some.is in
+    let its = first_of_it c.args.number c.self.inside.contexts.standing.calls c.in-Some.id found in (
       drops_one c.args.number c.in-Some.id c.args.self.now.standing c.loop-id.self.standing c.abandon.new.self.standing c.loop-id.invariant.0 its c.abandon.ensures.gone,
       c.abandon.ensures.hooks.stocks_are ∙ c.loop-id.invariant.1,
       ap (hooks_of_others c.args.number) c.abandon.ensures.hooks.hooks_are ∙ same_hooks c.args.number c.in-Some.id c.loop-id.self.hooks its ∙ c.loop-id.invariant.2,

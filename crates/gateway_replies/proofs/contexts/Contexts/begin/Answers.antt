@@ -1,9 +1,9 @@
 use Rattle.std.proofs.Common.{◌≡◌, ◌∙◌, ◌∷◌, Some, None, true, false, ap, subst, sym}
 use Rattle.std.proofs.lemmas.List.{map_push}
 use Rattle.std.specs.Arc.{arc_value}
-use Rattle.call_contexts.specs.Standing.{WithHooks, lives_in}
+use Rattle.call_contexts.specs.Standing.{WithHooks}
 use Rattle.gateway_model.specs.Past.{ArrivedCall}
-use Rattle.gateway_replies.specs.Contexts.{CallContext, ContextsValue, ctx_of}
+use Rattle.gateway_replies.specs.Contexts.{names_in, CallContext, ContextsValue, ctx_of}
 use Rattle.gateway_replies.specs.Hooks.{HookedContexts, stock_in, stock_of}
 use Rattle.gateway_replies.specs.Ties.{Takes, peer_ties, stock_ties}
 use Rattle.gateway_replies.proofs.ContextLemmas.{begun_tied, begun_value, known_conn, not_known}
@@ -45,11 +45,11 @@ returns-clause-ok g c =
 pub returns-clause-hook : goal.returns-clause-hook
 returns-clause-hook g c =
     let s = c.self.inside in
-    takes_one c.args.self.now _ _ s.peers.items c.take_hook.new.peers.items s.contexts.standing.calls (lives_in c.begin.new.self.standing.calls) s.contexts.hooks c.begin.new.self.hooks
+    takes_one c.args.self.now _ _ s.peers.items c.take_hook.new.peers.items s.contexts.standing.calls (names_in c.begin.new.self.standing.calls) s.contexts.hooks c.begin.new.self.hooks
     (c.args.id.now, c.in-Ok.field-0) c.in-Some-take_hook.hook c.self.view_is
     (subst (λ n. stock_of n (stock_ties s.peers.items) ≡ c.in-Some-take_hook.hook ∷ stock_of n (stock_ties c.take_hook.new.peers.items)) c.number-2.ensures c.in-Some-take_hook.ensures.taken.0)
     c.apart_law.ensures.hooked
-    (ap (λ (v : WithHooks _ _ _). lives_in v.standing.calls) c.in-Ok.ensures.stands ∙ map_push (λ (d : CallContext _). (d.name, d.id)) s.contexts.standing.calls _)
+    (ap (λ (v : WithHooks _ _ _). names_in v.standing.calls) c.in-Ok.ensures.stands ∙ map_push (λ (d : CallContext _). d.name) s.contexts.standing.calls _)
     (ap (λ (v : WithHooks _ _ _). v.hooks) c.in-Ok.ensures.stands)
 
 pub unreachable-requires-in_default-take_hook : goal.unreachable-requires-in_default-take_hook

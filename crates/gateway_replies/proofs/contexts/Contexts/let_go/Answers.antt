@@ -1,7 +1,7 @@
 use Rattle.std.proofs.Common.{◌∙◌, ap, sym}
 use Rattle.std.specs.Arc.{arc_value}
-use Rattle.call_contexts.specs.Standing.{WithHooks, lives_in}
-use Rattle.gateway_replies.specs.Contexts.{ContextsValue, ctx_of, first_life}
+use Rattle.call_contexts.specs.Standing.{WithHooks}
+use Rattle.gateway_replies.specs.Contexts.{names_in, ContextsValue, ctx_of, first_life}
 use Rattle.gateway_replies.specs.Hooks.{HookedContexts}
 use Rattle.gateway_replies.specs.Ties.{peer_ties}
 use Rattle.gateway_replies.proofs.ContextLemmas.{closed_stay, first_in, known_conn, none_of_it, not_known, peer_gone, peer_gone_value}
@@ -14,7 +14,7 @@ returns-in_default g c =
       closed =
           closed_stay c.args.number c.args.self.now.standing (not_known c.args.number c.args.self.now.standing (peer_ties c.self.inside.peers.items) c.self.inside.contexts.standing.conns (ap (λ (v : ContextsValue). v.conns) (ap (λ (u : HookedContexts _). u.standing) c.self.view_is))
           (ap (λ ps. ctx_of c.args.number (peer_ties ps)) (sym c.deref.ensures.value) ∙ sym c.ctx_of.ensures ∙ c.in_default.is)) c.requires;
-      hooks = drops_nothing c.args.self.now _ c.self.inside.peers.items (lives_in c.self.inside.contexts.standing.calls) c.self.inside.contexts.hooks c.args.number c.self.view_is
+      hooks = drops_nothing c.args.self.now _ c.self.inside.peers.items c.self.inside.contexts.standing.calls c.self.inside.contexts.hooks c.args.number c.self.view_is
           (ap (λ ps. ctx_of c.args.number (peer_ties ps)) (sym c.deref.ensures.value) ∙ sym c.ctx_of.ensures ∙ c.in_default.is)
           (sym (first_in arc_value c.self.inside.contexts.standing.calls c.args.number)
           ∙ ap (λ (v : ContextsValue). first_life c.args.number v.calls) (ap (λ (u : HookedContexts _). u.standing) c.self.view_is) ∙ c.requires);
@@ -47,8 +47,8 @@ returns g c =
           peer_gone_value arc_value c.self.inside.peers.items c.remove_peer.new.peers.items c.self.inside.contexts.standing c.close.new.self.standing c.args.self.now.standing
           c.args.number c.in-Some.conn c.remove_peer.ensures (ap (λ (v : WithHooks _ _ _). v.standing) c.close.ensures) c.self.invariant
           (ap (λ ps. ctx_of c.args.number (peer_ties ps)) (sym c.deref.ensures.value) ∙ sym c.ctx_of.ensures ∙ c.in-Some.is) (ap (λ (u : HookedContexts _). u.standing) c.self.view_is) c.requires;
-      hooks = drops_its c.args.self.now _ _ c.self.inside.peers.items c.remove_peer.new.peers.items (lives_in c.self.inside.contexts.standing.calls) (lives_in c.close.new.self.standing.calls) c.self.inside.contexts.hooks c.close.new.self.hooks c.args.number c.self.view_is
-          c.remove_peer.ensures (ap (λ (v : WithHooks _ _ _). lives_in v.standing.calls) c.close.ensures) (ap (λ (v : WithHooks _ _ _). v.hooks) c.close.ensures)
+      hooks = drops_its c.args.self.now _ _ c.self.inside.peers.items c.remove_peer.new.peers.items c.self.inside.contexts.standing.calls (names_in c.close.new.self.standing.calls) c.self.inside.contexts.hooks c.close.new.self.hooks c.args.number c.self.view_is
+          c.remove_peer.ensures (ap (λ (v : WithHooks _ _ _). names_in v.standing.calls) c.close.ensures) (ap (λ (v : WithHooks _ _ _). v.hooks) c.close.ensures)
           (sym (first_in arc_value c.self.inside.contexts.standing.calls c.args.number)
           ∙ ap (λ (v : ContextsValue). first_life c.args.number v.calls) (ap (λ (u : HookedContexts _). u.standing) c.self.view_is) ∙ c.requires);
     }

@@ -1,12 +1,12 @@
 use Rattle.std.proofs.Common.{◌∙◌, ◌++◌, ◌∷◌, [], ap, sym}
 use Rattle.std.specs.Arc.{arc_value}
-use Rattle.call_contexts.specs.Standing.{WithHooks, lives_in}
+use Rattle.call_contexts.specs.Standing.{WithHooks}
 use Rattle.gateway_replies.specs.Hooks.{HookedContexts}
 use Rattle.gateway_replies.specs.Ties.{peer_ties}
 use Rattle.gateway_replies.proofs.ContextLemmas.{opened_tied, opened_value}
 use Rattle.gateway_replies.proofs.HookLemmas.{brings, no_stock_yet}
 use Rattle.gateway_replies.proofs.PeerLemmas.{peer_in}
-use Rattle.gateway_replies.specs.Contexts.{is_peer}
+use Rattle.gateway_replies.specs.Contexts.{names_in, is_peer}
 use Rattle.gateway_replies.proofs.contexts.Contexts.open.Goals as goal
 
 pub invariant_of-self-2 : goal.invariant_of-self-2
@@ -26,8 +26,8 @@ returns-clause-ok g c =
 pub returns-clause-hooks : goal.returns-clause-hooks
 returns-clause-hooks g c =
     brings c.args.self.now _ _ c.self.inside.peers.items c.push_reserved.new.self.items (record { number = c.args.number; ctx = c.in-Ok.ctx; stock = c.into_hooks-stock.result }) c.args.stock
-    (lives_in c.self.inside.contexts.standing.calls) (lives_in c.open.new.self.standing.calls) c.self.inside.contexts.hooks c.open.new.self.hooks c.self.view_is
-    (ap (λ (v : WithHooks _ _ _). lives_in v.standing.calls) c.in-Ok.ensures.stands) (ap (λ (v : WithHooks _ _ _). v.hooks) c.in-Ok.ensures.stands)
+    (names_in c.self.inside.contexts.standing.calls) (names_in c.open.new.self.standing.calls) c.self.inside.contexts.hooks c.open.new.self.hooks c.self.view_is
+    (ap (λ (v : WithHooks _ _ _). names_in v.standing.calls) c.in-Ok.ensures.stands) (ap (λ (v : WithHooks _ _ _). v.hooks) c.in-Ok.ensures.stands)
     (c.push_reserved.ensures.items ∙ ap (λ ps. ps ++ record { number = c.args.number; ctx = c.in-Ok.ctx; stock = c.into_hooks-stock.result } ∷ []) c.reserve.ensures.items)
     c.into_hooks-stock.ensures.all c.into_hooks-stock.ensures.full
     (no_stock_yet c.args.number c.self.inside.peers.items (sym (peer_in c.args.number (peer_ties c.self.inside.peers.items) c.self.inside.contexts.standing.conns c.self.invariant.conns_are)

@@ -1,8 +1,8 @@
 use Rattle.std.proofs.Common.{ℕ, List, ◌≡◌, ◌∙◌, ◌++◌, [], ◌∷◌, None, Some, refl, true, false, ap, sym}
 use Rattle.std.specs.Option.{option_or}
 use Rattle.std.specs.Arc.{arc_value}
-use Rattle.call_contexts.specs.Standing.{ctx_for, if_due, lives_in}
-use Rattle.gateway_replies.specs.Contexts.{CallContext, LifeValue, TimedBranch, by_deadline}
+use Rattle.call_contexts.specs.Standing.{ctx_for, if_due}
+use Rattle.gateway_replies.specs.Contexts.{names_in, CallContext, LifeValue, TimedBranch, by_deadline}
 use Rattle.gateway_replies.specs.Hooks.{HookedContexts}
 use Rattle.gateway_replies.specs.Ties.{peer_ties}
 use Rattle.gateway_replies.proofs.HookLemmas.{keeps, same_hooks_then}
@@ -13,7 +13,7 @@ use Rattle.gateway_replies.proofs.contexts.Contexts.start.Goals as goal
 pub unreachable-requires : goal.unreachable-requires
 unreachable-requires g c =
     let s = c.self.inside in
-    let none : ctx_for c.args.id.now (lives_in s.contexts.standing.calls) ≡ None = sym c.ctx_for.ensures ∙ c.in_default.is in
+    let none : ctx_for c.args.id.now s.contexts.standing.calls ≡ None = sym c.ctx_for.ensures ∙ c.in_default.is in
     let clash : true ≡ false = sym c.requires
     ∙ no_life arc_value (peer_ties s.peers.items) s.contexts.standing c.args.self.now.standing c.args.id.now (ap (λ (u : HookedContexts _). u.standing) c.self.view_is) none in
     cc
@@ -35,7 +35,7 @@ invariant_of-self g c =
 pub returns-clause-ok : goal.returns-clause-ok
 returns-clause-ok g c =
     let s = c.self.inside in
-    let at : ctx_for c.args.id.now (lives_in s.contexts.standing.calls) ≡ Some c.in-Some.ctx = sym c.ctx_for.ensures ∙ c.in-Some.is in
+    let at : ctx_for c.args.id.now s.contexts.standing.calls ≡ Some c.in-Some.ctx = sym c.ctx_for.ensures ∙ c.in-Some.is in
     started_value arc_value (peer_ties s.peers.items) s.contexts c.branch-self.new.self c.args.self.now.standing
     c.args.id.now c.branch-self.result c.in-Some.ctx (with_one c.args.branch c.args.at c.args.now) (life_one c.args.branch c.args.at c.args.now) (λ d. refl)
     c.branch-self.ensures.stands (agree s.contexts.standing.calls c.args.id.now c.in-Some.ctx c.apart_law.ensures.apart c.self.invariant.calls_apart at) (ap (λ (u : HookedContexts _). u.standing) c.self.view_is)
@@ -43,6 +43,6 @@ returns-clause-ok g c =
 pub returns-clause-hooks : goal.returns-clause-hooks
 returns-clause-hooks g c =
     let s = c.self.inside in
-    keeps c.args.self.now _ _ s.peers.items (lives_in s.contexts.standing.calls) (lives_in c.branch-self.new.self.standing.calls) s.contexts.hooks c.branch-self.new.self.hooks c.self.view_is
+    keeps c.args.self.now _ _ s.peers.items (names_in s.contexts.standing.calls) (names_in c.branch-self.new.self.standing.calls) s.contexts.hooks c.branch-self.new.self.hooks c.self.view_is
     (started_lives s.contexts c.branch-self.new.self c.branch-self.result c.in-Some.ctx (with_one c.args.branch c.args.at c.args.now) c.branch-self.ensures.stands c.branch-self.ensures.unchanged)
     (same_hooks_then s.contexts c.branch-self.new.self c.branch-self.result _ c.branch-self.ensures.stands c.branch-self.ensures.unchanged)
