@@ -1,14 +1,9 @@
 -- The store of calls, as the code tells it: the calls by beginning.
-use Rattle.std.specs.Prelude.{◌≡◌, ◌<◌, ℕ, true, if◌then◌else◌, All, List, [], ◌∷◌, Option, None, Some, is_some, option_map, slice_set}
+use Rattle.std.specs.Prelude.{◌≡◌, ◌<◌, ◌-◌, ◌^◌, ℕ, true, All, List, Option, None, Some, is_some, option_map, slice_set}
 use Rattle.http_pieces.specs.Request.{most_requests}
-use Rattle.std.specs.BTreeMap.{BTreeMap, get}
 use Rattle.std.specs.List.{AllByRecursion}
-use Rattle.std.specs.List.Sorted.{IsStrictlySortedBy}
-use Rattle.std.specs.Map.{keys_of}
-use Rattle.std.specs.Ordering.{nat_cmp, ordering_then}
-use Rattle.std.specs.declared.cmp.Ordering.{Ordering}
+use Rattle.lru.specs.LruCache.{LruCache}
 use Rattle.gateway_model.specs.declared.id.CallId.{CallId}
-use Rattle.gateway_model.specs.Past.{is_call}
 use Rattle.gateway_machine.specs.Linked.{ends_with, event_for}
 use Rattle.gateway_replies.specs.Contexts.{ContextsValue}
 use Rattle.gateway_theory.specs.Ends.{AreApart}
@@ -34,28 +29,19 @@ pub record AreTold (calls : List KeptValue) (count : ℕ) : Type 0 where
   pub below : All (λ (k : KeptValue). k.id.request < most_requests) calls
   pub count_is : count ≡ waiting calls
 
--- ---- the two maps behind it: the calls by number, and their numbers by connection and request
+-- ---- the cache behind it: the calls by connection and request, in the order in which they began
 
--- a call under its number; calls are numbered as they begin
-abbrev pub Numbered : Type 0
-Numbered = ℕ × KeptValue
+-- a call under its key
+abbrev pub Entry : Type 0
+Entry = (ℕ × ℕ) × KeptValue
 
 abbrev pub key_of : CallId → ℕ × ℕ
 key_of id = (id.conn, id.request)
 
-abbrev pub key_cmp : ℕ × ℕ → ℕ × ℕ → Ordering
-key_cmp x y = ordering_then (nat_cmp x.0 y.0) (nat_cmp x.1 y.1)
-
--- the number of the first call of that id, if one is kept
-abbrev pub number_in : CallId → List Numbered → Option ℕ
-number_in id [] = None
-number_in id (e ∷ calls) = if is_call e.1.id id then Some e.0 else number_in id calls
-
--- each id leads to the number of its call, and calls begin by rising numbers, all below the next
-pub record IsIndexed (numbers : BTreeMap (ℕ × ℕ) ℕ) (calls : List Numbered) (next : ℕ) : Type 0 where
-  pub found : (id : CallId) → get key_cmp numbers (key_of id) ≡ number_in id calls
-  pub below : AllByRecursion (λ n. n < next) (keys_of calls)
-  pub ordered : IsStrictlySortedBy nat_cmp (keys_of calls)
+-- each stands under its own, and no number of them is too many
+pub record IsKeyed (c : LruCache (ℕ × ℕ) KeptValue) : Type 0 where
+  pub own : AllByRecursion (λ (e : Entry). e.0 ≡ key_of e.1.id) c.entries
+  pub endless : c.cap ≡ 2 ^ 64 - 1
 
 -- ---- what is done to it
 

@@ -59,7 +59,7 @@ impl<H: ReplyHook + Drop> LinkedMachine<H> {
         ensures { IfOk result (λ machine. machine ≡ machine_value 0 false [] [] []) }
     {
         Ok(LinkedMachine {
-            machine: Machine::new(alloc),
+            machine: Machine::new(alloc)?,
             contexts: Contexts::new(alloc)?,
         })
     }

@@ -1,7 +1,6 @@
 //! The calls that are kept, found by their ids.
 ghost use Rattle.std.specs.Prelude.{All, [], ◌≡◌, ◌==◌, ◌+◌, ◌<◌, ◌≤◌, ◌^◌, ◌++◌, ◌∷◌, ℕ, false, None as Nothing, Some as Just, IfOk, OnErr, OnOk, true, filter, length, map, not, option_map, slice_get, slice_set};
-ghost use Rattle.std.specs.BTreeMap.{get, values};
-ghost use Rattle.gateway_machine.specs.Calls.{Changes, Ends, Finds, IsIndexed, calls_value, ending_reply, key_cmp, key_of};
+ghost use Rattle.gateway_machine.specs.Calls.{Changes, Ends, Finds, calls_value, ending_reply, key_of};
 ghost use Rattle.gateway_machine.specs.KeptCall.{IsStep};
 ghost use Rattle.http_pieces.specs.Request.{most_requests};
 ghost use Rattle.gateway_model.specs.Past.{call_id, is_call};
@@ -16,49 +15,47 @@ use crate::machine::kept::{AfterResult, Kept};
 use connect_codec::Outcome;
 use gateway_model::CallId;
 use gateway_replies::{Contexts, Reply, ReplyHook};
+use lru::LruCache;
 use std::alloc::{AllocError, Global};
-use std::collections::BTreeMap;
 use std::marker::Model;
 
 /// No connection brings more requests.
 const MOST_REQUESTS: u64 = 100;
 
+/// More calls than memory has room for.
+const MOST_CALLS: usize = 1 << 62;
+
 /// The calls that are kept, by beginning. Many may stay whose connections closed, until their last results come, so none is
-/// searched for and none is moved: a call is found down two maps.
+/// searched for and none is moved.
 #[derive(Drop)]
 pub struct Calls {
-    /// By number: calls are numbered as they begin.
-    kept: BTreeMap<u64, Kept>,
-    /// The number of each, by its connection and request.
-    numbers: BTreeMap<(u64, u64), u64>,
-    /// Above all numbers.
-    next: u64,
+    /// By connection and request. `LruCache` is the kit's linked hash map: it finds a call by its key, and keeps the order in which
+    /// calls were put, since none that is looked for is promoted. It is never bounded, so it lets none go.
+    kept: LruCache<(u64, u64), Kept>,
     /// How many branches of all of them wait for their start.
     waiting: usize,
 }
 
 impl Model for Calls {
-    ghost use Rattle.std.specs.BTreeMap.{values};
-    ghost use Rattle.gateway_machine.specs.Calls.{AreTold, CallsValue, IsIndexed, calls_value};
+    ghost use Rattle.std.specs.Map.{values_of};
+    ghost use Rattle.gateway_machine.specs.Calls.{AreTold, CallsValue, IsKeyed, calls_value};
 
     ghost Value = { CallsValue };
 
-    ghost view = { λ c. calls_value (values c.kept) };
+    ghost view = { λ c. calls_value (values_of c.kept.entries) };
 
-    ghost invariant = { λ c. AreTold (values c.kept) c.waiting × IsIndexed c.numbers c.kept.entries c.next };
+    ghost invariant = { λ c. AreTold (values_of c.kept.entries) c.waiting × IsKeyed c.kept };
 }
 
 impl Calls {
     /// No call.
-    pub fn new(alloc: Global) -> Calls
-        ensures { result ≡ calls_value [] }
+    pub fn new(alloc: Global) -> Result<Calls, AllocError>
+        ensures { IfOk result (λ c. c ≡ calls_value []) }
     {
-        Calls {
-            kept: BTreeMap::new(alloc),
-            numbers: BTreeMap::new(alloc),
-            next: 0,
+        Ok(Calls {
+            kept: LruCache::unbounded(alloc)?,
             waiting: 0,
-        }
+        })
     }
 
     /// How many branches wait for their start.
@@ -72,8 +69,7 @@ impl Calls {
     pub fn find(&self, id: &CallId) -> Option<&Kept>
         ensures { Finds id.now self.now.items (option_map (λ k. k.now) result) }
     {
-        let number = number_of(&self.numbers, id)?;
-        self.kept.get(&number)
+        self.kept.peek(&key_of(id))
     }
 
     /// No two calls have one id. It does nothing.
@@ -91,11 +87,16 @@ impl Calls {
         ensures ok { OnOk result (self.new.items ≡ self.old.items ++ call ∷ []) }
         ensures err { OnErr result (self.new.items ≡ self.old.items) }
     {
-        // no number is used twice, so that the calls stand by beginning
-        let next = self.next.checked_add(1).ok_or(AllocError)?;
+        if self.kept.len() >= MOST_CALLS {
+            return Err(AllocError);
+        }
         let waiting = call.waiting();
-        keep(&mut self.kept, &mut self.numbers, self.next, call)?;
-        self.next = next;
+        let key = key_of(&call.id());
+        let Ok(_) = self.kept.put(key, call) else {
+            return Err(AllocError);
+        };
+        // the cache puts it first
+        self.kept.demote(&key);
         self.waiting += waiting;
         Ok(())
     }
@@ -104,11 +105,8 @@ impl Calls {
     pub fn forget(&mut self, id: &CallId)
         ensures { self.new.items ≡ filter (λ k. not (is_call k.id id.now)) self.old.items }
     {
-        let Some(number) = self.numbers.remove(&key_of(id)) else {
+        let Some(call) = self.kept.pop(&key_of(id)) else {
             return;
-        };
-        let Some(call) = self.kept.remove(&number) else {
-            unreachable!();
         };
         self.waiting -= call.waiting();
     }
@@ -126,10 +124,7 @@ impl Calls {
         ensures { Changes id.now self.old.items self.new.items (λ old new. IsStep moment old new result.decided result.next
             (result_on moment branch outcome (slice_set old.call.out branch false) old.call.live)) }
     {
-        let Some(number) = number_of(&self.numbers, id) else {
-            unreachable!();
-        };
-        let Some(call) = self.kept.get_mut(&number) else {
+        let Some(call) = self.kept.peek_mut(&key_of(id)) else {
             unreachable!();
         };
         let waited = call.waiting();
@@ -144,10 +139,7 @@ impl Calls {
         requires over { (call_at id.now self.old.items).live ≡ Nothing }
         ensures { Changes id.now self.old.items self.new.items (λ old new. new ≡ back_kept branch old) }
     {
-        let Some(number) = number_of(&self.numbers, id) else {
-            unreachable!();
-        };
-        let Some(call) = self.kept.get_mut(&number) else {
+        let Some(call) = self.kept.peek_mut(&key_of(id)) else {
             unreachable!();
         };
         call.give_back(branch);
@@ -170,10 +162,7 @@ impl Calls {
         ensures waits { waiting self.new.items ≤ waiting self.old.items }
         ensures stocks { contexts.new.stocks ≡ contexts.old.stocks }
     {
-        let Some(number) = number_of(&self.numbers, id) else {
-            unreachable!();
-        };
-        let Some(call) = self.kept.get_mut(&number) else {
+        let Some(call) = self.kept.peek_mut(&key_of(id)) else {
             unreachable!();
         };
         let waited = call.waiting();
@@ -203,11 +192,8 @@ impl Calls {
     fn give_up_one(&mut self, number: u64, request: u64)
         ensures { self.new.items ≡ map (given_where (is_call (call_id number request))) self.old.items }
     {
-        let Some(place) = number_at(&self.numbers, (number, request)) else {
+        let Some(call) = self.kept.peek_mut(&(number, request)) else {
             return;
-        };
-        let Some(call) = self.kept.get_mut(&place) else {
-            unreachable!();
         };
         let waited = call.waiting();
         call.give_up();
@@ -220,44 +206,4 @@ fn key_of(id: &CallId) -> (u64, u64)
     ensures { result ≡ key_of id.now }
 {
     (id.conn.number(), id.request)
-}
-
-/// The number of the call, if it is kept.
-fn number_of(numbers: &BTreeMap<(u64, u64), u64>, id: &CallId) -> Option<u64>
-    ensures { result ≡ get key_cmp numbers.now (key_of id.now) }
-{
-    number_at(numbers, key_of(id))
-}
-
-/// The number of the call of that key, if it is kept.
-fn number_at(numbers: &BTreeMap<(u64, u64), u64>, key: (u64, u64)) -> Option<u64>
-    ensures { result ≡ get key_cmp numbers.now key }
-{
-    numbers.get(&key).copied()
-}
-
-/// Keeps the call in both maps, as the last. Where memory is refused to one of them nothing changes.
-fn keep(
-    kept: &mut BTreeMap<u64, Kept>,
-    numbers: &mut BTreeMap<(u64, u64), u64>,
-    next: u64,
-    call: Kept,
-) -> Result<(), AllocError>
-    requires indexed { IsIndexed numbers.old kept.old.entries next }
-    requires fresh { IsFound call.id (values kept.old) Nothing }
-    ensures ok { OnOk result (values kept.new ≡ values kept.old ++ call ∷ []) }
-    ensures indexed { OnOk result (IsIndexed numbers.new kept.new.entries (next + 1)) }
-    ensures err { OnErr result (kept.new.entries ≡ kept.old.entries) }
-    ensures as_before { OnErr result (IsIndexed numbers.new kept.new.entries next) }
-{
-    let id = call.id();
-    numbers.insert(key_of(&id), next)?;
-    match kept.insert(next, call) {
-        Ok(_) => Ok(()),
-        Err(_) => {
-            // a map can't be given room ahead, so the number is taken back
-            numbers.remove(&key_of(&id));
-            Err(AllocError)
-        }
-    }
 }

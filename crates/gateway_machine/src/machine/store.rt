@@ -1,4 +1,4 @@
-ghost use Rattle.std.specs.Prelude.{◌≡◌, ◌==◌, ◌<◌, false, not, true, length, map, [], option_map, slice_get};
+ghost use Rattle.std.specs.Prelude.{◌≡◌, ◌==◌, ◌<◌, IfOk, false, not, true, length, map, [], option_map, slice_get};
 ghost use Rattle.std.specs.List.{count_by};
 ghost use Rattle.gateway_theory.specs.Gateway.{are_all_there};
 ghost use Rattle.gateway_model.specs.Queue.{front};
@@ -14,7 +14,7 @@ use crate::machine::conn::Conn;
 use gateway_model::CallId;
 use gateway_replies::{Contexts, Reply, ReplyHook};
 use gateway_theory::Trigger;
-use std::alloc::Global;
+use std::alloc::{AllocError, Global};
 use std::collections::VecDeque;
 use std::marker::Model;
 
@@ -47,16 +47,16 @@ impl Model for Machine {
 
 impl Machine {
     /// No connection and no call.
-    pub fn new(alloc: Global) -> Machine
-        ensures { result ≡ machine_value 0 false [] [] [] }
+    pub fn new(alloc: Global) -> Result<Machine, AllocError>
+        ensures { IfOk result (λ m. m ≡ machine_value 0 false [] [] []) }
     {
-        Machine {
+        Ok(Machine {
             moment: 0,
             drained: false,
             conns: Vec::new(alloc),
-            calls: Calls::new(alloc),
+            calls: Calls::new(alloc)?,
             jobs: VecDeque::new(alloc),
-        }
+        })
     }
 
     /// How many jobs wait to be taken.

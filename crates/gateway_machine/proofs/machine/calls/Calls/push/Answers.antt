@@ -1,25 +1,16 @@
-use Rattle.std.proofs.Common.{◌≡◌, ◌+◌, ◌++◌, ◌∷◌, [], None, ap, arith, subst, sym}
-use Rattle.std.specs.Map.{values_of}
-use Rattle.std.proofs.lemmas.Grind.{common_steps}
-use Rattle.gateway_machine.specs.Calls.{AreTold, CallsValue, IsIndexed}
-use Rattle.gateway_machine.proofs.CallsLemmas.{told_more}
-use Rattle.gateway_theory.specs.Store.{IsFound}
+use Rattle.std.proofs.Common.{◌+◌, ap, arith, ◌∙◌}
+use Rattle.gateway_machine.specs.Calls.{key_of}
+use Rattle.gateway_machine.proofs.IndexLemmas.{store_last, store_more}
 use Rattle.gateway_machine.proofs.machine.calls.Calls.push.Goals as goal
-
-pub invariant_of-self : goal.invariant_of-self
-invariant_of-self c =
-    let s = c.self.inside in (
-      subst (λ es. AreTold (values_of es) s.waiting) (sym c.in_err-keep.ensures.err) c.self.invariant.0,
-      c.in_err-keep.ensures.as_before,
-    )
 
 pub invariant_of-self-2 : goal.invariant_of-self-2
 invariant_of-self-2 c =
     let s = c.self.inside in
-    let ks = values_of s.kept.entries in
-    let next_is : c.in_ok-next.next ≡ s.next + 1 = grind (arith, common_steps) in (
-      subst (λ es. AreTold es (s.waiting + c.waiting-waiting.result)) (sym c.in_ok-keep.ensures.ok)
-          (told_more ks s.waiting (s.waiting + c.waiting-waiting.result) c.args.call c.self.invariant.0
-          (subst (λ (v : CallsValue). IsFound c.args.call.id v.items None) (sym c.self.view_is) c.requires.fresh) c.requires.below (ap (λ n. s.waiting + n) c.waiting-waiting.ensures)),
-      subst (IsIndexed c.keep.new.numbers c.keep.new.kept.entries) (sym next_is) c.in_ok-keep.ensures.indexed,
-    )
+    store_more c.args.call c.self.invariant (c.key_of-key.ensures ∙ ap key_of c.id.ensures) c.self.view_is
+    c.requires.fresh (omega (arith, c.len.ensures.len, c.if-len-ge-MOST_CALLS.false)) c.in-Ok.ensures.entries c.demote.ensures.entries
+    c.requires.below _ (ap (λ n. s.waiting + n) c.waiting-waiting.ensures)
+
+pub returns-clause-ok : goal.returns-clause-ok
+returns-clause-ok c =
+    store_last c.args.call c.self.invariant (c.key_of-key.ensures ∙ ap key_of c.id.ensures) c.self.view_is
+    c.requires.fresh (omega (arith, c.len.ensures.len, c.if-len-ge-MOST_CALLS.false)) c.in-Ok.ensures.entries c.demote.ensures.entries
