@@ -1,5 +1,5 @@
 -- What a read, a piece and the hang-up add to what was pumped.
-use Rattle.std.specs.Prelude.{◌≡◌, ◌≢◌, ℕ, ◌+◌, ◌≤◌, All, Bool, false, true, List, [], ◌∷◌, ◌++◌, length, Option, refl}
+use Rattle.std.specs.Prelude.{◌≡◌, ℕ, ◌+◌, ◌≤◌, All, Bool, false, true, List, [], ◌∷◌, ◌++◌, length, Option, refl}
 use Rattle.std.proofs.Common.{arith, sym, ap, ◌∙◌, append-nil, subst, length-append, lit≤}
 use Rattle.std.proofs.lemmas.Grind.{common_steps, flat_map-append}
 use Rattle.std.proofs.lemmas.List.{nil_from_length}
@@ -92,22 +92,6 @@ Pumps-more n a b c t s u k j i bytes Go p is_read read told counted =
       given = rw news (Tells-trans t s u _ _ (subst (λ xs. Tells t s xs) heard p.given) told);
       counted = rw (joined-more p.pieces bytes) (omega (arith, count, counted, length-append (joined p.pieces) bytes));
     }
-
--- what is told behind the pieces
-pub Pumps-then : (n : ℕ) (a b : Option (List ℕ)) (t s u : Option (List Heard)) (k j i : ℕ) (fed : Fed) (last : List Heard)
-    → Pumps n a b t s k j fed [] → Tells s u last → i ≡ j → Pumps n a b t u k i fed last
-Pumps-then n a b t s u k j i fed last p told same = record {
-  pieces = p.pieces;
-  final = p.final;
-  one_at_most = p.one_at_most;
-  few = p.few;
-  reads = p.reads;
-  read = p.read;
-  given =
-      let heard : (answered Go p.pieces ++ answered fed p.final) ++ [] ≡ answered Go p.pieces ++ answered fed p.final = append-nil _ in
-      Tells-trans t s u _ _ (subst (λ xs. Tells t s xs) heard p.given) told;
-  counted = omega (arith, p.counted, same);
-}
 
 abbrev is_full : Fed → Bool
 is_full Full = true

@@ -1,5 +1,5 @@
 -- What one reply, and the end, add to what was written.
-use Rattle.std.specs.Prelude.{◌≡◌, ℕ, Bool, true, false, ◌+◌, ◌-◌, ◌<◌, ◌≤◌, zero, suc, List, [], ◌∷◌, ◌++◌, length, take, drop, map, flat_map, Option, refl, ⊤}
+use Rattle.std.specs.Prelude.{◌≡◌, ℕ, Bool, true, false, ◌+◌, ◌-◌, ◌<◌, zero, suc, List, [], ◌∷◌, ◌++◌, length, take, drop, map, flat_map, Option, refl, ⊤}
 use Rattle.std.specs.List.{range_with_len}
 use Rattle.std.proofs.Common.{arith, sym, ap, ◌∙◌, append-nil, append_assoc, subst, length-append}
 use Rattle.std.proofs.Math.Seq.{take-add}
@@ -97,21 +97,6 @@ pub Writes-none : (conn n : ℕ) (a : Option (List ℕ)) (t s : Option (List Han
     → Writes conn n a a t s [] (Unwritten id) []
 Writes-none conn n a t s id told = record { whole = []; are = refl; short = tt; own = refl; bytes = Appends-nil a; given = told }
 
--- of a reply so many bytes were written
-pub Writes-one : (conn n : ℕ) (a b : Option (List ℕ)) (t s : Option (List Handed)) (r : ReplyValue) (sent : ℕ)
-    → r.id ≡ call_id conn n → Tells t s (Reply r.id ∷ []) → Appends a b (take sent (bytes_of r)) → length (bytes_of r) ≤ sent
-    → Writes conn n a b t s (r ∷ []) NotYet []
-Writes-one conn n a b t s r sent id told bytes all = record {
-  whole = r ∷ [];
-  are = refl;
-  short = tt;
-  own = ap (λ i. i ∷ []) id;
-  bytes =
-      let whole : (bytes_of r ++ []) ++ [] ≡ take sent (bytes_of r) = append-nil _ ∙ append-nil _ ∙ sym (take_all sent (bytes_of r) all) in
-      rw whole bytes;
-  given = told;
-}
-
 pub Writes-part : (conn n : ℕ) (a b : Option (List ℕ)) (t s : Option (List Handed)) (r : ReplyValue) (sent : ℕ)
     → r.id ≡ call_id conn n → Tells t s (Reply r.id ∷ []) → Appends a b (take sent (bytes_of r)) → sent < length (bytes_of r)
     → Writes conn n a b t s (r ∷ []) (CutShort r sent) []
@@ -123,13 +108,6 @@ Writes-part conn n a b t s r sent id told bytes less = record {
   bytes = bytes;
   given = told;
 }
-
--- so many bytes of a reply were sent; that was all of it, or a write failed
-pub Writes-sent : (conn n : ℕ) (a b : Option (List ℕ)) (t s : Option (List Handed)) (r : ReplyValue) (sent : ℕ) (all : Bool)
-    → r.id ≡ call_id conn n → Tells t s (Reply r.id ∷ []) → Appends a b (take sent (bytes_of r)) → (all ≡ true → length (bytes_of r) ≤ sent) → (all ≡ false → sent < length (bytes_of r))
-    → (end : End) × (goes_on end ≡ all) × Writes conn n a b t s (r ∷ []) end []
-Writes-sent conn n a b t s r sent true id told bytes whole less = (NotYet, refl, Writes-one conn n a b t s r sent id told bytes (whole refl))
-Writes-sent conn n a b t s r sent false id told bytes whole less = (CutShort r sent, refl, Writes-part conn n a b t s r sent id told bytes (less refl))
 
 abbrev IsFalsehood : Bool → Type 0
 IsFalsehood false = ⊤
