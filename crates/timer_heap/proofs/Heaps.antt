@@ -1,5 +1,5 @@
 -- What an exchange, a rise and a fall of one entry leave of a heap.
-use Rattle.std.proofs.Common.{◌≡◌, ◌≢◌, refl, ap, ◌∙◌, rules, arith, ℕ, zero, suc, ◌+◌, ◌-◌, ◌/◌, ◌≤◌, ◌<◌, List, [], ◌∷◌, ◌++◌, length, true, false, ⊎_elim, length-append}
+use Rattle.std.proofs.Common.{◌≡◌, ◌≢◌, refl, ap, ◌∙◌, arith, ℕ, zero, suc, ◌+◌, ◌-◌, ◌/◌, ◌≤◌, ◌<◌, List, [], ◌∷◌, ◌++◌, length, ⊎_elim}
 use Rattle.std.proofs.Math.ListN.{get_or-append}
 use Rattle.std.specs.Prelude.{All}
 use Rattle.std.specs.List.{swap}
@@ -7,7 +7,7 @@ use Rattle.std.proofs.lemmas.Bool.{cases_eq}
 use Rattle.std.proofs.lemmas.List.Elements.{All-from_get_or}
 use Rattle.std.proofs.lemmas.List.Edits.{Swapped, swapped_from_swap}
 use Rattle.timer_heap.specs.declared.heap.Entry.{Entry}
-use Rattle.timer_heap.specs.Heap.{entry_at, is_before, Leads, IsHeap, IsHeapBut, LeadsBelow, IsLed, IsToRise, IsToSink}
+use Rattle.timer_heap.specs.Heap.{entry_at, Leads, IsHeap, IsHeapBut, LeadsBelow, IsLed, IsToRise, IsToSink}
 
 -- ---- the order of entries
 
@@ -16,12 +16,6 @@ leads_on a b c first then' = record { no_later = omega arith; in_turn = λ same.
 
 pub leads_itself : (a : Entry) → Leads a a
 leads_itself a = record { no_later = omega arith; in_turn = λ same. omega arith }
-
-pub before_leads : (a b : Entry) → is_before a b ≡ true → Leads a b
-before_leads a b is = record { no_later = grind (arith, rules); in_turn = λ same. grind (arith, rules) }
-
-pub other_leads : (a b : Entry) → is_before a b ≡ false → Leads b a
-other_leads a b is = record { no_later = grind (arith, rules); in_turn = λ same. grind (arith, rules) }
 
 at_these : (a b x y : Entry) → a ≡ x → b ≡ y → Leads x y → Leads a b
 at_these a b x y p q leads = rw (p, q) leads
@@ -109,26 +103,10 @@ pub last_at : (xs : List Entry) (e : Entry) → entry_at (xs ++ e ∷ []) (lengt
 last_at [] e = refl
 last_at (x ∷ xs) e = last_at xs e
 
-pub push_but : (xs : List Entry) (e : Entry) → IsHeap xs → IsHeapBut (length xs) (xs ++ e ∷ [])
-push_but xs e heap = record {
-  others = λ p k under k_in p_not k_not.
-      let long = length-append xs (e ∷ []) in
-      let near : k < length xs = omega arith in
-      at_these _ _ _ _ (pushed_at xs e p (omega arith)) (pushed_at xs e k near) (heap.leads p k under near);
-  across = λ p k over under k_in. let long = length-append xs (e ∷ []) in absurd (omega arith);
-}
-
 -- ys is xs without its last place, with another entry at one place
 pub record Filled (place : ℕ) (xs ys : List Entry) : Type 0 where
   pub shorter : length ys + 1 ≡ length xs
   pub others : (k : ℕ) → k ≢ place → k < length ys → entry_at ys k ≡ entry_at xs k
-
-pub fill_but : (xs ys : List Entry) (place : ℕ) → Filled place xs ys → IsHeap xs → IsHeapBut place ys
-fill_but xs ys place filled heap = record {
-  others = λ p k under k_in p_not k_not. at_these _ _ _ _ (filled.others p p_not (omega arith)) (filled.others k k_not k_in) (heap.leads p k under (omega arith));
-  across = λ p k over under k_in. at_these _ _ _ _ (filled.others p (omega arith) (omega arith)) (filled.others k (omega arith) k_in)
-      (leads_on _ _ _ (heap.leads p place over (omega arith)) (heap.leads place k under (omega arith)));
-}
 
 -- where the last one is taken out
 pub fill_heap : (xs ys : List Entry) (place : ℕ) → Filled place xs ys → place ≡ length ys → IsHeap xs → IsHeap ys
