@@ -1,11 +1,7 @@
 -- The parts of a request's target.
-use Rattle.std.proofs.Common.{◌≡◌, ℕ, ◌+◌, ◌<◌, ◌≤◌, ◌==◌, suc, Bool, true, false, List, [], ◌∷◌, length, take, drop, map, refl, sym, ap, arith, Some, None, codes, nat_eq}
-use Rattle.std.proofs.lemmas.List.{take_all, length-map}
+use Rattle.std.proofs.Common.{◌≡◌, ℕ, ◌+◌, ◌<◌, ◌≤◌, ◌==◌, suc, Bool, true, false, List, [], ◌∷◌, length, drop, refl, arith, Some, None}
 use Rattle.std.specs.Prelude.{position}
-use Rattle.std.specs.Char.{to_ascii_lowercase}
-use Rattle.std.specs.Cmp.Lexicographic.{unequal}
-use Rattle.std.specs.List.{position_or_len, before_first, starts_with}
-use Rattle.http_pieces.specs.Fields.{same_without_case}
+use Rattle.std.specs.List.{position_or_len, before_first}
 use Rattle.connect_codec.specs.Path.{from_slash, path_and_query, path_of}
 use Rattle.connect_codec.proofs.TextLemmas.{position_found, position_missing}
 
@@ -33,22 +29,6 @@ pub from_slash_missing : (text : List ℕ) → position (λ b. b == 47) text ≡
 from_slash_missing text e = (from_place text).missing (position_missing (λ b. b == 47) text e)
 
 -- ---- a target
-
-pub path_and_query_absolute : (target : List ℕ) → starts_with nat_eq target (codes "/") ≡ false
-    → same_without_case (take 7 target) (codes "http://") ≡ true → path_and_query target ≡ from_slash (drop 7 target)
-path_and_query_absolute target other scheme = rw (other, scheme) refl
-
-pub path_and_query_none : (target : List ℕ) → starts_with nat_eq target (codes "/") ≡ false
-    → same_without_case (take 7 target) (codes "http://") ≡ false → path_and_query target ≡ None
-path_and_query_none target other scheme = rw (other, scheme) refl
-
--- a shorter text has no such scheme
-pub no_scheme : (target : List ℕ) → length target < 7 → same_without_case (take 7 target) (codes "http://") ≡ false
-unfolding same_without_case
-no_scheme target short =
-    let whole : take 7 target ≡ target = take_all 7 target (omega arith) in
-    unequal nat_eq (map to_ascii_lowercase (take 7 target)) (map to_ascii_lowercase (codes "http://"))
-    (λ same. absurd (omega (arith, rw (length-map {A = ℕ} {B = ℕ}, whole) at same)))
 
 -- what stands before the query
 pub path_of-none : (target : List ℕ) → path_and_query target ≡ None → path_of target ≡ None
