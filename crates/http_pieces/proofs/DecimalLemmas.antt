@@ -1,10 +1,9 @@
 -- Decimal numbers of 1 to 10 digits.
-use Rattle.std.proofs.Common.{◌≡◌, ℕ, ◌+◌, ◌*◌, ◌^◌, ◌<◌, ◌≤◌, ◌-◌, ◌⊎◌, inl, inr, Bool, true, false, ◌&&◌, nat_lt, nat_le, List, length, get_or, drop, refl, ap, ◌∙◌, arith, lit<, Some, None}
+use Rattle.std.proofs.Common.{◌≡◌, ℕ, ◌+◌, ◌*◌, ◌^◌, ◌<◌, ◌≤◌, ◌-◌, ◌⊎◌, inl, inr, Bool, true, false, ◌&&◌, nat_lt, nat_le, List, length, get_or, drop, refl, ap, ◌∙◌, arith, Some, None}
 use Rattle.std.proofs.lemmas.Bool.{cond-true, cond-false}
 use Rattle.std.proofs.lemmas.Bool.Decides.{nat_tests}
 use Rattle.std.proofs.lemmas.List.{drop_more}
 use Rattle.std.proofs.lemmas.Grind.{pow_more}
-use Rattle.std.proofs.Math.Nat.{pow-le-pow_right}
 use Rattle.std.specs.List.{list_all}
 use Rattle.std.specs.Char.{is_ascii_digit, digit_value}
 use Rattle.std.specs.Str.Parse.{digits_value_after, digits_value}
@@ -61,8 +60,3 @@ value_step text i d n lt digit =
 
 pub small_step : (i n c : ℕ) → n < 10 ^ i → c ≤ 57 → n * 10 + (c - 48) < 10 ^ (i + 1)
 small_step i n c small le = omega (arith, pow_more 10 i)
-
-pub ten_fits : (i n : ℕ) → i < 10 → n < 10 ^ i → n < 10 ^ 9
-ten_fits i n lt small =
-    let within : 10 ^ i ≤ 10 ^ 9 = pow-le-pow_right (lit< tt) {i = i} {j = 9} (omega arith) in
-    omega arith

@@ -1,11 +1,11 @@
 -- Names without case, and the fields of a name.
-use Rattle.std.proofs.Common.{◌≡◌, ℕ, suc, ◌+◌, ◌<◌, ◌≤◌, ◌==◌, ◌≢◌, subst, length-append, ◌||◌, cond, codes, Option, Some, None, nat_lt, get_or, length, take, drop, add-one, Bool, true, false, nat_eq, List, [], ◌∷◌, ◌++◌, map, refl, sym, ap, ◌∙◌, arith, ◌↔◌, IsTrue, append_assoc}
+use Rattle.std.proofs.Common.{◌≡◌, ℕ, suc, ◌+◌, ◌<◌, ◌≤◌, ◌==◌, ◌≢◌, subst, length-append, ◌||◌, cond, Option, Some, None, nat_lt, get_or, length, take, drop, add-one, Bool, true, false, nat_eq, List, [], ◌∷◌, ◌++◌, map, refl, sym, ap, ◌∙◌, arith, ◌↔◌, IsTrue, append_assoc}
 use Rattle.std.proofs.lemmas.Bool.{eqb-true, eq-eqb}
 use Rattle.std.proofs.lemmas.Bool.Decides.{nat_tests}
 use Rattle.std.specs.Char.{to_ascii_lowercase}
-use Rattle.std.specs.List.{position_or_len, position, list_any}
+use Rattle.std.specs.List.{position_or_len, position}
 use Rattle.std.specs.Cmp.Lexicographic.{pointwise}
-use Rattle.http_pieces.specs.Fields.{NamedValue, same_without_case, values_of, comma_parts, is_close, has_close, asks_to_close, IsFieldOf}
+use Rattle.http_pieces.specs.Fields.{NamedValue, same_without_case, values_of, comma_parts, is_close, has_close, IsFieldOf}
 use Rattle.http_pieces.specs.declared.field.Field.{Field}
 use Rattle.http_pieces.specs.declared.field.Field.TheVariants as field
 use Rattle.std.specs.Borrow.{Bor}
@@ -107,17 +107,6 @@ has_close_last xs part e = rw e (or-false _)
 pub has_close_step : (xs part rest : List ℕ) → comma_parts xs ≡ part ∷ comma_parts rest → has_close xs ≡ (is_close part || has_close rest)
 unfolding has_close
 has_close_step xs part rest e = rw e refl
-
--- the step of a search for `close` through the headers
-pub close_step : (f : HeaderSpan → NamedValue) (hs : List HeaderSpan) (i : ℕ) (d : HeaderSpan) → i < length hs
-    → asks_to_close (map f (drop i hs))
-    ≡ cond (same_without_case (f (get_or hs i d)).0 (codes "connection")) (has_close (f (get_or hs i d)).1 || asks_to_close (map f (drop (i + 1) hs))) (asks_to_close (map f (drop (i + 1) hs)))
-close_step f hs i d lt = rw (drop_more hs i d lt) (by_test (same_without_case (f (get_or hs i d)).0 (codes "connection")))
-  where
-    by_test : (t : Bool) → list_any has_close (cond t ((f (get_or hs i d)).1 ∷ values_of (codes "connection") (map f (drop (i + 1) hs))) (values_of (codes "connection") (map f (drop (i + 1) hs))))
-        ≡ cond t (has_close (f (get_or hs i d)).1 || asks_to_close (map f (drop (i + 1) hs))) (asks_to_close (map f (drop (i + 1) hs)))
-    by_test true = refl
-    by_test false = refl
 
 pub values_step : (name : List ℕ) (f : HeaderSpan → NamedValue) (hs : List HeaderSpan) (i : ℕ) (d : HeaderSpan) → i < length hs
     → values_of name (map f (drop i hs))

@@ -1,5 +1,5 @@
 -- What was read of a request's head, in the bytes of the whole request.
-use Rattle.std.proofs.Common.{◌≡◌, ℕ, ◌+◌, ◌-◌, ◌≤◌, List, [], ◌∷◌, ◌++◌, map, length, take, drop, refl, sym, ap, subst, ◌∙◌, arith, length-take, length-append, Ok, Err, None, All}
+use Rattle.std.proofs.Common.{◌≡◌, ℕ, ◌+◌, ◌-◌, ◌≤◌, List, [], ◌∷◌, ◌++◌, map, length, take, drop, refl, sym, ap, subst, ◌∙◌, arith, length-take, length-append, Ok, Err, All}
 use Rattle.std.proofs.lemmas.List.{length-drop, drop-take}
 use Rattle.std.proofs.Math.Seq.{take-append_seam, drop-append_seam}
 use Rattle.std.proofs.lemmas.List.Elements.{All-head, All-tail, All-nil, All-cons}
@@ -8,12 +8,11 @@ use Rattle.httparse.specs.declared.spans.HeaderSpan.{HeaderSpan}
 use Rattle.httparse.specs.Grammar.{RequestHead}
 use Rattle.httparse.specs.Spans.{IsWithin, IsHeaderWithin, span_bytes, header_bytes, name_and_value}
 use Rattle.http_pieces.specs.declared.refusal.Refusal.{Refusal}
-use Rattle.http_pieces.specs.declared.refusal.Refusal.TheVariants.{NotAHead}
 use Rattle.http_pieces.specs.declared.head.Head.{Head}
 use Rattle.http_pieces.specs.Cut.{Body}
-use Rattle.http_pieces.specs.Form.{IsHeadOf, JudgesTo, as_head, as_none}
+use Rattle.http_pieces.specs.Form.{IsHeadOf, JudgesTo, as_head}
 use Rattle.http_pieces.specs.Head.{body_length, version_of, request_with, asks_with}
-use Rattle.http_pieces.specs.Layout.{IsHeadWithin, IsHeadAt, ReadsHead, request_of, request_form}
+use Rattle.http_pieces.specs.Layout.{IsHeadWithin, IsHeadAt, request_of, request_form}
 use Rattle.http_pieces.proofs.CutLemmas.{take_prefix}
 
 pub span_prefix : (text : List ℕ) (n : ℕ) (s : Span) → IsWithin n s → n ≤ length text → span_bytes text s ≡ span_bytes (take n text) s
@@ -98,7 +97,3 @@ pub judged_refusal : (block : List ℕ) (head : Head) (h : RequestHead) (r : Ref
 judged_refusal block head h r at e =
     let same : body_length (version_of h.minor) (map name_and_value h.fields) ≡ Err r = rw (← at.version, ← at.fields) (sym e) in
     λ k. as_head (record { head = h; block_is = at.block_is; asks_is = ap (λ x. asks_with x (request_with k h)) (sym same) })
-
--- no head
-pub judged_none : (block : List ℕ) → ReadsHead block None → JudgesTo request_form block (Err NotAHead)
-judged_none block none = λ k. as_none (λ a asks. none asks.head asks.block_is) refl

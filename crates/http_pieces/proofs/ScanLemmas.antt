@@ -81,9 +81,6 @@ matched_within (b ∷ text) = match_within (matched_back text) b
 pub head_start : IsHeadText [] 0
 head_start = record { unpaired = refl; limit = omega arith; matched_is = refl; none = λ k lt. absurd (omega arith) }
 
-pub scanned_start : IsScanned [] 0
-scanned_start = record { text_is = head_start; goes_on = omega arith; short = omega arith }
-
 -- the block ends here
 pub head_block : (text : List ℕ) (m : ℕ) → IsHeadText text m → m ≡ 4 → IsBlock text (length text)
 head_block text m h is = record {
