@@ -27,10 +27,6 @@ use Rattle.context_tree.proofs.Timing.{not_before, stopped}
 use Rattle.context_tree.proofs.Underway.{id_shown, is_left, shown, up, IsUnderway}
 use Rattle.context_tree.proofs.WalkEnds.{goes_on, over}
 
-and_none : (b : Bool) → (b && not true) ≡ false
-and_none true = refl
-and_none false = refl
-
 and_all : (b : Bool) → (b && not false) ≡ b
 and_all true = refl
 and_all false = refl

@@ -3,10 +3,9 @@ use Rattle.std.proofs.Common.{◌≡◌, refl, sym, ap, subst, ◌∙◌, arith,
 use Rattle.std.specs.Prelude.{◌==◌, is_some, is_none, option_and_then}
 use Rattle.std.proofs.lemmas.Bool.{cases_Bool, eqb-true}
 use Rattle.std.proofs.lemmas.Option.{same_Some}
-use Rattle.std.specs.Option.{option_map_or}
 use Rattle.context_tree.specs.declared.node.Node.{Node}
 use Rattle.context_tree.specs.Context.{Id, same, TreeOp, makes, parent_of, HasChild, is_waiting}
-use Rattle.context_tree.specs.Links.{slot_of, parent_in, number_in, links_in, IsLinked, IsThere, ArePlaced}
+use Rattle.context_tree.specs.Links.{slot_of, parent_in, number_in, links_in, IsLinked, ArePlaced}
 use Rattle.context_tree.specs.Tree.{TreeValue, EachBefore, ComesFirst, node_at, is_among, is_live, KnowsContexts, StandsFor}
 use Rattle.context_tree.specs.Walks.{is_in, keys_of, AreApart, IsReady}
 use Rattle.context_tree.proofs.Keys.{not_in}
@@ -71,17 +70,6 @@ module _ {C V : Type 0} where
         let at : slot_of t.slots d.parent.1 ≡ Some w.node = (in_slot t.slots d.parent w.node w.node_is).slot_is in
         rw (← d.slot_of_parent, at) refl;
   }
-
-  -- a parent that is known has a node
-  pub known_there : (slots : List (Option (Node C V))) (o : Option Id) → option_map_or (λ p. is_some (node_at slots p)) o true ≡ true → IsThere slots (option_map (λ p. p.1) o)
-  known_there slots None known = λ k is. absurd (none_is k is)
-    where
-      none_is : (k : ℕ) → None ≡ Some k → ⊥
-      none_is k is = cc
-  known_there slots (Some p) known = λ k is.
-      let n = is_some_of (node_at slots p) known in
-      let at : slot_of slots p.1 ≡ Some n.0 = (in_slot slots p n.0 n.1).slot_is in
-      rw (← same_Some p.1 k is, at) refl
 
   -- the first child of a context derives from it
   pub first_derives : (t : TreeValue C V) (past : List (TreeOp C V)) (id : Id) (n : Node C V) → KnowsContexts t past → IsLinked t.slots → node_at t.slots id ≡ Some n

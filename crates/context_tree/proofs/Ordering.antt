@@ -1,5 +1,5 @@
 -- Lists of ids, and what stands of each with each that comes later.
-use Rattle.std.proofs.Common.{◌≡◌, refl, sym, subst, ◌∙◌, List, [], ◌∷◌, ◌++◌, Bool, true, false, ⊎_elim}
+use Rattle.std.proofs.Common.{◌≡◌, refl, sym, ◌∙◌, List, [], ◌∷◌, ◌++◌, Bool, true, false, ⊎_elim}
 use Rattle.std.specs.Prelude.{◌&&◌, filter}
 use Rattle.std.specs.List.{list_any}
 use Rattle.std.proofs.lemmas.Bool.{cases_Bool, or_right}
@@ -29,21 +29,9 @@ among_first x xs = rw (same_refl x) refl
 pub among_later : (x y : Id) (xs : List Id) → is_among x xs ≡ true → is_among x (y ∷ xs) ≡ true
 among_later x y xs is = or_right (same x y) (is_among x xs) is
 
-pub any_of : (p : Id → Bool) (x : Id) (xs : List Id) → is_among x xs ≡ true → p x ≡ true → list_any p xs ≡ true
-any_of p x [] here is = cc
-any_of p x (y ∷ ys) here is = or_cases (same x y) (is_among x ys) _ here
-    (λ first. let e : x ≡ y = same_true x y first in let hit : p y ≡ true = subst (λ z. p z ≡ true) e is in rw hit refl)
-    (λ later. or_right (p y) (list_any p ys) (any_of p x ys later is))
-
 pub none_of : (p : Id → Bool) (xs : List Id) → ((y : Id) → is_among y xs ≡ true → p y ≡ false) → list_any p xs ≡ false
 none_of p [] no' = refl
 none_of p (y ∷ ys) no' = rw (no' y (among_first y ys)) (none_of p ys (λ z is. no' z (among_later z y ys is)))
-
--- predicates that agree on the members of a list keep the same
-pub filter_on : (p q : Id → Bool) (xs : List Id) → ((x : Id) → is_among x xs ≡ true → p x ≡ q x) → filter p xs ≡ filter q xs
-filter_on p q [] agree = refl
-filter_on p q (x ∷ xs) agree =
-    rw (agree x (among_first x xs), filter_on p q xs (λ y is. agree y (among_later y x xs is))) refl
 
 pub each-append : (R : Id → Id → Type 0) (xs ys : List Id) → EachBefore R xs → EachBefore R ys → ((x y : Id) → is_among x xs ≡ true → is_among y ys ≡ true → R x y) → EachBefore R (xs ++ ys)
 each-append R [] ys ex ey cross = ey

@@ -5,17 +5,12 @@ use Rattle.std.specs.Option.{option_map_or}
 use Rattle.std.proofs.lemmas.Bool.{cases_lt}
 use Rattle.std.proofs.lemmas.List.{get_or-set_same, get_or-set_other}
 use Rattle.std.proofs.lemmas.Option.{same_Some}
-use Rattle.context_tree.specs.declared.node.Ending.{Ending}
 use Rattle.context_tree.specs.declared.node.Links.{Links}
 use Rattle.context_tree.specs.declared.node.Node.{Node}
 use Rattle.context_tree.specs.Context.{parent_of}
 use Rattle.context_tree.specs.Links.{no_links, put, keep, where_none, slot_of, parent_in, number_in, links_in, IsLinked, bare, Relinks, IsThere, ArePlaced}
 use Rattle.context_tree.proofs.Bare.{same_there, same_parent, same_number}
-use Rattle.context_tree.proofs.Linking.{apart, appended, same_linked, removed, no_child, put_other, put_same, where_none_is}
-
-some_there : {A : Type 0} (o : Option A) (a : A) → o ≡ Some a → is_some o ≡ true
-some_there None a is = cc
-some_there (Some b) a is = refl
+use Rattle.context_tree.proofs.Linking.{apart, appended, removed, no_child, put_other, put_same, where_none_is}
 
 none_some : {A : Type 0} (o : Option A) → o ≡ None → is_some o ≡ true → ⊥
 none_some None none is = cc
@@ -187,24 +182,4 @@ module _ {C V : Type 0} where
       let l : Links = record n.links { next = v } in
       record { nodes = set_bare slots k n l is; first_is = kept_link slots k n l is (λ m. m.first) refl; last_is = kept_link slots k n l is (λ m. m.last) refl; prev_is = kept_link slots k n l is (λ m. m.prev) refl; next_is = set_link slots k n l is (λ m. m.next) }
 
-  pub none_set : (slots : List (Option (Node C V))) → Relinks slots slots keep keep keep keep
-  none_set slots = record { nodes = λ j. refl; first_is = λ j. refl; last_is = λ j. refl; prev_is = λ j. refl; next_is = λ j. refl }
-
   -- ---- an ending is written
-
-  -- what a node tells beside its ending, at each key
-  kept_told : {A : Type 0} (slots : List (Option (Node C V))) (k : ℕ) (n m : Node C V) → slot_of slots k ≡ Some n → (f : Option (Node C V) → A) → f (Some m) ≡ f (Some n)
-      → (j : ℕ) → f (slot_of (slice_set slots k (Some m)) j) ≡ f (slot_of slots j)
-  kept_told slots k n m is f same_told j = ⊎_elim
-      (λ (e : j ≡ k). rw e (ap f (get_or-set_same slots k (Some m) None (in_range slots k n is)) ∙ same_told ∙ ap f (sym is)))
-      (λ (o : j ≡ k → ⊥). ap f (get_or-set_other slots k j (Some m) None o))
-      (apart j k)
-
-  pub ending_linked : (slots : List (Option (Node C V))) (k : ℕ) (n : Node C V) (e : Option (Ending C)) → slot_of slots k ≡ Some n → IsLinked slots → IsLinked (slice_set slots k (Some (record n { ending = e })))
-  ending_linked slots k n e is linked =
-      let m : Node C V = record n { ending = e } in
-      same_linked (parent_in slots) (parent_in (slice_set slots k (Some m))) (number_in slots) (number_in (slice_set slots k (Some m))) (links_in slots) (links_in (slice_set slots k (Some m)))
-      (kept_told slots k n m is (option_and_then (λ z. option_map (λ p. p.1) (parent_of z.kind))) refl)
-      (kept_told slots k n m is (λ o. option_map_or (λ z. z.number) o 0) refl)
-      (kept_told slots k n m is (λ o. option_map_or (λ z. z.links) o no_links) refl)
-      linked

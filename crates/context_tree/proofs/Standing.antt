@@ -12,7 +12,7 @@ use Rattle.context_tree.specs.declared.node.Kind.TheVariants.{Background, Cancel
 use Rattle.context_tree.specs.declared.node.Node.{Node}
 use Rattle.context_tree.specs.Context.{Id, same, TreeOp, Makes, Ended, makes, held, chain, parent_of, follows, ending, deadline, inherited, expiry, own_due, own_deadline, sooner, least}
 use Rattle.context_tree.specs.Links.{no_links, bare, slot_of, KeepsOthers}
-use Rattle.context_tree.specs.Tree.{TreeValue, numbered, node_at, ending_in, deadline_in, told, is_among, ParentHeld, Keeps, IsKept, KnowsContexts, StandsFor, make_fault}
+use Rattle.context_tree.specs.Tree.{TreeValue, numbered, node_at, ending_in, deadline_in, told, is_among, ParentHeld, Keeps, KnowsContexts, make_fault}
 use Rattle.context_tree.proofs.Lineage.{same_true, same_refl}
 use Rattle.context_tree.proofs.Bare.{bare_numbered, bare_kind, bare_ending, bare_deadline, bare_some}
 use Rattle.context_tree.proofs.Marking.{among_push}
@@ -55,10 +55,6 @@ module _ {C V : Type 0} where
     kinds_are = λ x. sym (bare_kind (node_at t.slots x)) ∙ ap (option_map (λ n. n.kind)) (s.nodes_are x) ∙ kind_of_context (held x past) _ (λ k. refl);
   }
 
-  pub node_kept : (t : TreeValue C V) (past : List (TreeOp C V)) → StandsFor t past → (x : Id) (n : Node C V) → node_at t.slots x ≡ Some n → IsKept t.slots x
-  node_kept t past stands x n is =
-      let k = keeps_of t past stands.contexts in record { past = past; keeps = k; kind = n.kind; is_held = sym (k.kinds_are x) ∙ rw is refl }
-
   -- the node that a context of this kind has
   abbrev pub node_of : Id → Option (Ended C) → Option ℕ → Kind C V → Node C V
   node_of x e d k = record { number = x.0; kind = k; ending = option_map told e; deadline = d; links = no_links }
@@ -68,9 +64,6 @@ module _ {C V : Type 0} where
   ending_of_node (Some k) x e d is = refl
 
   -- ---- new trees and new contexts
-
-  no_slot : (x : Id) → node_at {C = C} {V = V} [] x ≡ None
-  no_slot x = refl
 
   pub new_known : KnowsContexts {C = C} {V = V} (record { slots = []; done = []; timers = record { entries = []; sets = 0 }; made = 0; visits = 0 }) []
   new_known = record { lawful = tt; made_is = refl; nodes_are = λ x. refl }

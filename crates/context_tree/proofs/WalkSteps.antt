@@ -22,20 +22,12 @@ pub keys_append : (xs : List Id) (x : Id) → keys_of (xs ++ x ∷ []) ≡ keys_
 keys_append [] x = refl
 keys_append (y ∷ ys) x = ap (λ l. y.1 ∷ l) (keys_append ys x)
 
-keys_length : (xs : List Id) → length (keys_of xs) ≡ length xs
-keys_length [] = refl
-keys_length (x ∷ xs) = let rest : length (keys_of xs) ≡ length xs = keys_length xs in omega (arith, rest)
-
 map_append : {A B : Type 0} (f : A → B) (xs : List A) (x : A) → map f (xs ++ x ∷ []) ≡ map f xs ++ f x ∷ []
 map_append f [] x = refl
 map_append f (y ∷ ys) x = ap (λ l. f y ∷ l) (map_append f ys x)
 
 none_some : {A : Type 0} (a : A) → None ≡ Some a → ⊥
 none_some a is = cc
-
-map_length : {A B : Type 0} (f : A → B) (xs : List A) → length (map f xs) ≡ length xs
-map_length f [] = refl
-map_length f (x ∷ xs) = let rest : length (map f xs) ≡ length xs = map_length f xs in omega (arith, rest)
 
 pub map_both : {A B : Type 0} (f : A → B) (xs ys : List A) → map f (xs ++ ys) ≡ map f xs ++ map f ys
 map_both f [] ys = refl
@@ -509,14 +501,3 @@ module _ {C V : Type 0} where
 
   pub slot_number : (slots : List (Option (Node C V))) (k : ℕ) (n : Node C V) → slot_of slots k ≡ Some n → number_in slots k ≡ n.number
   slot_number slots k n is = rw is refl
-
-  pub ends_live : (slots : List (Option (Node C V))) (k : ℕ) → is_ended_with slots k ≡ true → is_live_at slots k ≡ true
-  ends_live slots k goes = by_slot (slot_of slots k) goes
-    where
-      by_node : (a b : Bool) → (a && b) ≡ true → a ≡ true
-      by_node true b is = refl
-      by_node false b is = cc
-
-      by_slot : (o : Option (Node C V)) → option_map_or (λ (n : Node C V). is_none n.ending && is_some (follows n.kind)) o false ≡ true → option_map_or (λ (n : Node C V). is_none n.ending) o false ≡ true
-      by_slot None is = cc
-      by_slot (Some n) is = by_node (is_none n.ending) (is_some (follows n.kind)) is
