@@ -1,5 +1,5 @@
 -- Lemmas on what was written and read in an exchange over ends that wait.
-use Rattle.std.proofs.Common.{◌≡◌, ℕ, ◌-◌, List, [], ◌++◌, length, take, drop, refl, sym, ap, ◌∙◌, subst, append_assoc, append-nil}
+use Rattle.std.proofs.Common.{◌≡◌, ℕ, ◌-◌, List, [], ◌++◌, take, drop, refl, sym, ap, ◌∙◌, subst, append_assoc}
 use Rattle.std.specs.Prelude.{Option, Some}
 use Rattle.std.specs.Io.KnownBytes.{Appends}
 use Rattle.std.proofs.KnownBytes.{Appends-nil, Appends-trans}
@@ -8,7 +8,6 @@ use Rattle.http_pieces.specs.ReplyReader.{ReplyReaderValue}
 use Rattle.http_pieces.specs.declared.reply.HttpReply.{HttpReply}
 use Rattle.branch_exchange.specs.Exchange.{BeginsWithReply, ComesTo}
 use Rattle.branch_exchange.specs.Outcomes.{asked_of}
-use Rattle.branch_exchange.specs.declared.asked.Asked.{Asked}
 use Rattle.branch_exchange.specs.declared.asked.Asked.TheVariants as asked
 use Rattle.branch_exchange.specs.declared.exchange_end.ExchangeEnd.{ExchangeEnd}
 use Rattle.branch_exchange.specs.declared.exchange_end.ExchangeEnd.TheVariants as ends
@@ -21,10 +20,6 @@ sends_more u v w all left n s more = (
   Appends-trans u v w s.0 (take n left) s.1 more,
   s.2 ∙ ap (λ (t : List ℕ). s.0 ++ t) (sym (take-append-drop n left)) ∙ sym (append_assoc s.0 (take n left) (drop n left)),
 )
-
--- nothing is left
-pub sends_all : (u v : Option (List ℕ)) (all left : List ℕ) → SendsOn u v all left → left ≡ [] → Appends u v all
-sends_all u v all left s none = subst (λ (t : List ℕ). Appends u v t) (sym (s.2 ∙ ap (λ (t : List ℕ). s.0 ++ t) none ∙ append-nil s.0)) s.1
 
 pub sends_none : (u : Option (List ℕ)) (all : List ℕ) → SendsOn u u all all
 sends_none u all = ([], Appends-nil u, refl)
