@@ -181,5 +181,4 @@ module _ {C V : Type 0} where
   next_set slots k n v is =
       let l : Links = record n.links { next = v } in
       record { nodes = set_bare slots k n l is; first_is = kept_link slots k n l is (λ m. m.first) refl; last_is = kept_link slots k n l is (λ m. m.last) refl; prev_is = kept_link slots k n l is (λ m. m.prev) refl; next_is = set_link slots k n l is (λ m. m.next) }
-
   -- ---- an ending is written
