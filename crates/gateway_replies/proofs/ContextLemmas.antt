@@ -17,10 +17,8 @@ use Rattle.gateway_replies.specs.Contexts.{AllContexts, OnPeer, life_of, CallCon
 use Rattle.gateway_theory.specs.lemmas.Cases.{all_stay, or_true}
 use Rattle.gateway_theory.specs.lemmas.LimitLemmas.{same_call}
 use Rattle.gateway_theory.specs.lemmas.StoreLemmas.{call_itself}
-use Rattle.gateway_replies.proofs.ListLemmas.{call_turned, context_turned, due_same, filter_map_both, no_two_pushed, number_turned}
+use Rattle.gateway_replies.proofs.ListLemmas.{call_turned, context_turned, due_same, filter_map_both, no_two_pushed, number_turned, any_map, no_two_kept, same_itself, same_true}
 use Rattle.gateway_replies.proofs.PeerLemmas.{ctx_more, known_in, less_contexts, less_ctx, not_in, peer_ended, peer_in, peers_less, peers_pushed, two_apart}
-use Rattle.call_contexts.proofs.Lists.{any_map, no_two_kept}
-use Rattle.call_contexts.proofs.Trees.{same_refl as same_itself, same_true}
 
 pub neither : {A : Type 0} (p q : A → Bool) (xs : List A) → list_any p xs ≡ false → list_any q xs ≡ false → All (λ x. p x ≡ q x) xs
 neither p q [] no_p no_q = All-nil (λ x. p x ≡ q x)

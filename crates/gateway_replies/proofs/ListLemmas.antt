@@ -1,14 +1,34 @@
 -- Lists of which no two are alike, and what is the same in two words.
 use Rattle.std.proofs.Common.{◌≡◌, ℕ, refl, ap, ◌∙◌, List, [], ◌∷◌, ◌++◌, Option, Some, None, Bool, true, false, ⊎_elim, map, arith, rules}
-use Rattle.std.specs.Prelude.{filter}
+use Rattle.std.specs.Prelude.{◌||◌, filter}
 use Rattle.std.specs.List.{list_any}
 use Rattle.std.specs.Option.{option_or}
 use Rattle.std.proofs.lemmas.Bool.{cases_Bool, or_parts}
 use Rattle.std.proofs.lemmas.List.Folds.{list_any-append}
-use Rattle.context_tree.specs.Context.{Id}
+use Rattle.context_tree.specs.Context.{Id, same}
 use Rattle.call_contexts.specs.Standing.{ends_branch, if_due}
 use Rattle.gateway_replies.specs.Contexts.{CallContext, by_deadline, NoTwo, TimedBranch, same_id, same_context, same_number}
 use Rattle.gateway_theory.specs.lemmas.Cases.{sym_eqb}
+
+any_kept : {A : Type 0} (p q : A → Bool) (xs : List A) → list_any p xs ≡ false → list_any p (filter q xs) ≡ false
+any_kept p q [] is = refl
+any_kept p q (x ∷ xs) is =
+    let two = or_parts (p x) (list_any p xs) is in
+    ⊎_elim
+    (λ (y : q x ≡ true). rw (y, two.0) (any_kept p q xs two.1))
+    (λ (n : q x ≡ false). rw n (any_kept p q xs two.1))
+    (cases_Bool (q x))
+
+pub any_map : {A B : Type 0} (p : B → Bool) (f : A → B) (xs : List A) → list_any p (map f xs) ≡ list_any (λ x. p (f x)) xs
+any_map p f [] = refl
+any_map p f (x ∷ xs) = ap (λ b. p (f x) || b) (any_map p f xs)
+
+pub no_two_kept : {A : Type 0} (r : A → A → Bool) (q : A → Bool) (xs : List A) → NoTwo r xs → NoTwo r (filter q xs)
+no_two_kept r q [] all = tt
+no_two_kept r q (x ∷ xs) all = ⊎_elim
+    (λ (y : q x ≡ true). rw y (any_kept (r x) q xs all.0, no_two_kept r q xs all.1))
+    (λ (n : q x ≡ false). rw n (no_two_kept r q xs all.1))
+    (cases_Bool (q x))
 
 pub filter_map_both : {A B : Type 0} (p : B → Bool) (f : A → B) (xs : List A) → map f (filter (λ x. p (f x)) xs) ≡ filter p (map f xs)
 filter_map_both p f [] = refl
@@ -22,6 +42,15 @@ no_two_pushed r turned [] x all none = (refl, tt)
 no_two_pushed r turned (y ∷ ys) x all none =
     let two = or_parts (r x y) (list_any (r x) ys) none in
     (list_any-append (r y) ys (x ∷ []) ∙ rw (all.0, turned y x, two.0) refl, no_two_pushed r turned ys x all.1 two.1)
+
+pub same_true : (x y : Id) → same x y ≡ true → x ≡ y
+same_true x y is = grind (arith, rules)
+
+pub same_itself : (x : Id) → same x x ≡ true
+same_itself x = grind (arith, rules)
+
+pub same_turned : (x y : Id) → same x y ≡ same y x
+same_turned x y = grind (arith, rules)
 
 pub number_turned : (p q : ℕ × Id) → same_number p q ≡ same_number q p
 number_turned p q = sym_eqb q.0 p.0

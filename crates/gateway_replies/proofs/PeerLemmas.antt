@@ -11,9 +11,7 @@ use Rattle.call_contexts.specs.Standing.{ends_conn, if_cancelled, ended_conn}
 use Rattle.gateway_replies.specs.declared.contexts.cancelled.CancelledBy.TheVariants.{HangUp, Drain}
 use Rattle.gateway_replies.specs.Contexts.{ConnContext, Ended, PeerValue, by_drain, by_hang_up, LifeValue, NoTwo, Peers, ctx_of, ended_peer, ends_life, ends_peer, first_life, is_peer, peer, peers_of, same_context, same_number}
 use Rattle.gateway_theory.specs.lemmas.Cases.{all_stay, or_true, sym_eqb}
-use Rattle.gateway_replies.proofs.ListLemmas.{branches_stay, or_nothing}
-use Rattle.call_contexts.proofs.Lists.{any_map}
-use Rattle.call_contexts.proofs.Trees.{same_refl as same_itself, same_turned}
+use Rattle.gateway_replies.proofs.ListLemmas.{branches_stay, or_nothing, any_map, same_itself, same_turned}
 
 pub ctx_more : (m : ℕ) (ps : Peers) (p : ℕ × Id) (x : Id) → ctx_of m ps ≡ Some x → ctx_of m (ps ++ p ∷ []) ≡ Some x
 ctx_more m [] p x is = cc

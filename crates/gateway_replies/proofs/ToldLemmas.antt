@@ -15,9 +15,8 @@ use Rattle.gateway_model.specs.declared.id.CallId.{CallId}
 use Rattle.gateway_model.specs.Past.{is_call, is_due}
 use Rattle.gateway_replies.specs.declared.contexts.cancelled.CancelledBy.TheVariants.{HangUp, Drain}
 use Rattle.gateway_replies.specs.Contexts.{names_in, AllContexts, NoTwo, OnPeer, life_of, same_id, IsNotDue, CallContext, ConnContext, Ended, by_drain, by_hang_up, contexts_of, ContextsValue, IsTied, LifeValue, Peers, TimedBranch, contexts_value, ctx_of, ending_life, ends_life, event_of, expires_life, ends_peer, first_life, has_due, is_peer, peers_of, told, lives_of}
-use Rattle.gateway_replies.proofs.ListLemmas.{due_same}
+use Rattle.gateway_replies.proofs.ListLemmas.{due_same, same_itself}
 use Rattle.gateway_replies.proofs.PeerLemmas.{lives_stay, not_in, peers_drained, peers_hung, peers_stay, two_apart}
-use Rattle.call_contexts.proofs.Trees.{same_refl as same_itself}
 
 conns_told : (g : ConnContext → Ended) (cs : List ConnContext) → map (λ (c : ConnContext). c.id) (map (λ (c : ConnContext). ends_conn (g c) c) cs) ≡ map (λ (c : ConnContext). c.id) cs
 conns_told g [] = refl
