@@ -6,18 +6,16 @@ use Rattle.gateway_model.specs.declared.seen.Seen.{Seen}
 use Rattle.gateway_model.specs.declared.seen.Seen.TheVariants.{Counted, Late, Unknown}
 use Rattle.gateway_theory.specs.declared.tally.Tally.{Tally}
 use Rattle.gateway_model.specs.declared.id.CallId.{CallId}
-use Rattle.gateway_theory.specs.Conn.{ConnValue}
 use Rattle.gateway_model.specs.Events.{Before, Occurs}
 use Rattle.gateway_model.specs.declared.event.Event.{Event}
 use Rattle.gateway_model.specs.declared.event.Event.TheVariants.{Opening}
-use Rattle.gateway_theory.specs.Gateway.{GatewayValue}
+use Rattle.gateway_theory.specs.Values.{GatewayValue}
 use Rattle.gateway_model.specs.Job.{JobValue}
 use Rattle.gateway_model.specs.Past.{how_seen, marked}
 use Rattle.gateway_theory.specs.Replies.{ReplyValue}
 use Rattle.gateway_theory.specs.Served.{Served, after_reply}
 use Rattle.gateway_model.specs.Starts.{Placed, occurrences}
 use Rattle.gateway_model.specs.History.{History, after_event, after_opening, after_jobs}
-use Rattle.gateway_theory.specs.Store.{conn_of}
 use Rattle.gateway_theory.specs.Tally.{is_counted, is_late, is_unknown, most_counted, tally_of}
 use Rattle.gateway_theory.specs.Serving.{KeepsBut}
 use Rattle.backend_pool.specs.Book.{BookStands, BookValue, HandsJobs, HandsReply, IsReached, IsTallied, TakesEvent, TakesOpening, book_value, bytes_in, results_in}

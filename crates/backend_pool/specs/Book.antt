@@ -5,7 +5,8 @@ use Rattle.gateway_model.specs.declared.seen.Seen.{Seen}
 use Rattle.gateway_model.specs.Events.{Before, most_open, open_connections}
 use Rattle.gateway_model.specs.declared.event.Event.TheVariants.{BranchResult, Opening, Piece}
 use Rattle.gateway_model.specs.declared.event.Event.{Event}
-use Rattle.gateway_theory.specs.Gateway.{GatewayValue, jobs_of}
+use Rattle.gateway_theory.specs.Gateway.{jobs_of}
+use Rattle.gateway_theory.specs.Values.{GatewayValue}
 use Rattle.gateway_theory.specs.Task.{HandedJob}
 use Rattle.gateway_model.specs.Job.{JobValue}
 use Rattle.gateway_model.specs.History.{History, after_event, after_opening, after_jobs}

@@ -1,7 +1,8 @@
 ghost use Rattle.gateway_model.specs.Known.{IsKnown, is_whole};
 ghost use Rattle.gateway_theory.specs.Told.{TellsTook};
-ghost use Rattle.gateway_theory.specs.Serving.{CountsCalls, Keeps, KeepsBut};
-ghost use Rattle.gateway_theory.specs.Gateway.{conn_count, is_ended, is_open_conn, jobs_of, kept_record, next_reply, open_count, outs_of, shown, untaken_of, with_jobs};
+ghost use Rattle.gateway_theory.specs.Serving.{CountsCalls, Keeps, KeepsBut, Breaks, HasFewCalls, TakesOnly, TellsStep};
+ghost use Rattle.gateway_theory.specs.Gateway.{conn_count, is_ended, is_open_conn, jobs_of, kept_record, next_reply, open_count, outs_of, untaken_of, with_jobs};
+ghost use Rattle.gateway_theory.specs.Values.{shown};
 ghost use Rattle.std.specs.Prelude.{◌≡◌, ◌==◌, ◌+◌, ◌<◌, ◌≤◌, ◌^◌, ◌∷◌, ◌++◌, [], Err, IfErr, IfOk, IfSome, List, MatchResult, None, OnErr, OnOk, Some, false, true, length, option_map, option_to_list};
 ghost use Rattle.gateway_model.specs.declared.id.CallId.{CallId};
 ghost use Rattle.connect_codec.specs.declared.answer.Outcome.{Outcome as Outcomes};
@@ -12,7 +13,6 @@ ghost use Rattle.gateway_model.specs.Past.{ArrivedCall, call, marked};
 ghost use Rattle.gateway_model.specs.Record.{is_decided, is_lawful};
 ghost use Rattle.gateway_theory.specs.Refused.{RefusesOpening};
 ghost use Rattle.gateway_theory.specs.Served.{Served};
-ghost use Rattle.gateway_theory.specs.Serving.{Breaks, HasFewCalls, TakesOnly, TellsStep};
 ghost use Rattle.gateway_model.specs.Starts.{Placed, occurrences};
 ghost use Rattle.gateway_model.specs.History.{History, no_history};
 ghost use Rattle.backend_pool.specs.declared.next_reply.NextReply.{NextReply};

@@ -1,0 +1,8 @@
+mod MapLemmas
+mod FitLemmas
+mod BroadcastLemmas
+mod StepLemmas
+mod OpenLemmas
+mod TellLemmas
+mod DueLemmas
+mod TakenLemmas

@@ -1,7 +1,8 @@
-ghost use Rattle.std.specs.Prelude.{◌≡◌, ◌==◌, ◌∷◌, ◌++◌, ◌<◌, ◌≤◌, [], Err, IfOk, IfErr, IfSome, None, OnErr, OnOk, Some, false, not, ℕ, List, length, option_map, option_to_list, true, slice_get};
+ghost use Rattle.std.specs.Prelude.{◌≡◌, ◌==◌, ◌∷◌, ◌++◌, ◌<◌, ◌≤◌, [], Err, IfOk, IfErr, IfSome, None, OnErr, OnOk, Some, false, not, ℕ, List, length, option_map, option_to_list, true, is_some, slice_get};
 ghost use Rattle.connect_codec.specs.declared.answer.Outcome.{Outcome as Outcomes};
-ghost use Rattle.gateway_theory.specs.Gateway.{conn_count, deadline_ahead, ends_calls, is_ended, is_idle_conn, jobs_of, next_reply, open_count, shown, untaken_of, with_jobs};
-ghost use Rattle.gateway_theory.specs.Serving.{TakesSome, WouldBegin, Breaks, CountsCalls, HasFewCalls, NotListening, Keeps, KeepsBut, TakesOnly, TellsStep};
+ghost use Rattle.gateway_theory.specs.Gateway.{conn_count, deadline_ahead, ends_calls, is_ended, is_idle_conn, jobs_of, next_reply, open_count, untaken_of, with_jobs};
+ghost use Rattle.gateway_theory.specs.Values.{shown};
+ghost use Rattle.gateway_theory.specs.Serving.{TakesSome, WouldBegin, Breaks, CountsCalls, HasFewCalls, IsServing, NotListening, Keeps, KeepsBut, TakesOnly, TellsStep};
 ghost use Rattle.gateway_theory.specs.Refused.{RefusesOpening};
 ghost use Rattle.gateway_theory.specs.Tally.{tally_of};
 ghost use Rattle.gateway_model.specs.Past.{is_due};
@@ -13,31 +14,53 @@ ghost use Rattle.gateway_theory.specs.Told.{AddsEvent, AddsOpening, HandsJobs, H
 ghost use Rattle.gateway_model.specs.Known.{IsKnown};
 ghost use Rattle.gateway_model.specs.History.{History, no_history};
 ghost use Rattle.gateway_theory.specs.Served.{Lives, Served};
+ghost use Rattle.gateway_core.specs.Whole.{AreNumbered, IsWithout, call_kept};
 
-use crate::streams::Streams;
+use crate::broadcast::end_calls;
 use call_plan::Plans;
 use connect_codec::Outcome;
-use gateway_machine::Job;
-use gateway_model::{CallId, ConnId};
+use gateway_connection::{Connection, Job, Shared};
+use gateway_model::{CallId, ConnId, Seen};
 use gateway_replies::{Reply, ReplyHook, Stock};
 use gateway_theory::request_laws::request_laws;
-use gateway_theory::served_laws::{known_law, opening_law};
-use gateway_theory::{OpenError, StepFault, Tally, Took};
+use gateway_theory::{OpenError, StepFault, Tally, Took, Trigger};
+use http_pieces::laws::fresh_law;
 use std::alloc::{AllocError, Global};
+use std::collections::BTreeMap;
 use std::marker::Model;
+
+/// Connections that may be open at once.
+const MOST_OPEN: usize = 64;
+
+/// Openings that may succeed.
+const MOST_OPENINGS: u64 = 1 << 56;
+
+/// Moments above this one count as it.
+const LAST_MOMENT: u64 = 1 << 62;
 
 /// The gateway: connections whose requests are answered by asking backends. It does no input or output and reads no clock.
 #[derive(Drop)]
 pub struct Core<H> {
-    streams: Streams<H>,
+    shared: Shared<H>,
+    /// By number: those that are open, and those that are closed while a branch of a call of theirs is out.
+    conns: BTreeMap<u64, Connection>,
+    /// How many connections were opened: the number of the next.
+    opened: u64,
+    /// How many are open.
+    open: usize,
+    /// How results were seen.
+    tally: Tally,
 }
 
 impl<H> Model for Core<H> {
-    ghost use Rattle.gateway_theory.specs.Gateway.{GatewayValue};
+    ghost use Rattle.gateway_theory.specs.Values.{GatewayValue};
+    ghost use Rattle.gateway_core.specs.Whole.{IsWhole, gateway_of};
 
     ghost Value = { GatewayValue };
 
-    ghost view = { λ c. c.streams };
+    ghost view = { λ c. gateway_of c.shared c.conns.entries c.opened c.tally };
+
+    ghost invariant = { λ c. IsWhole c.shared c.conns.entries c.opened c.open c.tally };
 }
 
 impl<H: ReplyHook + Drop> Core<H> {
@@ -48,8 +71,13 @@ impl<H: ReplyHook + Drop> Core<H> {
         ensures stands { IfOk result (λ core. Served core no_history) }
         ensures lives { IfOk result (λ core. Lives core no_history []) }
     {
-        let streams = Streams::new(alloc, plans)?;
-        Ok(Core { streams })
+        Ok(Core {
+            shared: Shared::new(alloc, plans)?,
+            conns: BTreeMap::new(alloc),
+            opened: 0,
+            open: 0,
+            tally: Tally::new(),
+        })
     }
 
     /// Opens a connection, each of whose calls gets one of these hooks. A refusal is the first that applies of `Full`,
@@ -64,9 +92,25 @@ impl<H: ReplyHook + Drop> Core<H> {
         ensures unchanged { OnErr result (self.new ≡ self.old) }
         ensures keeps { Keeps (λ c. false) self.old self.new }
     {
-        self.streams.serving_law();
-        opening_law();
-        self.streams.open_conn(stock)
+        if self.open >= MOST_OPEN {
+            return Err((stock, OpenError::Full));
+        }
+        if self.opened >= MOST_OPENINGS {
+            return Err((stock, OpenError::Exhausted));
+        }
+        fresh_law();
+        let number = self.opened;
+        let conn = Connection::new(self.shared.alloc, number);
+        let Ok(_) = self.conns.insert(number, conn) else {
+            return Err((stock, OpenError::Memory));
+        };
+        if let Err(stock) = self.shared.contexts.open(number, stock) {
+            self.conns.remove(&number);
+            return Err((stock, OpenError::Memory));
+        }
+        self.opened += 1;
+        self.open += 1;
+        Ok(ConnId::of(number))
     }
 
     /// Takes bytes of a connection's stream, at most up to the end of a request, and answers how many.
@@ -81,10 +125,10 @@ impl<H: ReplyHook + Drop> Core<H> {
         ensures keeps { Keeps (λ c. c == conn) self.old self.new }
     {
         request_laws();
-        self.streams.serving_law();
-        let fed = self.streams.feed(conn.number(), bytes);
-        self.streams.serving_law();
-        fed
+        let Some(held) = self.conns.get_mut(&conn.number()) else {
+            return Err(StepFault::Gone);
+        };
+        held.feed(&mut self.shared, bytes)
     }
 
     /// The peer of a connection hung up.
@@ -95,8 +139,10 @@ impl<H: ReplyHook + Drop> Core<H> {
         ensures begins { result ≡ Err StepFault.Exhausted → ⊥ }
         ensures keeps { Keeps (λ c. c == conn) self.old self.new }
     {
-        self.streams.serving_law();
-        self.streams.hang_up(conn.number())
+        let Some(held) = self.conns.get_mut(&conn.number()) else {
+            return Err(StepFault::Gone);
+        };
+        held.hang_up(&mut self.shared)
     }
 
     /// A moment has come, in milliseconds: the calls end whose deadlines it has reached, or that of a branch of theirs which is
@@ -107,8 +153,12 @@ impl<H: ReplyHook + Drop> Core<H> {
         ensures broke { Breaks self.old self.new result }
         ensures keeps { Keeps (λ c. true) self.old self.new }
     {
-        self.streams.serving_law();
-        self.streams.moment(moment)
+        self.shared.moment = self.shared.moment.max(moment.min(LAST_MOMENT));
+        if !self.shared.contexts.is_due(self.shared.moment) {
+            return false;
+        }
+        let trigger = Trigger::Reached(self.shared.moment);
+        end_calls(&mut self.shared, &mut self.conns, &trigger)
     }
 
     /// The drain has begun. True where a connection broke in the step.
@@ -118,8 +168,7 @@ impl<H: ReplyHook + Drop> Core<H> {
         ensures broke { Breaks self.old self.new result }
         ensures keeps { Keeps (λ c. true) self.old self.new }
     {
-        self.streams.serving_law();
-        self.streams.drain()
+        end_calls(&mut self.shared, &mut self.conns, &Trigger::Drained)
     }
 
     /// Closes a connection, and answers whether it was open.
@@ -129,8 +178,18 @@ impl<H: ReplyHook + Drop> Core<H> {
         ensures closed { result ≡ (shown self.old).is_open conn }
         ensures keeps { KeepsBut (λ c. c == conn) (λ c. false) [] self.old self.new }
     {
-        self.streams.serving_law();
-        self.streams.close(conn.number())
+        let number = conn.number();
+        let Some(held) = self.conns.get_mut(&number) else {
+            return false;
+        };
+        if held.is_closed() {
+            return false;
+        }
+        held.close(&mut self.shared);
+        let gone = held.is_gone();
+        remove_if(&mut self.conns, number, gone);
+        self.open -= 1;
+        true
     }
 
     /// A branch of a call ends with that outcome. Where memory is refused to what this starts or decides, the connection breaks.
@@ -140,8 +199,16 @@ impl<H: ReplyHook + Drop> Core<H> {
         ensures tells { TellsTook call.now branch result self.old self.new }
         ensures keeps { KeepsBut (λ c. false) (λ c. c == call.now.conn) (result.seen ∷ []) self.old self.new }
     {
-        self.streams.serving_law();
-        self.streams.result(call, branch, outcome)
+        let number = call.conn.number();
+        let Some(held) = self.conns.get_mut(&number) else {
+            self.tally.add(Seen::Unknown);
+            return Took::unknown();
+        };
+        let took = held.result(&mut self.shared, call.request, branch, outcome);
+        let gone = held.is_gone();
+        remove_if(&mut self.conns, number, gone);
+        self.tally.add(took.seen);
+        took
     }
 
     /// A worker found no memory for what a branch ended with, whatever that was.
@@ -153,8 +220,16 @@ impl<H: ReplyHook + Drop> Core<H> {
         ensures tells { TellsTook call.now branch result self.old self.new }
         ensures keeps { KeepsBut (λ c. false) (λ c. c == call.now.conn) (result.seen ∷ []) self.old self.new }
     {
-        self.streams.serving_law();
-        self.streams.starved(call, branch)
+        let number = call.conn.number();
+        let Some(held) = self.conns.get_mut(&number) else {
+            self.tally.add(Seen::Unknown);
+            return Took::unknown();
+        };
+        let took = held.starved(&mut self.shared, call.request, branch);
+        let gone = held.is_gone();
+        remove_if(&mut self.conns, number, gone);
+        self.tally.add(took.seen);
+        took
     }
 
     /// Hands out the next job, in order of start.
@@ -166,8 +241,11 @@ impl<H: ReplyHook + Drop> Core<H> {
         ensures wanted { (j : HandedJob) → result ≡ Some j → IsWanted j.job.call self.old j.wanted }
         ensures rest { self.new ≡ with_jobs (jobs_of self.new) self.old }
     {
-        self.streams.serving_law();
-        self.streams.take_job()
+        let Some(job) = self.shared.jobs.take() else {
+            return None;
+        };
+        let wanted = is_live(&self.conns, &job.call());
+        Some(job.handed(wanted))
     }
 
     /// Hands out the next reply of a connection, in order of its requests.
@@ -179,8 +257,10 @@ impl<H: ReplyHook + Drop> Core<H> {
         ensures none { result ≡ None → untaken_of conn self.old ≡ [] }
         ensures only { TakesOnly conn self.old self.new }
     {
-        self.streams.serving_law();
-        self.streams.take_reply(conn.number())
+        let Some(held) = self.conns.get_mut(&conn.number()) else {
+            return None;
+        };
+        held.take_reply()
     }
 
     /// At most 64 connections are open, and no more than 8 requests of one that is not broken wait for their replies. It does
@@ -189,7 +269,7 @@ impl<H: ReplyHook + Drop> Core<H> {
         ensures few { open_count self.now ≤ most_open }
         ensures calls { HasFewCalls self.now }
     {
-        self.streams.serving_law();
+        let _ = &self.opened;
     }
 
     /// What is known of the gateway by the events that it stands for, whichever they are. It does nothing.
@@ -197,21 +277,21 @@ impl<H: ReplyHook + Drop> Core<H> {
         ensures known { (h : History) (occurred : List Placed) → Served self.now h → Occurs self.now.plans h.opened h.events occurred
             → IsKnown (shown self.now) h (occurrences occurred) }
     {
-        known_law();
+        let _ = &self.opened;
     }
 
     /// How many jobs wait to be taken.
     pub fn waiting_jobs(&self) -> usize
         ensures { result ≡ length (shown self.now).waiting }
     {
-        self.streams.waiting_jobs()
+        self.shared.jobs.len()
     }
 
     /// The job that is to be taken next, if one waits.
     pub fn next_job(&self) -> Option<&Job>
         ensures { option_map (λ job. job.now.job) result ≡ slice_get (shown self.now).waiting 0 }
     {
-        self.streams.next_job()
+        self.shared.jobs.next()
     }
 
     /// The least deadline of the undecided calls, and of their branches that are out.
@@ -220,14 +300,14 @@ impl<H: ReplyHook + Drop> Core<H> {
         // a moment ends a call exactly if it has reached this
         ensures quiet { (moment : ℕ) → ends_calls moment self.now ≡ is_due moment result }
     {
-        self.streams.next_deadline()
+        self.shared.contexts.next_deadline()
     }
 
     /// How the results that came were seen, those of `starved` among them.
     pub fn tally(&self) -> Tally
         ensures { result ≡ self.now.tally }
     {
-        self.streams.tally()
+        self.tally
     }
 
     /// Whether the connection no longer brings requests or replies: it is unknown, closed or broken, or its stream has ended
@@ -235,14 +315,20 @@ impl<H: ReplyHook + Drop> Core<H> {
     pub fn ended(&self, conn: ConnId) -> bool
         ensures { result ≡ is_ended conn self.now }
     {
-        self.streams.is_ended(conn.number())
+        match self.conns.get(&conn.number()) {
+            Some(held) => held.is_closed() || held.is_ended(),
+            None => true,
+        }
     }
 
     /// How many replies of the connection can be taken.
     pub fn untaken(&self, conn: ConnId) -> usize
         ensures { result ≡ length ((shown self.now).untaken conn) }
     {
-        self.streams.untaken(conn.number())
+        match self.conns.get(&conn.number()) {
+            Some(held) => held.untaken(),
+            None => 0,
+        }
     }
 
     /// Whether each request of the connection has its reply, so that none of its calls is undecided. True where there
@@ -250,28 +336,56 @@ impl<H: ReplyHook + Drop> Core<H> {
     pub fn is_idle(&self, conn: ConnId) -> bool
         ensures { result ≡ is_idle_conn conn self.now }
     {
-        self.streams.is_idle(conn.number())
+        match self.conns.get(&conn.number()) {
+            Some(held) => held.is_closed() || held.is_idle(),
+            None => true,
+        }
     }
 
     /// Whether the connection is open and broken: memory was refused in a step of it.
     pub fn is_broken(&self, conn: ConnId) -> bool
         ensures { result ≡ (shown self.now).is_broken conn }
     {
-        self.streams.is_broken(conn.number())
+        match self.conns.get(&conn.number()) {
+            Some(held) => held.is_broken(),
+            None => false,
+        }
     }
 
     /// Whether the answer to a job of this call is wanted: its call can still be decided.
     pub fn is_wanted(&self, call: &CallId) -> bool
         ensures { IsWanted call.now self.now result }
     {
-        self.streams.serving_law();
-        self.streams.is_live(call)
+        is_live(&self.conns, call)
     }
 
     /// How many branches of the call are out.
     pub fn branches_out(&self, call: &CallId) -> u32
         ensures { result ≡ (shown self.now).outs call.now }
     {
-        self.streams.branches_out(call)
+        match self.conns.get(&call.conn.number()) {
+            Some(held) => held.branches_out(call.request),
+            None => 0,
+        }
+    }
+}
+
+/// Whether the call can still be decided.
+fn is_live(conns: &BTreeMap<u64, Connection>, call: &CallId) -> bool
+    requires { AreNumbered conns.now.entries }
+    ensures { result ≡ is_some (call_kept call.now conns.now.entries).live }
+{
+    match conns.get(&call.conn.number()) {
+        Some(held) => held.is_live(call.request),
+        None => false,
+    }
+}
+
+/// Takes the connection of that number out, if nothing comes back to it any more.
+fn remove_if(conns: &mut BTreeMap<u64, Connection>, number: u64, gone: bool)
+    ensures { IsWithout gone number conns.old.entries conns.new.entries }
+{
+    if gone {
+        conns.remove(&number);
     }
 }

@@ -2,12 +2,11 @@
 //! goes out are jobs for backends and replies. It does no input or output and reads no clock.
 #![tactic(auto)]
 
+mod broadcast;
 mod gateway;
-mod stream;
-mod streams;
 
 pub use gateway::Core;
-pub use gateway_machine::Job;
+pub use gateway_connection::Job;
 pub use gateway_model::{
     CallEvent, CallId, CallRecord, ConnId, EndCause, Ending, ReplyBytes, ReplyEntry, Seen,
 };

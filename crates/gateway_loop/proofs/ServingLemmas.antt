@@ -16,7 +16,7 @@ use Rattle.gateway_model.specs.Known.{IsKnown}
 use Rattle.gateway_model.specs.Past.{call_id, marked}
 use Rattle.gateway_model.specs.Queue.{IsPrefixOf, queued}
 use Rattle.gateway_model.specs.Starts.{occurrences}
-use Rattle.gateway_theory.specs.Gateway.{GatewayValue, shown}
+use Rattle.gateway_theory.specs.Values.{GatewayValue, shown}
 use Rattle.gateway_theory.specs.Served.{Served}
 use Rattle.loop_model.specs.Clients.{ClientValue, IsExplainedClient, client_value}
 use Rattle.loop_model.specs.Explained.{IsExplainedBy, LoopValue, at, draining, one_below}

@@ -15,7 +15,7 @@ use Rattle.gateway_model.specs.Past.{Past, marked}
 use Rattle.gateway_model.specs.Queue.{IsPrefixOf, answer_of, queued}
 use Rattle.gateway_model.specs.Run.{bytes_of}
 use Rattle.gateway_model.specs.Starts.{Placed, occurrences}
-use Rattle.gateway_theory.specs.Gateway.{GatewayValue}
+use Rattle.gateway_theory.specs.Values.{GatewayValue}
 use Rattle.gateway_theory.specs.Replies.{ReplyValue}
 use Rattle.gateway_theory.specs.Served.{Served, after_reply}
 use Rattle.gateway_theory.specs.lemmas.OneEvent.{kept_open, more_stream, now_hung, shut_open}

@@ -8,7 +8,7 @@ use Rattle.gateway_model.specs.History.{History}
 use Rattle.gateway_model.specs.Past.{Past, marked}
 use Rattle.gateway_model.specs.Run.{bytes_of}
 use Rattle.gateway_model.specs.Starts.{Placed, occurrences}
-use Rattle.gateway_theory.specs.Gateway.{GatewayValue}
+use Rattle.gateway_theory.specs.Values.{GatewayValue}
 use Rattle.gateway_theory.specs.Served.{Served}
 use Rattle.gateway_theory.specs.Task.{HandedJob}
 use Rattle.loop_model.specs.Clients.{ClientValue, IsExplainedClient}

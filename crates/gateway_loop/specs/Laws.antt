@@ -7,7 +7,7 @@ use Rattle.gateway_model.specs.Past.{Past, marked}
 use Rattle.gateway_model.specs.Queue.{IsPrefixOf, queued, queued_entries}
 use Rattle.gateway_model.specs.Run.{bytes_of}
 use Rattle.gateway_model.specs.Starts.{Placed, occurrences}
-use Rattle.gateway_theory.specs.Gateway.{GatewayValue, shown}
+use Rattle.gateway_theory.specs.Values.{GatewayValue, shown}
 use Rattle.gateway_theory.specs.Served.{Served}
 use Rattle.std.specs.Prelude.{List}
 

@@ -18,7 +18,7 @@ use Rattle.gateway_model.specs.Past.{ArrivedCall, Mark, Past, answers, arrivals,
 use Rattle.gateway_model.specs.declared.call_event.CallEvent.{CallEvent}
 use Rattle.gateway_model.specs.Queue.{queued_entries}
 use Rattle.gateway_model.specs.Starts.{Placed, occurrences}
-use Rattle.gateway_theory.specs.Served.{at_place}
+use Rattle.gateway_theory.specs.Core.{at_place}
 use Rattle.gateway_theory.specs.lemmas.Adding.{occurrences_at}
 use Rattle.gateway_theory.specs.lemmas.OwnLemmas.{none_if}
 use Rattle.gateway_theory.specs.lemmas.PrefixLemmas.{Still, at_break, still_queue}

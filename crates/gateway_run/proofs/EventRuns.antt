@@ -8,7 +8,7 @@ use Rattle.gateway_model.specs.Events.{Before, IsOpened, IsRising, OpensAt, conn
 use Rattle.gateway_model.specs.declared.event.Event.TheVariants.{Closing, Opening}
 use Rattle.gateway_model.specs.declared.event.Event.{Event}
 use Rattle.gateway_model.specs.declared.event.Event.TheVariants as events
-use Rattle.gateway_theory.specs.Gateway.{GatewayValue}
+use Rattle.gateway_theory.specs.Values.{GatewayValue}
 use Rattle.gateway_model.specs.Job.{JobValue}
 use Rattle.gateway_theory.specs.Served.{Adds, HasConns, Served}
 use Rattle.gateway_model.specs.declared.seen.Seen.{Seen}

@@ -2,21 +2,19 @@
 use Rattle.std.proofs.Common.{◌≡◌, ℕ, zero, suc, ◌+◌, ◌<◌, ◌≤◌, Bool, true, false, List, [], ◌∷◌, ◌++◌, append-nil, length, map, Option, None, Some, Result, Ok, Err, refl, sym, ap, ◌∙◌, subst, arith, ⊎_elim}
 use Rattle.std.specs.Prelude.{OnOk, ◌||◌, ◌==◌, filter, is_some, nat_lt, slice_index_or}
 use Rattle.std.specs.List.{range_with_len}
-use Rattle.std.specs.Option.{option_map_or}
 use Rattle.std.proofs.lemmas.Bool.{cases_Bool, cases_lt, eq-eqb, eqb-true, lt-ltb, le-ltb, ltb-true, ltb-false}
 use Rattle.call_plan.specs.Plan.{PlanRecord}
-use Rattle.gateway_theory.specs.Conn.{ConnValue}
 use Rattle.gateway_model.specs.Events.{Before, IsRising, Occurs}
 use Rattle.gateway_model.specs.declared.event.Event.TheVariants.{Closing, Opening}
 use Rattle.gateway_model.specs.declared.event.Event.{Event}
 use Rattle.gateway_model.specs.declared.event.Event.TheVariants as events
-use Rattle.gateway_theory.specs.Gateway.{GatewayValue, is_broken_conn, is_open_conn}
+use Rattle.gateway_theory.specs.Gateway.{is_broken_conn, is_open_conn}
+use Rattle.gateway_theory.specs.Values.{GatewayValue}
 use Rattle.gateway_model.specs.Breaks.{by_events}
 use Rattle.gateway_model.specs.Past.{is_broken, marked}
 use Rattle.gateway_model.specs.Queue.{queued, queued_entries}
 use Rattle.gateway_theory.specs.Served.{Lives, Served}
 use Rattle.gateway_model.specs.Starts.{Placed, occurrences, starts}
-use Rattle.gateway_theory.specs.Store.{conn_of}
 use Rattle.gateway_run.specs.Log.{Collects, absent, gathers, HasLived, HasRun, LogValue, flag_at, log_value, queue_at}
 use Rattle.gateway_model.specs.Run.{IsLived, bytes_of, is_listed, is_start_of, run_start, starts_of}
 use Rattle.gateway_model.specs.History.{History, history_of, no_history}
@@ -26,7 +24,7 @@ use Rattle.gateway_run.specs.Stepping.{CollectsFor}
 use Rattle.gateway_run.proofs.Flags.{beyond, run_starts_on, same_starts}
 use Rattle.gateway_run.proofs.WholeLemmas.{filter_rising, listed_at, listed_below}
 use Rattle.gateway_theory.specs.lemmas.CutLemmas.{open_known}
-use Rattle.gateway_theory.specs.lemmas.Knowing.{broken_lived, queue_lived}
+use Rattle.gateway_theory.specs.lemmas.Laws.{broken_lived, queue_lived, unopened_unbroken}
 use Rattle.gateway_theory.specs.lemmas.OwnLemmas.{unbroken_queue}
 use Rattle.gateway_theory.specs.lemmas.PrefixLemmas.{broken_shut, events_occur}
 
@@ -77,7 +75,7 @@ run_first v log served lives log_is = subst (λ l. HasRun (λ c. false) v l []) 
   taken = λ c. [];
   started = [];
   served = served;
-  no_jobs = lives.stands.lives.jobs_are;
+  no_jobs = lives.stands.jobs_are;
   opened_are = record { rising = tt; openings = λ place its. absurd (cc) };
   opened_size = served.conns.count_is;
   queued_size = served.conns.count_is;
@@ -118,7 +116,7 @@ module _ (count : ℕ) (v : GatewayValue) (log : LogValue) (es : Before) (broken
 
   open_below : (c : ℕ) → is_open_conn c v ≡ true → nat_lt c count ≡ true
   open_below c there = lt-ltb c count (
-      let lt = open_known log.opened c es (h.served.conns.open_are c ∙ there) in
+      let lt = open_known log.opened c es ((h.served.conns.each c).open_is ∙ there) in
       let n = h.served.conns.count_is in
       let m = h.opened_size in omega (arith, lt, n, m, count_is))
 
@@ -134,11 +132,7 @@ module _ (count : ℕ) (v : GatewayValue) (log : LogValue) (es : Before) (broken
       where
         -- one that was not opened did not break
         unknown : v.opened ≤ c → flag_at c log ≡ is_broken c (marked (occurrences was.lived))
-        unknown le = beyond log.broke c false (let n = h.broke_size in omega (arith, n, le)) ∙ sym (unshut (is_broken c (marked (occurrences was.lived))) refl)
-          where
-            unshut : (b : Bool) → is_broken c (marked (occurrences was.lived)) ≡ b → is_broken c (marked (occurrences was.lived)) ≡ false
-            unshut false e = e
-            unshut true e = absurd (let clash : true ≡ false = sym (broken_shut c (marked (occurrences was.lived)) e) ∙ (was.lives.stands.unopened c le).unshut in cc)
+        unknown le = beyond log.broke c false (let n = h.broke_size in omega (arith, n, le)) ∙ sym (unopened_unbroken v now was.lived was.lives c le)
 
         by_open : (b : Bool) → is_open_conn c v ≡ b → flag_at c log ≡ is_broken c (marked (occurrences was.lived))
         by_open true e = h.flagged c (open_below c e) e ∙ broken_lived v now was.lived was.lives c e

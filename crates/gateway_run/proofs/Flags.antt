@@ -16,7 +16,6 @@ use Rattle.gateway_theory.specs.lemmas.PrefixLemmas.{events_occur}
 use Rattle.gateway_theory.specs.Starting.{StartedJob, job_started, start}
 use Rattle.gateway_model.specs.Run.{is_start_of, run_start}
 use Rattle.gateway_run.specs.Log.{start_at}
-use Rattle.gateway_theory.specs.lemmas.GivingUp.{or_right as or_false_right}
 
 -- ---- places
 
@@ -115,7 +114,11 @@ same_starts c [] off = refl
 same_starts c (o ∷ lived) off = one_more c o lived ∙ by (is_break o.1) refl (same_starts c lived before)
   where
     before : is_broken c (marked (occurrences lived)) ≡ false
-    before = or_false_right (breaks c o.1) (is_broken c (marked (occurrences lived))) off
+    before = behind (breaks c o.1) off
+      where
+        behind : (b : Bool) → (b || is_broken c (marked (occurrences lived))) ≡ false → is_broken c (marked (occurrences lived)) ≡ false
+        behind true e = absurd (cc)
+        behind false e = e
 
     by : (b : Bool) → is_break o.1 ≡ b → filter (is_started_on c) (starts lived) ≡ filter (is_started_on c) (starts (by_events lived))
         → filter (is_started_on c) (starts lived) ++ map (start o.0) (filter (is_of c) (jobs_by o.1 (mark_of (marked (occurrences lived)) o.1) (marked (occurrences lived))))

@@ -1,22 +1,20 @@
 -- What a run takes from the gateway: replies and jobs.
-use Rattle.std.proofs.Common.{◌≡◌, ℕ, ◌<◌, ◌≤◌, Bool, true, false, List, [], ◌∷◌, ◌++◌, length, map, Option, None, Some, refl, sym, ap, ◌∙◌, subst, arith, append-nil, append_assoc, ⊎_elim, inl, inr}
-use Rattle.std.specs.Prelude.{◌⊎◌, if◌then◌else◌, ◌||◌, ◌==◌, flat_map, is_some, option_map, option_to_list}
-use Rattle.std.specs.Option.{option_map_or}
+use Rattle.std.proofs.Common.{◌≡◌, ℕ, ◌<◌, ◌≤◌, Bool, true, false, List, [], ◌∷◌, ◌++◌, length, map, Option, refl, sym, ap, ◌∙◌, subst, arith, append-nil, append_assoc, ⊎_elim, inl, inr}
+use Rattle.std.specs.Prelude.{◌⊎◌, if◌then◌else◌, ◌&&◌, ◌||◌, ◌==◌, flat_map, option_map, option_to_list}
 use Rattle.std.proofs.lemmas.Bool.{cases_Bool, eq-eqb, eqb-true, ne_eqb}
 use Rattle.std.proofs.lemmas.Grind.{flat_map-append}
 use Rattle.std.proofs.lemmas.List.{append_cancel_left, length-set, map-append}
 use Rattle.gateway_model.specs.declared.entry.ReplyEntry.{ReplyEntry}
 use Rattle.gateway_model.specs.declared.reply_bytes.ReplyBytes.{ReplyBytes}
-use Rattle.gateway_theory.specs.Conn.{ConnValue}
 use Rattle.gateway_model.specs.Events.{Before, Occurs}
-use Rattle.gateway_theory.specs.Gateway.{GatewayValue, is_broken_conn, is_open_conn, untaken_of}
+use Rattle.gateway_theory.specs.Gateway.{is_broken_conn, is_open_conn, untaken_of}
+use Rattle.gateway_theory.specs.Values.{GatewayValue, connection}
 use Rattle.gateway_model.specs.Queue.{answer_of, front}
 use Rattle.gateway_theory.specs.Replies.{ReplyValue}
 use Rattle.gateway_theory.specs.Served.{Lives, Served, with_reply, after_reply}
 use Rattle.gateway_theory.specs.Serving.{TakesOnly}
 use Rattle.gateway_model.specs.Starts.{Placed}
 use Rattle.gateway_theory.specs.Starting.{job_started}
-use Rattle.gateway_theory.specs.Store.{conn_of}
 use Rattle.gateway_run.specs.Log.{ClosedSo, Collects, absent, gathers, HasRun, LogValue, TookReplies, flag_at, log_with, queue_at}
 use Rattle.gateway_model.specs.Run.{bytes_of}
 use Rattle.gateway_model.specs.History.{History, history_of}
@@ -114,12 +112,12 @@ module _ (gathered : ℕ → Bool) (n : ℕ) (v w : GatewayValue) (log later : L
           or_false_so : (a : Bool) → (a || false) ≡ true → a ≡ true
           or_false_so true e = refl
           or_false_so false e = absurd (cc)
-      none_of c true its on = by_conn (conn_of c v.machine.conns) refl
+      none_of c true its on = by_open (is_open_conn c v) refl
         where
-          by_conn : (k : Option ConnValue) → conn_of c v.machine.conns ≡ k → untaken_of c v ≡ []
-          by_conn None k_is = ap (λ x. option_map_or (λ (y : ConnValue). front y.slots) x []) k_is
-          by_conn (Some k) k_is = absurd (
-              let lt = open_known log.opened c es (h.served.conns.open_are c ∙ ap (λ x. is_some x) k_is) in
+          by_open : (b : Bool) → is_open_conn c v ≡ b → untaken_of c v ≡ []
+          by_open false off = ap (λ b. if b then front (connection c v).slots else []) off
+          by_open true there = absurd (
+              let lt = open_known log.opened c es ((h.served.conns.each c).open_is ∙ there) in
               let same : c ≡ n = eqb-true c n its in
               let count = h.served.conns.count_is in
               let size = h.queued_size in omega (arith, lt, same, count, size, beyond))
@@ -134,7 +132,7 @@ module _ (gathered : ℕ → Bool) (n : ℕ) (v w : GatewayValue) (log later : L
           by_it : (a b : Bool) → (c == n) ≡ b → (a || b) ≡ true → a ≡ true
           by_it true b e x = refl
           by_it false true e x = absurd (
-              let lt = open_known log.opened c es (h.served.conns.open_are c ∙ there) in
+              let lt = open_known log.opened c es ((h.served.conns.each c).open_is ∙ there) in
               let same : c ≡ n = eqb-true c n e in
               let count = h.served.conns.count_is in
               let size = h.queued_size in omega (arith, lt, same, count, size, beyond))
@@ -218,22 +216,18 @@ module _ (gathered : ℕ → Bool) (n : ℕ) (v w : GatewayValue) (log later : L
       queue_is = subst (λ m. after m ≡ h.taken m) (sym same) (taken_here ∙ nothing) ∙ was.queue_is;
     }
       where
-        absent_is : conn_of n v.machine.conns ≡ None
-        absent_is = by_conn (conn_of n v.machine.conns) (sym (t.only.open_are n) ∙ ap (λ m. is_open_conn m w) (sym same) ∙ off)
-          where
-            by_conn : (k : Option ConnValue) → is_some k ≡ false → k ≡ None
-            by_conn None e = refl
-            by_conn (Some k) e = absurd (cc)
+        shut_is : is_open_conn n v ≡ false
+        shut_is = sym (t.only.open_are n) ∙ ap (λ m. is_open_conn m w) (sym same) ∙ off
 
         unbroken : (flag_at n log || is_broken_conn n v) ≡ flag_at n log
-        unbroken = ap (λ x. flag_at n log || option_map_or (λ (y : ConnValue). y.broken) x false) absent_is ∙ by_it (flag_at n log)
+        unbroken = ap (λ b. flag_at n log || (b && (connection n v).broken)) shut_is ∙ by_it (flag_at n log)
           where
             by_it : (b : Bool) → (b || false) ≡ b
             by_it true = refl
             by_it false = refl
 
         nothing : h.taken n ++ untaken_of n v ≡ h.taken n
-        nothing = ap (λ x. h.taken n ++ option_map_or (λ (y : ConnValue). front y.slots) x []) absent_is ∙ append-nil (h.taken n)
+        nothing = ap (λ b. h.taken n ++ (if b then front (connection n v).slots else [])) shut_is ∙ append-nil (h.taken n)
     closed c less off lived so (inr other) = let was = so (subst (λ m. c < m) t.only.opened_is less) (sym (t.only.open_are c) ∙ off) in record {
       broken_is = flag_other c other ∙ was.broken_is;
       queue_is = taken_other c other ∙ was.queue_is;

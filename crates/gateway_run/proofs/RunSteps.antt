@@ -9,13 +9,15 @@ use Rattle.gateway_model.specs.Breaks.{by_events}
 use Rattle.gateway_model.specs.Events.{Before, IsOpened, Occurs, OccursAt, connections, is_closing_of, is_open, onto}
 use Rattle.gateway_model.specs.declared.event.Event.{Event}
 use Rattle.gateway_model.specs.declared.event.Event.TheVariants.{Opening, Piece, HangUp, Moment, BranchResult, Drain, Closing}
-use Rattle.gateway_theory.specs.Gateway.{GatewayValue, is_open_conn}
+use Rattle.gateway_theory.specs.Gateway.{is_open_conn, with_jobs}
+use Rattle.gateway_theory.specs.Values.{GatewayValue}
 use Rattle.gateway_model.specs.Job.{JobValue}
 use Rattle.gateway_model.specs.Occurrence.{Occurrence}
 use Rattle.gateway_model.specs.Own.{without_breaks}
 use Rattle.gateway_model.specs.Past.{is_broken, mark_of, marked}
 use Rattle.gateway_model.specs.Queue.{queued_entries}
-use Rattle.gateway_theory.specs.Served.{Adds, HasConns, Lives, Served, at_place}
+use Rattle.gateway_theory.specs.Served.{Adds, HasConns, Lives, Served}
+use Rattle.gateway_theory.specs.Core.{at_place}
 use Rattle.gateway_model.specs.declared.seen.Seen.{Seen}
 use Rattle.gateway_theory.specs.Serving.{KeepsBut}
 use Rattle.gateway_model.specs.Starts.{Placed, jobs, jobs_by, occurrences, starts}
@@ -28,8 +30,8 @@ use Rattle.gateway_run.proofs.ClosedRuns.{AllStill, broken_then, closes_now, que
 use Rattle.gateway_run.proofs.Flags.{beyond, jobs_again, starts_at}
 use Rattle.gateway_theory.specs.lemmas.Adding.{events_are, occurrences_at}
 use Rattle.gateway_theory.specs.lemmas.CutLemmas.{jobs_of_starts}
-use Rattle.gateway_theory.specs.lemmas.ShutConns.{closed_by}
-use Rattle.gateway_theory.specs.lemmas.Knowing.{broken_lived, queue_lived}
+use Rattle.gateway_theory.specs.lemmas.ConnectionSteps.{closed_by}
+use Rattle.gateway_theory.specs.lemmas.Laws.{broken_lived, queue_lived}
 use Rattle.gateway_theory.specs.lemmas.PrefixLemmas.{events_occur, is_shut_in, without_shut}
 
 -- ---- what starts at the newest
@@ -71,16 +73,16 @@ module _ (e : Event) (es : Before) (v w : GatewayValue) (log next : LogValue) (h
   served = s.served h.taken (map job_started h.started) h.served
 
   abbrev new : List JobValue
-  new = w.machine.jobs
+  new = w.jobs
 
   open_before : (c : ℕ) → is_open next.opened c es ≡ is_open_conn c v
-  open_before c = s.same_open h.served.conns c ∙ h.served.conns.open_are c
+  open_before c = s.same_open h.served.conns c ∙ (h.served.conns.each c).open_is
 
   count_before : connections next.opened es ≡ v.opened
   count_before = s.same_count h.served.conns ∙ h.served.conns.count_is
 
   open_now : (c : ℕ) → is_open next.opened c (e ∷ es) ≡ is_open_conn c w
-  open_now c = served.conns.open_are c
+  open_now c = (served.conns.each c).open_is
 
   -- a connection that is open behind the event and was known before was open, and does not close by it
   -- the connection was opened before the event, where it is not open behind it
@@ -112,7 +114,7 @@ module _ (e : Event) (es : Before) (v w : GatewayValue) (log next : LogValue) (h
 
     new_is : new ≡ new_jobs added.0 (occurrences was.lived)
     new_is = append_cancel_left (jobs (marked (occurrences was.lived))) new (new_jobs added.0 (occurrences was.lived))
-        (ap (λ js. js ++ new) (sym handed_are) ∙ added.2.stands.lives.jobs_are
+        (ap (λ js. js ++ new) (sym handed_are) ∙ added.2.stands.jobs_are
         ∙ ap (λ us. jobs (marked us)) (occurrences_at (length es) added.0 was.lived) ∙ jobs_newer added.0 (occurrences was.lived))
       where
         handed_are : map job_started h.started ≡ jobs (marked (occurrences was.lived))
@@ -200,7 +202,7 @@ module _ (e : Event) (es : Before) (v w : GatewayValue) (log next : LogValue) (h
   }))
     where
       last : GatewayValue
-      last = record w { machine = record w.machine { jobs = [] } }
+      last = with_jobs [] w
 
       handed_are : map job_started (h.started ++ map (start (length es)) new) ≡ map job_started h.started ++ new
       handed_are = map-append job_started h.started (map (start (length es)) new) ∙ ap (λ js. map job_started h.started ++ js) (jobs_again (length es) new)

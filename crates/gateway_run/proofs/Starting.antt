@@ -9,7 +9,8 @@ use Rattle.gateway_run.specs.Stepping.{TellsBreaks, TellsConn, TellsOpening, don
 use Rattle.gateway_run.specs.declared.stepping.Stepped.{Stepped}
 use Rattle.gateway_run.specs.declared.stepping.Stepped.TheVariants.{Fault, Opened}
 use Rattle.gateway_theory.specs.Refused.{RefusesOpening}
-use Rattle.gateway_theory.specs.Gateway.{GatewayValue, with_jobs}
+use Rattle.gateway_theory.specs.Gateway.{with_jobs}
+use Rattle.gateway_theory.specs.Values.{GatewayValue}
 use Rattle.gateway_theory.specs.Serving.{Breaks, KeepsBut, TellsStep}
 use Rattle.gateway_theory.specs.declared.fault.StepFault.TheVariants.{Exhausted, Gone, Memory}
 use Rattle.gateway_theory.specs.Task.{HandedJob}
@@ -23,20 +24,20 @@ use Rattle.gateway_model.specs.Starts.{Placed}
 -- the first jobs were taken
 pub record Started (v w : GatewayValue) : Type 0 where
   pub gone : List JobValue
-  pub jobs_are : v.machine.jobs ≡ gone ++ w.machine.jobs
-  pub rest : w ≡ with_jobs w.machine.jobs v
+  pub jobs_are : v.jobs ≡ gone ++ w.jobs
+  pub rest : w ≡ with_jobs w.jobs v
   pub served : (history : History) → Served v history → Served w (after_jobs gone history)
   pub lives : (history : History) (lived : List Placed) → Lives v history lived → Lives w (after_jobs gone history) lived
 
 pub one_started : (u v w : GatewayValue) (job : Option HandedJob) → Started u v
     → ((history : History) → Served v history → Served w (after_jobs (option_to_list (option_map (λ (j : HandedJob). j.job) job)) history))
     → ((history : History) (lived : List Placed) → Lives v history lived → Lives w (after_jobs (option_to_list (option_map (λ (j : HandedJob). j.job) job)) history) lived)
-    → v.machine.jobs ≡ option_to_list (option_map (λ (j : HandedJob). j.job) job) ++ w.machine.jobs
-    → w ≡ with_jobs w.machine.jobs v → Started u w
+    → v.jobs ≡ option_to_list (option_map (λ (j : HandedJob). j.job) job) ++ w.jobs
+    → w ≡ with_jobs w.jobs v → Started u w
 one_started u v w job s stands lives first rest = record {
   gone = s.gone ++ option_to_list (option_map (λ (j : HandedJob). j.job) job);
-  jobs_are = s.jobs_are ∙ ap (λ js. s.gone ++ js) first ∙ sym (append_assoc s.gone (option_to_list (option_map (λ (j : HandedJob). j.job) job)) w.machine.jobs);
-  rest = rest ∙ ap (with_jobs w.machine.jobs) s.rest;
+  jobs_are = s.jobs_are ∙ ap (λ js. s.gone ++ js) first ∙ sym (append_assoc s.gone (option_to_list (option_map (λ (j : HandedJob). j.job) job)) w.jobs);
+  rest = rest ∙ ap (with_jobs w.jobs) s.rest;
   served = λ history h. subst (λ js. Served w (record history { handed = js })) (append_assoc history.handed s.gone (option_to_list (option_map (λ (j : HandedJob). j.job) job)))
       (stands (after_jobs s.gone history) (s.served history h));
   lives = λ history lived l. subst (λ js. Lives w (record history { handed = js }) lived) (append_assoc history.handed s.gone (option_to_list (option_map (λ (j : HandedJob). j.job) job)))
@@ -44,9 +45,9 @@ one_started u v w job s stands lives first rest = record {
 }
 
 -- where none is left, all were
-pub all_started : (v w : GatewayValue) → Started v w → w.machine.jobs ≡ [] → (w ≡ with_jobs [] v)
-    × ((history : History) → Served v history → Served w (after_jobs v.machine.jobs history))
-    × ((history : History) (lived : List Placed) → Lives v history lived → Lives w (after_jobs v.machine.jobs history) lived)
+pub all_started : (v w : GatewayValue) → Started v w → w.jobs ≡ [] → (w ≡ with_jobs [] v)
+    × ((history : History) → Served v history → Served w (after_jobs v.jobs history))
+    × ((history : History) (lived : List Placed) → Lives v history lived → Lives w (after_jobs v.jobs history) lived)
 all_started v w s none = (
   s.rest ∙ ap (λ js. with_jobs js v) none,
   λ history h. subst (λ js. Served w (after_jobs js history)) (sym (s.jobs_are ∙ ap (λ js. s.gone ++ js) none ∙ append-nil s.gone)) (s.served history h),

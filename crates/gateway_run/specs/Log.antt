@@ -3,7 +3,8 @@ use Rattle.std.specs.Prelude.{◌≡◌, ℕ, ◌<◌, ◌≤◌, Bool, true, fa
 use Rattle.gateway_model.specs.declared.entry.ReplyEntry.{ReplyEntry}
 use Rattle.gateway_model.specs.Breaks.{by_events}
 use Rattle.gateway_model.specs.Events.{Before, IsOpened, Occurs}
-use Rattle.gateway_theory.specs.Gateway.{GatewayValue, is_broken_conn, is_open_conn, jobs_of, untaken_of, with_jobs}
+use Rattle.gateway_theory.specs.Gateway.{is_broken_conn, is_open_conn, jobs_of, untaken_of, with_jobs}
+use Rattle.gateway_theory.specs.Values.{GatewayValue}
 use Rattle.gateway_model.specs.Job.{JobValue}
 use Rattle.gateway_model.specs.Past.{is_broken, marked}
 use Rattle.gateway_model.specs.Queue.{queued_entries}

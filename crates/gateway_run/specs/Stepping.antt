@@ -13,8 +13,10 @@ use Rattle.gateway_theory.specs.declared.fault.OpenError.{OpenError}
 use Rattle.gateway_theory.specs.Refused.{RefusesOpening}
 use Rattle.gateway_theory.specs.declared.fault.StepFault.{StepFault}
 use Rattle.gateway_theory.specs.declared.fault.StepFault.TheVariants.{Exhausted, Gone, Memory}
-use Rattle.gateway_theory.specs.Gateway.{GatewayValue, is_broken_conn}
-use Rattle.gateway_theory.specs.Serving.{Breaks, NotListening, most_begun}
+use Rattle.gateway_theory.specs.Gateway.{is_broken_conn}
+use Rattle.gateway_theory.specs.Values.{GatewayValue}
+use Rattle.gateway_theory.specs.Serving.{Breaks, NotListening}
+use Rattle.gateway_theory.specs.Held.{most_begun}
 use Rattle.gateway_run.specs.Log.{Collects, LogValue, log_value}
 use Rattle.gateway_run.specs.declared.stepping.Stepped.{Stepped}
 use Rattle.gateway_run.specs.declared.stepping.Stepped.TheVariants.{Broke, Done, Fault, NotOpened, Opened, Saw}

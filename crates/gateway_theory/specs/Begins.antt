@@ -10,7 +10,8 @@ use Rattle.gateway_model.specs.declared.call_event.CallEvent.{CallEvent}
 use Rattle.gateway_model.specs.declared.call_event.CallEvent.TheVariants.{Expired, Drained}
 use Rattle.gateway_model.specs.Past.{ArrivedCall, asked_by, deadline_from, is_due}
 use Rattle.gateway_model.specs.declared.entry.ReplyEntry.TheVariants.{Refused as Refusing, Judged as Judging, Crowded as Crowding}
-use Rattle.gateway_theory.specs.Step.{Live, Step, call_state, gone, step_to, ended}
+use Rattle.gateway_theory.specs.Step.{Step, step_to, ended}
+use Rattle.gateway_theory.specs.Values.{Live, call_state, gone}
 use Rattle.gateway_theory.specs.LiveStands.{tasks_from}
 
 -- a call as it begins, none of whose branches has started

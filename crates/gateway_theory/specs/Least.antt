@@ -4,8 +4,8 @@ use Rattle.std.specs.List.{list_any}
 use Rattle.gateway_model.specs.Past.{least_of, smaller}
 use Rattle.gateway_theory.specs.declared.trigger.Trigger.TheVariants.{Reached}
 use Rattle.gateway_theory.specs.Ends.{ended_call}
-use Rattle.gateway_theory.specs.Kept.{KeptValue}
-use Rattle.gateway_theory.specs.Step.{Live, deadlines_in}
+use Rattle.gateway_theory.specs.Values.{KeptValue, Live}
+use Rattle.gateway_theory.specs.Step.{deadlines_in}
 
 -- the least deadline of a call that can be decided: its own, or that of a branch of it which is out
 abbrev pub deadline_of : KeptValue → Option ℕ

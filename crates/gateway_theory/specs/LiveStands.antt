@@ -3,11 +3,12 @@ use Rattle.std.specs.Prelude.{◌≡◌, ℕ, ◌-◌, Bool, true, false, ◌&&�
 use Rattle.std.specs.List.{range_with_len}
 use Rattle.std.specs.Option.{option_or}
 use Rattle.gateway_model.specs.declared.id.CallId.{CallId}
-use Rattle.gateway_theory.specs.Task.{TaskValue, task_of}
+use Rattle.gateway_theory.specs.Task.{task_of}
+use Rattle.gateway_theory.specs.Values.{TaskValue, Live, CallState}
 use Rattle.gateway_model.specs.Past.{Mark, Past, ArrivedCall, call, answers, began, started, is_out, can_be_decided, is_shut, decided, branch_deadlines}
 use Rattle.gateway_model.specs.Queue.{own_events, entry}
 use Rattle.gateway_model.specs.Starts.{jobs_started}
-use Rattle.gateway_theory.specs.Step.{Live, CallState, Step, has_out}
+use Rattle.gateway_theory.specs.Step.{Step, has_out}
 
 -- the call has arrived, and can still be decided
 abbrev pub is_live : CallId → Past → Bool

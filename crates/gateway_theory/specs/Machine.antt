@@ -1,13 +1,14 @@
 -- The machine: all connections, all calls, and what an occurrence makes of them. Of a closed connection it keeps the slots that it had.
-use Rattle.std.specs.Prelude.{◌≡◌, ℕ, ◌+◌, ◌<◌, max, Bool, true, false, ◌||◌, nat_le, is_none, List, [], ◌∷◌, ◌++◌, length, Option, None, slice_index_or}
+use Rattle.std.specs.Prelude.{◌≡◌, ℕ, ◌+◌, ◌<◌, Bool, true, false, ◌||◌, nat_le, is_none, List, length, Option, None, slice_index_or}
 use Rattle.std.specs.List.{count_by}
 use Rattle.std.specs.Option.{option_or}
 use Rattle.gateway_model.specs.declared.id.CallId.{CallId}
 use Rattle.gateway_model.specs.Job.{JobValue}
-use Rattle.gateway_model.specs.Occurrence.{Occurrence, Comes, Result, Coming}
-use Rattle.gateway_model.specs.Past.{call_id, moment_of, is_drain, shuts, most_calls}
+use Rattle.gateway_model.specs.Occurrence.{Occurrence, Comes, Coming}
+use Rattle.gateway_model.specs.Past.{call_id, shuts, most_calls}
 use Rattle.gateway_model.specs.declared.entry.ReplyEntry.{ReplyEntry}
-use Rattle.gateway_theory.specs.Step.{CallState, Step, step}
+use Rattle.gateway_theory.specs.Step.{Step, step}
+use Rattle.gateway_theory.specs.Values.{CallState}
 use Rattle.gateway_theory.specs.Begins.{arrive}
 
 -- how many replies of the connection were taken, and a slot for each request behind them
@@ -24,9 +25,6 @@ pub record MachineState : Type 0 where
   pub calls : CallId → CallState
   pub jobs : List JobValue
 
-abbrev pub new_conn : ConnState
-new_conn = record { taken = 0; slots = []; closed = false }
-
 abbrev pub slot_at : ℕ → List (Option ReplyEntry) → Option ReplyEntry
 slot_at j slots = slice_index_or slots j None
 
@@ -39,25 +37,12 @@ abbrev pub is_coming : Occurrence → Bool
 is_coming (Comes c x) = true
 is_coming o = false
 
--- the jobs that start at an occurrence that is no request
-abbrev pub starting : Occurrence → MachineState → List JobValue
-starting (Result of i outcome) s = (step_of of (Result of i outcome) s).jobs
-starting o s = []
-
 -- the connection after an occurrence at which nothing comes on its stream
 pub record ConnAfter (o : Occurrence) (s : MachineState) (c : ℕ) (old new : ConnState) : Type 0 where
   pub taken_is : new.taken ≡ old.taken
   pub closed_is : new.closed ≡ (shuts c o || old.closed)
   pub size_is : length new.slots ≡ length old.slots
   pub each : (j : ℕ) → j < length old.slots → slot_at j new.slots ≡ option_or (slot_at j old.slots) (step_of (call_id c (old.taken + j)) o s).reply
-
--- the machine after an occurrence at which nothing comes on a stream
-pub record After (o : Occurrence) (s t : MachineState) : Type 0 where
-  pub moment_is : t.moment ≡ max s.moment (moment_of o)
-  pub drained_is : t.drained ≡ (is_drain o || s.drained)
-  pub calls_are : (id : CallId) → t.calls id ≡ (step_of id o s).call
-  pub conns_are : (c : ℕ) → ConnAfter o s c (s.conns c) (t.conns c)
-  pub jobs_are : t.jobs ≡ s.jobs ++ starting o s
 
 -- a call too many
 abbrev pub is_full : List (Option ReplyEntry) → Bool
@@ -68,6 +53,3 @@ next_id c s = call_id c ((s.conns c).taken + length (s.conns c).slots)
 
 abbrev pub arriving : ℕ → Coming → MachineState → Step
 arriving c x s = arrive s.moment s.drained (is_full (s.conns c).slots) (next_id c s) x
-
-abbrev pub with_slot : Option ReplyEntry → ConnState → ConnState
-with_slot reply k = record k { slots = k.slots ++ reply ∷ [] }

@@ -4,7 +4,8 @@ use Rattle.connect_codec.specs.declared.answer.Outcome.{Outcome}
 use Rattle.connect_codec.specs.declared.answer.Outcome.TheVariants.{Answer, Fail}
 use Rattle.gateway_model.specs.declared.id.CallId.{CallId}
 use Rattle.gateway_model.specs.Job.{JobValue}
-use Rattle.gateway_theory.specs.Task.{TaskValue, job_at}
+use Rattle.gateway_theory.specs.Task.{job_at}
+use Rattle.gateway_theory.specs.Values.{TaskValue, Live, CallState, call_state}
 use Rattle.gateway_model.specs.Occurrence.{Occurrence, HangUp, Moment, Result, Drain, Closing, Break}
 use Rattle.gateway_model.specs.declared.call_event.CallEvent.{CallEvent}
 use Rattle.gateway_model.specs.declared.call_event.CallEvent.TheVariants.{Answer as Answered, Failed, HungUp, Drained}
@@ -12,25 +13,6 @@ use Rattle.gateway_model.specs.Past.{ArrivedCall, deadline_from, due_by, is_call
 use Rattle.gateway_model.specs.declared.entry.ReplyEntry.{ReplyEntry}
 use Rattle.gateway_model.specs.declared.entry.ReplyEntry.TheVariants.{Call as Calling}
 use Rattle.gateway_model.specs.Queue.{record_of}
-
--- a call that can still be decided: its own events so far, the deadlines of its branches that have started, and the branches that wait for their start
-pub record Live : Type 0 where
-  pub asked : ArrivedCall
-  pub events : List CallEvent
-  pub deadlines : List (Option ℕ)
-  pub waiting : List TaskValue
-
--- which branches are out, and the call as long as it can be decided
-pub record CallState : Type 0 where
-  pub out : List Bool
-  pub live : Option Live
-
-abbrev pub call_state : List Bool → Option Live → CallState
-call_state out live = record { out = out; live = live }
-
--- what stands for a call that is not kept
-abbrev pub gone : CallState
-gone = call_state [] None
 
 abbrev pub has_out : CallState → ℕ → Bool
 has_out c i = slice_index_or c.out i false

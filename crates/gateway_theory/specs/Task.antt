@@ -3,12 +3,7 @@ use Rattle.std.specs.Prelude.{ℕ, ◌-◌, Bool, Option, option_map}
 use Rattle.gateway_model.specs.declared.id.CallId.{CallId}
 use Rattle.gateway_model.specs.Past.{ArrivedCall}
 use Rattle.gateway_model.specs.Job.{JobValue, job_of}
-
--- a branch of a call that waits for its start
-pub record TaskValue : Type 0 where
-  pub call : CallId
-  pub branch : ℕ
-  pub asked : ArrivedCall
+use Rattle.gateway_theory.specs.Values.{TaskValue}
 
 abbrev pub task_of : CallId → ArrivedCall → ℕ → TaskValue
 task_of call asked i = record { call = call; branch = i; asked = asked }

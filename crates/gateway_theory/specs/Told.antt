@@ -18,13 +18,12 @@ use Rattle.gateway_model.specs.History.{History, after_event, after_opening, aft
 use Rattle.gateway_theory.specs.declared.fault.StepFault.{StepFault}
 use Rattle.gateway_theory.specs.declared.fault.Took.{Took}
 use Rattle.gateway_theory.specs.Breaks.{seen_by}
-use Rattle.gateway_theory.specs.Gateway.{GatewayValue, shown}
 use Rattle.gateway_theory.specs.LiveStands.{is_live}
 use Rattle.gateway_theory.specs.Replies.{ReplyValue}
-use Rattle.gateway_theory.specs.Results.{NoneSpent}
+use Rattle.gateway_theory.specs.Gateway.{call_in}
+use Rattle.gateway_theory.specs.Values.{GatewayValue, shown}
 use Rattle.gateway_theory.specs.Served.{Adds, FedUpTo, Lives, Served, after_reply}
-use Rattle.gateway_theory.specs.Serving.{Breaks, WouldBegin}
-use Rattle.gateway_theory.specs.Store.{call_at}
+use Rattle.gateway_theory.specs.Serving.{Breaks, NoneSpent, WouldBegin}
 
 -- ---- what it stands for
 
@@ -103,7 +102,7 @@ LeavesReplied conn reply v w = (h : History) (lived : List Placed) → Lives v h
 
 -- how a result is seen, whatever its connection: by what is kept of its call, and by what was lived
 pub record IsSeen (id : CallId) (branch : ℕ) (v : GatewayValue) (seen : Seen) : Type 0 where
-  pub kept : seen ≡ seen_by (call_at id v.machine.calls) branch
+  pub kept : seen ≡ seen_by (call_in id v) branch
   pub by_lived : (h : History) (lived : List Placed) → Lives v h lived → seen ≡ how_seen id branch (marked (occurrences lived))
 
 -- what the answer to a result tells: a connection breaks only by one that counts; one of a branch that is not out changes nothing but the
@@ -113,7 +112,7 @@ pub record TellsTook (id : CallId) (branch : ℕ) (took : Took) (v w : GatewayVa
   pub counted : took.broke ≡ true → took.seen ≡ Counted
   pub broke : Breaks v w took.broke
   pub unknown : took.seen ≡ Unknown → w ≡ record v { tally = w.tally }
-  pub none_spent : (took.seen ≡ Unknown → ⊥) → NoneSpent id w.machine.calls
+  pub none_spent : (took.seen ≡ Unknown → ⊥) → NoneSpent id w
 
 -- ---- jobs
 

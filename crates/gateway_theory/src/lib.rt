@@ -2,6 +2,7 @@
 //! The laws are facts on every list of events; their functions do nothing. No code of the gateway is here.
 #![tactic(auto)]
 
+mod connection_rows;
 pub mod event_laws;
 mod fault;
 pub mod laws;

@@ -5,7 +5,8 @@ ghost use Rattle.gateway_theory.specs.declared.fault.StepFault.{StepFault};
 ghost use Rattle.gateway_model.specs.declared.id.CallId.{CallId};
 ghost use Rattle.gateway_model.specs.declared.event.Event.TheVariants.{Opening, Piece};
 ghost use Rattle.gateway_model.specs.Events.{Occurs};
-ghost use Rattle.gateway_theory.specs.Gateway.{GatewayValue, kept_record, outs_of, shown};
+ghost use Rattle.gateway_theory.specs.Gateway.{kept_record, outs_of};
+ghost use Rattle.gateway_theory.specs.Values.{GatewayValue, shown};
 ghost use Rattle.gateway_model.specs.Known.{IsKnown, Shown, is_whole};
 ghost use Rattle.gateway_model.specs.Past.{ArrivedCall, call, marked};
 ghost use Rattle.gateway_model.specs.Queue.{IsPrefixOf, queued, queued_entries};
@@ -15,7 +16,8 @@ ghost use Rattle.gateway_model.specs.Record.{is_decided, is_lawful};
 ghost use Rattle.gateway_theory.specs.Served.{Adds, FedUpTo, HasConns, Served};
 ghost use Rattle.gateway_model.specs.Starts.{Placed, occurrences};
 ghost use Rattle.gateway_model.specs.History.{History};
-ghost use Rattle.gateway_theory.specs.Serving.{FedTo, IsServing, Opens};
+ghost use Rattle.gateway_theory.specs.Serving.{IsServing};
+ghost use Rattle.gateway_theory.specs.Steps.{Feeds, Opens};
 
 use crate::request_laws::request_laws;
 use http_pieces::laws::fresh_law;
@@ -33,10 +35,10 @@ pub fn opening_law()
 pub fn parts_law()
     ensures begins { (n : ℕ) (v : GatewayValue) (h : History) → HasConns v h.opened h.events → FedUpTo n [] h v v }
     ensures goes_on { (n m : ℕ) (p q : List ℕ) (u v w : GatewayValue) (h : History) → IsServing v → FedUpTo n p h u v
-        → FedTo n q v w (Ok m) → FedUpTo n (p ++ take m q) h u w }
+        → Feeds n q v w (Ok m) → FedUpTo n (p ++ take m q) h u w }
     ensures ends { (n : ℕ) (fault : StepFault) (p q : List ℕ) (u v w : GatewayValue) (h : History)
-        → IsServing v → IsServing w → FedUpTo n p h u v
-        → FedTo n q v w (Err fault) → Adds h.opened (Piece n (p ++ q)) h u w }
+        → IsServing v → FedUpTo n p h u v
+        → Feeds n q v w (Err fault) → Adds h.opened (Piece n (p ++ q)) h u w }
 {
     request_laws();
 }

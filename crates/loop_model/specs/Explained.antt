@@ -8,7 +8,7 @@ use Rattle.gateway_model.specs.History.{History}
 use Rattle.gateway_model.specs.Job.{JobValue}
 use Rattle.gateway_model.specs.Known.{IsKnown}
 use Rattle.gateway_model.specs.Starts.{Placed, occurrences}
-use Rattle.gateway_theory.specs.Gateway.{GatewayValue, shown}
+use Rattle.gateway_theory.specs.Values.{GatewayValue, shown}
 use Rattle.loop_model.specs.Clients.{ClientValue, IsExplainedClient}
 use Rattle.loop_model.specs.Handed.{HandsIn, IsResultOf, has_drained, moments, results}
 

@@ -9,7 +9,7 @@ use Rattle.gateway_model.specs.Past.{call_id, marked}
 use Rattle.gateway_model.specs.Queue.{queued}
 use Rattle.gateway_model.specs.Starts.{Placed, occurrences}
 use Rattle.gateway_model.specs.declared.event.Event.TheVariants.{Opening}
-use Rattle.gateway_theory.specs.Gateway.{GatewayValue}
+use Rattle.gateway_theory.specs.Values.{GatewayValue}
 use Rattle.std.specs.declared.net.socket_addr.SocketAddr.{SocketAddr}
 use Rattle.loop_model.specs.Asking.{AskingValue, EndedValue, StreamValue, ended_value}
 use Rattle.loop_model.specs.Clients.{ClientValue, client_value}

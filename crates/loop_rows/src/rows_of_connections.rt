@@ -2,7 +2,7 @@
 ghost use Rattle.std.specs.Prelude.{◌≡◌, ◌<◌, ◌≤◌, ◌∷◌, [], ℕ, Some};
 ghost use Rattle.connect_codec.specs.declared.answer.Outcome.{Outcome};
 ghost use Rattle.gateway_model.specs.Events.{connections};
-ghost use Rattle.gateway_theory.specs.Gateway.{GatewayValue};
+ghost use Rattle.gateway_theory.specs.Values.{GatewayValue};
 ghost use Rattle.loop_model.specs.Clients.{ClientValue};
 ghost use Rattle.loop_model.specs.Explained.{IsExplainedBy, count_of, one_below};
 ghost use Rattle.loop_rows.specs.LoopRows.{client_of, with_clients};

@@ -2,7 +2,7 @@
 ghost use Rattle.std.specs.Prelude.{◌≡◌, ◌∷◌, [], List, Option, true, false};
 ghost use Rattle.connect_codec.specs.declared.answer.Outcome.{Outcome};
 ghost use Rattle.gateway_model.specs.declared.event.Event.TheVariants.{Drain, Moment, Opening};
-ghost use Rattle.gateway_theory.specs.Gateway.{GatewayValue};
+ghost use Rattle.gateway_theory.specs.Values.{GatewayValue};
 ghost use Rattle.loop_model.specs.Clients.{ClientValue};
 ghost use Rattle.loop_model.specs.Explained.{IsExplainedBy, draining};
 ghost use Rattle.loop_model.specs.Handed.{has_drained};

@@ -4,7 +4,7 @@ ghost use Rattle.connect_codec.specs.declared.answer.Outcome.{Outcome};
 ghost use Rattle.gateway_model.specs.Job.{JobValue};
 ghost use Rattle.std.specs.Net.Grammar.{IsSocketText};
 ghost use Rattle.std.specs.declared.net.socket_addr.SocketAddr.{SocketAddr};
-ghost use Rattle.gateway_theory.specs.Gateway.{GatewayValue};
+ghost use Rattle.gateway_theory.specs.Values.{GatewayValue};
 ghost use Rattle.loop_model.specs.Asking.{EndedValue, IsFair, stream_value};
 ghost use Rattle.loop_model.specs.Whole.{AsksFairly, ContinuesLoop};
 ghost use Rattle.loop_rows.specs.LoopRows.{asked, asked_at_peer, asking, asks, ended, job, loop_of};

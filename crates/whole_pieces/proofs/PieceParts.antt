@@ -8,11 +8,13 @@ use Rattle.std.proofs.lemmas.List.Elements.{filter-append}
 use Rattle.std.proofs.lemmas.List.{length-drop, take-append-drop, take_all}
 use Rattle.gateway_model.specs.declared.event.Event.TheVariants.{Piece}
 use Rattle.gateway_model.specs.Known.{is_of}
-use Rattle.gateway_theory.specs.Gateway.{GatewayValue, is_broken_conn, untaken_of}
+use Rattle.gateway_theory.specs.Gateway.{is_broken_conn, untaken_of}
+use Rattle.gateway_theory.specs.Values.{GatewayValue}
 use Rattle.gateway_model.specs.History.{History}
 use Rattle.gateway_theory.specs.Served.{Adds, FedUpTo, HasConns}
 use Rattle.gateway_theory.specs.Told.{AddsEvent, BeginsWithin}
-use Rattle.gateway_theory.specs.Serving.{CountsCalls, NotListening, Keeps, TellsStep, WouldBegin, most_begun}
+use Rattle.gateway_theory.specs.Serving.{CountsCalls, NotListening, Keeps, TellsStep, WouldBegin}
+use Rattle.gateway_theory.specs.Held.{most_begun}
 
 -- nothing was fed yet, or the connection listens, and did
 pub data Listening (conn : ℕ) (v w : GatewayValue) : Type 0 where
@@ -43,7 +45,7 @@ keeps_still breaks v = record {
   replies_stay = λ c other. ([], sym (append-nil (untaken_of c v)));
   no_replies = λ c other silent. refl;
   jobs = [];
-  jobs_are = sym (append-nil v.machine.jobs);
+  jobs_are = sym (append-nil v.jobs);
   no_jobs = λ c silent. refl;
 }
 
@@ -87,7 +89,7 @@ keeps_then breaks u v w a b counts = record {
       (first.0 ++ second.0, second.1 ∙ ap (λ xs. xs ++ second.0) first.1 ∙ append_assoc (untaken_of c u) first.0 second.0);
   no_replies = λ c other silent. b.no_replies c other (a.stays_silent c silent) ∙ a.no_replies c other silent;
   jobs = a.jobs ++ b.jobs;
-  jobs_are = b.jobs_are ∙ ap (λ js. js ++ b.jobs) a.jobs_are ∙ append_assoc u.machine.jobs a.jobs b.jobs;
+  jobs_are = b.jobs_are ∙ ap (λ js. js ++ b.jobs) a.jobs_are ∙ append_assoc u.jobs a.jobs b.jobs;
   no_jobs = λ c silent. filter-append (is_of c) a.jobs b.jobs ∙ ap (λ js. js ++ filter (is_of c) b.jobs) (a.no_jobs c silent) ∙ b.no_jobs c (a.stays_silent c silent);
 }
   where

@@ -1,23 +1,23 @@
--- How one event adds to what was lived.
-use Rattle.std.proofs.Common.{◌≡◌, ℕ, suc, ◌≤◌, Bool, true, false, List, [], ◌∷◌, ◌++◌, length, refl, sym, ap, ◌∙◌, subst, arith, append_assoc}
-use Rattle.std.specs.Prelude.{⊤, if◌then◌else◌, not, reverse}
+-- How one event adds to what was lived, perhaps with breaks.
+use Rattle.std.proofs.Common.{◌≡◌, ℕ, suc, ◌≤◌, Bool, true, false, List, [], ◌∷◌, ◌++◌, length, refl, sym, ap, ◌∙◌, subst, arith, append_assoc, ◌+◌}
+use Rattle.std.specs.Prelude.{⊤, if◌then◌else◌, not, reverse, ◌==◌, ◌||◌}
 use Rattle.std.proofs.lemmas.List.{map-append, reverse-append}
 use Rattle.std.proofs.lemmas.List.Elements.{filter-append}
 use Rattle.gateway_model.specs.Breaks.{BreakAsTheyMay, CanBreakAt, InOrder, MayOccur, by_events}
 use Rattle.gateway_model.specs.Concerns.{can_break}
-use Rattle.gateway_model.specs.Events.{Before, Occurs, OccursAt, onto, stream}
-use Rattle.gateway_model.specs.History.{History, after_event}
-use Rattle.gateway_model.specs.Job.{JobValue}
-use Rattle.gateway_model.specs.declared.entry.ReplyEntry.{ReplyEntry}
+use Rattle.gateway_model.specs.Events.{Before, onto, Occurs, OccursAt}
 use Rattle.gateway_model.specs.Occurrence.{Occurrence, Opening, Comes, HangUp, Moment, Result, Drain, Closing, Break}
 use Rattle.gateway_model.specs.Own.{is_break, without_breaks}
 use Rattle.gateway_model.specs.Past.{is_broken, marked}
 use Rattle.gateway_model.specs.Starts.{Placed, occurrences}
 use Rattle.gateway_model.specs.declared.event.Event.{Event}
-use Rattle.gateway_theory.specs.Gateway.{GatewayValue, HasCome}
-use Rattle.gateway_theory.specs.GatewayLived.{GatewayLives}
-use Rattle.gateway_theory.specs.Lived.{breaks_of}
-use Rattle.gateway_theory.specs.Served.{Adds, HasConns, Lives, Served, at_place, then_came}
+use Rattle.gateway_theory.specs.Connection.{breaks_of, AllStand}
+use Rattle.gateway_theory.specs.Core.{at_place, Adds, CoreValue, HasConns, Lives, Served, then_came}
+use Rattle.std.proofs.lemmas.Bool.{eq-eqb}
+use Rattle.gateway_theory.specs.lemmas.Cases.{or_true}
+use Rattle.gateway_theory.specs.lemmas.LivedSteps.{listed}
+use Rattle.gateway_model.specs.History.{History, after_event}
+use Rattle.gateway_theory.specs.Arrivals.{calls_arrived, calls_in}
 
 -- ---- which may break
 
@@ -86,7 +86,7 @@ order_more : (n m : ℕ) (lived : List Placed) → n ≤ m → InOrder n lived �
 order_more n m [] le h = tt
 order_more n m (o ∷ lived) le h = let lt = h.0 in (omega (arith, lt, le), h.1)
 
-order_at : (n : ℕ) (newer : List Occurrence) (lived : List Placed) → InOrder n lived → InOrder (suc n) (at_place n newer ++ lived)
+pub order_at : (n : ℕ) (newer : List Occurrence) (lived : List Placed) → InOrder n lived → InOrder (suc n) (at_place n newer ++ lived)
 order_at n [] lived h = order_more n (suc n) lived (omega arith) h
 order_at n (o ∷ newer) lived h = (omega arith, order_at n newer lived h)
 
@@ -135,83 +135,11 @@ may_now opened e es (Result id i r) us lived same b = tt
 may_now opened e es Drain us lived same b = tt
 may_now opened e es (Closing c) us lived same b = tt
 
-breaks_now : (opened : List ℕ) (e : Event) (es : Before) (newer : List Occurrence) (lived : List Placed) → AreBreaks (MayBreak opened e es) newer (occurrences lived)
+pub breaks_now : (opened : List ℕ) (e : Event) (es : Before) (newer : List Occurrence) (lived : List Placed) → AreBreaks (MayBreak opened e es) newer (occurrences lived)
     → BreakAsTheyMay opened (e ∷ es) lived → BreakAsTheyMay opened (e ∷ es) (at_place (length es) newer ++ lived)
 breaks_now opened e es [] lived a b = b
 breaks_now opened e es (o ∷ newer) lived a b =
     (may_now opened e es o (newer ++ occurrences lived) (at_place (length es) newer ++ lived) (occurrences_at (length es) newer lived) a.0, breaks_now opened e es newer lived a.1 b)
-
--- ---- the event
-
-module _ (opened : List ℕ) (e : Event) (history : History) (v w : GatewayValue) (plans_are : w.plans ≡ v.plans) where
-  abbrev pub StandsThen : List Occurrence → Type 0
-  StandsThen os = GatewayLives w (λ c. stream opened c (e ∷ history.events)) history.taken history.handed os
-
-  pub adds_by : (HasConns v history.opened history.events → HasConns w opened (e ∷ history.events))
-      → ((lived : List Placed) → Lives v history lived → Occurs v.plans opened history.events (by_events lived) × BreakAsTheyMay opened (e ∷ history.events) lived)
-      → ((lived : List Placed) → Lives v history lived → (os : List Occurrence) → OccursAt v.plans opened e history.events os
-      → Newer (MayBreak opened e history.events) StandsThen os (occurrences lived))
-      → Adds opened e history v w
-  adds_by conns before step = record {
-    plans_are = plans_are;
-    conns = conns;
-    lives = λ lived l os at. let x = step lived l os at in (
-      x.newer,
-      x.same,
-      record {
-        occurs = subst (λ plans. Occurs plans opened (e ∷ history.events) (by_events (at_place (length history.events) x.newer ++ lived))) (sym plans_are)
-            (by_events lived, (before lived l).0, (os, at, events_are (length history.events) x.newer os lived x.same));
-        in_order = order_at (length history.events) x.newer lived l.in_order;
-        breaks = breaks_now opened e history.events x.newer lived x.may (before lived l).1;
-        conns = conns l.conns;
-        stands = subst StandsThen (sym (occurrences_at (length history.events) x.newer lived)) x.stands;
-      },
-    );
-  }
-
-  -- what holds for whatever occurred
-  pub served_by : ((past : List Placed) → HasConns v history.opened history.events → Occurs v.plans opened history.events past → Occurs v.plans history.opened history.events past)
-      → Adds opened e history v w → Served v history → Served w (then_came opened e history)
-  served_by back a h = record {
-    conns = a.conns h.conns;
-    stands = λ occurred all. by_past occurred (subst (λ plans. Occurs plans opened (e ∷ history.events) occurred) plans_are all);
-  }
-    where
-      by_past : (occurred : List Placed) → Occurs v.plans opened (e ∷ history.events) occurred
-          → (lived : List Placed) × (by_events lived ≡ occurred) × Lives w (then_came opened e history) lived
-      by_past occurred (past, before, (os, at, is)) =
-          let was = h.stands past (back past h.conns before) in
-          let x = a.lives was.0 was.2 os at in (
-            at_place (length history.events) x.0 ++ was.0,
-            events_are (length history.events) x.0 os was.0 x.1 ∙ ap (λ us. onto (length history.events) os us) was.1 ∙ sym is,
-            x.2,
-          )
-
--- where no opening succeeded
-module _ (e : Event) (history : History) (v w : GatewayValue) (plans_are : w.plans ≡ v.plans) where
-  pub adds_event : (HasConns v history.opened history.events → HasConns w history.opened (e ∷ history.events))
-      → ((lived : List Placed) → Lives v history lived → (os : List Occurrence) → OccursAt v.plans history.opened e history.events os
-      → Newer (MayBreak history.opened e history.events) (StandsThen history.opened e history v w plans_are) os (occurrences lived))
-      → Adds history.opened e history v w
-  adds_event conns step = adds_by history.opened e history v w plans_are conns
-      (λ lived l. (l.occurs, breaks_later history.opened history.opened e history.events (can_later history.opened e history.events) lived l.breaks)) step
-
-  pub served_event : Adds history.opened e history v w → Served v history → Served w (after_event e history)
-  served_event a h = served_by history.opened e history v w plans_are (λ past conns o. o) a h
-
--- ---- what occurs at it
-
--- the same texts
-pub texts_same : (v : GatewayValue) (taken : ℕ → List ReplyEntry) (handed : List JobValue) (texts others : ℕ → List ℕ) (os : List Occurrence)
-    → ((c : ℕ) → others c ≡ texts c) → GatewayLives v texts taken handed os → GatewayLives v others taken handed os
-texts_same v taken handed texts others os same h = record {
-  closed = h.closed;
-  lives = h.lives;
-  conns_live = h.conns_live;
-  streams_stand = λ c k s k_is s_is going. subst (λ text. HasCome k s.reader text) (sym (same c)) (h.streams_stand c k s k_is s_is going);
-  unopened = h.unopened;
-  begun_is = h.begun_is;
-}
 
 no_break : (P : ℕ → List Occurrence → Type 0) (o : Occurrence) (os : List Occurrence) → is_break o ≡ false → BreakSo P o os
 no_break P (Break c) os e = absurd (cc)
@@ -237,28 +165,124 @@ module _ (P : ℕ → List Occurrence → Type 0) (S : List Occurrence → Type 
   pub none_newer : S os → Newer P S [] os
   none_newer stands = record { newer = []; same = refl; may = tt; stands = stands }
 
-module _ (e : Event) (history : History) (v w : GatewayValue) (plans_are : w.plans ≡ v.plans)
-    (conns : HasConns v history.opened history.events → HasConns w history.opened (e ∷ history.events))
-    (same : (c : ℕ) → stream history.opened c (e ∷ history.events) ≡ stream history.opened c history.events) where
-  abbrev before_texts : ℕ → List ℕ
-  before_texts c = stream history.opened c history.events
+-- ---- which break
 
-  -- one occurrence comes of the event
-  pub adds_one : (o : Occurrence) (cs : List ℕ) → is_break o ≡ false → (HasConns v history.opened history.events → (os : List Occurrence) → OccursAt v.plans history.opened e history.events os → os ≡ o ∷ [])
-      → ((os : List Occurrence) → HasConns v history.opened history.events → GatewayLives v before_texts history.taken history.handed os
-      → AreBreaks (MayBreak history.opened e history.events) (breaks_of cs) os × GatewayLives w before_texts history.taken history.handed (o ∷ (breaks_of cs ++ os)))
-      → Adds history.opened e history v w
-  adds_one o cs plain one step = adds_event e history v w plans_are conns (λ lived l os at.
-      let x = step (occurrences lived) l.conns l.stands in
-      subst (λ us. Newer (MayBreak history.opened e history.events) (StandsThen history.opened e history v w plans_are) us (occurrences lived)) (sym (one l.conns os at))
-      (one_newer (MayBreak history.opened e history.events) (StandsThen history.opened e history v w plans_are) (occurrences lived) o cs plain x.0
-      (texts_same w history.taken history.handed before_texts (λ c. stream history.opened c (e ∷ history.events)) (o ∷ (breaks_of cs ++ occurrences lived)) same x.1)))
+-- no number is there twice
+abbrev pub NoneTwice : List ℕ → Type 0
+NoneTwice [] = ⊤
+NoneTwice (n ∷ ns) = (listed ns n ≡ false) × NoneTwice ns
 
-  -- none does
-  pub adds_none : (HasConns v history.opened history.events → (os : List Occurrence) → OccursAt v.plans history.opened e history.events os → os ≡ [])
-      → ((os : List Occurrence) → HasConns v history.opened history.events → GatewayLives v before_texts history.taken history.handed os → GatewayLives w before_texts history.taken history.handed os)
-      → Adds history.opened e history v w
-  adds_none none step = adds_event e history v w plans_are conns (λ lived l os at.
-      subst (λ us. Newer (MayBreak history.opened e history.events) (StandsThen history.opened e history v w plans_are) us (occurrences lived)) (sym (none l.conns os at))
-      (none_newer (MayBreak history.opened e history.events) (StandsThen history.opened e history v w plans_are) (occurrences lived)
-      (texts_same w history.taken history.handed before_texts (λ c. stream history.opened c (e ∷ history.events)) (occurrences lived) same (step (occurrences lived) l.conns l.stands))))
+pub breaks_each : (P : ℕ → List Occurrence → Type 0) (os : List Occurrence) (cs : List ℕ) → NoneTwice cs
+    → ((c : ℕ) (ds : List ℕ) → listed cs c ≡ true → listed ds c ≡ false → P c (breaks_of ds ++ os)) → AreBreaks P (breaks_of cs) os
+breaks_each P os [] once f = tt
+breaks_each P os (c ∷ cs) once f = (
+  f c cs (ap (λ b. b || listed cs c) (eq-eqb c c refl)) once.0,
+  breaks_each P os cs once.1 (λ d ds on off. f d ds (ap (λ b. (c == d) || b) on ∙ or_true (c == d)) off),
+)
+
+abbrev pub StandsNow : History → CoreValue → List Occurrence → Type 0
+StandsNow h w os = AllStand w.now w.conns h.taken h.handed w.waiting os
+
+-- as many calls were begun more, at most, as come with what occurs at it
+abbrev pub BeginsFew : List ℕ → Event → History → CoreValue → CoreValue → Type 0
+BeginsFew opened e h v w = HasConns v h.opened h.events → (os : List Occurrence) → OccursAt v.plans opened e h.events os → w.begun ≤ v.begun + calls_arrived os
+
+pub none_more : (opened : List ℕ) (e : Event) (h : History) (v w : CoreValue) → w.begun ≡ v.begun → BeginsFew opened e h v w
+none_more opened e h v w same = λ c os at. omega (arith, same)
+
+pub calls_both : (xs ys : List Occurrence) → calls_arrived (xs ++ ys) ≡ calls_arrived xs + calls_arrived ys
+calls_both [] ys = omega arith
+calls_both (x ∷ xs) ys = let rest = calls_both xs ys in omega (arith, rest)
+
+calls_back : (xs : List Occurrence) → calls_arrived (reverse xs) ≡ calls_arrived xs
+calls_back [] = refl
+calls_back (x ∷ xs) =
+    let split : calls_arrived (reverse (x ∷ xs)) ≡ calls_arrived (reverse xs) + calls_arrived (x ∷ []) = ap calls_arrived (reverse-append (x ∷ []) xs) ∙ calls_both (reverse xs) (x ∷ []) in
+    let rest = calls_back xs in omega (arith, split, rest)
+
+calls_solid : (xs : List Occurrence) → calls_arrived (without_breaks xs) ≡ calls_arrived xs
+calls_solid [] = refl
+calls_solid (Break c ∷ xs) = let rest = calls_solid xs in omega (arith, rest)
+calls_solid (Opening ∷ xs) = ap (λ n. 0 + n) (calls_solid xs)
+calls_solid (Comes c x ∷ xs) = ap (λ n. calls_in x + n) (calls_solid xs)
+calls_solid (HangUp c ∷ xs) = ap (λ n. 0 + n) (calls_solid xs)
+calls_solid (Moment m ∷ xs) = ap (λ n. 0 + n) (calls_solid xs)
+calls_solid (Result of i outcome ∷ xs) = ap (λ n. 0 + n) (calls_solid xs)
+calls_solid (Drain ∷ xs) = ap (λ n. 0 + n) (calls_solid xs)
+calls_solid (Closing c ∷ xs) = ap (λ n. 0 + n) (calls_solid xs)
+
+module _ (opened : List ℕ) (e : Event) (h : History) (v w : CoreValue) (plans_are : w.plans ≡ v.plans) where
+  abbrev StepsBy : Type 0
+  StepsBy = HasConns v h.opened h.events → (lived : List Placed) → Lives v h lived → (os : List Occurrence) → OccursAt v.plans opened e h.events os
+      → Newer (MayBreak opened e h.events) (StandsNow h w) os (occurrences lived)
+
+  pub adds_counted : (HasConns v h.opened h.events → HasConns w opened (e ∷ h.events))
+      → (HasConns v h.opened h.events → (lived : List Placed) → Lives v h lived → Occurs v.plans opened h.events (by_events lived) × BreakAsTheyMay opened (e ∷ h.events) lived)
+      → (step : StepsBy)
+      → ((c : HasConns v h.opened h.events) (lived : List Placed) (l : Lives v h lived) (os : List Occurrence) (at : OccursAt v.plans opened e h.events os)
+      → w.begun ≤ calls_arrived ((step c lived l os at).newer ++ occurrences lived))
+      → Adds opened e h v w
+  adds_counted conns before step counts = record {
+    plans_are = plans_are;
+    conns = conns;
+    lives = λ lived l os at. let x = step l.conns lived l os at in (
+      x.newer,
+      x.same,
+      record {
+        occurs = subst (λ plans. Occurs plans opened (e ∷ h.events) (by_events (at_place (length h.events) x.newer ++ lived))) (sym plans_are)
+            (by_events lived, (before l.conns lived l).0, (os, at, events_are (length h.events) x.newer os lived x.same));
+        in_order = order_at (length h.events) x.newer lived l.in_order;
+        breaks = breaks_now opened e h.events x.newer lived x.may (before l.conns lived l).1;
+        conns = conns l.conns;
+        stands = subst (StandsNow h w) (sym (occurrences_at (length h.events) x.newer lived)) x.stands;
+        begun_is = subst (λ us. w.begun ≤ calls_arrived us) (sym (occurrences_at (length h.events) x.newer lived)) (counts l.conns lived l os at);
+      },
+    );
+  }
+
+  begun_then : BeginsFew opened e h v w → (newer os : List Occurrence) (lived : List Placed) → HasConns v h.opened h.events → without_breaks newer ≡ reverse os
+      → OccursAt v.plans opened e h.events os → v.begun ≤ calls_arrived (occurrences lived) → w.begun ≤ calls_arrived (newer ++ occurrences lived)
+  begun_then begins newer os lived c same at was =
+      let few : w.begun ≤ v.begun + calls_arrived os = begins c os at in
+      let new : calls_arrived newer ≡ calls_arrived os = sym (calls_solid newer) ∙ ap calls_arrived same ∙ calls_back os in
+      let all = calls_both newer (occurrences lived) in omega (arith, few, new, all, was)
+
+  pub adds_by : BeginsFew opened e h v w
+      → (HasConns v h.opened h.events → HasConns w opened (e ∷ h.events))
+      → (HasConns v h.opened h.events → (lived : List Placed) → Lives v h lived → Occurs v.plans opened h.events (by_events lived) × BreakAsTheyMay opened (e ∷ h.events) lived)
+      → StepsBy → Adds opened e h v w
+  adds_by begins conns before step = adds_counted conns before step (λ c lived l os at. let x = step c lived l os at in begun_then begins x.newer os lived c x.same at l.begun_is)
+
+-- what holds for whatever occurred
+module _ (opened : List ℕ) (e : Event) (h : History) (v w : CoreValue) (plans_are : w.plans ≡ v.plans) where
+  pub served_by : ((past : List Placed) → HasConns v h.opened h.events → Occurs v.plans opened h.events past → Occurs v.plans h.opened h.events past)
+      → Adds opened e h v w → Served v h → Served w (then_came opened e h)
+  served_by back a s = record {
+    conns = a.conns s.conns;
+    stands = λ occurred all. by_past occurred (subst (λ plans. Occurs plans opened (e ∷ h.events) occurred) plans_are all);
+  }
+    where
+      by_past : (occurred : List Placed) → Occurs v.plans opened (e ∷ h.events) occurred
+          → (lived : List Placed) × (by_events lived ≡ occurred) × Lives w (then_came opened e h) lived
+      by_past occurred (past, before, (os, at, is)) =
+          let was = s.stands past (back past s.conns before) in
+          let x = a.lives was.0 was.2 os at in (
+            at_place (length h.events) x.0 ++ was.0,
+            events_are (length h.events) x.0 os was.0 x.1 ∙ ap (λ us. onto (length h.events) os us) was.1 ∙ sym is,
+            x.2,
+          )
+
+-- where no opening succeeded
+module _ (e : Event) (h : History) (v w : CoreValue) (plans_are : w.plans ≡ v.plans) where
+  pub adds_event : BeginsFew h.opened e h v w
+      → (HasConns v h.opened h.events → HasConns w h.opened (e ∷ h.events))
+      → (HasConns v h.opened h.events → (lived : List Placed) → Lives v h lived → (os : List Occurrence) → OccursAt v.plans h.opened e h.events os
+      → Newer (MayBreak h.opened e h.events) (StandsNow h w) os (occurrences lived))
+      → Adds h.opened e h v w
+  adds_event begins conns step = adds_by h.opened e h v w plans_are begins conns stays step
+    where
+      stays : HasConns v h.opened h.events → (lived : List Placed) → Lives v h lived → Occurs v.plans h.opened h.events (by_events lived) × BreakAsTheyMay h.opened (e ∷ h.events) lived
+      stays c lived l = (l.occurs, breaks_later h.opened h.opened e h.events (can_later h.opened e h.events) lived l.breaks)
+
+  pub served_event : Adds h.opened e h v w → Served v h → Served w (after_event e h)
+  served_event a s = served_by h.opened e h v w plans_are (λ past conns o. o) a s

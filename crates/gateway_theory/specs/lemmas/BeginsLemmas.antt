@@ -15,7 +15,7 @@ use Rattle.gateway_model.specs.Occurrence.{Occurrence, Comes, Coming, Request, R
 use Rattle.gateway_model.specs.declared.call_event.CallEvent.{CallEvent}
 use Rattle.gateway_model.specs.declared.call_event.CallEvent.TheVariants.{Answer as Answered, Failed, Expired, BranchExpired, HungUp, Drained}
 use Rattle.gateway_model.specs.Past.{Mark, Past, ArrivedCall, call, arrivals, coming_now, asked_now, asked_by, began, answers, started, is_out, is_shut, is_drained, own_event, ends_at_arrival, decides, decided, branch_deadlines, is_due, now, crowds, mark_of, marked, branches}
-use Rattle.gateway_theory.specs.lemmas.Deadlines.{branch_deadline}
+use Rattle.gateway_theory.specs.lemmas.Deadlines.{branch_deadline, deadlines_first, deadlines_of}
 use Rattle.gateway_model.specs.declared.entry.ReplyEntry.{ReplyEntry}
 use Rattle.gateway_model.specs.declared.entry.ReplyEntry.TheVariants.{Refused as Refusing, Judged as Judging, Crowded as Crowding}
 use Rattle.gateway_model.specs.Queue.{came, own_events, entry_by, entry, call_entry}
@@ -23,9 +23,9 @@ use Rattle.gateway_model.specs.Starts.{jobs_started, branches_started}
 use Rattle.gateway_theory.specs.lemmas.LimitLemmas.{out_started, unanswered, unbegun}
 use Rattle.gateway_theory.specs.lemmas.Frame.{unbroken}
 use Rattle.gateway_theory.specs.lemmas.Unborn.{Unborn, unborn}
-use Rattle.gateway_theory.specs.Step.{call_state, gone, step_to, ended, entry_with}
+use Rattle.gateway_theory.specs.Step.{step_to, ended, entry_with}
+use Rattle.gateway_theory.specs.Values.{call_state, gone}
 use Rattle.gateway_theory.specs.LiveStands.{is_live, tasks_from, Stepped}
-use Rattle.gateway_theory.specs.lemmas.Deadlines.{deadlines_first, deadlines_of}
 use Rattle.gateway_theory.specs.lemmas.StepLemmas.{deadlines_now, call_entry_is, decided_shut, started_live}
 use Rattle.gateway_theory.specs.Begins.{new_live, begun_live, first_ones, first_jobs, first_out, begins, arrive}
 

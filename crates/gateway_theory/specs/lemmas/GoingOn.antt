@@ -1,20 +1,19 @@
 -- A call and a connection that go on, at each occurrence.
-use Rattle.std.proofs.Common.{◌≡◌, ℕ, ◌+◌, Bool, true, false, List, [], ◌∷◌, ◌++◌, map, length, Option, None, Some, refl, sym, ap, ◌∙◌, subst, arith, ⊎_elim}
-use Rattle.std.specs.Prelude.{if◌then◌else◌, ◌||◌, ◌==◌, nat_le}
+use Rattle.std.proofs.Common.{◌≡◌, ℕ, ◌+◌, false, List, ◌∷◌, ◌++◌, map, length, Option, None, Some, sym, ap, ◌∙◌, subst, arith}
+use Rattle.std.specs.Prelude.{◌||◌, nat_le}
 use Rattle.std.specs.Option.{option_or}
-use Rattle.std.proofs.lemmas.Bool.{cond_both, cases_Bool, eq-eqb, ne_eqb}
 use Rattle.std.proofs.lemmas.List.{length-append, length-map}
 use Rattle.gateway_model.specs.declared.id.CallId.{CallId}
 use Rattle.gateway_model.specs.Occurrence.{Occurrence, Comes, Coming}
-use Rattle.gateway_model.specs.Past.{Mark, Past, call_id, arrivals, coming_now, now, is_drained, is_shut, crowds, mark_of, marked, most_calls, shuts, undecided_calls}
+use Rattle.gateway_model.specs.Past.{Past, call_id, arrivals, coming_now, now, is_drained, is_shut, crowds, mark_of, marked, most_calls, shuts, undecided_calls}
 use Rattle.gateway_model.specs.declared.entry.ReplyEntry.{ReplyEntry}
-use Rattle.gateway_theory.specs.Step.{CallState, kept, step}
+use Rattle.gateway_theory.specs.Step.{kept, step}
+use Rattle.gateway_theory.specs.Values.{CallState}
 use Rattle.gateway_theory.specs.LiveStands.{CallStands, Stepped}
 use Rattle.gateway_theory.specs.Begins.{arrive}
 use Rattle.gateway_theory.specs.Machine.{ConnState, MachineState, ConnAfter, arriving, is_coming, is_full, next_id, slot_at, step_of}
-use Rattle.gateway_theory.specs.Standing.{SlotsStand, ConnStands}
+use Rattle.gateway_theory.specs.Standing.{ConnStands}
 use Rattle.gateway_theory.specs.lemmas.BeginsLemmas.{arrives}
-use Rattle.gateway_theory.specs.lemmas.Frame.{unbroken}
 use Rattle.gateway_theory.specs.lemmas.MachineLemmas.{arrivals_same, crowd_is, each_slot, kept_by_entry, no_entering, slots_after}
 use Rattle.gateway_theory.specs.lemmas.SlotLemmas.{undecided_count}
 use Rattle.gateway_theory.specs.lemmas.StepLemmas.{stepped}
@@ -69,10 +68,3 @@ pub other_goes : (c : ℕ) (x : Coming) (id : CallId) (old : CallState) (moment 
 other_goes c x id old moment os none m_is h =
     subst (λ r. Stepped id r (mark_of (marked os) (Comes c x)) (marked os)) (kept_by_entry moment id c x old.out old.live)
     (call_goes id (Comes c x) old moment os none m_is h)
-
--- nothing comes on another connection
-pub elsewhere : (c : ℕ) (x : Coming) (id : CallId) (past : Past) → (c == id.conn) ≡ false → coming_now id (mark_of past (Comes c x)) past ≡ None
-elsewhere c x id past e = rw e (cond_both (arrivals id.conn past == id.request) None None (λ o. o ≡ None) (λ _. refl) (λ _. refl))
-
-pub flipped : (c d : ℕ) → (d == c) ≡ false → (c == d) ≡ false
-flipped c d e = ne_eqb c d (λ (same : c ≡ d). absurd (let bad : true ≡ false = sym (eq-eqb d c (sym same)) ∙ e in cc))

@@ -1,53 +1,263 @@
--- What is known of a gateway, by the events that it stands for.
-use Rattle.std.proofs.Common.{◌≡◌, ℕ, true, false, List, [], ◌++◌, Option, None, Some, refl, sym, ap, ◌∙◌}
-use Rattle.std.specs.Prelude.{is_some}
+-- What is known of the gateway, by the events that it stands for.
+use Rattle.std.proofs.Common.{◌≡◌, ℕ, zero, suc, ◌≤◌, ◌<◌, Bool, true, false, List, [], ◌∷◌, ◌++◌, length, Option, None, Some, refl, sym, ap, ◌∙◌, subst, arith, append_assoc, append-nil, ⊎_elim, map}
+use Rattle.std.specs.Prelude.{not, slice_index_or, ◌&&◌, is_some, if◌then◌else◌, nat_lt, option_map}
+use Rattle.std.specs.List.{count_by, range_with_len}
 use Rattle.std.specs.Option.{option_map_or}
-use Rattle.gateway_model.specs.Events.{Occurs}
-use Rattle.gateway_model.specs.Known.{IsKnown}
-use Rattle.gateway_model.specs.Past.{is_broken, marked}
-use Rattle.gateway_model.specs.Queue.{front, queued_entries}
+use Rattle.std.proofs.lemmas.Bool.{cases_Bool, cases_eq, cond_both, and_parts, lt-ltb}
+use Rattle.std.proofs.lemmas.List.{take_all}
+use Rattle.gateway_model.specs.declared.call_event.CallEvent.{CallEvent}
+use Rattle.gateway_model.specs.declared.call_event.CallEvent.TheVariants.{Answer as Answered, Failed, Expired, BranchExpired, HungUp, Drained}
+use Rattle.gateway_model.specs.declared.id.CallId.{CallId}
+use Rattle.gateway_model.specs.CallRecord.{CallRecord, last_event}
+use Rattle.gateway_theory.specs.LiveStands.{LiveStands, MayLive}
+use Rattle.gateway_model.specs.Occurrence.{Occurrence}
+use Rattle.gateway_model.specs.Past.{ArrivedCall, Past, began, branches, call, count_below, decides, is_out, marked, outs, started, branch_deadlines, call_id, can_be_decided, deadline_from, is_broken, started_when}
+use Rattle.gateway_model.specs.Queue.{own_events, record_of, front, queued_entries}
+use Rattle.gateway_model.specs.Record.{answers_among, is_decided, is_ending, is_lawful}
+use Rattle.gateway_theory.specs.Values.{Live, ConnectionValue, shown_of}
+use Rattle.gateway_theory.specs.lemmas.LimitLemmas.{count_less, out_started, outs_limit}
+use Rattle.gateway_theory.specs.lemmas.RecordLemmas.{Going, among_more, none_decides, lawful, same_follow}
+use Rattle.gateway_theory.specs.lemmas.SlotLemmas.{count_take}
+use Rattle.gateway_theory.specs.lemmas.StandsLemmas.{last_is}
+use Rattle.gateway_model.specs.declared.entry.ReplyEntry.{ReplyEntry}
+use Rattle.gateway_model.specs.Job.{JobValue}
+use Rattle.gateway_model.specs.Known.{record_now, IsKnown}
+use Rattle.gateway_model.specs.Own.{own, without_breaks}
 use Rattle.gateway_model.specs.Starts.{Placed, occurrences}
+use Rattle.gateway_theory.specs.lemmas.OwnLemmas.{Alike, map_range, own_alike}
+use Rattle.gateway_theory.specs.Connection.{AllStand, Now}
+use Rattle.gateway_theory.specs.lemmas.Standing.{outs_stand, queue_stands}
+use Rattle.gateway_model.specs.Breaks.{by_events}
+use Rattle.gateway_model.specs.Events.{Occurs}
 use Rattle.gateway_model.specs.History.{History}
-use Rattle.gateway_theory.specs.Conn.{ConnValue, state_of}
-use Rattle.gateway_theory.specs.Gateway.{GatewayValue, is_broken_conn, is_open_conn, shown, untaken_of}
-use Rattle.gateway_theory.specs.Served.{Lives, Served}
-use Rattle.gateway_theory.specs.Store.{call_at, conn_of}
-use Rattle.gateway_theory.specs.lemmas.KeptCalls.{outs_kept, outs_same, record_kept, record_lived}
-use Rattle.gateway_theory.specs.lemmas.LivedEnds.{in_conns}
-use Rattle.gateway_theory.specs.lemmas.Readings.{queue_is}
+use Rattle.gateway_theory.specs.lemmas.StoreLemmas.{some_same}
+use Rattle.gateway_theory.specs.lemmas.PrefixLemmas.{call_within, events_occur}
+use Rattle.gateway_theory.specs.Core.{CoreValue, HasConns, Lives, Served, shown}
 
--- of an open connection, where this was lived
-module _ (v : GatewayValue) (history : History) (lived : List Placed) (l : Lives v history lived) (c : ℕ) (there : is_open_conn c v ≡ true) where
-  pub broken_lived : is_broken_conn c v ≡ is_broken c (marked (occurrences lived))
-  broken_lived = by_conn (conn_of c v.machine.conns) refl
+-- ---- counting
+
+grows : (m n : ℕ) (p : ℕ → Bool) → m ≤ n → count_below m p ≤ count_below n p
+grows zero n p le = omega arith
+grows (suc m) zero p le = absurd (omega (arith, le))
+grows (suc m) (suc n) p le =
+    ⊎_elim (λ (same : m ≡ n). rw same (omega arith))
+    (λ (other : m ≡ n → ⊥).
+    let before : count_below (suc m) p ≤ count_below n p = grows (suc m) n p (omega (arith, le, other)) in
+    cond_both (p n) (suc (count_below n p)) (count_below n p) (λ k. count_below (suc m) p ≤ k) (λ _. omega (arith, before)) (λ _. before))
+    (cases_eq m n)
+
+-- those that pass lie below n
+within : (m n : ℕ) (p : ℕ → Bool) → ((i : ℕ) → p i ≡ true → i < n) → count_below m p ≤ count_below n p
+within zero n p h = omega arith
+within (suc m) n p h =
+    ⊎_elim (λ (yes : p m ≡ true). let lt : m < n = h m yes in grows (suc m) n p (omega (arith, lt)))
+    (λ (no : p m ≡ false). rw no (within m n p h))
+    (cases_Bool (p m))
+
+-- ---- branches that are out
+
+out_within : (id : CallId) (i : ℕ) (past : Past) → is_out id i past ≡ true → i < branches id past
+out_within id i past out = by_call (call id past) refl (began id past) refl (out_started id i past out)
+  where
+    by_call : (o : Option ArrivedCall) → call id past ≡ o → (b : Bool) → began id past ≡ b → i < started id past → i < branches id past
+    by_call (Some a) o_is true b_is lt = let least = rw (b_is, o_is) at lt in rw o_is (omega (arith, least))
+    by_call (Some a) o_is false b_is lt = let none = rw b_is at lt in absurd (omega (arith, none))
+    by_call None o_is true b_is lt = let none = rw (b_is, o_is) at lt in absurd (omega (arith, none))
+    by_call None o_is false b_is lt = let none = rw b_is at lt in absurd (omega (arith, none))
+
+outs_at_most : (id : CallId) (out : List Bool) (past : Past) → ((i : ℕ) → slice_index_or out i false ≡ true → is_out id i past ≡ true) → count_by (λ b. b) out ≤ outs id past
+outs_at_most id out past h =
+    let all : count_by (λ b. b) out ≡ count_below (length out) (λ k. slice_index_or out k false) =
+    ap (count_by (λ b. b)) (sym (take_all (length out) out (omega arith))) ∙ count_take (λ b. b) false out (length out) (omega arith) in
+    let below : count_below (length out) (λ k. slice_index_or out k false) ≤ count_below (branches id past) (λ k. slice_index_or out k false) =
+    within (length out) (branches id past) (λ k. slice_index_or out k false) (λ i is. out_within id i past (h i is)) in
+    let less : count_below (branches id past) (λ k. slice_index_or out k false) ≤ outs id past =
+    count_less (branches id past) (λ k. slice_index_or out k false) (λ k. is_out id k past) (λ i lt is. h i is) in
+    omega (arith, all, below, less)
+
+pub index_in : (out : List Bool) (i : ℕ) → slice_index_or out i false ≡ true → i < length out
+index_in [] i is = absurd (cc)
+index_in (b ∷ out) zero is = omega arith
+index_in (b ∷ out) (suc i) is = let lt = index_in out i is in omega (arith, lt)
+
+outs_at_least : (id : CallId) (out : List Bool) (past : Past) → ((i : ℕ) → is_out id i past ≡ true → slice_index_or out i false ≡ true) → outs id past ≤ count_by (λ b. b) out
+outs_at_least id out past h =
+    let all : count_by (λ b. b) out ≡ count_below (length out) (λ k. slice_index_or out k false) =
+    ap (count_by (λ b. b)) (sym (take_all (length out) out (omega arith))) ∙ count_take (λ b. b) false out (length out) (omega arith) in
+    let below : count_below (branches id past) (λ k. slice_index_or out k false) ≤ count_below (length out) (λ k. slice_index_or out k false) =
+    within (branches id past) (length out) (λ k. slice_index_or out k false) (index_in out) in
+    let less : outs id past ≤ count_below (branches id past) (λ k. slice_index_or out k false) =
+    count_less (branches id past) (λ k. is_out id k past) (λ k. slice_index_or out k false) (λ i lt is. h i is) in
+    omega (arith, all, below, less)
+
+-- as many are out as the definitions say
+pub outs_same : (id : CallId) (out : List Bool) (past : Past) → ((i : ℕ) → slice_index_or out i false ≡ is_out id i past) → count_by (λ b. b) out ≡ outs id past
+outs_same id out past same =
+    let most = outs_at_most id out past (λ i is. sym (same i) ∙ is) in
+    let least = outs_at_least id out past (λ i is. same i ∙ is) in
+    omega (arith, most, least)
+
+-- ---- the record of a call that goes on
+
+abbrev ends : CallRecord → List CallEvent → Bool
+ends r es = option_map_or (is_ending (answers_among es) (length r.plan.branches)) (last_event es) false
+
+goes_behind : (r : CallRecord) (before : List CallEvent) (e : CallEvent) → not (decides (answers_among before) (length r.plan.branches) e) ≡ true → ends r (before ++ e ∷ []) ≡ false
+goes_behind r before e on = rw (last_is before e) (by_event e on)
+  where
+    by_not : (b : Bool) → not b ≡ true → b ≡ false
+    by_not false e = refl
+    by_not true e = absurd (cc)
+
+    by_event : (x : CallEvent) → not (decides (answers_among before) (length r.plan.branches) x) ≡ true
+        → is_ending (answers_among (before ++ x ∷ [])) (length r.plan.branches) x ≡ false
+    by_event (Answered i body) on = rw (among_more before (Answered i body)) (by_not _ on)
+    by_event (Failed i error) on = absurd (cc)
+    by_event (Expired t) on = absurd (cc)
+    by_event (BranchExpired i t) on = absurd (cc)
+    by_event HungUp on = absurd (cc)
+    by_event Drained on = absurd (cc)
+
+ends_never : (r : CallRecord) (before es : List CallEvent) → none_decides r before es ≡ true → ends r before ≡ false → ends r (before ++ es) ≡ false
+ends_never r before [] on so_far = subst (λ xs. ends r xs ≡ false) (sym (append-nil before)) so_far
+ends_never r before (e ∷ es) on so_far =
+    let parts = and_parts (not (decides (answers_among before) (length r.plan.branches) e)) (none_decides r (before ++ e ∷ []) es) on in
+    subst (λ xs. ends r xs ≡ false) (append_assoc before (e ∷ []) es) (ends_never r (before ++ e ∷ []) es parts.1 (goes_behind r before e parts.0))
+
+-- it is lawful, and not decided
+pub lawful_now : (id : CallId) (l : Live) (out : List Bool) (os : List Occurrence) → LiveStands id l out (marked os)
+    → (is_lawful (record_of l.asked l.deadlines l.events) ≡ true) × (is_decided (record_of l.asked l.deadlines l.events) ≡ false)
+lawful_now id l out os s =
+    let going : Going id l.asked (marked os) = (lawful id os l.asked s.call_is).going s.undecided s.unshut in
+    rw s.events_are (
+      rw (same_follow l.asked l.deadlines (own_events id (marked os)) [] (own_events id (marked os)) ∙ going.follow l.deadlines, going.early) refl,
+      ends_never (record_of l.asked [] []) [] (own_events id (marked os)) (going.on []) refl,
+    )
+
+-- ---- two pasts that are alike to a connection
+
+module _ (c k : ℕ) (p q : Past) (h : Alike c p q) where
+  started_alike : started (call_id c k) p ≡ started (call_id c k) q
+  started_alike = rw (h.began_is k, h.call_is k, h.answers_are k) refl
+
+  deadlines_alike : branch_deadlines (call_id c k) p ≡ branch_deadlines (call_id c k) q
+  deadlines_alike =
+      ap (λ o. option_map_or (λ (a : ArrivedCall). map (λ i. deadline_from (started_when (call_id c k) i p) a.plan i) (range_with_len 0 (started (call_id c k) p))) o []) (h.call_is k)
+      ∙ by (call (call_id c k) q)
+      ∙ ap (λ n. option_map_or (λ (a : ArrivedCall). map (λ i. deadline_from (started_when (call_id c k) i q) a.plan i) (range_with_len 0 n)) (call (call_id c k) q) []) started_alike
     where
-      by_conn : (k : Option ConnValue) → conn_of c v.machine.conns ≡ k → is_broken_conn c v ≡ is_broken c (marked (occurrences lived))
-      by_conn None k_is = absurd (let clash : true ≡ false = sym there ∙ ap (λ x. is_some x) k_is in cc)
-      by_conn (Some k) k_is = in_conns c v.machine.conns k k_is ∙ l.stands.conns_live.broken_are c k k_is
+      by : (o : Option ArrivedCall)
+          → option_map_or (λ (a : ArrivedCall). map (λ i. deadline_from (started_when (call_id c k) i p) a.plan i) (range_with_len 0 (started (call_id c k) p))) o []
+          ≡ option_map_or (λ (a : ArrivedCall). map (λ i. deadline_from (started_when (call_id c k) i q) a.plan i) (range_with_len 0 (started (call_id c k) p))) o []
+      by None = refl
+      by (Some a) = map_range _ _ 0 (started (call_id c k) p) (λ i lt. ap (λ m. deadline_from m a.plan i) (h.when_is k i (lt-ltb i (started (call_id c k) p) (omega (arith, lt)))))
 
-  pub queue_lived : history.taken c ++ untaken_of c v ≡ queued_entries c (marked (occurrences lived))
-  queue_lived = by_conn (conn_of c v.machine.conns) refl
+  record_alike : record_now (call_id c k) p ≡ record_now (call_id c k) q
+  record_alike =
+      now_like (can_be_decided (call_id c k) p) (can_be_decided (call_id c k) q) (rw (h.decided_is k, h.shut_is) refl) (call (call_id c k) p) (call (call_id c k) q) (h.call_is k)
+      (branch_deadlines (call_id c k) p) (branch_deadlines (call_id c k) q) deadlines_alike (own_events (call_id c k) p) (own_events (call_id c k) q) (h.events_are k)
     where
-      by_conn : (k : Option ConnValue) → conn_of c v.machine.conns ≡ k → history.taken c ++ untaken_of c v ≡ queued_entries c (marked (occurrences lived))
-      by_conn None k_is = absurd (let clash : true ≡ false = sym there ∙ ap (λ x. is_some x) k_is in cc)
-      by_conn (Some k) k_is =
-          ap (λ x. history.taken c ++ option_map_or (λ (y : ConnValue). front y.slots) x []) k_is
-          ∙ sym (ap (λ x. history.taken c ++ front (option_map_or state_of x (l.stands.closed c)).slots) k_is)
-          ∙ queue_is c (history.taken c) (option_map_or state_of (conn_of c v.machine.conns) (l.stands.closed c)).slots (marked (occurrences lived)) (l.stands.lives.conns_stand c).slots_stand
+      now_like : (a b : Bool) → a ≡ b → (x y : Option ArrivedCall) → x ≡ y → (ds es : List (Option ℕ)) → ds ≡ es → (us ws : List CallEvent) → us ≡ ws
+          → (if a then option_map (λ (z : ArrivedCall). record_of z ds us) x else None) ≡ (if b then option_map (λ (z : ArrivedCall). record_of z es ws) y else None)
+      now_like a b ab x y xy ds es de us ws uw = λ i. if ab i then option_map (λ (z : ArrivedCall). record_of z (de i) (uw i)) (xy i) else None
 
-module _ (v : GatewayValue) (history : History) (occurred : List Placed) (h : Served v history) (o : Occurs v.plans history.opened history.events occurred) where
-  pub known : IsKnown (shown v) history (occurrences occurred)
-  known = record {
-    lived = (h.stands occurred o).0;
-    same = ap occurrences (h.stands occurred o).1;
-    in_order = (h.stands occurred o).2.in_order;
-    breaks = (h.stands occurred o).2.breaks;
-    open_are = λ c. sym (h.conns.open_are c);
-    broken_are = λ c there. broken_lived v history (h.stands occurred o).0 (h.stands occurred o).2 c there;
-    queue_is = λ c there. queue_lived v history (h.stands occurred o).0 (h.stands occurred o).2 c there;
-    jobs_are = (h.stands occurred o).2.stands.lives.jobs_are;
-    outs_are = λ id. outs_same id (call_at id v.machine.calls).out (marked (occurrences (h.stands occurred o).0)) ((h.stands occurred o).2.stands.lives.calls_stand id).out_is;
-    records_are = λ id. record_lived id v history (h.stands occurred o).0 (h.stands occurred o).2;
-    records = λ id r r_is. record_kept id r v history occurred h o r_is;
-    limit = λ id a a_is. outs_kept id a v history occurred h o a_is;
+-- the record so far of a call, as it is kept
+record_stands : (id : CallId) (live : Option Live) (out : List Bool) (past : Past) → MayLive id live out past
+    → option_map (λ (l : Live). record_of l.asked l.deadlines l.events) live ≡ record_now id past
+record_stands id live out past h = by live h
+  where
+    none_now : (b : Bool) (a : Option ArrivedCall) → (is_some a && b) ≡ false
+        → None ≡ (if b then option_map (λ c. record_of c (branch_deadlines id past) (own_events id past)) a else None)
+    none_now true (Some c) dead = absurd (cc)
+    none_now true None dead = refl
+    none_now false a dead = refl
+
+    by : (k : Option Live) → MayLive id k out past → option_map (λ (l : Live). record_of l.asked l.deadlines l.events) k ≡ record_now id past
+    by None dead = none_now (can_be_decided id past) (call id past) dead
+    by (Some l) s =
+        let on : can_be_decided id past ≡ true = rw (s.undecided, s.unshut) refl in
+        ap (λ ds. Some (record_of l.asked ds l.events)) s.deadlines_are
+        ∙ ap (λ es. Some (record_of l.asked (branch_deadlines id past) es)) s.events_are
+        ∙ sym (ap (λ (a : Option ArrivedCall). option_map (λ c. record_of c (branch_deadlines id past) (own_events id past)) a) s.call_is)
+        ∙ sym (ap (λ (b : Bool). if b then option_map (λ c. record_of c (branch_deadlines id past) (own_events id past)) (call id past) else None) on)
+
+module _ (n : Now) (conns : ℕ → ConnectionValue) (opened : ℕ) (taken : ℕ → List ReplyEntry) (handed waiting : List JobValue) (os : List Occurrence) (h : AllStand n conns taken handed waiting os) where
+  pub broken_stands : (c : ℕ) → (conns c).closed ≡ false → (conns c).broken ≡ is_broken c (marked os)
+  broken_stands c still = (h.each c).broken_is ∙ ap (λ b. not b && is_broken (conns c).number (marked (own c os))) still ∙ ap (λ d. is_broken d (marked (own c os))) (h.numbers c) ∙ sym (own_alike c os).broken_is
+
+  still : (a b : Bool) → (a && not b) ≡ true → b ≡ false
+  still true false e = refl
+  still true true e = absurd (cc)
+  still false b e = absurd (cc)
+
+  pub broken_shown : (c : ℕ) → (shown_of opened conns waiting).is_open c ≡ true → (shown_of opened conns waiting).is_broken c ≡ is_broken c (marked os)
+  broken_shown c there = ap (λ b. b && (conns c).broken) there ∙ broken_stands c (still (nat_lt c opened) (conns c).closed there)
+
+  pub queue_shown : (c : ℕ) → (shown_of opened conns waiting).is_open c ≡ true → taken c ++ (shown_of opened conns waiting).untaken c ≡ queued_entries c (marked os)
+  queue_shown c there =
+      ap (λ b. taken c ++ (if b then front (conns c).slots else [])) there ∙ queue_stands n conns taken handed waiting os h c (still (nat_lt c opened) (conns c).closed there)
+
+  pub outs_shown : (c k : ℕ) → (shown_of opened conns waiting).outs (call_id c k) ≡ outs (call_id c k) (marked os)
+  outs_shown c k = outs_same (call_id c k) ((conns c).calls k).out (marked os) (outs_stand n conns taken handed waiting os h c k)
+
+  pub records_shown : (c k : ℕ) → (shown_of opened conns waiting).recorded (call_id c k) ≡ record_now (call_id c k) (marked os)
+  records_shown c k =
+      record_stands (call_id (conns c).number k) ((conns c).calls k).live ((conns c).calls k).out (marked (own c os)) ((h.each c).calls k).live_is
+      ∙ ap (λ d. record_now (call_id d k) (marked (own c os))) (h.numbers c)
+      ∙ sym (record_alike c k (marked os) (marked (own c os)) (own_alike c os))
+
+-- ---- the record of a call that goes on
+
+record_lawful : (id : CallId) (r : CallRecord) (live : Option Live) (out : List Bool) (os : List Occurrence) → MayLive id live out (marked os)
+    → option_map (λ (l : Live). record_of l.asked l.deadlines l.events) live ≡ Some r → (is_lawful r ≡ true) × (is_decided r ≡ false)
+record_lawful id r None out os s is = absurd (cc)
+record_lawful id r (Some l) out os s is = subst (λ (k : CallRecord). (is_lawful k ≡ true) × (is_decided k ≡ false)) (some_same is) (lawful_now id l out os s)
+
+-- ---- what is known
+
+-- no more branches are out than the limit of the call, which is by the events alone
+within_limit : (id : CallId) (a : ArrivedCall) (os others : List Occurrence) → without_breaks os ≡ others → call id (marked others) ≡ Some a → outs id (marked os) ≤ a.plan.limit
+within_limit id a os others same a_is = by (call id (marked os)) refl
+  where
+    by : (b : Option ArrivedCall) → call id (marked os) ≡ b → outs id (marked os) ≤ a.plan.limit
+    by None b_is = let none : outs id (marked os) ≡ 0 = rw b_is refl in omega (arith, none)
+    by (Some b) b_is =
+        let most : outs id (marked os) ≤ b.plan.limit = outs_limit id os b b_is in
+        let alike : Some b ≡ Some a = sym (call_within id b os b_is) ∙ ap (λ us. call id (marked us)) same ∙ a_is in
+        let limits : b.plan.limit ≡ a.plan.limit = ap (λ y. option_map_or (λ (z : ArrivedCall). z.plan.limit) y 0) alike in
+        omega (arith, most, limits)
+
+-- where this was lived
+module _ (v : CoreValue) (h : History) (os : List Occurrence) (conns : HasConns v h.opened h.events) (lived : List Placed) (same : occurrences (by_events lived) ≡ os) (l : Lives v h lived) where
+  records_kept : (id : CallId) (r : CallRecord) → (shown v).recorded id ≡ Some r → (is_lawful r ≡ true) × (is_decided r ≡ false)
+  records_kept id r is =
+      let c = v.conns id.conn in
+      record_lawful (call_id c.number id.request) r (c.calls id.request).live (c.calls id.request).out (own id.conn (occurrences lived)) ((l.stands.each id.conn).calls id.request).live_is is
+
+  outs_kept : (id : CallId) → (shown v).outs id ≡ outs id (marked (occurrences lived))
+  outs_kept id = outs_shown v.now v.conns v.opened h.taken h.handed v.waiting (occurrences lived) l.stands id.conn id.request
+
+  outs_few : (id : CallId) (a : ArrivedCall) → call id (marked os) ≡ Some a → (shown v).outs id ≤ a.plan.limit
+  outs_few id a a_is =
+      let most : outs id (marked (occurrences lived)) ≤ a.plan.limit = within_limit id a (occurrences lived) os (sym (events_occur lived) ∙ same) a_is in
+      let few = outs_kept id in omega (arith, few, most)
+
+  known_lived : IsKnown (shown v) h os
+  known_lived = record {
+    lived = lived;
+    same = same;
+    in_order = l.in_order;
+    breaks = l.breaks;
+    open_are = λ c. sym (conns.each c).open_is;
+    broken_are = λ c there. broken_shown v.now v.conns v.opened h.taken h.handed v.waiting (occurrences lived) l.stands c there;
+    queue_is = λ c there. queue_shown v.now v.conns v.opened h.taken h.handed v.waiting (occurrences lived) l.stands c there;
+    jobs_are = l.stands.jobs_are;
+    outs_are = λ id. outs_kept id;
+    records_are = λ id. records_shown v.now v.conns v.opened h.taken h.handed v.waiting (occurrences lived) l.stands id.conn id.request;
+    records = λ id r r_is. records_kept id r r_is;
+    limit = λ id a a_is. outs_few id a a_is;
   }
+
+-- the law
+pub known : (v : CoreValue) (h : History) (occurred : List Placed) → Served v h → Occurs v.plans h.opened h.events occurred → IsKnown (shown v) h (occurrences occurred)
+known v h occurred s o = let x = s.stands occurred o in known_lived v h (occurrences occurred) s.conns x.0 (ap occurrences x.1) x.2

@@ -1,11 +1,9 @@
 -- One more opening that succeeds behind some events changes nothing of what these come to.
-use Rattle.std.proofs.Common.{◌≡◌, ℕ, suc, ◌<◌, ◌≤◌, true, false, List, [], ◌∷◌, ◌++◌, length, sym, ap, ◌∙◌, arith, ⊎_elim}
-use Rattle.std.specs.Prelude.{◌||◌, ◌==◌}
-use Rattle.std.proofs.lemmas.Bool.{cases_Bool, ne_eqb}
-use Rattle.gateway_model.specs.Events.{Before, IsShifted, connections, is_open, open_connections, succeeds}
+use Rattle.std.proofs.Common.{◌≡◌, ℕ, ◌<◌, ◌≤◌, true, List, [], ◌∷◌, ◌++◌, length, ap, ◌∙◌}
+use Rattle.gateway_model.specs.Events.{Before, connections, is_open, open_connections, succeeds}
 use Rattle.gateway_model.specs.Past.{count_below}
 use Rattle.gateway_theory.specs.lemmas.CutLemmas.{IsSame, same_before}
-use Rattle.gateway_theory.specs.lemmas.ServedOpens.{grown, succeeds_more}
+use Rattle.gateway_theory.specs.lemmas.ServedOpens.{grown}
 use Rattle.gateway_theory.specs.lemmas.SlotLemmas.{count_same}
 
 pub same_openings : (opened : List ℕ) (place : ℕ) (es : Before) → ((other : ℕ) → succeeds opened other ≡ true → other < place) → length es ≤ place

@@ -5,9 +5,9 @@ use Rattle.std.proofs.lemmas.Bool.{cases_Bool}
 use Rattle.gateway_model.specs.Past.{is_due, least_of, smaller}
 use Rattle.gateway_theory.specs.declared.trigger.Trigger.TheVariants.{Reached}
 use Rattle.gateway_theory.specs.Ends.{ended_call}
-use Rattle.gateway_theory.specs.Kept.{KeptValue}
+use Rattle.gateway_theory.specs.Values.{KeptValue, Live}
 use Rattle.gateway_theory.specs.Least.{deadline_of, ends_any, least_deadline}
-use Rattle.gateway_theory.specs.Step.{Live, deadlines_in}
+use Rattle.gateway_theory.specs.Step.{deadlines_in}
 use Rattle.gateway_theory.specs.lemmas.Deadlines.{due_smaller}
 
 one_ends : (moment : ℕ) (k : KeptValue) → is_some (ended_call (Reached moment) k.id k.call).reply ≡ is_due moment (deadline_of k)

@@ -1,19 +1,18 @@
 -- The machine after an occurrence stands for it.
-use Rattle.std.proofs.Common.{◌≡◌, ℕ, zero, suc, ◌+◌, ◌≤◌, ◌<◌, Bool, true, false, List, [], ◌∷◌, ◌++◌, map, length, Option, None, Some, refl, sym, ap, ◌∙◌, subst, arith, ⊎_elim}
+use Rattle.std.proofs.Common.{◌≡◌, ℕ, zero, suc, ◌+◌, ◌≤◌, ◌<◌, Bool, false, List, [], ◌∷◌, ◌++◌, map, length, Option, None, Some, refl, sym, ap, ◌∙◌, arith, ⊎_elim}
 use Rattle.std.specs.Prelude.{◌==◌, nat_le}
 use Rattle.std.specs.Option.{option_or}
-use Rattle.std.proofs.lemmas.Bool.{cond_both, cases_Bool, cases_eq, cases_lt, eq-eqb, eqb-true}
-use Rattle.std.proofs.lemmas.List.{length-append, get_or_append_left}
-use Rattle.std.proofs.Math.Seq.{get_or-append_seam}
+use Rattle.std.proofs.lemmas.Bool.{cond_both, cases_lt}
 use Rattle.std.proofs.Math.ListN.{get_or-eq_default}
 use Rattle.gateway_model.specs.declared.id.CallId.{CallId}
 use Rattle.gateway_model.specs.Arrival.{Judged, Asks}
 use Rattle.gateway_model.specs.Occurrence.{Occurrence, Opening, Comes, HangUp, Moment, Result, Drain, Closing, Coming, Request, Refused, Break}
-use Rattle.gateway_model.specs.Past.{Mark, Past, call_id, is_call, arrivals, coming_on, coming_now, crowds, mark_of, most_calls, undecided_calls, is_broken}
+use Rattle.gateway_model.specs.Past.{Mark, Past, call_id, arrivals, coming_on, coming_now, crowds, mark_of, most_calls, undecided_calls, is_broken}
 use Rattle.gateway_model.specs.declared.entry.ReplyEntry.{ReplyEntry}
 use Rattle.gateway_model.specs.Queue.{entry}
 use Rattle.gateway_theory.specs.lemmas.Unborn.{unborn}
-use Rattle.gateway_theory.specs.Step.{Live, call_state, kept, step}
+use Rattle.gateway_theory.specs.Step.{kept, step}
+use Rattle.gateway_theory.specs.Values.{Live, call_state}
 use Rattle.gateway_theory.specs.Begins.{arrive}
 use Rattle.gateway_theory.specs.Machine.{slot_at, is_coming}
 use Rattle.gateway_theory.specs.Standing.{SlotsStand}
@@ -79,40 +78,8 @@ crowd_is c (Refused r) full past moment drained id e = refl
 crowd_is c (Request q (Judged v)) full past moment drained id e = refl
 crowd_is c (Request q (Asks plan t rid)) full past moment drained id e = ap (λ b. arrive moment drained b id (Request q (Asks plan t rid))) e
 
--- for any other call nothing comes
-pub other_call : (c : ℕ) (x : Coming) (id : CallId) (n : ℕ) (past : Past) → arrivals c past ≡ n → is_call (call_id c n) id ≡ false
-    → coming_now id (mark_of past (Comes c x)) past ≡ None
-other_call c x id n past n_is other =
-    ⊎_elim (λ (here : (c == id.conn) ≡ true).
-    let same : c ≡ id.conn = eqb-true c id.conn here in
-    let not_it : (n == id.request) ≡ false = rw here at other in
-    let at_other : (arrivals id.conn past == id.request) ≡ false = rw (← same, n_is) not_it in
-    rw at_other refl)
-    (λ (elsewhere : (c == id.conn) ≡ false).
-    rw elsewhere (cond_both (arrivals id.conn past == id.request) None None (λ o. o ≡ None) (λ _. refl) (λ _. refl)))
-    (cases_Bool (c == id.conn))
-
 pub kept_by_entry : (moment : ℕ) (id : CallId) (c : ℕ) (x : Coming) (out : List Bool) (live : Option Live) → step moment id (Comes c x) (call_state out live) ≡ kept (call_state out live)
 kept_by_entry moment id c x out None = refl
 kept_by_entry moment id c x out (Some l) = refl
-
-pub more_slots : (c : ℕ) (x : Coming) (old : List (Option ReplyEntry)) (reply : Option ReplyEntry) (past : Past) → SlotsStand c old past → is_broken c past ≡ false
-    → ((k : ℕ) → (k ≡ length old → ⊥) → entry (call_id c k) past ≡ entry (call_id c k) (mark_of past (Comes c x) ∷ past))
-    → reply ≡ entry (call_id c (length old)) (mark_of past (Comes c x) ∷ past)
-    → SlotsStand c (old ++ reply ∷ []) (mark_of past (Comes c x) ∷ past)
-more_slots c x old reply past h on others here = record {
-  size_is = length-append old (reply ∷ []) ∙ rw (eq-eqb c c refl, on) (omega (arith, h.size_is));
-  each = λ k.
-      ⊎_elim (λ (lt : k < length old). get_or_append_left old (reply ∷ []) None k lt ∙ h.each k ∙ others k (λ e. omega (arith, e, lt)))
-      (λ (ge : length old ≤ k).
-      ⊎_elim (λ (same : k ≡ length old).
-      subst (λ n. slot_at n (old ++ reply ∷ []) ≡ entry (call_id c n) (mark_of past (Comes c x) ∷ past)) (sym same)
-      (get_or-append_seam old reply [] None ∙ here))
-      (λ (ne : k ≡ length old → ⊥).
-      get_or-eq_default (old ++ reply ∷ []) None {n = k} (omega (arith, ge, ne, length-append old (reply ∷ [])))
-      ∙ sym (get_or-eq_default old None {n = k} ge) ∙ h.each k ∙ others k ne)
-      (cases_eq k (length old)))
-      (cases_lt k (length old));
-}
 
 -- ---- what is handed out

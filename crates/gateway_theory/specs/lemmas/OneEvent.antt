@@ -1,19 +1,13 @@
 -- What one event more makes of the stream of a connection.
-use Rattle.std.proofs.Common.{◌≡◌, ℕ, suc, ◌<◌, ◌≤◌, Bool, true, false, List, [], ◌∷◌, ◌++◌, length, refl, ◌∙◌, arith, append-nil}
-use Rattle.std.specs.Prelude.{◌&&◌, ◌||◌, not, if◌then◌else◌}
+use Rattle.std.proofs.Common.{◌≡◌, ℕ, suc, ◌<◌, true, false, List, [], ◌∷◌, ◌++◌, length, refl, ◌∙◌, arith}
+use Rattle.std.specs.Prelude.{not}
 use Rattle.std.proofs.Math.Bool.{and-true, or-false}
-use Rattle.std.proofs.lemmas.Bool.{lt-ltb, le-ltb, eq-eqb, and_left, or_from}
+use Rattle.std.proofs.lemmas.Bool.{lt-ltb, le-ltb, eq-eqb, and_left}
 use Rattle.gateway_model.specs.declared.event.Event.{Event}
 use Rattle.gateway_model.specs.declared.event.Event.TheVariants.{Opening, Piece, HangUp, Closing}
-use Rattle.gateway_model.specs.Events.{Before, connections, hung_up, is_closing_of, is_hang_up_of, is_open, is_opening, listens, piece_of, stream, succeeds}
+use Rattle.gateway_model.specs.Events.{Before, connections, hung_up, is_closing_of, is_open, listens, stream, succeeds}
 use Rattle.gateway_theory.specs.lemmas.Cases.{and_false, or_true}
-use Rattle.gateway_theory.specs.lemmas.CutLemmas.{connections_grow}
-use Rattle.gateway_theory.specs.lemmas.ServedLemmas.{hung_still as kept_hung, text_still as kept_stream}
 use Rattle.gateway_theory.specs.lemmas.ServedOpens.{unopened_shut as unborn_open, unopened_hung as unborn_hung, unopened_text as unborn_stream}
-
-more_by : (b : Bool) (n : ℕ) → n ≤ (if b then suc n else n)
-more_by true n = omega arith
-more_by false n = omega arith
 
 -- ---- a connection that was opened before
 

@@ -1,29 +1,29 @@
--- What the gateway stands for after two pieces of a stream, as after one.
-use Rattle.std.proofs.Common.{◌≡◌, ℕ, suc, ◌+◌, ◌<◌, Bool, true, false, List, [], ◌∷◌, ◌++◌, map, length, refl, sym, ap, ◌∙◌, subst, arith, append_assoc}
-use Rattle.std.specs.Prelude.{⊤, if◌then◌else◌, ◌&&◌, ◌==◌, reverse, MatchBool}
+-- A piece that is fed in parts is as one piece.
+use Rattle.std.proofs.Common.{◌≡◌, ℕ, suc, ◌+◌, Bool, true, false, List, [], ◌∷◌, ◌++◌, map, length, refl, sym, ap, ◌∙◌, subst, arith, append_assoc, ◌≤◌}
+use Rattle.std.specs.Prelude.{if◌then◌else◌, ◌&&◌, ◌==◌, MatchBool, reverse}
 use Rattle.std.proofs.lemmas.List.{length-append, map-append, reverse-append}
 use Rattle.call_plan.specs.Plan.{PlanRecord}
 use Rattle.http_pieces.specs.Cut.{Complete, Cut}
-use Rattle.http_pieces.specs.Reader.{HasRead}
 use Rattle.http_pieces.specs.Request.{HttpRequest, closes}
 use Rattle.http_pieces.specs.Requests.{StreamEnd, Closed, EndsAt, Requests, unfinished, broken}
 use Rattle.http_pieces.specs.declared.refusal.Refusal.{Refusal}
 use Rattle.gateway_model.specs.Breaks.{BreakAsTheyMay, CanBreakAt, MayOccur}
 use Rattle.gateway_model.specs.Concerns.{can_break}
-use Rattle.gateway_model.specs.Events.{Before, Gains, OccursAt, listens, refusal_gained, requests_gained, stream, succeeds}
+use Rattle.gateway_model.specs.Events.{Before, Gains, OccursAt, listens, refusal_gained, requests_gained, stream}
 use Rattle.gateway_model.specs.declared.event.Event.{Event}
 use Rattle.gateway_model.specs.declared.event.Event.TheVariants.{Piece}
-use Rattle.gateway_theory.specs.Gateway.{GatewayValue}
 use Rattle.gateway_model.specs.Occurrence.{Coming, Comes, Occurrence}
-use Rattle.gateway_model.specs.Occurrence as occurs
-use Rattle.gateway_model.specs.Own.{without_breaks}
 use Rattle.gateway_model.specs.Past.{marked}
 use Rattle.gateway_theory.specs.RequestLaws.{RequestLaws}
-use Rattle.gateway_theory.specs.Served.{Adds, HasConns, Lives, at_place}
+use Rattle.gateway_theory.specs.Core.{at_place, Adds, CoreValue, FedUpTo, HasConns, IsKnown, Lives}
 use Rattle.gateway_model.specs.Starts.{Placed, occurrences}
 use Rattle.gateway_model.specs.History.{History, after_event}
-use Rattle.gateway_theory.specs.lemmas.Adding.{AreBreaks, BreakSo, MayBreak, Newer, StandsThen, adds_event, breaks_join, occurrences_at, texts_same, without_both}
+use Rattle.gateway_theory.specs.lemmas.Adding.{AreBreaks, BreakSo, MayBreak, occurrences_at, Newer, breaks_join, breaks_later, can_later, without_both, StandsNow, adds_counted}
 use Rattle.gateway_theory.specs.lemmas.CutLemmas.{IsSame, gains_both, listens_piece, same_piece, stream_piece}
+use Rattle.gateway_model.specs.Own.{without_breaks}
+use Rattle.gateway_theory.specs.Arrivals.{calls_arrived}
+use Rattle.gateway_theory.specs.lemmas.ServedLemmas.{stays_itself, stream_stays}
+use Rattle.gateway_model.specs.Occurrence as occurs
 
 -- ---- a longer text has the requests of the shorter, and may have more
 
@@ -98,77 +98,30 @@ so_broke P opened es m f (occurs.Result id i r) us b = tt
 so_broke P opened es m f occurs.Drain us b = tt
 so_broke P opened es m f (occurs.Closing c) us b = tt
 
-breaks_back : (P : ℕ → List Occurrence → Type 0) (opened : List ℕ) (es : Before) (m : ℕ) → ((c : ℕ) (us : List Occurrence) → CanBreakAt c m opened es (marked us) → P c us)
+pub breaks_back : (P : ℕ → List Occurrence → Type 0) (opened : List ℕ) (es : Before) (m : ℕ) → ((c : ℕ) (us : List Occurrence) → CanBreakAt c m opened es (marked us) → P c us)
     → (newer : List Occurrence) (lived : List Placed) → BreakAsTheyMay opened es (at_place m newer ++ lived) → AreBreaks P newer (occurrences lived)
 breaks_back P opened es m f [] lived b = tt
 breaks_back P opened es m f (o ∷ newer) lived b =
     (so_broke P opened es m f o (newer ++ occurrences lived) (subst (λ us. MayOccur opened es m o (marked us)) (occurrences_at m newer lived) b.0), breaks_back P opened es m f newer lived b.1)
 
-breaks_behind : (opened : List ℕ) (es : Before) (m : ℕ) (newer : List Occurrence) (lived : List Placed) → BreakAsTheyMay opened es (at_place m newer ++ lived) → BreakAsTheyMay opened es lived
+pub breaks_behind : (opened : List ℕ) (es : Before) (m : ℕ) (newer : List Occurrence) (lived : List Placed) → BreakAsTheyMay opened es (at_place m newer ++ lived) → BreakAsTheyMay opened es lived
 breaks_behind opened es m [] lived b = b
 breaks_behind opened es m (o ∷ newer) lived b = breaks_behind opened es m newer lived b.1
 
 -- ---- two pieces
 
-module _ (laws : RequestLaws) (n : ℕ) (p q : List ℕ) (u v w : GatewayValue) (history : History)
-    (below : (place : ℕ) → succeeds history.opened place ≡ true → place < length history.events)
-    (middle : (gained : List Coming) → Gains u.plans (stream history.opened n history.events) (stream history.opened n history.events ++ (p ++ q)) gained → (given : List HttpRequest) × (ending : StreamEnd) × Requests 0 (stream history.opened n history.events ++ p) given ending)
-    (first : Adds history.opened (Piece n p) history u v) (second : Adds history.opened (Piece n q) (after_event (Piece n p) history) v w) where
+module _ (n : ℕ) (p q : List ℕ) (history : History) where
   same_itself : IsSame history.opened history.opened history.events history.events
   same_itself = record { connections_are = refl; open_is = λ c. refl; hung_is = λ c. refl; stream_is = λ c. refl }
 
-  joined : IsSame history.opened history.opened (Piece n (p ++ q) ∷ history.events) (Piece n q ∷ Piece n p ∷ history.events)
+  pub joined : IsSame history.opened history.opened (Piece n (p ++ q) ∷ history.events) (Piece n q ∷ Piece n p ∷ history.events)
   joined = same_piece history.opened history.opened n p q history.events same_itself
 
-  conns_joined : HasConns w history.opened (Piece n q ∷ Piece n p ∷ history.events) → HasConns w history.opened (Piece n (p ++ q) ∷ history.events)
-  conns_joined h = record {
-    below = λ place its. let lt = below place its in omega (arith, lt);
-    count_is = sym joined.connections_are ∙ h.count_is;
-    open_are = λ c. sym (joined.open_is c) ∙ h.open_are c;
-    hung_are = λ c k k_is on. h.hung_are c k k_is on ∙ joined.hung_is c;
-    reads_are = λ c k s k_is s_is going. let read = h.reads_are c k s k_is s_is going in (read.0, subst (λ text. HasRead s.reader text read.0) (joined.stream_is c) read.1);
-  }
-
-  parts : (b : Bool) → listens history.opened n history.events ≡ b → (os : List Occurrence) → OccursAt u.plans history.opened (Piece n (p ++ q)) history.events os
-      → (xs : List Occurrence) × (ys : List Occurrence) × OccursAt u.plans history.opened (Piece n p) history.events xs × OccursAt u.plans history.opened (Piece n q) (Piece n p ∷ history.events) ys × (xs ++ ys ≡ os)
-  parts false x os at = (
-    [],
-    [],
-    subst (λ b. Both b (stream history.opened n history.events) (stream history.opened n history.events ++ p) []) (sym x) refl,
-    subst (λ b. Both b (stream history.opened n (Piece n p ∷ history.events)) (stream history.opened n (Piece n p ∷ history.events) ++ q) []) (sym (listens_piece history.opened n n p history.events ∙ x)) refl,
-    sym (subst (λ b. Both b (stream history.opened n history.events) (stream history.opened n history.events ++ (p ++ q)) os) x at),
-  )
-    where
-      Both : Bool → List ℕ → List ℕ → List Occurrence → Type 0
-      Both b s t os = MatchBool b ((gained : List Coming) × Gains u.plans s t gained × (os ≡ map (Comes n) gained)) (os ≡ [])
-  parts true x os at = by_gains (subst (λ b. Both b (stream history.opened n history.events) (stream history.opened n history.events ++ (p ++ q)) os) x at)
-    where
-      Both : Bool → List ℕ → List ℕ → List Occurrence → Type 0
-      Both b s t os = MatchBool b ((gained : List Coming) × Gains u.plans s t gained × (os ≡ map (Comes n) gained)) (os ≡ [])
-
-      text_is : stream history.opened n (Piece n p ∷ history.events) ≡ stream history.opened n history.events ++ p
-      text_is = stream_piece history.opened n p history.events ∙ ap (λ b. if b then stream history.opened n history.events ++ p else stream history.opened n history.events) x
-
-      by_gains : ((gained : List Coming) × Gains u.plans (stream history.opened n history.events) (stream history.opened n history.events ++ (p ++ q)) gained × (os ≡ map (Comes n) gained))
-          → (xs : List Occurrence) × (ys : List Occurrence) × OccursAt u.plans history.opened (Piece n p) history.events xs × OccursAt u.plans history.opened (Piece n q) (Piece n p ∷ history.events) ys × (xs ++ ys ≡ os)
-      by_gains (gained, gains, os_are) =
-          let m = middle gained gains in
-          let first = gains_parts laws u.plans (stream history.opened n history.events) (stream history.opened n history.events ++ p) gains.given m.0 gains.ending m.1 p refl gains.text_is m.2 in
-          let second = gains_parts laws u.plans (stream history.opened n history.events ++ p) ((stream history.opened n history.events ++ p) ++ q) m.0 (gains.given ++ gains.more) m.1 gains.later q refl m.2
-          (subst (λ t. Requests 0 t (gains.given ++ gains.more) gains.later) (sym (append_assoc (stream history.opened n history.events) p q)) gains.longer_is) in (
-            map (Comes n) first.0,
-            map (Comes n) second.0,
-            subst (λ b. Both b (stream history.opened n history.events) (stream history.opened n history.events ++ p) (map (Comes n) first.0)) (sym x) (first.0, first.1, refl),
-            subst (λ b. Both b (stream history.opened n (Piece n p ∷ history.events)) (stream history.opened n (Piece n p ∷ history.events) ++ q) (map (Comes n) second.0)) (sym (listens_piece history.opened n n p history.events ∙ x))
-                (second.0, subst (λ t. Gains u.plans t (t ++ q) second.0) (sym text_is) second.1, refl),
-            sym (map-append (Comes n) first.0 second.0) ∙ ap (map (Comes n)) (sym (gains_both laws u.plans (stream history.opened n history.events) p q first.0 second.0 gained first.1 second.1 gains)) ∙ sym os_are,
-          )
-
   -- what may break by the one piece
-  abbrev MayNow : ℕ → List Occurrence → Type 0
+  abbrev pub MayNow : ℕ → List Occurrence → Type 0
   MayNow = MayBreak history.opened (Piece n (p ++ q)) history.events
 
-  by_second : (c : ℕ) (us : List Occurrence) → CanBreakAt c (length (Piece n p ∷ history.events)) history.opened (Piece n q ∷ Piece n p ∷ history.events) (marked us) → MayNow c us
+  pub by_second : (c : ℕ) (us : List Occurrence) → CanBreakAt c (length (Piece n p ∷ history.events)) history.opened (Piece n q ∷ Piece n p ∷ history.events) (marked us) → MayNow c us
   by_second c us b =
       let at = last_event (Piece n q) (Piece n p ∷ history.events) b.later b.event b.before b.events_are b.place_is in (
         b.first,
@@ -176,7 +129,7 @@ module _ (laws : RequestLaws) (n : ℕ) (p q : List ℕ) (u v w : GatewayValue) 
             ∙ sym (ap (λ e. can_break c history.opened e b.before (marked us)) at.0 ∙ ap (λ es. can_break c history.opened (Piece n q) es (marked us)) at.1) ∙ b.can,
       )
 
-  by_first : (c : ℕ) (us : List Occurrence) → CanBreakAt c (length history.events) history.opened (Piece n q ∷ Piece n p ∷ history.events) (marked us) → MayNow c us
+  pub by_first : (c : ℕ) (us : List Occurrence) → CanBreakAt c (length history.events) history.opened (Piece n q ∷ Piece n p ∷ history.events) (marked us) → MayNow c us
   by_first c us b = by_later b.later b.events_are
     where
       by_later : (later : Before) → Piece n q ∷ Piece n p ∷ history.events ≡ later ++ b.event ∷ b.before → MayNow c us
@@ -188,27 +141,98 @@ module _ (laws : RequestLaws) (n : ℕ) (p q : List ℕ) (u v w : GatewayValue) 
             sym (ap (λ e. can_break c history.opened e b.before (marked us)) at.0 ∙ ap (λ es. can_break c history.opened (Piece n p) es (marked us)) at.1) ∙ b.can,
           )
 
-  newer_joined : (lived : List Placed) → Lives u history lived → (os : List Occurrence) → OccursAt u.plans history.opened (Piece n (p ++ q)) history.events os
-      → Newer MayNow (StandsThen history.opened (Piece n (p ++ q)) history u w (second.plans_are ∙ first.plans_are)) os (occurrences lived)
-  newer_joined lived l os at =
-      let ps = parts (listens history.opened n history.events) refl os at in
+-- what the one brings is what the two bring
+module _ (laws : RequestLaws) (n : ℕ) (p q : List ℕ) (plans : List PlanRecord) (history : History)
+    (middle : (gained : List Coming) → Gains plans (stream history.opened n history.events) (stream history.opened n history.events ++ (p ++ q)) gained → (given : List HttpRequest) × (ending : StreamEnd) × Requests 0 (stream history.opened n history.events ++ p) given ending) where
+  pub parts : (b : Bool) → listens history.opened n history.events ≡ b → (os : List Occurrence) → OccursAt plans history.opened (Piece n (p ++ q)) history.events os
+      → (xs : List Occurrence) × (ys : List Occurrence) × OccursAt plans history.opened (Piece n p) history.events xs × OccursAt plans history.opened (Piece n q) (Piece n p ∷ history.events) ys × (xs ++ ys ≡ os)
+  parts false x os at = (
+    [],
+    [],
+    subst (λ b. Both b (stream history.opened n history.events) (stream history.opened n history.events ++ p) []) (sym x) refl,
+    subst (λ b. Both b (stream history.opened n (Piece n p ∷ history.events)) (stream history.opened n (Piece n p ∷ history.events) ++ q) []) (sym (listens_piece history.opened n n p history.events ∙ x)) refl,
+    sym (subst (λ b. Both b (stream history.opened n history.events) (stream history.opened n history.events ++ (p ++ q)) os) x at),
+  )
+    where
+      Both : Bool → List ℕ → List ℕ → List Occurrence → Type 0
+      Both b s t os = MatchBool b ((gained : List Coming) × Gains plans s t gained × (os ≡ map (Comes n) gained)) (os ≡ [])
+  parts true x os at = by_gains (subst (λ b. Both b (stream history.opened n history.events) (stream history.opened n history.events ++ (p ++ q)) os) x at)
+    where
+      Both : Bool → List ℕ → List ℕ → List Occurrence → Type 0
+      Both b s t os = MatchBool b ((gained : List Coming) × Gains plans s t gained × (os ≡ map (Comes n) gained)) (os ≡ [])
+
+      text_is : stream history.opened n (Piece n p ∷ history.events) ≡ stream history.opened n history.events ++ p
+      text_is = stream_piece history.opened n p history.events ∙ ap (λ b. if b then stream history.opened n history.events ++ p else stream history.opened n history.events) x
+
+      by_gains : ((gained : List Coming) × Gains plans (stream history.opened n history.events) (stream history.opened n history.events ++ (p ++ q)) gained × (os ≡ map (Comes n) gained))
+          → (xs : List Occurrence) × (ys : List Occurrence) × OccursAt plans history.opened (Piece n p) history.events xs × OccursAt plans history.opened (Piece n q) (Piece n p ∷ history.events) ys × (xs ++ ys ≡ os)
+      by_gains (gained, gains, os_are) =
+          let m = middle gained gains in
+          let first = gains_parts laws plans (stream history.opened n history.events) (stream history.opened n history.events ++ p) gains.given m.0 gains.ending m.1 p refl gains.text_is m.2 in
+          let second = gains_parts laws plans (stream history.opened n history.events ++ p) ((stream history.opened n history.events ++ p) ++ q) m.0 (gains.given ++ gains.more) m.1 gains.later q refl m.2
+          (subst (λ t. Requests 0 t (gains.given ++ gains.more) gains.later) (sym (append_assoc (stream history.opened n history.events) p q)) gains.longer_is) in (
+            map (Comes n) first.0,
+            map (Comes n) second.0,
+            subst (λ b. Both b (stream history.opened n history.events) (stream history.opened n history.events ++ p) (map (Comes n) first.0)) (sym x) (first.0, first.1, refl),
+            subst (λ b. Both b (stream history.opened n (Piece n p ∷ history.events)) (stream history.opened n (Piece n p ∷ history.events) ++ q) (map (Comes n) second.0)) (sym (listens_piece history.opened n n p history.events ∙ x))
+                (second.0, subst (λ t. Gains plans t (t ++ q) second.0) (sym text_is) second.1, refl),
+            sym (map-append (Comes n) first.0 second.0) ∙ ap (map (Comes n)) (sym (gains_both laws plans (stream history.opened n history.events) p q first.0 second.0 gained first.1 second.1 gains)) ∙ sym os_are,
+          )
+
+module _ (laws : RequestLaws) (n : ℕ) (p q : List ℕ) (u v w : CoreValue) (h : History)
+    (middle : (gained : List Coming) → Gains u.plans (stream h.opened n h.events) (stream h.opened n h.events ++ (p ++ q)) gained → (given : List HttpRequest) × (ending : StreamEnd) × Requests 0 (stream h.opened n h.events ++ p) given ending)
+    (first : Adds h.opened (Piece n p) h u v) (second : Adds h.opened (Piece n q) (after_event (Piece n p) h) v w) where
+  conns_joined : HasConns u h.opened h.events → HasConns w h.opened (Piece n q ∷ Piece n p ∷ h.events) → HasConns w h.opened (Piece n (p ++ q) ∷ h.events)
+  conns_joined before c = record {
+    below = λ place its. let lt = before.below place its in omega (arith, lt);
+    count_is = sym (joined n p q h).connections_are ∙ c.count_is;
+    each = λ d. stream_stays h.opened h.opened (Piece n q ∷ Piece n p ∷ h.events) (Piece n (p ++ q) ∷ h.events) w.opened w.opened d (w.conns d) (w.conns d) (w.streams d) (stays_itself (w.conns d)) (c.each d) refl
+        (sym ((joined n p q h).open_is d)) (sym ((joined n p q h).hung_is d)) (sym ((joined n p q h).stream_is d));
+  }
+
+  newer_joined : HasConns u h.opened h.events → (lived : List Placed) → Lives u h lived → (os : List Occurrence) → OccursAt u.plans h.opened (Piece n (p ++ q)) h.events os
+      → Newer (MayNow n p q h) (StandsNow h w) os (occurrences lived)
+  newer_joined c lived l os at =
+      let ps = parts laws n p q u.plans h middle (listens h.opened n h.events) refl os at in
       let x = first.lives lived l ps.0 ps.2 in
-      let y = second.lives (at_place (length history.events) x.0 ++ lived) x.2 ps.1
-      (subst (λ plans. OccursAt plans history.opened (Piece n q) (Piece n p ∷ history.events) ps.1) (sym first.plans_are) ps.3) in
+      let y = second.lives (at_place (length h.events) x.0 ++ lived) x.2 ps.1
+      (subst (λ plans. OccursAt plans h.opened (Piece n q) (Piece n p ∷ h.events) ps.1) (sym first.plans_are) ps.3) in
       record {
         newer = y.0 ++ x.0;
         same = without_both y.0 x.0 ∙ ap (λ us. us ++ without_breaks x.0) y.1 ∙ ap (λ us. reverse ps.1 ++ us) x.1 ∙ sym (reverse-append ps.0 ps.1) ∙ ap (λ us. reverse us) ps.4;
-        may = breaks_join MayNow y.0 x.0 (occurrences lived)
-            (subst (λ us. AreBreaks MayNow y.0 us) (occurrences_at (length history.events) x.0 lived)
-            (breaks_back MayNow history.opened (Piece n q ∷ Piece n p ∷ history.events) (length (Piece n p ∷ history.events)) by_second y.0 (at_place (length history.events) x.0 ++ lived) y.2.breaks))
-            (breaks_back MayNow history.opened (Piece n q ∷ Piece n p ∷ history.events) (length history.events) by_first x.0 lived
-            (breaks_behind history.opened (Piece n q ∷ Piece n p ∷ history.events) (length (Piece n p ∷ history.events)) y.0 (at_place (length history.events) x.0 ++ lived) y.2.breaks));
-        stands = subst (StandsThen history.opened (Piece n (p ++ q)) history u w (second.plans_are ∙ first.plans_are))
-            (occurrences_at (length (Piece n p ∷ history.events)) y.0 (at_place (length history.events) x.0 ++ lived)
-            ∙ ap (λ us. y.0 ++ us) (occurrences_at (length history.events) x.0 lived) ∙ sym (append_assoc y.0 x.0 (occurrences lived)))
-            (texts_same w history.taken history.handed (λ c. stream history.opened c (Piece n q ∷ Piece n p ∷ history.events)) (λ c. stream history.opened c (Piece n (p ++ q) ∷ history.events))
-            (occurrences (at_place (length (Piece n p ∷ history.events)) y.0 ++ (at_place (length history.events) x.0 ++ lived))) (λ c. sym (joined.stream_is c)) y.2.stands);
+        may = breaks_join (MayNow n p q h) y.0 x.0 (occurrences lived)
+            (subst (λ us. AreBreaks (MayNow n p q h) y.0 us) (occurrences_at (length h.events) x.0 lived)
+            (breaks_back (MayNow n p q h) h.opened (Piece n q ∷ Piece n p ∷ h.events) (length (Piece n p ∷ h.events)) (by_second n p q h) y.0 (at_place (length h.events) x.0 ++ lived) y.2.breaks))
+            (breaks_back (MayNow n p q h) h.opened (Piece n q ∷ Piece n p ∷ h.events) (length h.events) (by_first n p q h) x.0 lived
+            (breaks_behind h.opened (Piece n q ∷ Piece n p ∷ h.events) (length (Piece n p ∷ h.events)) y.0 (at_place (length h.events) x.0 ++ lived) y.2.breaks));
+        stands = subst (StandsNow h w)
+            (occurrences_at (length (Piece n p ∷ h.events)) y.0 (at_place (length h.events) x.0 ++ lived)
+            ∙ ap (λ us. y.0 ++ us) (occurrences_at (length h.events) x.0 lived) ∙ sym (append_assoc y.0 x.0 (occurrences lived)))
+            y.2.stands;
       }
 
-  pub adds_joined : Adds history.opened (Piece n (p ++ q)) history u w
-  adds_joined = adds_event (Piece n (p ++ q)) history u w (second.plans_are ∙ first.plans_are) (λ h. conns_joined (second.conns (first.conns h))) newer_joined
+  few_joined : (c : HasConns u h.opened h.events) (lived : List Placed) (l : Lives u h lived) (os : List Occurrence) (at : OccursAt u.plans h.opened (Piece n (p ++ q)) h.events os)
+      → w.begun ≤ calls_arrived ((newer_joined c lived l os at).newer ++ occurrences lived)
+  unfolding newer_joined
+  few_joined c lived l os at =
+      let ps = parts laws n p q u.plans h middle (listens h.opened n h.events) refl os at in
+      let x = first.lives lived l ps.0 ps.2 in
+      let y = second.lives (at_place (length h.events) x.0 ++ lived) x.2 ps.1
+      (subst (λ plans. OccursAt plans h.opened (Piece n q) (Piece n p ∷ h.events) ps.1) (sym first.plans_are) ps.3) in
+      subst (λ us. w.begun ≤ calls_arrived us)
+      (occurrences_at (length (Piece n p ∷ h.events)) y.0 (at_place (length h.events) x.0 ++ lived)
+      ∙ ap (λ us. y.0 ++ us) (occurrences_at (length h.events) x.0 lived) ∙ sym (append_assoc y.0 x.0 (occurrences lived)))
+      y.2.begun_is
+
+  pub adds_joined : Adds h.opened (Piece n (p ++ q)) h u w
+  adds_joined = adds_counted h.opened (Piece n (p ++ q)) h u w (second.plans_are ∙ first.plans_are) (λ c. conns_joined c (second.conns (first.conns c)))
+      (λ c lived l. (l.occurs, breaks_later h.opened h.opened (Piece n (p ++ q)) h.events (can_later h.opened (Piece n (p ++ q)) h.events) lived l.breaks)) newer_joined few_joined
+
+-- more bytes of it
+pub fed_more : RequestLaws → (n : ℕ) (p q : List ℕ) (u v w : CoreValue) (h : History) → FedUpTo n p h u v → Adds h.opened (Piece n q) (after_event (Piece n p) h) v w
+    → IsKnown (stream h.opened n h.events ++ (p ++ q)) → FedUpTo n (p ++ q) h u w
+fed_more laws n p q u v w h f more known = record {
+  before = f.before;
+  adds = adds_joined laws n p q u v w h (λ gained gains. f.known q gained gains) f.adds more;
+  known = λ rest gained gains. known;
+}

@@ -1,40 +1,18 @@
--- What the gateway stands for after each event.
-use Rattle.std.proofs.Common.{◌≡◌, ℕ, ◌+◌, ◌<◌, ◌≤◌, Bool, true, false, List, [], ◌∷◌, ◌++◌, length, Option, None, Some, refl, sym, ap, ◌∙◌, subst, arith, append-nil}
-use Rattle.std.specs.Prelude.{if◌then◌else◌, ◌&&◌, ◌||◌, not, ◌==◌, is_some, nat_lt}
-use Rattle.std.specs.List.{list_any}
-use Rattle.std.proofs.lemmas.Bool.{ltb-false}
-use Rattle.connect_codec.specs.declared.answer.Outcome.{Outcome}
-use Rattle.http_pieces.specs.Reader.{HasRead}
-use Rattle.gateway_theory.specs.declared.fault.Took.{Took}
-use Rattle.gateway_model.specs.declared.id.CallId.{CallId}
-use Rattle.gateway_theory.specs.declared.trigger.Trigger.{Trigger}
-use Rattle.gateway_theory.specs.declared.trigger.Trigger.TheVariants.{Reached, Drained}
-use Rattle.gateway_theory.specs.Conn.{ConnValue}
-use Rattle.gateway_theory.specs.Ends.{EndsBy}
-use Rattle.gateway_model.specs.Concerns.{can_break, concerns}
-use Rattle.gateway_model.specs.Events.{Before, OccursAt, connections, hung_up, is_closing_of, is_hang_up_of, is_open, listens, piece_of, stream}
-use Rattle.gateway_model.specs.declared.event.Event.TheVariants.{BranchResult, Drain, Moment}
+-- What an event leaves alone of the connections and their streams.
+use Rattle.std.proofs.Common.{◌≡◌, ℕ, ◌+◌, ◌<◌, ◌≤◌, Bool, true, false, List, [], ◌∷◌, ◌++◌, refl, sym, ap, ◌∙◌, arith, append-nil, suc, length, Option, subst}
+use Rattle.std.specs.Prelude.{if◌then◌else◌, ◌&&◌, ◌||◌, not, nat_lt, ◌==◌}
+use Rattle.std.proofs.lemmas.Bool.{ltb-false, eqb-true}
+use Rattle.gateway_model.specs.Events.{Before, connections, hung_up, is_closing_of, is_hang_up_of, is_open, listens, piece_of, stream}
 use Rattle.gateway_model.specs.declared.event.Event.{Event}
-use Rattle.gateway_theory.specs.Gateway.{GatewayValue, StreamValue, stream_of}
-use Rattle.gateway_theory.specs.GatewayLived.{GatewayLives, newly_broken}
-use Rattle.gateway_theory.specs.Lived.{breaks_of}
-use Rattle.gateway_model.specs.Occurrence.{Occurrence}
-use Rattle.gateway_model.specs.Occurrence as occurs
-use Rattle.gateway_model.specs.Own.{is_break}
-use Rattle.gateway_model.specs.Past.{Past, breaks}
-use Rattle.gateway_theory.specs.Results.{Forgets, ResultTaken, Starved}
-use Rattle.gateway_theory.specs.Served.{Adds, HasConns}
-use Rattle.gateway_theory.specs.Serving.{Ends, IsServing}
-use Rattle.gateway_model.specs.History.{History}
-use Rattle.gateway_theory.specs.Step.{moment_after}
-use Rattle.gateway_theory.specs.Store.{MachineValue, conn_of, numbers}
-use Rattle.gateway_theory.specs.lemmas.Adding.{AreBreaks, MayBreak, adds_one}
-use Rattle.gateway_theory.specs.lemmas.Cases.{and_true, and_false, or_false}
+use Rattle.gateway_theory.specs.lemmas.Cases.{and_true, and_false, or_false, or_true}
 use Rattle.gateway_theory.specs.lemmas.CutLemmas.{open_known}
-use Rattle.gateway_theory.specs.lemmas.EndingSteps.{drain_ends, goes_ended, goes_told, moment_ends}
-use Rattle.gateway_theory.specs.lemmas.GatewaySteps.{Goes, goes_forgotten, goes_listens, goes_result, goes_starved, goes_then}
-use Rattle.gateway_theory.specs.lemmas.LivedEvents.{ended_lives, ended_may, result_lives, result_may, starved_lives, starved_may}
-use Rattle.gateway_theory.specs.lemmas.ServingLemmas.{conn_by_number, keeps_result, keeps_starved}
+use Rattle.gateway_model.specs.declared.entry.ReplyEntry.{ReplyEntry}
+use Rattle.gateway_model.specs.declared.event.Event.TheVariants.{Closing, HangUp}
+use Rattle.gateway_model.specs.Occurrence.{Occurrence}
+use Rattle.gateway_model.specs.Past.{breaks}
+use Rattle.gateway_theory.specs.Connection.{call_step, closes, filled, next, Now, went}
+use Rattle.gateway_theory.specs.Values.{ConnectionValue, is_open_value}
+use Rattle.gateway_theory.specs.Core.{HasCome, HasStreams, StreamStands, StreamValue, is_heard}
 
 -- ---- what an event leaves alone
 
@@ -74,129 +52,157 @@ pub record IsPlain (opened : List ℕ) (e : Event) (es : Before) : Type 0 where
   pub hangs_none : (c : ℕ) → is_hang_up_of c e ≡ false
   pub brings_none : (c : ℕ) → piece_of c e ≡ []
 
--- the connections may have broken
-pub record ConnsGo (v w : GatewayValue) : Type 0 where
-  pub opened_is : w.opened ≡ v.opened
-  pub streams_are : w.streams ≡ v.streams
-  pub numbers_are : numbers w.machine.conns ≡ numbers v.machine.conns
-  pub goes : Goes v.machine w.machine
+-- ---- connections whose pieces are taken
 
-pub open_same : (c : ℕ) (new conns : List ConnValue) → numbers new ≡ numbers conns → is_some (conn_of c new) ≡ is_some (conn_of c conns)
-open_same c new conns same = conn_by_number c new ∙ ap (λ ns. list_any (λ n. n == c) ns) same ∙ sym (conn_by_number c conns)
+pub going_parts : (a b : Bool) → (not a && not b) ≡ true → (a ≡ false) × (b ≡ false)
+going_parts false false e = (refl, refl)
+going_parts false true e = absurd (cc)
+going_parts true b e = absurd (cc)
 
-pub conns_go : (v w : GatewayValue) (opened : List ℕ) (es : Before) → ConnsGo v w → HasConns v opened es → HasConns w opened es
-conns_go v w opened es g h = record {
-  below = h.below;
-  count_is = h.count_is ∙ sym g.opened_is;
-  open_are = λ c. h.open_are c ∙ sym (open_same c w.machine.conns v.machine.conns g.numbers_are);
-  hung_are = λ c l l_is on. let k = g.goes.back c l l_is on in k.4 ∙ h.hung_are c k.0 k.1 k.2;
-  reads_are = λ c l s l_is s_is going.
-      let k = goes_listens v.machine w.machine g.goes c l l_is going in
-      h.reads_are c k.0 s k.1 (ap (stream_of c) (sym g.streams_are) ∙ s_is) k.2;
+-- no request came more, and it is as closed as it was; it may have broken
+pub record Stays (v w : ConnectionValue) : Type 0 where
+  pub closed_is : w.closed ≡ v.closed
+  pub broken_was : w.broken ≡ false → v.broken ≡ false
+  pub next_is : next w ≡ next v
+
+pub stays_itself : (v : ConnectionValue) → Stays v v
+stays_itself v = record { closed_is = refl; broken_was = λ e. e; next_is = refl }
+
+pub stays_then : (u v w : ConnectionValue) → Stays u v → Stays v w → Stays u w
+stays_then u v w g h = record { closed_is = h.closed_is ∙ g.closed_is; broken_was = λ e. g.broken_was (h.broken_was e); next_is = h.next_is ∙ g.next_is }
+
+as_many : (reply : ℕ → Option ReplyEntry) (k : ℕ) (slots : List (Option ReplyEntry)) → length (filled reply k slots) ≡ length slots
+as_many reply k [] = refl
+as_many reply k (s ∷ slots) = ap suc (as_many reply (suc k) slots)
+
+whole_before : (closes_now breaks_now broken : Bool) → closes_now ≡ false → (not closes_now && (breaks_now || broken)) ≡ false → broken ≡ false
+whole_before false true broken still e = absurd (cc)
+whole_before false false broken still e = e
+whole_before true b broken still e = absurd (cc)
+
+open_part : (a b : Bool) → (a && not b) ≡ true → b ≡ false
+open_part true false e = refl
+open_part true true e = absurd (cc)
+open_part false b e = absurd (cc)
+
+-- one that is open is not closed
+pub unclosed : (count c : ℕ) (v : ConnectionValue) → is_open_value count c v ≡ true → v.closed ≡ false
+unclosed count c v there = open_part (nat_lt c count) v.closed there
+
+-- a step at which nothing comes, and which does not close it
+pub went_stays : (n : Now) (o : Occurrence) (v : ConnectionValue) → closes v.number o ≡ false → Stays v (went n o v)
+went_stays n o v still = record {
+  closed_is = ap (λ b. b || v.closed) still;
+  broken_was = λ e. whole_before (closes v.number o) (breaks v.number o && not v.closed) v.broken still e;
+  next_is = ap (λ b. v.taken + length (if b then [] else filled (λ k. (call_step n o v k).reply) v.taken v.slots)) still ∙ ap (λ l. v.taken + l) (as_many (λ k. (call_step n o v k).reply) v.taken v.slots);
 }
 
-pub conns_plain : (v : GatewayValue) (opened : List ℕ) (e : Event) (es : Before) → IsPlain opened e es → HasConns v opened es → HasConns v opened (e ∷ es)
-conns_plain v opened e es p h = record {
+pub come_stays : (v w : ConnectionValue) (s : StreamValue) (text : List ℕ) → next w ≡ next v → HasCome v s.reader text → HasCome w s.reader text
+come_stays v w s text same h = record { given = h.given; reads = h.reads; settled = h.settled; came = same ∙ h.came }
+
+-- events by which a connection is open and hung up, and its text, as by those before
+module _ (opened later : List ℕ) (es fs : Before) (count total c : ℕ) (v w : ConnectionValue) (s : StreamValue) (g : Stays v w) (h : StreamStands opened es count c v s)
+    (count_same : nat_lt c total ≡ nat_lt c count) (open_same : is_open later c fs ≡ is_open opened c es)
+    (hung_same : hung_up later c fs ≡ hung_up opened c es) (text_same : stream later c fs ≡ stream opened c es) where
+  value_same : is_open_value total c w ≡ is_open_value count c v
+  value_same = ap (λ b. b && not w.closed) count_same ∙ ap (λ b. nat_lt c count && not b) g.closed_is
+
+  was_heard : is_heard w s ≡ true → is_heard v s ≡ true
+  was_heard on = let parts = going_parts w.broken s.hung_up on in rw (g.broken_was parts.0, parts.1) refl
+
+  pub stream_stays : StreamStands later fs total c w s
+  stream_stays = record {
+    unopened = λ new. let u = h.unopened (sym count_same ∙ new) in (g.next_is ∙ u.0, g.closed_is ∙ u.1);
+    open_is = open_same ∙ h.open_is ∙ sym value_same;
+    hung_is = λ there on. h.hung_is (sym value_same ∙ there) (g.broken_was on) ∙ sym hung_same;
+    has_come = λ there on. subst (λ text. HasCome w s.reader text) (sym text_same)
+        (come_stays v w s (stream opened c es) g.next_is (h.has_come (sym value_same ∙ there) (was_heard on)));
+  }
+
+-- an event of no connection's stream
+pub streams_stay : (opened : List ℕ) (e : Event) (es : Before) (count : ℕ) (conns later : ℕ → ConnectionValue) (streams : ℕ → StreamValue) → IsPlain opened e es
+    → ((c : ℕ) → Stays (conns c) (later c)) → HasStreams opened es count conns streams → HasStreams opened (e ∷ es) count later streams
+streams_stay opened e es count conns later streams plain g h = record {
   below = λ place its. let lt = h.below place its in omega (arith, lt);
-  count_is = p.opens_none ∙ h.count_is;
-  open_are = λ c. open_still opened c e es p.opens_none (p.closes_none c) ∙ h.open_are c;
-  hung_are = λ c k k_is on. h.hung_are c k k_is on ∙ sym (hung_still opened c e es (p.hangs_none c));
-  reads_are = λ c k s k_is s_is going.
-      let read = h.reads_are c k s k_is s_is going in (read.0, subst (λ text. HasRead s.reader text read.0) (sym (text_still opened c e es (p.brings_none c))) read.1);
+  count_is = plain.opens_none ∙ h.count_is;
+  each = λ c. stream_stays opened opened es (e ∷ es) count count c (conns c) (later c) (streams c) (g c) (h.each c) refl (open_still opened c e es plain.opens_none (plain.closes_none c))
+      (hung_still opened c e es (plain.hangs_none c)) (text_still opened c e es (plain.brings_none c));
 }
 
--- ---- calls end
+-- pieces of its stream are taken by the definitions too
+pub is_listening : (opened : List ℕ) (es : Before) (count c : ℕ) (v : ConnectionValue) (s : StreamValue) → StreamStands opened es count c v s
+    → is_open_value count c v ≡ true → is_heard v s ≡ true → listens opened c es ≡ true
+is_listening opened es count c v s h there on =
+    let parts = going_parts v.broken s.hung_up on in
+    rw (h.open_is ∙ there, sym (h.hung_is there parts.0) ∙ parts.1) refl
 
-module _ (v w : GatewayValue) (history : History) (serving : IsServing v) where
-  -- by a moment or by the drain
-  ended_by : (e : Event) (o : Occurrence) (trigger : Trigger) (told : MachineValue) → IsPlain history.opened e history.events → ((os : List Occurrence) → OccursAt v.plans history.opened e history.events os → os ≡ o ∷ [])
-      → EndsBy o trigger v.machine told → ((c : ℕ) → breaks c o ≡ false) → is_break o ≡ false
-      → ((c : ℕ) (p : Past) → concerns c o p ≡ true → can_break c history.opened e history.events p ≡ true) → Ends trigger told v w → Adds history.opened e history v w
-  ended_by e o trigger told plain one by whole solid can x = adds_one e history v w (ap (λ (y : GatewayValue). y.plans) x.rest)
-      (λ h. conns_plain w history.opened e history.events plain (conns_go v w history.opened history.events (record {
-        opened_is = opened_is;
-        streams_are = streams_are;
-        numbers_are = x.ends.numbers_are ∙ ap (λ (m : MachineValue). numbers m.conns) by.machine_is;
-        goes = goes_told told v.machine w.machine (ap (λ (m : MachineValue). m.conns) by.machine_is) (ap (λ (m : MachineValue). m.calls) by.machine_is) (goes_ended trigger told w.machine x.ends);
-      }) h))
-      (λ c. text_still history.opened c e history.events (plain.brings_none c)) o (newly_broken v.machine.conns w.machine.conns) solid (λ h os at. one os at)
-      (λ os h l. (
-        ended_may v w texts history.taken history.handed os same none_more opened_is begun_is serving.orderly l o trigger told by whole x.ends history.opened e history.events can,
-        ended_lives v w texts history.taken history.handed os same none_more opened_is begun_is serving.orderly l o trigger told by whole x.ends,
-      ))
-    where
-      texts : ℕ → List ℕ
-      texts c = stream history.opened c history.events
+-- ---- a hang-up
 
-      opened_is : w.opened ≡ v.opened
-      opened_is = ap (λ (y : GatewayValue). y.opened) x.rest
+abbrev pub hung_if : Bool → StreamValue → StreamValue
+hung_if b s = if b then record s { hung_up = true } else s
 
-      begun_is : w.begun ≡ v.begun
-      begun_is = ap (λ (y : GatewayValue). y.begun) x.rest
+-- of that connection, which is open
+hung_each : (opened : List ℕ) (n : ℕ) (es : Before) (count c : ℕ) (v w : ConnectionValue) (s : StreamValue) → Stays v w → StreamStands opened es count c v s → (b : Bool) → (n == c) ≡ b
+    → StreamStands opened (HangUp n ∷ es) count c w (hung_if b s)
+hung_each opened n es count c v w s g h false is =
+    stream_stays opened opened es (HangUp n ∷ es) count count c v w s g h refl (open_still opened c (HangUp n) es refl refl) (hung_still opened c (HangUp n) es is) (text_still opened c (HangUp n) es refl)
+hung_each opened n es count c v w s g h true is = record {
+  unopened = λ new. let u = h.unopened new in (g.next_is ∙ u.0, g.closed_is ∙ u.1);
+  open_is = open_still opened c (HangUp n) es refl refl ∙ h.open_is ∙ sym value_same;
+  hung_is = λ there on. sym (ap (λ b. hung_up opened c es || (b && (n == c))) (h.open_is ∙ sym value_same ∙ there) ∙ ap (λ b. hung_up opened c es || b) is ∙ or_true (hung_up opened c es));
+  has_come = λ there on. absurd (let clash : true ≡ false = (going_parts w.broken true on).1 in cc);
+}
+  where
+    value_same : is_open_value count c w ≡ is_open_value count c v
+    value_same = ap (λ b. nat_lt c count && not b) g.closed_is
 
-      streams_are : w.streams ≡ v.streams
-      streams_are = ap (λ (y : GatewayValue). y.streams) x.rest
+pub streams_hung : (opened : List ℕ) (n : ℕ) (es : Before) (count : ℕ) (conns later : ℕ → ConnectionValue) (streams : ℕ → StreamValue)
+    → ((c : ℕ) → Stays (conns c) (later c)) → HasStreams opened es count conns streams → HasStreams opened (HangUp n ∷ es) count later (λ c. hung_if (n == c) (streams c))
+streams_hung opened n es count conns later streams g h = record {
+  below = λ place its. let lt = h.below place its in omega (arith, lt);
+  count_is = h.count_is;
+  each = λ c. hung_each opened n es count c (conns c) (later c) (streams c) (g c) (h.each c) (n == c) refl;
+}
 
-      same : (c : ℕ) (t : StreamValue) → stream_of c w.streams ≡ Some t → stream_of c v.streams ≡ Some t
-      same c t t_is = ap (stream_of c) (sym streams_are) ∙ t_is
+-- ---- a closing
 
-      none_more : (c : ℕ) → stream_of c v.streams ≡ None → stream_of c w.streams ≡ None
-      none_more c none = ap (stream_of c) streams_are ∙ none
+-- of that connection, which was open
+closed_each : (opened : List ℕ) (n : ℕ) (es : Before) (count c : ℕ) (v w : ConnectionValue) (s : StreamValue) → StreamStands opened es count c v s → (b : Bool) → (n == c) ≡ b
+    → (b ≡ true → (is_open_value count c v ≡ true) × (w.closed ≡ true)) → (b ≡ false → w ≡ v) → StreamStands opened (Closing n ∷ es) count c w s
+closed_each opened n es count c v w s h false is shuts other =
+    stream_stays opened opened es (Closing n ∷ es) count count c v w s (subst (λ x. Stays v x) (sym (other refl)) (stays_itself v)) h refl
+    (open_still opened c (Closing n) es refl is) (hung_still opened c (Closing n) es refl) (text_still opened c (Closing n) es refl)
+closed_each opened n es count c v w s h true is shuts other = record {
+  unopened = λ new. absurd (let clash : true ≡ false = sym (shuts refl).0 ∙ ap (λ b. b && not v.closed) new in cc);
+  open_is = open_after opened c (Closing n) es refl ∙ ap (λ b. is_open opened c es && not b) is ∙ and_false (is_open opened c es) ∙ sym off;
+  hung_is = λ there on. absurd (let clash : true ≡ false = sym there ∙ off in cc);
+  has_come = λ there on. absurd (let clash : true ≡ false = sym there ∙ off in cc);
+}
+  where
+    off : is_open_value count c w ≡ false
+    off = ap (λ b. nat_lt c count && not b) (shuts refl).1 ∙ and_false (nat_lt c count)
 
-  pub moment_adds : (m : ℕ) → Ends (Reached (moment_after v.machine.moment m)) (record v.machine { moment = moment_after v.machine.moment m }) v w
-      → Adds history.opened (Moment m) history v w
-  moment_adds m x = ended_by (Moment m) (occurs.Moment m) (Reached (moment_after v.machine.moment m)) (record v.machine { moment = moment_after v.machine.moment m })
-      (record { opens_none = refl; closes_none = λ c. refl; hangs_none = λ c. refl; brings_none = λ c. refl }) (λ os at. at) (moment_ends m v.machine) (λ c. refl) refl (λ c p y. y) x
+pub streams_closed : (opened : List ℕ) (n : ℕ) (es : Before) (count : ℕ) (conns later : ℕ → ConnectionValue) (streams : ℕ → StreamValue)
+    → ((c : ℕ) → (n == c) ≡ true → (is_open_value count c (conns c) ≡ true) × ((later c).closed ≡ true)) → ((c : ℕ) → (n == c) ≡ false → later c ≡ conns c)
+    → HasStreams opened es count conns streams → HasStreams opened (Closing n ∷ es) count later streams
+streams_closed opened n es count conns later streams shuts other h = record {
+  below = λ place its. let lt = h.below place its in omega (arith, lt);
+  count_is = h.count_is;
+  each = λ c. closed_each opened n es count c (conns c) (later c) (streams c) (h.each c) (n == c) refl (shuts c) (other c);
+}
 
-  pub drain_adds : Ends Drained (record v.machine { drained = true }) v w → Adds history.opened Drain history v w
-  drain_adds x = ended_by Drain occurs.Drain Drained (record v.machine { drained = true })
-      (record { opens_none = refl; closes_none = λ c. refl; hangs_none = λ c. refl; brings_none = λ c. refl }) (λ os at. at) (drain_ends v.machine) (λ c. refl) refl (λ c p y. y) x
-
-  -- a branch ends
-  module _ (id : CallId) (branch : ℕ) (outcome : Outcome) (u : MachineValue) (took : Took) (rest : w ≡ record v { machine = w.machine; tally = w.tally }) (forgets : Forgets id u w.machine) where
-    abbrev texts : ℕ → List ℕ
-    texts c = stream history.opened c history.events
-
-    opened_is : w.opened ≡ v.opened
-    opened_is = ap (λ (y : GatewayValue). y.opened) rest
-
-    begun_is : w.begun ≡ v.begun
-    begun_is = ap (λ (y : GatewayValue). y.begun) rest
-
-    streams_are : w.streams ≡ v.streams
-    streams_are = ap (λ (y : GatewayValue). y.streams) rest
-
-    same : (c : ℕ) (t : StreamValue) → stream_of c w.streams ≡ Some t → stream_of c v.streams ≡ Some t
-    same c t t_is = ap (stream_of c) (sym streams_are) ∙ t_is
-
-    none_more : (c : ℕ) → stream_of c v.streams ≡ None → stream_of c w.streams ≡ None
-    none_more c none = ap (stream_of c) streams_are ∙ none
-
-    came_back : Goes v.machine w.machine → numbers w.machine.conns ≡ numbers v.machine.conns
-        → ((os : List Occurrence) → GatewayLives v texts history.taken history.handed os
-        → AreBreaks (MayBreak history.opened (BranchResult id.conn id.request branch outcome) history.events) (breaks_of (newly_broken v.machine.conns u.conns)) os
-        × GatewayLives w texts history.taken history.handed (occurs.Result id branch outcome ∷ (breaks_of (newly_broken v.machine.conns u.conns) ++ os)))
-        → Adds history.opened (BranchResult id.conn id.request branch outcome) history v w
-    came_back goes numbers_are step = adds_one (BranchResult id.conn id.request branch outcome) history v w (ap (λ (y : GatewayValue). y.plans) rest)
-        (λ h. conns_plain w history.opened (BranchResult id.conn id.request branch outcome) history.events (record { opens_none = refl; closes_none = λ c. refl; hangs_none = λ c. refl; brings_none = λ c. refl })
-        (conns_go v w history.opened history.events (record { opened_is = opened_is; streams_are = streams_are; numbers_are = numbers_are; goes = goes }) h))
-        (λ c. text_still history.opened c (BranchResult id.conn id.request branch outcome) history.events refl) (occurs.Result id branch outcome) (newly_broken v.machine.conns u.conns) refl (λ h os at. at)
-        (λ os h l. step os l)
-
-    pub result_adds : ResultTaken id branch outcome v.machine u took → Adds history.opened (BranchResult id.conn id.request branch outcome) history v w
-    result_adds r = came_back (goes_then v.machine u w.machine (goes_result id branch outcome v.machine u took r) (goes_forgotten id u w.machine forgets))
-        (keeps_result id branch outcome v.machine u w.machine took r forgets).numbers_are
-        (λ os l. (
-          result_may v w texts history.taken history.handed os same none_more opened_is begun_is serving.orderly l id branch u forgets outcome
-              history.opened (BranchResult id.conn id.request branch outcome) history.events (λ c p y. y) took r,
-          result_lives v w texts history.taken history.handed os same none_more opened_is begun_is serving.orderly l id branch u forgets outcome took r,
-        ))
-
-    pub starved_adds : Starved id branch v.machine u took → Adds history.opened (BranchResult id.conn id.request branch outcome) history v w
-    starved_adds r = came_back (goes_then v.machine u w.machine (goes_starved id branch v.machine u took r) (goes_forgotten id u w.machine forgets))
-        (keeps_starved id branch v.machine u w.machine took r forgets).numbers_are
-        (λ os l. (
-          starved_may v w texts history.taken history.handed os same none_more opened_is begun_is serving.orderly l id branch u forgets outcome
-              history.opened (BranchResult id.conn id.request branch outcome) history.events (λ c p y. y) took r,
-          starved_lives v w texts history.taken history.handed os same none_more opened_is begun_is serving.orderly l id branch u forgets outcome took r,
-        ))
+-- of one that is not open
+pub streams_unclosed : (opened : List ℕ) (n : ℕ) (es : Before) (count : ℕ) (conns : ℕ → ConnectionValue) (streams : ℕ → StreamValue) → is_open_value count n (conns n) ≡ false
+    → HasStreams opened es count conns streams → HasStreams opened (Closing n ∷ es) count conns streams
+streams_unclosed opened n es count conns streams shut h = record {
+  below = λ place its. let lt = h.below place its in omega (arith, lt);
+  count_is = h.count_is;
+  each = λ c. stream_stays opened opened es (Closing n ∷ es) count count c (conns c) (conns c) (streams c) (stays_itself (conns c)) (h.each c) refl
+      (open_after opened c (Closing n) es refl ∙ by c (n == c) refl) (hung_still opened c (Closing n) es refl) (text_still opened c (Closing n) es refl);
+}
+  where
+    by : (c : ℕ) (b : Bool) → (n == c) ≡ b → (is_open opened c es && not (n == c)) ≡ is_open opened c es
+    by c true is =
+        let off : is_open opened c es ≡ false = ap (λ m. is_open opened m es) (sym (eqb-true n c is)) ∙ (h.each n).open_is ∙ shut in
+        ap (λ b. b && not (n == c)) off ∙ sym off
+    by c false is = ap (λ b. is_open opened c es && not b) is ∙ and_true (is_open opened c es)

@@ -1,41 +1,36 @@
--- What the gateway stands for after an opening and a closing.
-use Rattle.std.proofs.Common.{◌≡◌, ℕ, suc, ◌+◌, ◌<◌, ◌≤◌, Bool, true, false, List, [], ◌∷◌, ◌++◌, length, Option, None, Some, Result, Ok, Err, refl, sym, ap, ◌∙◌, subst, arith, ⊎_elim}
-use Rattle.std.specs.Prelude.{IfOk, MatchResult, OnErr, if◌then◌else◌, ◌&&◌, ◌||◌, not, ◌==◌, filter, is_some, nat_lt}
-use Rattle.std.specs.List.{list_any}
-use Rattle.std.specs.Option.{option_or}
-use Rattle.std.proofs.lemmas.Bool.{cases_Bool, eq-eqb, eqb-true, ltb-true, ltb-false, lt-ltb, le-ltb, ne_eqb}
+-- What an opening adds.
+use Rattle.std.proofs.Common.{◌≡◌, ℕ, suc, ◌+◌, ◌<◌, ◌≤◌, Bool, true, false, List, [], ◌∷◌, ◌++◌, length, refl, sym, ap, ◌∙◌, arith, subst, append-nil, ⊎_elim}
+use Rattle.std.specs.Prelude.{if◌then◌else◌, ◌&&◌, ◌||◌, not, ◌==◌, nat_lt, is_some}
+use Rattle.std.proofs.lemmas.Bool.{ne_eqb, cases_Bool, eq-eqb, eqb-true, ltb-false, ltb-true, lt-ltb, le-ltb}
 use Rattle.std.proofs.lemmas.List.{length-append}
 use Rattle.call_plan.specs.Plan.{PlanRecord}
-use Rattle.http_pieces.specs.Reader.{HasRead, Partial, reader_value}
-use Rattle.http_pieces.specs.Request.{HttpRequest}
-use Rattle.gateway_theory.specs.Conn.{ConnValue, conn_value}
-use Rattle.gateway_model.specs.Breaks.{CanBreakAt, by_events}
+use Rattle.gateway_model.specs.Breaks.{BreakAsTheyMay, CanBreakAt, MayOccur, by_events}
 use Rattle.gateway_model.specs.Concerns.{can_break}
-use Rattle.gateway_model.specs.Events.{Before, Occurs, OccursAt, connections, hung_up, is_hang_up_of, is_open, listens, once, piece_of, stream, succeeds, IsShifted}
+use Rattle.gateway_model.specs.Events.{Before, Occurs, connections, hung_up, is_hang_up_of, is_open, listens, piece_of, stream, succeeds, IsShifted, open_connections, once}
 use Rattle.gateway_model.specs.declared.event.Event.{Event}
 use Rattle.gateway_model.specs.declared.event.Event.TheVariants.{Closing, Opening}
-use Rattle.gateway_model.specs.declared.event.Event.TheVariants as events
-use Rattle.gateway_theory.specs.Gateway.{GatewayValue, StreamValue, is_listening, new_stream, stream_of}
-use Rattle.gateway_theory.specs.GatewayLived.{GatewayLives, newly_broken}
-use Rattle.gateway_theory.specs.Lived.{breaks_of}
-use Rattle.gateway_model.specs.Occurrence.{Occurrence}
-use Rattle.gateway_model.specs.Occurrence as occurs
-use Rattle.gateway_model.specs.Past.{Past}
-use Rattle.gateway_theory.specs.Opens.{closed_at}
-use Rattle.gateway_theory.specs.Served.{Adds, HasConns, Served}
-use Rattle.gateway_theory.specs.Serving.{Closes, IsServing, Opens}
+use Rattle.gateway_model.specs.Past.{Mark, Past, arrivals, breaks, call_id, can_be_decided, coming_on, count_below, deciding, is_broken, is_out, is_undecided, mark_of, marked}
+use Rattle.gateway_model.specs.declared.id.CallId.{CallId}
+use Rattle.gateway_theory.specs.lemmas.LimitLemmas.{out_started, unbegun}
+use Rattle.gateway_theory.specs.lemmas.Unborn.{unborn}
 use Rattle.gateway_model.specs.Starts.{Placed, occurrences}
-use Rattle.gateway_model.specs.History.{History, after_event, after_opening}
-use Rattle.gateway_theory.specs.Store.{MachineValue, conn_of}
-use Rattle.gateway_theory.specs.lemmas.Adding.{MayBreak, Newer, adds_by, adds_none, adds_one, breaks_later, one_newer, served_by, served_event, texts_same}
-use Rattle.gateway_theory.specs.lemmas.Cases.{and_true, and_false, or_false, or_true}
-use Rattle.gateway_theory.specs.lemmas.CutLemmas.{IsSame, at_same, connections_grow, listens_same, open_known, same_before}
-use Rattle.gateway_theory.specs.lemmas.FeedLemmas.{stream_added}
-use Rattle.gateway_theory.specs.lemmas.LivedEvents.{closed_lives, closed_may, opened_lives, opened_may}
-use Rattle.gateway_theory.specs.lemmas.OrderLemmas.{some_same}
-use Rattle.gateway_theory.specs.lemmas.ServedLemmas.{conns_plain, hung_still, open_after, text_still}
-use Rattle.gateway_theory.specs.lemmas.ServingLemmas.{none_if, stream_by_number, conn_by_number, stream_without}
-use Rattle.gateway_theory.specs.lemmas.StoreMore.{conn_added, conn_without}
+use Rattle.gateway_theory.specs.lemmas.Cases.{or_false, and_true, or_true}
+use Rattle.gateway_theory.specs.lemmas.CutLemmas.{at_same, connections_grow, listens_same, open_known, same_before, IsSame}
+use Rattle.http_pieces.specs.Reader.{HasRead, Partial, reader_value}
+use Rattle.gateway_model.specs.declared.entry.ReplyEntry.{ReplyEntry}
+use Rattle.gateway_model.specs.History.{History}
+use Rattle.gateway_model.specs.Job.{JobValue}
+use Rattle.gateway_model.specs.Occurrence.{Break, Occurrence, Opening}
+use Rattle.gateway_theory.specs.lemmas.Adding.{MayBreak, Newer, breaks_later, one_newer, StandsNow, adds_by, none_more}
+use Rattle.gateway_theory.specs.lemmas.SlotLemmas.{count_same}
+use Rattle.gateway_theory.specs.lemmas.ServedLemmas.{hung_still, text_still, stays_itself, stream_stays, streams_stay}
+use Rattle.gateway_theory.specs.Connection.{AllStand, Now, now_after, now_of}
+use Rattle.gateway_theory.specs.Values.{ConnectionValue, is_open_value}
+use Rattle.gateway_theory.specs.Core.{Adds, CoreValue, HasConns, HasStreams, StreamStands, StreamValue, new_stream}
+use Rattle.gateway_theory.specs.lemmas.ConnectionSteps.{all_step}
+use Rattle.gateway_theory.specs.lemmas.Events.{none_adds}
+use Rattle.gateway_model.specs.Occurrence as occurs
+use Rattle.gateway_model.specs.declared.event.Event.TheVariants as events
 
 -- ---- a connection that was not opened
 
@@ -58,6 +53,80 @@ unopened_text opened c (e ∷ es) le =
     let before : connections opened es ≤ c = let g = connections_grow opened e es in omega (arith, g, le) in
     ap (λ b. if b && not (hung_up opened c es) then stream opened c es ++ piece_of c e else stream opened c es) (unopened_shut opened c es before) ∙ unopened_text opened c es before
 
+-- ---- on one that was not opened nothing breaks
+
+none_out : (id : CallId) (i : ℕ) (past : Past) → arrivals id.conn past ≤ id.request → is_out id i past ≡ false
+none_out id i past le = by_it (is_out id i past) refl
+  where
+    by_it : (b : Bool) → is_out id i past ≡ b → is_out id i past ≡ false
+    by_it false e = e
+    by_it true e = absurd (let lt = out_started id i past e in let none = unbegun id past (unborn id past le).not_begun in omega (arith, lt, none))
+
+-- where nothing has come on it
+cannot_break : (c : ℕ) (opened : List ℕ) (e : Event) (es : Before) (past : Past) → connections opened es ≤ c → arrivals c past ≡ 0 → can_break c opened e es past ≡ false
+cannot_break c opened Opening es past le none = refl
+cannot_break c opened (events.Piece n bytes) es past le none = by_it (c == n) refl
+  where
+    by_it : (b : Bool) → (c == n) ≡ b → (b && listens opened n es) ≡ false
+    by_it false e = refl
+    by_it true e = ap (λ b. b && not (hung_up opened n es)) (unopened_shut opened n es (let same = eqb-true c n e in omega (arith, le, same)))
+cannot_break c opened (events.HangUp n) es past le none = by_it (c == n) refl
+  where
+    by_it : (b : Bool) → (c == n) ≡ b → (b && listens opened n es) ≡ false
+    by_it false e = refl
+    by_it true e = ap (λ b. b && not (hung_up opened n es)) (unopened_shut opened n es (let same = eqb-true c n e in omega (arith, le, same)))
+cannot_break c opened (events.Moment m) es past le none =
+    ap (λ n. nat_lt 0 (count_below n (λ k. is_undecided (call_id c k) past && is_some (deciding (call_id c k) (mark_of past (occurs.Moment m)) past)))) none
+cannot_break c opened (events.BranchResult n k i outcome) es past le none = by_it (n == c) refl
+  where
+    by_it : (b : Bool) → (n == c) ≡ b → (b && (is_out (call_id n k) i past && can_be_decided (call_id n k) past)) ≡ false
+    by_it false e = refl
+    by_it true e = ap (λ b. b && can_be_decided (call_id n k) past)
+        (none_out (call_id n k) i past (let few : arrivals n past ≡ 0 = ap (λ d. arrivals d past) (eqb-true n c e) ∙ none in omega (arith, few)))
+cannot_break c opened events.Drain es past le none =
+    ap (λ n. nat_lt 0 (count_below n (λ k. is_undecided (call_id c k) past && is_some (deciding (call_id c k) (mark_of past occurs.Drain) past)))) none
+cannot_break c opened (Closing n) es past le none = refl
+
+-- fewer had come before
+none_before : (c : ℕ) (m : Mark) (past : Past) → arrivals c (m ∷ past) ≡ 0 → arrivals c past ≡ 0
+none_before c m past e = by_it (is_some (coming_on c m.what (is_broken c past))) e
+  where
+    by_it : (b : Bool) → (if b then suc (arrivals c past) else arrivals c past) ≡ 0 → arrivals c past ≡ 0
+    by_it true x = absurd (omega (arith, x))
+    by_it false x = x
+
+known_less : (opened : List ℕ) (later before : Before) → connections opened before ≤ connections opened (later ++ before)
+known_less opened [] before = omega arith
+known_less opened (e ∷ later) before = let less = known_less opened later before in let g = connections_grow opened e (later ++ before) in omega (arith, less, g)
+
+pub never_broke : (opened : List ℕ) (c : ℕ) (es : Before) (lived : List Placed) → connections opened es ≤ c → arrivals c (marked (occurrences lived)) ≡ 0 → BreakAsTheyMay opened es lived
+    → is_broken c (marked (occurrences lived)) ≡ false
+never_broke opened c es [] le none may = refl
+never_broke opened c es ((place, o) ∷ lived) le none (here, may) =
+    ap (λ b. breaks c o || b) (never_broke opened c es lived le before may) ∙ or_false (breaks c o) ∙ by_each o here
+  where
+    before : arrivals c (marked (occurrences lived)) ≡ 0
+    before = none_before c (mark_of (marked (occurrences lived)) o) (marked (occurrences lived)) none
+
+    by_break : (d : ℕ) → CanBreakAt d place opened es (marked (occurrences lived)) → (b : Bool) → (d == c) ≡ b → (d == c) ≡ false
+    by_break d b false e = e
+    by_break d b true e = absurd (
+        let here_is : connections opened (b.event ∷ b.before) ≤ connections opened es = subst (λ xs. connections opened (b.event ∷ b.before) ≤ connections opened xs) (sym b.events_are) (known_less opened b.later (b.event ∷ b.before)) in
+        let g = connections_grow opened b.event b.before in
+        let same = eqb-true d c e in
+        let clash : true ≡ false = sym b.can ∙ ap (λ x. can_break x opened b.event b.before (marked (occurrences lived))) same
+        ∙ cannot_break c opened b.event b.before (marked (occurrences lived)) (omega (arith, here_is, g, le)) before in cc)
+
+    by_each : (x : Occurrence) → MayOccur opened es place x (marked (occurrences lived)) → breaks c x ≡ false
+    by_each (Break d) b = by_break d b (d == c) refl
+    by_each Opening b = refl
+    by_each (occurs.Comes d x) b = refl
+    by_each (occurs.HangUp d) b = refl
+    by_each (occurs.Moment m) b = refl
+    by_each (occurs.Result of i r) b = refl
+    by_each occurs.Drain b = refl
+    by_each (occurs.Closing d) b = refl
+
 -- ---- one more opening succeeds
 
 pub succeeds_more : (opened : List ℕ) (place at : ℕ) → succeeds (opened ++ place ∷ []) at ≡ (succeeds opened at || (place == at))
@@ -68,7 +137,7 @@ succeeds_more (p ∷ opened) place at = by_it (p == at) (succeeds_more opened pl
     by_it true rest = refl
     by_it false rest = rest
 
-not_yet : (opened : List ℕ) (n at : ℕ) → ((place : ℕ) → succeeds opened place ≡ true → place < n) → n ≤ at → succeeds opened at ≡ false
+pub not_yet : (opened : List ℕ) (n at : ℕ) → ((place : ℕ) → succeeds opened place ≡ true → place < n) → n ≤ at → succeeds opened at ≡ false
 not_yet opened n at below le = by_it (succeeds opened at) refl
   where
     by_it : (b : Bool) → succeeds opened at ≡ b → succeeds opened at ≡ false
@@ -110,281 +179,154 @@ break_same c opened later (events.BranchResult n k i r) before p same h = h
 break_same c opened later events.Drain before p same h = h
 break_same c opened later (Closing n) before p same h = h
 
--- ---- an opening
+-- what connections could break before can do so with one opening more
+pub can_more : (opened : List ℕ) (es : Before) → ((place : ℕ) → succeeds opened place ≡ true → place < length es) → (c place : ℕ) (p : Past)
+    → CanBreakAt c place opened es p → CanBreakAt c place (opened ++ length es ∷ []) (Opening ∷ es) p
+can_more opened es below c place p b = record {
+  later = Opening ∷ b.later;
+  event = b.event;
+  before = b.before;
+  events_are = ap (λ xs. Opening ∷ xs) b.events_are;
+  place_is = b.place_is;
+  first = b.first;
+  can = break_same c opened (opened ++ length es ∷ []) b.event b.before p (λ m. listens_same opened (opened ++ length es ∷ []) b.before b.before m
+      (same_before opened (opened ++ length es ∷ []) (length es) b.before (shorter b.later b.event b.before b.events_are) (grown opened (length es) below))) b.can;
+}
+  where
+    shorter : (later : Before) (x : Event) (before : Before) → es ≡ later ++ x ∷ before → length before ≤ length es
+    shorter later x before is =
+        let whole : length es ≡ length later + length (x ∷ before) = ap (λ (xs : Before). length xs) is ∙ length-append later (x ∷ before) in omega (arith, whole)
 
-module _ (v : GatewayValue) (history : History) where
-  -- that does not succeed
-  pub unopened_adds : Adds history.opened Opening history v v
-  unopened_adds = adds_none Opening history v v refl
-      (λ h. conns_plain v history.opened Opening history.events (record { opens_none = same h; closes_none = λ c. refl; hangs_none = λ c. refl; brings_none = λ c. refl }) h)
-      (λ c. text_still history.opened c Opening history.events refl) (λ h os at. at ∙ ap (λ b. once b occurs.Opening) (fails h)) (λ os h l. l)
-    where
-      fails : HasConns v history.opened history.events → succeeds history.opened (length history.events) ≡ false
-      fails h = not_yet history.opened (length history.events) (length history.events) h.below (omega arith)
+-- ---- the openings that succeeded, and this one
 
-      same : HasConns v history.opened history.events → connections history.opened (Opening ∷ history.events) ≡ connections history.opened history.events
-      same h = ap (λ b. if b then suc (connections history.opened history.events) else connections history.opened history.events) (fails h)
-
-module _ (v w : GatewayValue) (history : History) (serving : IsServing v) (number : ℕ) (fresh : HasRead (reader_value 0 (Partial [])) [] []) (o : Opens v w number) where
+module _ (opened : List ℕ) (es : Before) (below : (place : ℕ) → succeeds opened place ≡ true → place < length es) (count : ℕ) (count_is : connections opened es ≡ count) where
   abbrev more : List ℕ
-  more = history.opened ++ length history.events ∷ []
+  more = opened ++ length es ∷ []
 
-  abbrev n : ℕ
-  n = v.opened
+  same : IsSame opened more es es
+  same = same_before opened more (length es) es (omega arith) (grown opened (length es) below)
 
-  module _ (h : HasConns v history.opened history.events) where
-    same : IsSame history.opened more history.events history.events
-    same = same_before history.opened more (length history.events) history.events (omega arith) (grown history.opened (length history.events) h.below)
+  pub succeeded : succeeds more (length es) ≡ true
+  succeeded = succeeds_more opened (length es) (length es) ∙ ap (λ b. succeeds opened (length es) || b) (eq-eqb (length es) (length es) refl) ∙ or_true (succeeds opened (length es))
 
-    succeeded : succeeds more (length history.events) ≡ true
-    succeeded = succeeds_more history.opened (length history.events) (length history.events) ∙ ap (λ b. succeeds history.opened (length history.events) || b) (eq-eqb (length history.events) (length history.events) refl) ∙ or_true (succeeds history.opened (length history.events))
+  was : connections more es ≡ count
+  was = same.connections_are ∙ count_is
 
-    was : connections more history.events ≡ n
-    was = same.connections_are ∙ h.count_is
+  total : connections more (events.Opening ∷ es) ≡ count + 1
+  total = ap (λ b. if b then suc (connections more es) else connections more es) succeeded ∙ (let e = was in omega (arith, e))
 
-    count : connections more (Opening ∷ history.events) ≡ n + 1
-    count = ap (λ b. if b then suc (connections more history.events) else connections more history.events) succeeded ∙ (let e = was in omega (arith, e))
+  places : (place : ℕ) (b : Bool) → succeeds opened place ≡ b → succeeds more place ≡ true → place < length (events.Opening ∷ es)
+  places place true x its = let lt = below place x in omega (arith, lt)
+  places place false x its =
+      let here : (length es == place) ≡ true = sym (succeeds_more opened (length es) place ∙ ap (λ b. b || (length es == place)) x) ∙ its in
+      let at : length es ≡ place = eqb-true (length es) place here in omega (arith, at)
 
-    places : (place : ℕ) (b : Bool) → succeeds history.opened place ≡ b → succeeds more place ≡ true → place < length (Opening ∷ history.events)
-    places place true x its = let lt = h.below place x in omega (arith, lt)
-    places place false x its =
-        let here : (length history.events == place) ≡ true = sym (succeeds_more history.opened (length history.events) place ∙ ap (λ b. b || (length history.events == place)) x) ∙ its in
-        let at : length history.events ≡ place = eqb-true (length history.events) place here in omega (arith, at)
-
-    conn_is : (c : ℕ) → conn_of c w.machine.conns ≡ option_or (conn_of c v.machine.conns) (if n == c then Some (conn_value n 0 [] false false) else None)
-    conn_is c = ap (λ (m : MachineValue). conn_of c m.conns) o.machine_is ∙ conn_added c (conn_value n 0 [] false false) v.machine.conns
-
-    stream_is : (c : ℕ) → stream_of c w.streams ≡ option_or (stream_of c v.streams) (if n == c then Some (new_stream n) else None)
-    stream_is c = ap (stream_of c) o.streams_are ∙ stream_added c (new_stream n) v.streams
-
-    or_here : {A : Type 0} (a : Option A) → option_or a None ≡ a
-    or_here None = refl
-    or_here (Some x) = refl
-
-    conn_other : (c : ℕ) → (n == c) ≡ false → conn_of c w.machine.conns ≡ conn_of c v.machine.conns
-    conn_other c ne = conn_is c ∙ ap (λ b. option_or (conn_of c v.machine.conns) (if b then Some (conn_value n 0 [] false false) else None)) ne ∙ or_here (conn_of c v.machine.conns)
-
-    stream_other : (c : ℕ) → (n == c) ≡ false → stream_of c w.streams ≡ stream_of c v.streams
-    stream_other c ne = stream_is c ∙ ap (λ b. option_or (stream_of c v.streams) (if b then Some (new_stream n) else None)) ne ∙ or_here (stream_of c v.streams)
-
-    no_stream : stream_of n v.streams ≡ None
-    no_stream = none_if (stream_of n v.streams) (stream_by_number n v.streams ∙ ap (λ ns. list_any (λ m. m == n) ns) serving.numbers_are
-        ∙ sym (conn_by_number n v.machine.conns) ∙ ap (λ x. is_some x) (serving.no_conn n (omega arith)))
-
-    opens : (c : ℕ) (b : Bool) → nat_lt c (connections more history.events) ≡ b → is_open more c (Opening ∷ history.events) ≡ is_some (conn_of c w.machine.conns)
-    opens c true x =
-        let lt : c < n = subst (λ m. c < m) was (ltb-true c (connections more history.events) x) in
-        ap (λ b. if b then is_open more c history.events && true else nat_lt c (connections more (Opening ∷ history.events))) x ∙ and_true (is_open more c history.events) ∙ same.open_is c ∙ h.open_are c
-        ∙ ap (λ k. is_some k) (sym (conn_other c (ne_eqb n c (λ e. absurd (omega (arith, lt, e))))))
-    opens c false x =
-        let le : n ≤ c = subst (λ m. m ≤ c) was (ltb-false c (connections more history.events) x) in
-        ap (λ b. if b then is_open more c history.events && true else nat_lt c (connections more (Opening ∷ history.events))) x ∙ ap (nat_lt c) count ∙ by_number (n == c) refl le
-      where
-        by_number : (b : Bool) → (n == c) ≡ b → n ≤ c → nat_lt c (n + 1) ≡ is_some (conn_of c w.machine.conns)
-        by_number true e le =
-            let at : n ≡ c = eqb-true n c e in
-            lt-ltb c (n + 1) (omega (arith, at)) ∙ sym (ap (λ k. is_some k) (conn_is c ∙ ap (λ b. option_or (conn_of c v.machine.conns) (if b then Some (conn_value n 0 [] false false) else None)) e)
-            ∙ by_old (conn_of c v.machine.conns))
-          where
-            by_old : (a : Option ConnValue) → is_some (option_or a (Some (conn_value n 0 [] false false))) ≡ true
-            by_old None = refl
-            by_old (Some k) = refl
-        by_number false e le =
-            let apart : n ≡ c → ⊥ = λ at. let clash : true ≡ false = sym (eq-eqb n c at) ∙ e in absurd (cc) in
-            le-ltb c (n + 1) (above le apart) ∙ sym (ap (λ k. is_some k) (conn_other c e ∙ serving.no_conn c le))
-          where
-            above : n ≤ c → (n ≡ c → ⊥) → n + 1 ≤ c
-            above l ne = ⊎_elim (λ (lt : nat_lt n c ≡ true). let x = ltb-true n c lt in omega (arith, x))
-                (λ (ge : nat_lt n c ≡ false). absurd (ne (let x = ltb-false n c ge in omega (arith, x, l)))) (cases_Bool (nat_lt n c))
-
-    hangs : (c : ℕ) (k : ConnValue) → conn_of c w.machine.conns ≡ Some k → k.broken ≡ false → (b : Bool) → (n == c) ≡ b → k.hung_up ≡ hung_up more c (Opening ∷ history.events)
-    hangs c k k_is on false e = h.hung_are c k (sym (conn_other c e) ∙ k_is) on ∙ sym (same.hung_is c) ∙ sym (hung_still more c Opening history.events refl)
-    hangs c k k_is on true e =
-        let at : n ≡ c = eqb-true n c e in
-        let new : conn_value n 0 [] false false ≡ k = some_same (sym (conn_is c ∙ ap (λ m. option_or (conn_of m v.machine.conns) (if n == c then Some (conn_value n 0 [] false false) else None)) (sym at)
-        ∙ ap (λ a. option_or a (if n == c then Some (conn_value n 0 [] false false) else None)) (serving.no_conn n (omega arith)) ∙ ap (λ b. if b then Some (conn_value n 0 [] false false) else None) e) ∙ k_is) in
-        ap (λ (x : ConnValue). x.hung_up) (sym new)
-        ∙ sym (hung_still more c Opening history.events refl ∙ same.hung_is c ∙ unopened_hung history.opened c history.events (let x = h.count_is in omega (arith, at, x)))
-
-    text_is : (c : ℕ) → stream more c (Opening ∷ history.events) ≡ stream history.opened c history.events
-    text_is c = text_still more c Opening history.events refl ∙ same.stream_is c
-
-    reads : (c : ℕ) (k : ConnValue) (s : StreamValue) → conn_of c w.machine.conns ≡ Some k → stream_of c w.streams ≡ Some s → is_listening k ≡ true
-        → (b : Bool) → (n == c) ≡ b → (given : List HttpRequest) × HasRead s.reader (stream more c (Opening ∷ history.events)) given
-    reads c k s k_is s_is going false e =
-        let read = h.reads_are c k s (sym (conn_other c e) ∙ k_is) (sym (stream_other c e) ∙ s_is) going in
-        (read.0, subst (λ text. HasRead s.reader text read.0) (sym (text_is c)) read.1)
-    reads c k s k_is s_is going true e =
-        let at : n ≡ c = eqb-true n c e in
-        let new : new_stream n ≡ s = some_same (sym (stream_is c ∙ ap (λ m. option_or (stream_of m v.streams) (if n == c then Some (new_stream n) else None)) (sym at)
-        ∙ ap (λ a. option_or a (if n == c then Some (new_stream n) else None)) no_stream ∙ ap (λ b. if b then Some (new_stream n) else None) e) ∙ s_is) in (
-          [],
-          subst (λ (x : StreamValue). HasRead x.reader (stream more c (Opening ∷ history.events)) []) new
-              (subst (λ text. HasRead (reader_value 0 (Partial [])) text []) (sym (text_is c ∙ unopened_text history.opened c history.events (let x = h.count_is in omega (arith, at, x)))) fresh),
-        )
-
-    conns_opened : HasConns w more (Opening ∷ history.events)
-    conns_opened = record {
-      below = λ place its. places place (succeeds history.opened place) refl its;
-      count_is = count ∙ sym o.opened_is;
-      open_are = λ c. opens c (nat_lt c (connections more history.events)) refl;
-      hung_are = λ c k k_is on. hangs c k k_is on (n == c) refl;
-      reads_are = λ c k s k_is s_is going. reads c k s k_is s_is going (n == c) refl;
-    }
-
-    -- what connections could break before can do so with this opening too
-    can_more : (c place : ℕ) (p : Past) → CanBreakAt c place history.opened history.events p → CanBreakAt c place more (Opening ∷ history.events) p
-    can_more c place p b = record {
-      later = Opening ∷ b.later;
-      event = b.event;
-      before = b.before;
-      events_are = ap (λ xs. Opening ∷ xs) b.events_are;
-      place_is = b.place_is;
-      first = b.first;
-      can = break_same c history.opened more b.event b.before p (λ m. listens_same history.opened more b.before b.before m
-          (same_before history.opened more (length history.events) b.before (shorter b.later b.event b.before b.events_are) (grown history.opened (length history.events) h.below))) b.can;
-    }
-      where
-        shorter : (later : Before) (x : Event) (before : Before) → history.events ≡ later ++ x ∷ before → length before ≤ length history.events
-        shorter later x before is =
-            let whole : length history.events ≡ length later + length (x ∷ before) = ap (λ (xs : Before). length xs) is ∙ length-append later (x ∷ before) in omega (arith, whole)
-
-    abbrev StandsNow : List Occurrence → Type 0
-    StandsNow os = GatewayLives w (λ c. stream more c (Opening ∷ history.events)) history.taken history.handed os
-
-    newer_opened : (os us : List Occurrence) → OccursAt v.plans more Opening history.events us → GatewayLives v (λ c. stream history.opened c history.events) history.taken history.handed os
-        → Newer (MayBreak more Opening history.events) StandsNow us os
-    newer_opened os us at l =
-        let no_text : stream history.opened n history.events ≡ [] = unopened_text history.opened n history.events (let x = h.count_is in omega (arith, x)) in
-        subst (λ xs. Newer (MayBreak more Opening history.events) StandsNow xs os) (sym (at ∙ ap (λ b. once b occurs.Opening) succeeded))
-        (one_newer (MayBreak more Opening history.events) StandsNow os occurs.Opening (newly_broken v.machine.conns w.machine.conns) refl
-        (opened_may v w (λ c. stream history.opened c history.events) history.taken history.handed os serving.orderly l no_text o.machine_is o.streams_are o.opened_is o.begun_is fresh (MayBreak more Opening history.events))
-        (texts_same w history.taken history.handed (λ c. stream history.opened c history.events) (λ c. stream more c (Opening ∷ history.events))
-        (occurs.Opening ∷ (breaks_of (newly_broken v.machine.conns w.machine.conns) ++ os)) text_is
-        (opened_lives v w (λ c. stream history.opened c history.events) history.taken history.handed os serving.orderly l no_text o.machine_is o.streams_are o.opened_is o.begun_is fresh)))
-
-  pub opened_adds : Adds (history.opened ++ length history.events ∷ []) Opening history v w
-  opened_adds = adds_by more Opening history v w o.plans_are conns_opened
-      (λ lived l. (
-        occurs_before v.plans more history.opened (length history.events) history.events (by_events lived) (omega arith) (shrunk history.opened (length history.events) l.conns.below) l.occurs,
-        breaks_later history.opened more Opening history.events (can_more l.conns) lived l.breaks,
-      ))
-      (λ lived l os at. newer_opened l.conns (occurrences lived) os at l.stands)
-
-pub opened_served : (v w : GatewayValue) (history : History) → w.plans ≡ v.plans → Adds (history.opened ++ length history.events ∷ []) Opening history v w → Served v history → Served w (after_opening history)
-opened_served v w history plans_are a h = served_by (history.opened ++ length history.events ∷ []) Opening history v w plans_are
-    (λ past hc all. occurs_before v.plans history.opened (history.opened ++ length history.events ∷ []) (length history.events) history.events past (omega arith) (grown history.opened (length history.events) hc.below) all) a h
-
--- ---- a closing
-
-module _ (v w : GatewayValue) (history : History) (serving : IsServing v) (n : ℕ) where
-  none_adds : conn_of n v.machine.conns ≡ None → Adds history.opened (Closing n) history v v
-  none_adds none = adds_none (Closing n) history v v refl
-      (λ h. record {
-        below = λ place its. let lt = h.below place its in omega (arith, lt);
-        count_is = h.count_is;
-        open_are = λ c. open_after history.opened c (Closing n) history.events refl ∙ by_number h c (n == c) refl ∙ h.open_are c;
-        hung_are = λ c k k_is on. h.hung_are c k k_is on ∙ sym (hung_still history.opened c (Closing n) history.events refl);
-        reads_are = λ c k s k_is s_is going.
-            let read = h.reads_are c k s k_is s_is going in (read.0, subst (λ text. HasRead s.reader text read.0) (sym (text_still history.opened c (Closing n) history.events refl)) read.1);
-      })
-      (λ c. text_still history.opened c (Closing n) history.events refl) (λ h os at. at ∙ ap (λ b. once b (occurs.Closing n)) (shut h)) (λ os h l. l)
+  count_other : (c : ℕ) → (count == c) ≡ false → nat_lt c (count + 1) ≡ nat_lt c count
+  count_other c other = ⊎_elim
+      (λ (lt : nat_lt c count ≡ true). let x = ltb-true c count lt in lt-ltb c (count + 1) (omega (arith, x)) ∙ sym lt)
+      (λ (ge : nat_lt c count ≡ false). let x = ltb-false c count ge in le-ltb c (count + 1) (omega (arith, x, apart)) ∙ sym ge)
+      (cases_Bool (nat_lt c count))
     where
-      shut : HasConns v history.opened history.events → is_open history.opened n history.events ≡ false
-      shut h = h.open_are n ∙ ap (λ k. is_some k) none
+      apart : count ≡ c → ⊥
+      apart at = let clash : true ≡ false = sym (eq-eqb count c at) ∙ other in absurd (cc)
 
-      by_number : HasConns v history.opened history.events → (c : ℕ) (b : Bool) → (n == c) ≡ b → (is_open history.opened c history.events && not (n == c)) ≡ is_open history.opened c history.events
-      by_number h c true e =
-          let off : is_open history.opened c history.events ≡ false = ap (λ m. is_open history.opened m history.events) (sym (eqb-true n c e)) ∙ shut h in
-          ap (λ b. b && not (n == c)) off ∙ sym off
-      by_number h c false e = ap (λ b. is_open history.opened c history.events && not b) e ∙ and_true (is_open history.opened c history.events)
+  open_other : (c : ℕ) → (count == c) ≡ false → is_open more c (events.Opening ∷ es) ≡ is_open opened c es
+  open_other c other = by (nat_lt c (connections more es)) refl
+    where
+      by : (b : Bool) → nat_lt c (connections more es) ≡ b → (if b then is_open more c es && true else nat_lt c (connections more (events.Opening ∷ es))) ≡ is_open opened c es
+      by true x = and_true (is_open more c es) ∙ same.open_is c
+      by false x =
+          let ge : connections more es ≤ c = ltb-false c (connections more es) x in
+          let le : connections opened es ≤ c = let e = same.connections_are in omega (arith, ge, e) in
+          ap (nat_lt c) total ∙ count_other c other ∙ ap (nat_lt c) (sym was) ∙ x ∙ sym (unopened_shut opened c es le)
 
-  module _ (x : (is_some (conn_of n v.machine.conns) ≡ true) × (w ≡ record v { machine = closed_at n v.machine; streams = filter (λ s. not (s.number == n)) v.streams })) where
-    module _ (h : HasConns v history.opened history.events) where
-      closed_conn_is : (c : ℕ) → conn_of c w.machine.conns ≡ (if c == n then None else conn_of c v.machine.conns)
-      closed_conn_is c = ap (λ (y : GatewayValue). conn_of c y.machine.conns) x.1 ∙ conn_without c n v.machine.conns
+  -- the new connection
+  new_each : (c : ℕ) (v : ConnectionValue) (s : StreamValue) → HasRead (reader_value 0 (Partial [])) [] [] → count ≡ c → StreamStands opened es count c v s → StreamStands more (events.Opening ∷ es) (count + 1) c v new_stream
+  new_each c v s fresh at h = record {
+    unopened = λ new. absurd (let clash : true ≡ false = sym below_now ∙ new in cc);
+    open_is = opens (nat_lt c (connections more es)) (ap (nat_lt c) was ∙ unborn) ∙ ap (nat_lt c) total ∙ below_now ∙ sym (ap (λ b. b && not v.closed) below_now ∙ ap (λ b. true && not b) blank.1);
+    hung_is = λ there on. sym (hung_still more c events.Opening es refl ∙ same.hung_is c ∙ unopened_hung opened c es le);
+    has_come = λ there on. record {
+      given = [];
+      reads = subst (λ text. HasRead (reader_value 0 (Partial [])) text []) (sym (text_still more c events.Opening es refl ∙ same.stream_is c ∙ unopened_text opened c es le)) fresh;
+      settled = refl;
+      came = blank.0;
+    };
+  }
+    where
+      below_now : nat_lt c (count + 1) ≡ true
+      below_now = lt-ltb c (count + 1) (omega (arith, at))
 
-      closed_stream_is : (c : ℕ) → stream_of c w.streams ≡ (if c == n then None else stream_of c v.streams)
-      closed_stream_is c = ap (λ (y : GatewayValue). stream_of c y.streams) x.1 ∙ stream_without c n v.streams
+      unborn : nat_lt c count ≡ false
+      unborn = le-ltb c count (omega (arith, at))
 
-      closed_turned : (c : ℕ) → (n == c) ≡ (c == n)
-      closed_turned c = ⊎_elim
-          (λ (e : (c == n) ≡ true). eq-eqb n c (sym (eqb-true c n e)) ∙ sym e)
-          (λ (e : (c == n) ≡ false). ne_eqb n c (λ at. let clash : true ≡ false = sym (eq-eqb c n (sym at)) ∙ e in absurd (cc)) ∙ sym e)
-          (cases_Bool (c == n))
+      blank : (v.taken + length v.slots ≡ 0) × (v.closed ≡ false)
+      blank = h.unopened unborn
 
-      by_number : (c : ℕ) (b : Bool) → (c == n) ≡ b → (is_open history.opened c history.events && not (n == c)) ≡ is_some (conn_of c w.machine.conns)
-      by_number c true e =
-          ap (λ b. is_open history.opened c history.events && not b) (closed_turned c ∙ e) ∙ and_false (is_open history.opened c history.events) ∙ sym (ap (λ k. is_some k) (closed_conn_is c ∙ ap (λ b. if b then None else conn_of c v.machine.conns) e))
-      by_number c false e =
-          ap (λ b. is_open history.opened c history.events && not b) (closed_turned c ∙ e) ∙ and_true (is_open history.opened c history.events) ∙ h.open_are c
-          ∙ sym (ap (λ k. is_some k) (closed_conn_is c ∙ ap (λ b. if b then None else conn_of c v.machine.conns) e))
+      le : connections opened es ≤ c
+      le = let e = count_is in omega (arith, at, e)
 
-      closed_hangs : (c : ℕ) (k : ConnValue) → conn_of c w.machine.conns ≡ Some k → k.broken ≡ false → (b : Bool) → (c == n) ≡ b → k.hung_up ≡ hung_up history.opened c (Closing n ∷ history.events)
-      closed_hangs c k k_is on true e = absurd (let clash : None ≡ Some k = sym (closed_conn_is c ∙ ap (λ b. if b then None else conn_of c v.machine.conns) e) ∙ k_is in cc)
-      closed_hangs c k k_is on false e = h.hung_are c k (sym (closed_conn_is c ∙ ap (λ b. if b then None else conn_of c v.machine.conns) e) ∙ k_is) on ∙ sym (hung_still history.opened c (Closing n) history.events refl)
+      opens : (b : Bool) → b ≡ false → (if b then is_open more c es && true else nat_lt c (connections more (events.Opening ∷ es))) ≡ nat_lt c (connections more (events.Opening ∷ es))
+      opens true e = absurd (cc)
+      opens false e = refl
 
-      closed_reads : (c : ℕ) (k : ConnValue) (s : StreamValue) → conn_of c w.machine.conns ≡ Some k → stream_of c w.streams ≡ Some s → is_listening k ≡ true
-          → (b : Bool) → (c == n) ≡ b → (given : List HttpRequest) × HasRead s.reader (stream history.opened c (Closing n ∷ history.events)) given
-      closed_reads c k s k_is s_is going true e = absurd (let clash : None ≡ Some k = sym (closed_conn_is c ∙ ap (λ b. if b then None else conn_of c v.machine.conns) e) ∙ k_is in cc)
-      closed_reads c k s k_is s_is going false e =
-          let read = h.reads_are c k s (sym (closed_conn_is c ∙ ap (λ b. if b then None else conn_of c v.machine.conns) e) ∙ k_is)
-          (sym (closed_stream_is c ∙ ap (λ b. if b then None else stream_of c v.streams) e) ∙ s_is) going in
-          (read.0, subst (λ text. HasRead s.reader text read.0) (sym (text_still history.opened c (Closing n) history.events refl)) read.1)
+  each_opened : (c : ℕ) (v : ConnectionValue) (s : StreamValue) → HasRead (reader_value 0 (Partial [])) [] [] → (b : Bool) → (count == c) ≡ b → StreamStands opened es count c v s
+      → StreamStands more (events.Opening ∷ es) (count + 1) c v (if b then new_stream else s)
+  each_opened c v s fresh true is h = new_each c v s fresh (eqb-true count c is) h
+  each_opened c v s fresh false is h = stream_stays opened more es (events.Opening ∷ es) count (count + 1) c v v s (stays_itself v) h (count_other c is) (open_other c is)
+      (hung_still more c events.Opening es refl ∙ same.hung_is c) (text_still more c events.Opening es refl ∙ same.stream_is c)
 
-      conns_closed : HasConns w history.opened (Closing n ∷ history.events)
-      conns_closed = record {
-        below = λ place its. let lt = h.below place its in omega (arith, lt);
-        count_is = h.count_is ∙ sym (ap (λ (y : GatewayValue). y.opened) x.1);
-        open_are = λ c. open_after history.opened c (Closing n) history.events refl ∙ by_number c (c == n) refl;
-        hung_are = λ c k k_is on. closed_hangs c k k_is on (c == n) refl;
-        reads_are = λ c k s k_is s_is going. closed_reads c k s k_is s_is going (c == n) refl;
-      }
+  pub streams_opened : (conns : ℕ → ConnectionValue) (streams : ℕ → StreamValue) → HasRead (reader_value 0 (Partial [])) [] [] → HasStreams opened es count conns streams
+      → HasStreams more (events.Opening ∷ es) (count + 1) conns (λ c. if count == c then new_stream else streams c)
+  streams_opened conns streams fresh h = record {
+    below = λ place its. places place (succeeds opened place) refl its;
+    count_is = total;
+    each = λ c. each_opened c (conns c) (streams c) fresh (count == c) refl (h.each c);
+  }
 
-    same_stream : (c : ℕ) (t : StreamValue) → stream_of c w.streams ≡ Some t → stream_of c v.streams ≡ Some t
-    same_stream c t t_is = by_it (c == n) (sym (ap (λ (y : GatewayValue). stream_of c y.streams) x.1 ∙ stream_without c n v.streams) ∙ t_is)
-      where
-        by_it : (b : Bool) → (if b then None else stream_of c v.streams) ≡ Some t → stream_of c v.streams ≡ Some t
-        by_it true e = absurd (cc)
-        by_it false e = e
+-- ---- the event
 
-    closed_no_stream : (c : ℕ) → stream_of c v.streams ≡ None → stream_of c w.streams ≡ None
-    closed_no_stream c none = ap (λ (y : GatewayValue). stream_of c y.streams) x.1 ∙ stream_without c n v.streams ∙ by_it (c == n)
-      where
-        by_it : (b : Bool) → (if b then None else stream_of c v.streams) ≡ None
-        by_it true = refl
-        by_it false = none
+-- of what is kept of the calls nothing changes
+quiet : (n : Now) (conns : ℕ → ConnectionValue) (taken : ℕ → List ReplyEntry) (handed waiting : List JobValue) (os : List Occurrence) → AllStand n conns taken handed waiting os
+    → AllStand n conns taken handed waiting (Opening ∷ os)
+quiet n conns taken handed waiting os h =
+    subst (λ m. AllStand m conns taken handed waiting (Opening ∷ os)) (ap (λ m. now_of m n.drained) (omega arith))
+    (subst (λ js. AllStand (now_after Opening n) conns taken handed js (Opening ∷ os)) (append-nil waiting) (all_step n conns taken handed waiting os Opening h (λ c. tt)))
 
-    some_adds : Adds history.opened (Closing n) history v w
-    some_adds = by_conn (conn_of n v.machine.conns) refl
-      where
-        by_conn : (k : Option ConnValue) → conn_of n v.machine.conns ≡ k → Adds history.opened (Closing n) history v w
-        by_conn None k_is = absurd (let clash : false ≡ true = sym (ap (λ k. is_some k) k_is) ∙ x.0 in cc)
-        by_conn (Some k) k_is = adds_one (Closing n) history v w (ap (λ (y : GatewayValue). y.plans) x.1) conns_closed (λ c. text_still history.opened c (Closing n) history.events refl)
-            (occurs.Closing n) (newly_broken v.machine.conns w.machine.conns) refl (λ h os at. at ∙ ap (λ b. once b (occurs.Closing n)) (h.open_are n ∙ x.0))
-            (λ os h l. (
-              closed_may v w (λ c. stream history.opened c history.events) history.taken history.handed os same_stream closed_no_stream (ap (λ (y : GatewayValue). y.opened) x.1) (ap (λ (y : GatewayValue). y.begun) x.1) serving.orderly l
-                  n k k_is (ap (λ (y : GatewayValue). y.machine) x.1) (MayBreak history.opened (Closing n) history.events),
-              closed_lives v w (λ c. stream history.opened c history.events) history.taken history.handed os same_stream closed_no_stream (ap (λ (y : GatewayValue). y.opened) x.1) (ap (λ (y : GatewayValue). y.begun) x.1) serving.orderly l
-                  n k k_is (ap (λ (y : GatewayValue). y.machine) x.1),
-            ))
+-- a connection more is open
+abbrev pub opens : CoreValue → CoreValue
+opens v = record v { streams = λ c. if v.opened == c then new_stream else v.streams c; opened = v.opened + 1 }
 
-  pub closed_adds : (b : Bool) → Closes n v w b → Adds history.opened (Closing n) history v w
-  closed_adds false x = subst (λ y. Adds history.opened (Closing n) history v y) (sym x.1) (none_adds x.0)
-  closed_adds true x = some_adds x
+module _ (h : History) (v : CoreValue) where
+  abbrev later : List ℕ
+  later = h.opened ++ length h.events ∷ []
 
--- an opening, whether it succeeds or not
-pub opening_adds : {E : Type 0} → (v w : GatewayValue) (result : Result ℕ E) (history : History)
-    → ((number : ℕ) → Opens v w number → Adds (history.opened ++ length history.events ∷ []) Opening history v w)
-    → IfOk result (Opens v w) → OnErr result (w ≡ v)
-    → MatchResult result (λ _. Adds (history.opened ++ length history.events ∷ []) Opening history v w) (λ _. Adds history.opened Opening history v w)
-opening_adds v w (Ok number) history succeeds_so o err = succeeds_so number o
-opening_adds v w (Err refusal) history succeeds_so o err = subst (λ x. Adds history.opened Opening history v x) (sym err) (unopened_adds v history)
+  pub opened_adds : HasRead (reader_value 0 (Partial [])) [] [] → Adds later events.Opening h v (opens v)
+  opened_adds fresh = adds_by later events.Opening h v (opens v) refl (none_more later events.Opening h v (opens v) refl)
+      (λ c. streams_opened h.opened h.events c.below v.opened c.count_is v.conns v.streams fresh c)
+      (λ c lived l. (
+        occurs_before v.plans later h.opened (length h.events) h.events (by_events lived) (omega arith) (shrunk h.opened (length h.events) c.below) l.occurs,
+        breaks_later h.opened later events.Opening h.events (can_more h.opened h.events c.below) lived l.breaks,
+      ))
+      (λ c lived l os at. subst (λ us. Newer (MayBreak later events.Opening h.events) (StandsNow h (opens v)) us (occurrences lived))
+      (sym (at ∙ ap (λ b. once b Opening) (succeeded h.opened h.events c.below v.opened c.count_is)))
+      (one_newer (MayBreak later events.Opening h.events) (StandsNow h (opens v)) (occurrences lived) Opening [] refl tt (quiet v.now v.conns h.taken h.handed v.waiting (occurrences lived) l.stands)))
 
-pub opening_stands : {E : Type 0} → (v w : GatewayValue) (result : Result ℕ E) (history : History) → IsServing v
-    → ((number : ℕ) → Opens v w number → Adds (history.opened ++ length history.events ∷ []) Opening history v w) → Served v history
-    → IfOk result (Opens v w) → OnErr result (w ≡ v)
-    → MatchResult result (λ _. Served w (after_opening history)) (λ _. Served w (after_event Opening history))
-opening_stands v w (Ok number) history serving succeeds_so h o err = opened_served v w history (succeeds_so number o).plans_are (succeeds_so number o) h
-opening_stands v w (Err refusal) history serving succeeds_so h o err =
-    subst (λ x. Served x (after_event Opening history)) (sym err) (served_event Opening history v v refl (unopened_adds v history) h)
+  -- one that does not succeed
+  pub unopened_adds : Adds h.opened events.Opening h v v
+  unopened_adds = none_adds h v events.Opening
+      (λ c. streams_stay h.opened events.Opening h.events v.opened v.conns v.conns v.streams
+      (record { opens_none = ap (λ b. if b then suc (connections h.opened h.events) else connections h.opened h.events) (fails c); closes_none = λ d. refl; hangs_none = λ d. refl; brings_none = λ d. refl })
+      (λ d. stays_itself (v.conns d)) c)
+      (λ c os at. at ∙ ap (λ b. once b Opening) (fails c))
+    where
+      fails : HasConns v h.opened h.events → succeeds h.opened (length h.events) ≡ false
+      fails c = not_yet h.opened (length h.events) (length h.events) c.below (omega arith)
+
+-- ---- how many are open
+
+pub open_count : (opened : List ℕ) (es : Before) (count : ℕ) (conns : ℕ → ConnectionValue) (streams : ℕ → StreamValue) → HasStreams opened es count conns streams
+    → open_connections opened es ≡ count_below count (λ c. is_open_value count c (conns c))
+open_count opened es count conns streams h =
+    ap (λ n. count_below n (λ c. is_open opened c es)) h.count_is
+    ∙ count_same count (λ c. is_open opened c es) (λ c. is_open_value count c (conns c)) (λ c within. (h.each c).open_is)

@@ -1,181 +1,192 @@
--- What the gateway stands for after a piece of a stream.
-use Rattle.std.proofs.Common.{◌≡◌, ℕ, ◌+◌, ◌<◌, ◌*◌, ◌≤◌, Bool, true, false, List, [], ◌∷◌, ◌++◌, map, take, length, Option, None, Some, refl, sym, ap, ◌∙◌, subst, arith, append-nil, append_assoc, ⊎_elim, inl, inr}
-use Rattle.std.specs.Prelude.{◌⊎◌, if◌then◌else◌, ◌&&◌, ◌||◌, ◌==◌, is_some, reverse, MatchBool}
-use Rattle.std.specs.Option.{option_map_or}
+-- What a piece of a connection's stream adds.
+use Rattle.std.proofs.Common.{◌≡◌, ℕ, suc, ◌+◌, ◌<◌, ◌≤◌, Bool, true, false, List, [], ◌∷◌, ◌++◌, take, drop, length, Result, Ok, Err, refl, sym, ap, ◌∙◌, arith, inl, inr, ⊎_elim, subst, append-nil, ◌*◌, map, Some, append_assoc}
+use Rattle.std.specs.Prelude.{◌⊎◌, ◌||◌, ◌==◌, MatchBool, if◌then◌else◌, nat_lt, reverse, ◌&&◌, not}
 use Rattle.std.proofs.lemmas.Bool.{eq-eqb, eqb-true, ne_eqb}
-use Rattle.std.proofs.lemmas.List.{length-append, reverse-append}
+use Rattle.std.proofs.lemmas.List.{length-append, append_cancel_left, reverse-append, append-nil}
+use Rattle.http_pieces.specs.declared.refusal.Refusal.{Refusal}
+use Rattle.http_pieces.specs.Cut.{Complete, Cut, Incomplete, IsCutText, Refused, cut_after, skip_pairs, with_head, without_block, without_head, most_head}
+use Rattle.http_pieces.specs.Fields.{asks_to_close}
+use Rattle.httparse.specs.Grammar.{RequestHead}
+use Rattle.http_pieces.specs.Head.{asks_with, request_kind, request_with}
+use Rattle.http_pieces.specs.Reader.{Done, HasRead, HasReadTo, Partial, ReaderValue, Reading, Stopped, Waiting, is_over, after_request, ending_after, left_of}
+use Rattle.http_pieces.specs.Request.{HttpRequest, closes, is_v10, most_requests}
+use Rattle.http_pieces.specs.Requests.{Closed, Open, RefusedBy, Requests, StreamEnd}
+use Rattle.gateway_theory.specs.Core.{refusals, is_waiting, IsKnown, Adds, CoreValue, HasCome, HasConns, HasStreams, StreamStands, StreamValue, is_heard}
+use Rattle.gateway_model.specs.Events.{refusal_gained, Gains, piece_of, requests_gained, Before, listens, stream, hung_up, is_open}
 use Rattle.call_plan.specs.Plan.{PlanRecord}
-use Rattle.http_pieces.specs.Reader.{ReaderValue, Reading, Partial, Waiting, Stopped, Done, HasRead, HasReadTo, is_over, left_of}
-use Rattle.http_pieces.specs.Request.{HttpRequest}
-use Rattle.http_pieces.specs.Requests.{RefusedBy, Closed, Requests}
-use Rattle.gateway_model.specs.declared.entry.ReplyEntry.{ReplyEntry}
-use Rattle.gateway_model.specs.declared.id.CallId.{CallId}
-use Rattle.gateway_theory.specs.Arrivals.{calls_in}
-use Rattle.gateway_theory.specs.Breaks.{CallAfter, ConnBy, ComingBreaks, is_broken_after}
-use Rattle.gateway_theory.specs.Conn.{ConnValue, added}
-use Rattle.gateway_theory.specs.Ends.{is_broken_in}
-use Rattle.gateway_theory.specs.Enters.{Enters, arriving_at}
-use Rattle.gateway_model.specs.Events.{Before, Gains, listens, stream}
-use Rattle.gateway_model.specs.declared.event.Event.{Event}
 use Rattle.gateway_model.specs.declared.event.Event.TheVariants.{Piece}
-use Rattle.gateway_theory.specs.Gateway.{Brings, Feeds, GatewayValue, HasCome, StreamValue, calls_brought, is_listening, stream_at, stream_of, with_bytes}
-use Rattle.gateway_theory.specs.GatewayLived.{GatewayLives, newly_broken}
-use Rattle.gateway_model.specs.Job.{JobValue}
-use Rattle.gateway_theory.specs.Lived.{breaks_of}
-use Rattle.gateway_theory.specs.Machine.{arriving, next_id, with_slot}
-use Rattle.gateway_model.specs.Occurrence.{Break, Coming, Comes, Occurrence, Refused, Request}
-use Rattle.gateway_model.specs.Own.{without_breaks}
-use Rattle.gateway_model.specs.Arrival.{arrival_of}
-use Rattle.gateway_model.specs.Past.{is_broken, is_call, marked}
+use Rattle.gateway_model.specs.Occurrence.{Coming, Comes, Occurrence}
 use Rattle.gateway_theory.specs.RequestLaws.{RequestLaws}
-use Rattle.gateway_theory.specs.Served.{Adds, HasConns, Lives}
-use Rattle.gateway_theory.specs.Orderly.{IsOrderly}
-use Rattle.gateway_theory.specs.Serving.{NotListening, IsServing, ListensAt}
-use Rattle.gateway_model.specs.Starts.{Placed, occurrences}
+use Rattle.gateway_model.specs.Own.{without_breaks}
+use Rattle.gateway_theory.specs.lemmas.Adding.{AreBreaks, breaks_join, without_both, MayBreak, Newer, without_these, BeginsFew, StandsNow, adds_event}
+use Rattle.gateway_model.specs.declared.entry.ReplyEntry.{ReplyEntry}
 use Rattle.gateway_model.specs.History.{History}
-use Rattle.gateway_theory.specs.Store.{MachineValue, broken_at, conn_at, conn_of, machine, numbers}
-use Rattle.gateway_theory.specs.lemmas.Adding.{AreBreaks, MayBreak, Newer, StandsThen, adds_event, adds_none, breaks_join, texts_same, without_both, without_these}
-use Rattle.gateway_theory.specs.lemmas.Cases.{and_true}
-use Rattle.gateway_theory.specs.lemmas.GoingOn.{flipped}
-use Rattle.gateway_theory.specs.lemmas.EndLemmas.{numbers_broken, just_broken}
+use Rattle.gateway_model.specs.Job.{JobValue}
+use Rattle.gateway_model.specs.Starts.{occurrences}
+use Rattle.gateway_theory.specs.Arrivals.{calls_arrived, calls_in}
 use Rattle.gateway_theory.specs.lemmas.EventLemmas.{gains_unique}
-use Rattle.gateway_theory.specs.lemmas.FeedLemmas.{other_conn, this_conn, stream_found, stream_set}
-use Rattle.gateway_theory.specs.lemmas.FeedSteps.{Brought, come, fed_lives, fed_may, still_lives, what}
-use Rattle.gateway_theory.specs.lemmas.GatewaySteps.{goes_broken, going_parts}
-use Rattle.gateway_theory.specs.lemmas.LivedEnds.{broken_are_in, broken_in, in_conns}
-use Rattle.gateway_theory.specs.lemmas.LivedEvents.{broken_lives}
-use Rattle.gateway_theory.specs.lemmas.LivedSteps.{lived_coming}
-use Rattle.gateway_theory.specs.lemmas.OrderLemmas.{broken_order, some_same}
-use Rattle.gateway_theory.specs.lemmas.ServedLemmas.{hung_still, open_same, open_still}
-use Rattle.gateway_theory.specs.lemmas.ServedMore.{not_listening_broken}
-use Rattle.gateway_theory.specs.lemmas.ServingLemmas.{keeps_entered, streams_apart}
-use Rattle.gateway_theory.specs.lemmas.StoreMore.{conn_found}
+use Rattle.gateway_theory.specs.lemmas.ServedLemmas.{hung_still, open_still, Stays, is_listening, stays_itself, stream_stays}
+use Rattle.gateway_theory.specs.Connection.{AllStand, Now, all_after, all_started, arriving, breaks_of, entered, next, now_after, now_of, step, stepped}
+use Rattle.gateway_theory.specs.Values.{ConnectionValue, is_open_value}
+use Rattle.gateway_theory.specs.lemmas.ConnectionSteps.{all_step}
+use Rattle.gateway_theory.specs.lemmas.Broadcast.{all_broken, breaks_stand}
+use Rattle.gateway_theory.specs.lemmas.Events.{MayAll, broken_stays, came, none_adds}
 
--- ---- what comes on a broken connection does nothing
+-- ---- a stream has at most 100 requests
 
-module _ (c : ℕ) (x : Coming) (v : GatewayValue) (texts : ℕ → List ℕ) (taken : ℕ → List ReplyEntry) (handed : List JobValue) (os : List Occurrence)
-    (orderly : IsOrderly v.machine) (broken : is_broken_in c v.machine.conns ≡ true) (h : GatewayLives v texts taken handed os) where
-  abbrev breaks : ℕ → Bool
-  breaks = λ d. is_broken_in d v.machine.conns
+-- the number of the message
+abbrev number_in : Cut Refusal HttpRequest → ℕ
+number_in Incomplete = 0
+number_in (Refused r) = 0
+number_in (Complete q rest) = q.number
 
-  abbrev were_broken : ℕ → Bool
-  were_broken = broken_in v.machine.conns
+-- whether a body is whole or not, a message that is has the number that its head asks for
+body_numbered : (b : Bool) (whole after : Cut Refusal HttpRequest) (q : HttpRequest) (rest : List ℕ) → whole ≡ Complete q rest → whole ≡ (if b then Incomplete else after) → q.number ≡ number_in after
+body_numbered true whole after q rest is e = absurd (let clash = sym is ∙ e in cc)
+body_numbered false whole after q rest is e = ap number_in (sym is ∙ e)
 
-  broken_is : (d : ℕ) → is_broken_after breaks were_broken d ≡ is_broken_in d v.machine.conns
-  broken_is d = twice (breaks d)
-    where
-      twice : (b : Bool) → (b || b) ≡ b
-      twice true = refl
-      twice false = refl
+head_numbered : (k : ℕ) (whole : Cut Refusal HttpRequest) (q : HttpRequest) (rest after : List ℕ) (head : RequestHead) (r : Result ℕ Refusal) → whole ≡ Complete q rest
+    → whole ≡ cut_after (asks_with r (request_with k head)) after → q.number ≡ k
+head_numbered k whole q rest after head (Err refusal) is e = absurd (let clash = sym is ∙ e in cc)
+head_numbered k whole q rest after head (Ok size) is e =
+    body_numbered (nat_lt (length after) size) whole (Complete (request_with k head (take size after)) (drop size after)) q rest is e
 
-  other : (d : ℕ) → is_broken_after breaks were_broken d ≡ false → (d == c) ≡ false
-  other d on = ne_eqb d c (λ same. let clash : true ≡ false = sym (ap (λ m. is_broken_in m v.machine.conns) same ∙ broken) ∙ sym (broken_is d) ∙ on in absurd (cc))
+-- request k of a text has that number
+numbered : (k : ℕ) (text : List ℕ) (whole : Cut Refusal HttpRequest) (q : HttpRequest) (rest : List ℕ) → whole ≡ Complete q rest → IsCutText (request_kind k) text whole → q.number ≡ k
+numbered k text whole q rest is (without_block none c_is) = by_size (nat_lt (length text) most_head) c_is
+  where
+    by_size : (b : Bool) → whole ≡ (if b then Incomplete else Refused (request_kind k).too_large) → q.number ≡ k
+    by_size true e = absurd (let clash = sym is ∙ e in cc)
+    by_size false e = absurd (let clash = sym is ∙ e in cc)
+numbered k text whole q rest is (without_head n block none c_is) = absurd (let clash = sym is ∙ c_is in cc)
+numbered k text whole q rest is (with_head n a block head c_is) =
+    head_numbered k whole q rest (drop n text) head.head _ is (c_is ∙ ap (λ x. cut_after x (drop n text)) head.asks_is)
 
-  was_broken : (d : ℕ) → is_broken_after breaks were_broken d ≡ true → is_broken d (marked os) ≡ true
-  was_broken d e = by_conn (conn_of d v.machine.conns) refl
-    where
-      by_conn : (k : Option ConnValue) → conn_of d v.machine.conns ≡ k → is_broken d (marked os) ≡ true
-      by_conn None k_is = absurd (let clash : false ≡ true = sym (ap (λ o. option_map_or (λ (y : ConnValue). y.broken) o false) k_is) ∙ sym (broken_is d) ∙ e in cc)
-      by_conn (Some k) k_is = sym (h.conns_live.broken_are d k k_is) ∙ sym (in_conns d v.machine.conns k k_is) ∙ sym (broken_is d) ∙ e
+third_off : (a b c : Bool) → (a || b || c) ≡ false → c ≡ false
+third_off true b c e = absurd (cc)
+third_off false true c e = absurd (cc)
+third_off false false c e = e
 
-  quiet_coming : ComingBreaks breaks were_broken c x (machine h.closed v.machine) (machine h.closed v.machine)
-  quiet_coming = record {
-    moment_is = refl;
-    drained_is = refl;
-    calls_are = λ id. by_call id (is_broken_after breaks were_broken id.conn) refl;
-    conns_are = λ d. by_conn d (is_broken_after breaks were_broken d) refl;
-    jobs_are = sym (ap (λ b. v.machine.jobs ++ (if b then [] else (arriving c x (machine h.closed v.machine)).jobs)) (broken_is c ∙ broken) ∙ append-nil v.machine.jobs);
-  }
-    where
-      by_call : (id : CallId) (b : Bool) → is_broken_after breaks were_broken id.conn ≡ b
-          → CallAfter b id (Comes c x) ((machine h.closed v.machine).calls id) ((machine h.closed v.machine).calls id)
-          (if is_call (next_id c (machine h.closed v.machine)) id then (arriving c x (machine h.closed v.machine)).call else (machine h.closed v.machine).calls id)
-      by_call id true e = record { outs_are = λ i. sym (and_true _) }
-      by_call id false e = sym (ap (λ b. if b then (arriving c x (machine h.closed v.machine)).call else (machine h.closed v.machine).calls id) not_its)
-        where
-          not_its : is_call (next_id c (machine h.closed v.machine)) id ≡ false
-          not_its = rw (flipped c id.conn (other id.conn e)) refl
+-- a text whose first request is number k has so many, and fewer where they do not end by the last
+few_requests : (k : ℕ) (text : List ℕ) (given : List HttpRequest) (ending : StreamEnd) → k < most_requests → Requests k text given ending
+    → (length given + k ≤ most_requests) × ((ending ≡ Closed) ⊎ (length given + k < most_requests))
+few_requests k text [] ending room r = (omega (arith, room), inr (omega (arith, room)))
+few_requests k text (q ∷ given) ending room (rest, cut, by_close) = by_it (closes q) refl (λ is. third_off (is_v10 q.version) (asks_to_close q.fields) (q.number + 1 == most_requests) is) (λ low more. few_requests (suc k) rest given ending low more) by_close
+  where
+    by_it : (b : Bool) → closes q ≡ b → (closes q ≡ false → (q.number + 1 == most_requests) ≡ false) → (suc k < most_requests → Requests (suc k) rest given ending → (length given + suc k ≤ most_requests) × ((ending ≡ Closed) ⊎ (length given + suc k < most_requests)))
+        → MatchBool b ((given ≡ []) × (ending ≡ Closed)) (Requests (suc k) rest given ending)
+        → (suc (length given) + k ≤ most_requests) × ((ending ≡ Closed) ⊎ (suc (length given) + k < most_requests))
+    by_it true is last rec e = (let none : length given ≡ 0 = ap (λ (xs : List HttpRequest). length xs) e.0 in omega (arith, room, none), inl e.1)
+    by_it false is last rec more =
+        let open_now : (q.number + 1 == most_requests) ≡ false = last is in
+        let not_last : k + 1 ≡ most_requests → ⊥ = λ e.
+        let clash : true ≡ false = sym (eq-eqb (q.number + 1) most_requests (ap (λ n. n + 1) (numbered k (skip_pairs text) (Complete q rest) q rest refl cut) ∙ e)) ∙ open_now in cc in
+        let all = rec (omega (arith, room, not_last)) more in (
+          (let a = all.0 in omega (arith, a)),
+          ⊎_elim (λ (c : ending ≡ Closed). inl c) (λ (lt : length given + suc k < most_requests). inr (omega (arith, lt))) all.1,
+        )
 
-      by_conn : (d : ℕ) (b : Bool) → is_broken_after breaks were_broken d ≡ b
-          → ConnBy b (d == c) (arriving c x (machine h.closed v.machine)).reply ((machine h.closed v.machine).conns d) ((machine h.closed v.machine).conns d)
-      by_conn d true e = record { taken_is = refl; slots_are = refl }
-      by_conn d false e = sym (ap (λ b. if b then with_slot (arriving c x (machine h.closed v.machine)).reply ((machine h.closed v.machine).conns d) else (machine h.closed v.machine).conns d) (other d e))
+-- so many were given, and a refusal counts
+pub few_given : (reader : ReaderValue) (text : List ℕ) (given : List HttpRequest) → HasRead reader text given → length given + refusals reader.reading ≤ most_requests
+few_given reader text given h = by_reading reader.reading h.reads
+  where
+    by_reading : (r : Reading) → HasReadTo r text given → length given + refusals r ≤ most_requests
+    by_reading (Partial left) reads = let few = (few_requests 0 text given (Open left) (omega arith) reads).0 in omega (arith, few)
+    by_reading (Waiting q) reads =
+        let few = (few_requests 0 text (given ++ q ∷ []) _ (omega arith) reads).0 in omega (arith, few, length-append given (q ∷ []))
+    by_reading (Stopped refusal) reads = ⊎_elim
+        (λ (c : RefusedBy refusal ≡ Closed). absurd (cc))
+        (λ (lt : length given + 0 < most_requests). omega (arith, lt))
+        (few_requests 0 text given (RefusedBy refusal) (omega arith) reads).1
+    by_reading Done reads = let few = (few_requests 0 text given Closed (omega arith) reads).0 in omega (arith, few)
 
-  coming_quiet : GatewayLives v texts taken handed (Comes c x ∷ os)
-  coming_quiet = record {
-    closed = h.closed;
-    lives = lived_coming taken handed c x breaks were_broken (machine h.closed v.machine) (machine h.closed v.machine) os [] h.lives quiet_coming was_broken (λ d e. refl)
-        (λ id e. (broken_are_in v.machine orderly).broken_none id (sym (broken_is id.conn) ∙ e))
-        (λ on. absurd (let clash : true ≡ false = sym broken ∙ sym (broken_is c) ∙ on in cc))
-        (λ on. absurd (let clash : true ≡ false = sym broken ∙ sym (broken_is c) ∙ on in cc));
-    conns_live = record { broken_are = h.conns_live.broken_are; open_are = h.conns_live.open_are };
-    streams_stand = h.streams_stand;
-    unopened = λ d le. let u = h.unopened d le in record {
-      state_is = u.state_is;
-      unshut = u.unshut;
-      no_conn = u.no_conn;
-      no_stream_is = u.no_stream_is;
-      no_call = u.no_call;
-    };
-    begun_is = let was = h.begun_is in omega (arith, was);
-  }
+pub no_refusal : (r : Reading) → is_over r ≡ false → refusals r ≡ 0
+no_refusal (Partial left) e = refl
+no_refusal (Waiting q) e = refl
+no_refusal (Stopped refusal) e = absurd (cc)
+no_refusal Done e = absurd (cc)
 
-comings_quiet : (c : ℕ) (xs : List Coming) (v : GatewayValue) (texts : ℕ → List ℕ) (taken : ℕ → List ReplyEntry) (handed : List JobValue) (os : List Occurrence)
-    → IsOrderly v.machine → is_broken_in c v.machine.conns ≡ true → GatewayLives v texts taken handed os → GatewayLives v texts taken handed (reverse (map (Comes c) xs) ++ os)
-comings_quiet c [] v texts taken handed os orderly broken h = h
-comings_quiet c (x ∷ xs) v texts taken handed os orderly broken h =
-    subst (λ us. GatewayLives v texts taken handed us)
-    (sym (append_assoc (reverse (map (Comes c) xs)) (Comes c x ∷ []) os) ∙ ap (λ us. us ++ os) (sym (reverse-append (Comes c x ∷ []) (map (Comes c) xs))))
-    (comings_quiet c xs v texts taken handed (Comes c x ∷ os) orderly broken (coming_quiet c x v texts taken handed os orderly broken h))
+-- ---- what a piece brings
+
+-- the reader is in the middle of a request
+pub midway : (r : Reading) → is_over r ≡ false → is_waiting r ≡ false → (left : List ℕ) × (r ≡ Partial left)
+midway (Partial left) over waiting = (left, refl)
+midway (Waiting q) over waiting = absurd (cc)
+midway (Stopped r) over waiting = absurd (cc)
+midway Done over waiting = absurd (cc)
+
+pub none_gained : (q : HttpRequest) (left : List ℕ) → refusal_gained (Open left) (ending_after q) ≡ []
+none_gained q left = by_it (closes q)
+  where
+    by_it : (b : Bool) → refusal_gained (Open left) (if b then Closed else Open []) ≡ []
+    by_it true = refl
+    by_it false = refl
+
+pub after_settled : (q : HttpRequest) (r : Reading) → r ≡ after_request q → (is_waiting r ≡ false) × (refusals r ≡ 0)
+after_settled q r e = subst (λ x. (is_waiting x ≡ false) × (refusals x ≡ 0)) (sym e) (by_it (closes q))
+  where
+    by_it : (b : Bool) → (is_waiting (if b then Done else Partial []) ≡ false) × (refusals (if b then Done else Partial []) ≡ 0)
+    by_it true = (refl, refl)
+    by_it false = (refl, refl)
+
+-- ---- no bytes
+
+pub no_bytes : (c n : ℕ) → piece_of c (Piece n []) ≡ []
+no_bytes c n = by_it (n == c)
+  where
+    by_it : (b : Bool) → if◌then◌else◌ {A = List ℕ} b [] [] ≡ []
+    by_it true = refl
+    by_it false = refl
+
+none_refused : (e : StreamEnd) → refusal_gained e e ≡ []
+none_refused (Open left) = refl
+none_refused (RefusedBy r) = refl
+none_refused Closed = refl
+
+pub nothing_gained : RequestLaws → (plans : List PlanRecord) (text : List ℕ) (gained : List Coming) → Gains plans text (text ++ []) gained → gained ≡ []
+nothing_gained laws plans text gained g =
+    let same = laws.unique 0 text g.given (g.given ++ g.more) g.ending g.later g.text_is (subst (λ t. Requests 0 t (g.given ++ g.more) g.later) (append-nil text) g.longer_is) in
+    let none : g.more ≡ [] = append_cancel_left g.given g.more [] (sym same.0 ∙ sym (append-nil g.given)) in
+    g.gained_is ∙ ap (λ more. requests_gained plans more ++ refusal_gained g.ending g.later) none ∙ ap (λ e. refusal_gained g.ending e) (sym same.1) ∙ none_refused g.ending
+
+-- what was read has a list of requests
+pub read_requests : (reader : ReaderValue) (text : List ℕ) (given : List HttpRequest) → HasRead reader text given → IsKnown text
+read_requests reader text given h = by_reading reader.reading h.reads
+  where
+    by_reading : (r : Reading) → HasReadTo r text given → IsKnown text
+    by_reading (Partial left) x = (given, Open left, x)
+    by_reading (Waiting q) x = (given ++ q ∷ [], ending_after q, x)
+    by_reading (Stopped r) x = (given, RefusedBy r, x)
+    by_reading Done x = (given, Closed, x)
 
 -- what comes is no break
-without_comings : (c : ℕ) (xs : List Coming) → without_breaks (reverse (map (Comes c) xs)) ≡ reverse (map (Comes c) xs)
+pub without_comings : (c : ℕ) (xs : List Coming) → without_breaks (reverse (map (Comes c) xs)) ≡ reverse (map (Comes c) xs)
 without_comings c [] = refl
 without_comings c (x ∷ xs) =
     ap (λ us. without_breaks us) (reverse-append (Comes c x ∷ []) (map (Comes c) xs))
     ∙ without_both (reverse (map (Comes c) xs)) (Comes c x ∷ [])
     ∙ ap (λ us. us ++ Comes c x ∷ []) (without_comings c xs) ∙ sym (reverse-append (Comes c x ∷ []) (map (Comes c) xs))
 
-no_comings : (P : ℕ → List Occurrence → Type 0) (c : ℕ) (xs : List Coming) (os : List Occurrence) → AreBreaks P (reverse (map (Comes c) xs)) os
+pub no_comings : (P : ℕ → List Occurrence → Type 0) (c : ℕ) (xs : List Coming) (os : List Occurrence) → AreBreaks P (reverse (map (Comes c) xs)) os
 no_comings P c [] os = tt
 no_comings P c (x ∷ xs) os = subst (λ us. AreBreaks P us os) (sym (reverse-append (Comes c x ∷ []) (map (Comes c) xs)))
     (breaks_join P (reverse (map (Comes c) xs)) (Comes c x ∷ []) os (no_comings P c xs (Comes c x ∷ os)) (tt, tt))
 
--- ---- texts
-
--- the same texts, but of streams that are broken
-texts_else : (v : GatewayValue) (texts others : ℕ → List ℕ) (taken : ℕ → List ReplyEntry) (handed : List JobValue) (os : List Occurrence)
-    → ((c : ℕ) → (others c ≡ texts c) ⊎ (is_broken_in c v.machine.conns ≡ true)) → GatewayLives v texts taken handed os → GatewayLives v others taken handed os
-texts_else v texts others taken handed os same h = record {
-  closed = h.closed;
-  lives = h.lives;
-  conns_live = h.conns_live;
-  streams_stand = λ c k s k_is s_is going. by_text c k s k_is s_is going (same c);
-  unopened = h.unopened;
-  begun_is = h.begun_is;
-}
-  where
-    by_text : (c : ℕ) (k : ConnValue) (s : StreamValue) → conn_of c v.machine.conns ≡ Some k → stream_of c v.streams ≡ Some s → is_listening k ≡ true
-        → (others c ≡ texts c) ⊎ (is_broken_in c v.machine.conns ≡ true) → HasCome k s.reader (others c)
-    by_text c k s k_is s_is going (inl e) = subst (λ text. HasCome k s.reader text) (sym e) (h.streams_stand c k s k_is s_is going)
-    by_text c k s k_is s_is going (inr broken) = absurd (
-        let clash : true ≡ false = sym broken ∙ ap (λ o. option_map_or (λ (y : ConnValue). y.broken) o false) k_is ∙ (going_parts k.broken k.hung_up going).0 in cc)
-
-text_other : (opened : List ℕ) (c n : ℕ) (bytes : List ℕ) (es : Before) → (n == c) ≡ false → stream opened c (Piece n bytes ∷ es) ≡ stream opened c es
+pub text_other : (opened : List ℕ) (c n : ℕ) (bytes : List ℕ) (es : Before) → (n == c) ≡ false → stream opened c (Piece n bytes ∷ es) ≡ stream opened c es
 text_other opened c n bytes es ne = by_it (listens opened c es)
   where
     by_it : (b : Bool) → (if b then stream opened c es ++ (if n == c then bytes else []) else stream opened c es) ≡ stream opened c es
     by_it true = ap (λ b. stream opened c es ++ (if b then bytes else [])) ne ∙ append-nil (stream opened c es)
     by_it false = refl
 
-text_off : (opened : List ℕ) (c n : ℕ) (bytes : List ℕ) (es : Before) → listens opened n es ≡ false → stream opened c (Piece n bytes ∷ es) ≡ stream opened c es
+pub text_off : (opened : List ℕ) (c n : ℕ) (bytes : List ℕ) (es : Before) → listens opened n es ≡ false → stream opened c (Piece n bytes ∷ es) ≡ stream opened c es
 text_off opened c n bytes es off = by_number (n == c) refl
   where
     by_number : (b : Bool) → (n == c) ≡ b → stream opened c (Piece n bytes ∷ es) ≡ stream opened c es
     by_number false e = text_other opened c n bytes es e
     by_number true e = ap (λ b. if b then stream opened c es ++ (if n == c then bytes else []) else stream opened c es) (ap (λ m. listens opened m es) (sym (eqb-true n c e)) ∙ off)
 
-text_on : (opened : List ℕ) (c n : ℕ) (bytes : List ℕ) (es : Before) → listens opened n es ≡ true → stream opened c (Piece n bytes ∷ es) ≡ with_bytes n bytes (λ d. stream opened d es) c
+pub text_on : (opened : List ℕ) (c n : ℕ) (bytes : List ℕ) (es : Before) → listens opened n es ≡ true → stream opened c (Piece n bytes ∷ es) ≡ (if c == n then stream opened c es ++ bytes else stream opened c es)
 text_on opened c n bytes es on = by_number (n == c) refl
   where
     turned : (b : Bool) → (n == c) ≡ b → (c == n) ≡ b
@@ -187,58 +198,6 @@ text_on opened c n bytes es on = by_number (n == c) refl
     by_number true e =
         ap (λ b. if b then stream opened c es ++ (if n == c then bytes else []) else stream opened c es) (ap (λ m. listens opened m es) (sym (eqb-true n c e)) ∙ on)
         ∙ ap (λ b. stream opened c es ++ (if b then bytes else [])) e ∙ sym (ap (λ b. if b then stream opened c es ++ bytes else stream opened c es) (turned true e))
-
--- ---- what the definitions bring
-
-module _ (n : ℕ) (bytes : List ℕ) (v w : GatewayValue) (history : History) (plans_are : w.plans ≡ v.plans)
-    (conns : HasConns v history.opened history.events → HasConns w history.opened (Piece n bytes ∷ history.events)) where
-  abbrev before_texts : ℕ → List ℕ
-  before_texts d = stream history.opened d history.events
-
-  abbrev StandsWith : List Occurrence → Type 0
-  StandsWith os = GatewayLives w (with_bytes n bytes (λ d. stream history.opened d history.events)) history.taken history.handed os
-
-  -- by what the stream gains, with these breaks before it
-  adds_gained : listens history.opened n history.events ≡ true
-      → ((gained : List Coming) (os : List Occurrence) → HasConns v history.opened history.events → Gains v.plans (stream history.opened n history.events) (stream history.opened n history.events ++ bytes) gained
-      → GatewayLives v before_texts history.taken history.handed os
-      → (cs : List ℕ) × AreBreaks (MayBreak history.opened (Piece n bytes) history.events) (breaks_of cs) os × StandsWith (reverse (map (Comes n) gained) ++ (breaks_of cs ++ os)))
-      → Adds history.opened (Piece n bytes) history v w
-  adds_gained on step = adds_event (Piece n bytes) history v w plans_are conns (λ lived l os at. by_gains lived l os (subst (λ b. MatchBool b
-      ((gained : List Coming) × Gains v.plans (stream history.opened n history.events) (stream history.opened n history.events ++ bytes) gained × (os ≡ map (Comes n) gained)) (os ≡ [])) on at))
-    where
-      by_gains : (lived : List Placed) → Lives v history lived → (os : List Occurrence)
-          → ((gained : List Coming) × Gains v.plans (stream history.opened n history.events) (stream history.opened n history.events ++ bytes) gained × (os ≡ map (Comes n) gained))
-          → Newer (MayBreak history.opened (Piece n bytes) history.events) (StandsThen history.opened (Piece n bytes) history v w plans_are) os (occurrences lived)
-      by_gains lived l os (gained, gains, os_are) = let x = step gained (occurrences lived) l.conns gains l.stands in record {
-        newer = reverse (map (Comes n) gained) ++ breaks_of x.0;
-        same = without_both (reverse (map (Comes n) gained)) (breaks_of x.0) ∙ ap (λ us. without_breaks (reverse (map (Comes n) gained)) ++ us) (without_these x.0)
-            ∙ append-nil (without_breaks (reverse (map (Comes n) gained))) ∙ without_comings n gained ∙ ap (λ us. reverse us) (sym os_are);
-        may = breaks_join (MayBreak history.opened (Piece n bytes) history.events) (reverse (map (Comes n) gained)) (breaks_of x.0) (occurrences lived)
-            (no_comings (MayBreak history.opened (Piece n bytes) history.events) n gained (breaks_of x.0 ++ occurrences lived)) x.1;
-        stands = subst (StandsThen history.opened (Piece n bytes) history v w plans_are) (sym (append_assoc (reverse (map (Comes n) gained)) (breaks_of x.0) (occurrences lived)))
-            (texts_same w history.taken history.handed (with_bytes n bytes (λ d. stream history.opened d history.events)) (λ c. stream history.opened c (Piece n bytes ∷ history.events))
-            (reverse (map (Comes n) gained) ++ (breaks_of x.0 ++ occurrences lived)) (λ c. text_on history.opened c n bytes history.events on) x.2);
-      }
-
--- the connections after a piece
-conns_piece : (n : ℕ) (bytes : List ℕ) (v w : GatewayValue) (opened : List ℕ) (es : Before) → w.opened ≡ v.opened → numbers w.machine.conns ≡ numbers v.machine.conns
-    → ((c : ℕ) (k : ConnValue) → conn_of c w.machine.conns ≡ Some k → k.broken ≡ false → (x : ConnValue) × (conn_of c v.machine.conns ≡ Some x) × (x.broken ≡ false) × (k.hung_up ≡ x.hung_up))
-    → ((c : ℕ) (k : ConnValue) (s : StreamValue) → conn_of c w.machine.conns ≡ Some k → k.broken ≡ false → stream_of c w.streams ≡ Some s → (y : StreamValue) × (stream_of c v.streams ≡ Some y)
-    × ((given : List HttpRequest) → HasRead y.reader (stream opened c es) given → (now : List HttpRequest) × HasRead s.reader (stream opened c (Piece n bytes ∷ es)) now))
-    → HasConns v opened es → HasConns w opened (Piece n bytes ∷ es)
-conns_piece n bytes v w opened es opened_is same back reads h = record {
-  below = λ place its. let lt = h.below place its in omega (arith, lt);
-  count_is = h.count_is ∙ sym opened_is;
-  open_are = λ c. open_still opened c (Piece n bytes) es refl refl ∙ h.open_are c ∙ sym (open_same c w.machine.conns v.machine.conns same);
-  hung_are = λ c k k_is on. let x = back c k k_is on in x.3 ∙ h.hung_are c x.0 x.1 x.2 ∙ sym (hung_still opened c (Piece n bytes) es refl);
-  reads_are = λ c k s k_is s_is going.
-      let parts = going_parts k.broken k.hung_up going in
-      let x = back c k k_is parts.0 in
-      let y = reads c k s k_is parts.0 s_is in
-      let read = h.reads_are c x.0 y.0 x.1 y.1 (rw (x.2, sym x.3 ∙ parts.1) refl) in
-      y.2 read.0 read.1;
-}
 
 pub over_more : RequestLaws → (reader : ReaderValue) (text more : List ℕ) (given : List HttpRequest) → is_over reader.reading ≡ true → HasRead reader text given → HasRead reader (text ++ more) given
 over_more laws reader text more given over h = record {
@@ -288,267 +247,288 @@ over_gains laws plans reader text more given over h = by_reading reader.reading 
       gained_is = refl;
     }
 
-pub feeds_read : (i n : ℕ) (bytes : List ℕ) (v w : GatewayValue) (text : List ℕ) (given : List HttpRequest) (f : Feeds i n bytes v w) → HasRead (stream_at i v.streams).reader text given
-    → (now : List HttpRequest) × HasRead f.new (text ++ take n bytes) now
-feeds_read i n bytes v w text given f read = by_reading f.pushed.reading f.brings
+-- ---- what the definitions bring
+
+module _ (n : ℕ) (bytes : List ℕ) (h : History) (v w : CoreValue) (plans_are : w.plans ≡ v.plans)
+    (conns : HasConns v h.opened h.events → HasConns w h.opened (Piece n bytes ∷ h.events)) where
+  abbrev text : List ℕ
+  text = stream h.opened n h.events
+
+  -- by what the stream gains, with these breaks before it
+  pub adds_gained : (cs : List ℕ) → ((gained : List Coming) → HasConns v h.opened h.events → Gains v.plans (stream h.opened n h.events) (stream h.opened n h.events ++ bytes) gained
+      → w.begun ≤ v.begun + calls_arrived (map (Comes n) gained)) → (HasConns v h.opened h.events → listens h.opened n h.events ≡ true)
+      → ((gained : List Coming) (os : List Occurrence) → HasConns v h.opened h.events → Gains v.plans (stream h.opened n h.events) (stream h.opened n h.events ++ bytes) gained → StandsNow h v os
+      → AreBreaks (MayBreak h.opened (Piece n bytes) h.events) (breaks_of cs) os × StandsNow h w (reverse (map (Comes n) gained) ++ (breaks_of cs ++ os)))
+      → Adds h.opened (Piece n bytes) h v w
+  adds_gained cs few on step = adds_event (Piece n bytes) h v w plans_are begins conns (λ c lived l os at. by_gains c (occurrences lived) l.stands os (subst (λ b. MatchBool b
+      ((gained : List Coming) × Gains v.plans (stream h.opened n h.events) (stream h.opened n h.events ++ bytes) gained × (os ≡ map (Comes n) gained)) (os ≡ [])) (on c) at))
+    where
+      begins : BeginsFew h.opened (Piece n bytes) h v w
+      begins c os at =
+          let (gained, gains, os_are) = subst (λ b. MatchBool b
+          ((gained : List Coming) × Gains v.plans (stream h.opened n h.events) (stream h.opened n h.events ++ bytes) gained × (os ≡ map (Comes n) gained)) (os ≡ [])) (on c) at in
+          subst (λ us. w.begun ≤ v.begun + calls_arrived us) (sym os_are) (few gained c gains)
+
+      by_gains : HasConns v h.opened h.events → (us : List Occurrence) → StandsNow h v us → (os : List Occurrence)
+          → ((gained : List Coming) × Gains v.plans (stream h.opened n h.events) (stream h.opened n h.events ++ bytes) gained × (os ≡ map (Comes n) gained))
+          → Newer (MayBreak h.opened (Piece n bytes) h.events) (StandsNow h w) os us
+      by_gains c us stands os (gained, gains, os_are) = let x = step gained us c gains stands in record {
+        newer = reverse (map (Comes n) gained) ++ breaks_of cs;
+        same = without_both (reverse (map (Comes n) gained)) (breaks_of cs) ∙ ap (λ xs. without_breaks (reverse (map (Comes n) gained)) ++ xs) (without_these cs)
+            ∙ append-nil (without_breaks (reverse (map (Comes n) gained))) ∙ without_comings n gained ∙ ap (λ xs. reverse xs) (sym os_are);
+        may = breaks_join (MayBreak h.opened (Piece n bytes) h.events) (reverse (map (Comes n) gained)) (breaks_of cs) us
+            (no_comings (MayBreak h.opened (Piece n bytes) h.events) n gained (breaks_of cs ++ us)) x.0;
+        stands = subst (StandsNow h w) (sym (append_assoc (reverse (map (Comes n) gained)) (breaks_of cs) us)) x.1;
+      }
+
+-- ---- the stream that was fed
+
+-- so many requests came more, unless it broke
+pub record Fed (more : ℕ) (v w : ConnectionValue) : Type 0 where
+  pub closed_is : w.closed ≡ v.closed
+  pub broken_was : w.broken ≡ false → v.broken ≡ false
+  pub next_is : w.broken ≡ false → next w ≡ next v + more
+
+-- the reader read the bytes behind that text, and this came
+pub record Reads (plans : List PlanRecord) (old : ReaderValue) (bytes : List ℕ) (new : ReaderValue) (gained : List Coming) (text : List ℕ) (given : List HttpRequest) : Type 0 where
+  pub gains : Gains plans text (text ++ bytes) gained
+  pub now_given : List HttpRequest
+  pub reads : HasRead new (text ++ bytes) now_given
+  pub settled : is_waiting new.reading ≡ false
+  pub count : length now_given + refusals new.reading ≡ length given + refusals old.reading + length gained
+
+-- whatever the text was
+abbrev pub ReadsTo : List PlanRecord → ReaderValue → List ℕ → ReaderValue → List Coming → Type 0
+ReadsTo plans old bytes new gained = (text : List ℕ) (given : List HttpRequest) → HasRead old text given → Reads plans old bytes new gained text given
+
+-- of one that is over nothing comes
+pub over_reads : RequestLaws → (plans : List PlanRecord) (reader : ReaderValue) (bytes : List ℕ) → is_over reader.reading ≡ true → ReadsTo plans reader bytes reader []
+over_reads laws plans reader bytes over text given read = record {
+  gains = over_gains laws plans reader text bytes given over read;
+  now_given = given;
+  reads = over_more laws reader text bytes given over read;
+  settled = not_waiting reader.reading over;
+  count = omega arith;
+}
   where
-    by_reading : (r : Reading) → Brings v.plans i r f.pushed f.new v.machine w.machine → (now : List HttpRequest) × HasRead f.new (text ++ take n bytes) now
-    by_reading (Partial left) b = (given, subst (λ x. HasRead x (text ++ take n bytes) given) (sym b.0) (f.reads text given read))
-    by_reading (Waiting q) b = (given ++ q ∷ [], b.0 (text ++ take n bytes) given (f.reads text given read))
-    by_reading (Stopped r) b = (given, subst (λ x. HasRead x (text ++ take n bytes) given) (sym b.0) (f.reads text given read))
-    by_reading Done b = (given, subst (λ x. HasRead x (text ++ take n bytes) given) (sym b.0) (f.reads text given read))
+    not_waiting : (r : Reading) → is_over r ≡ true → is_waiting r ≡ false
+    not_waiting (Partial left) e = absurd (cc)
+    not_waiting (Waiting q) e = absurd (cc)
+    not_waiting (Stopped r) e = refl
+    not_waiting Done e = refl
 
-pub feeds_machine : (i n : ℕ) (bytes : List ℕ) (v w : GatewayValue) → Feeds i n bytes v w → (w.machine ≡ v.machine) ⊎ ((x : Coming) × Enters i x v.machine w.machine)
-feeds_machine i n bytes v w f = by_reading f.pushed.reading f.brings
+abbrev pub read_if : Bool → ReaderValue → StreamValue → StreamValue
+read_if b new s = if b then record s { reader = new } else s
+
+module _ (opened : List ℕ) (n : ℕ) (bytes : List ℕ) (es : Before) (count c : ℕ) (plans : List PlanRecord) (v w : ConnectionValue) (s : StreamValue) (new : ReaderValue) (gained : List Coming)
+    (there : is_open_value count c v ≡ true) (on : is_heard v s ≡ true) (reads : ReadsTo plans s.reader bytes new gained) (f : Fed (length gained) v w)
+    (h : StreamStands opened es count c v s) (here : (n == c) ≡ true) where
+  value_same : is_open_value count c w ≡ is_open_value count c v
+  value_same = ap (λ b. nat_lt c count && not b) f.closed_is
+
+  text_is : stream opened c (Piece n bytes ∷ es) ≡ stream opened c es ++ bytes
+  text_is =
+      let at : n ≡ c = eqb-true n c here in
+      text_on opened c n bytes es (ap (λ m. listens opened m es) at ∙ is_listening opened es count c v s h there on)
+      ∙ ap (λ b. if b then stream opened c es ++ bytes else stream opened c es) (eq-eqb c n (sym at))
+
+  come_more : w.broken ≡ false → HasCome v s.reader (stream opened c es) → HasCome w new (stream opened c es ++ bytes)
+  come_more whole come = let b = reads (stream opened c es) come.given come.reads in record {
+    given = b.now_given;
+    reads = b.reads;
+    settled = b.settled;
+    came =
+        let first : next v ≡ length come.given + refusals s.reader.reading = come.came in
+        let grown : next w ≡ next v + length gained = f.next_is whole in
+        let counted : length b.now_given + refusals new.reading ≡ length come.given + refusals s.reader.reading + length gained = b.count in
+        omega (arith, first, grown, counted);
+  }
+
+  whole_part : (a b : Bool) → (not a && b) ≡ true → a ≡ false
+  whole_part false b e = refl
+  whole_part true b e = absurd (cc)
+
+  pub fed_here : StreamStands opened (Piece n bytes ∷ es) count c w (record s { reader = new })
+  fed_here = record {
+    unopened = λ unborn. absurd (let clash : true ≡ false = sym there ∙ ap (λ b. b && not v.closed) unborn in cc);
+    open_is = open_still opened c (Piece n bytes) es refl refl ∙ h.open_is ∙ sym value_same;
+    hung_is = λ now_there whole. h.hung_is there (f.broken_was whole) ∙ sym (hung_still opened c (Piece n bytes) es refl);
+    has_come = λ now_there heard. subst (λ text. HasCome w new text) (sym text_is) (come_more (whole_part w.broken (not s.hung_up) heard) (h.has_come there on));
+  }
+
+module _ (opened : List ℕ) (n : ℕ) (bytes : List ℕ) (es : Before) (count : ℕ) (plans : List PlanRecord) (conns later : ℕ → ConnectionValue) (streams : ℕ → StreamValue) (new : ReaderValue) (gained : List Coming)
+    (there : is_open_value count n (conns n) ≡ true) (on : is_heard (conns n) (streams n) ≡ true) (reads : ReadsTo plans (streams n).reader bytes new gained)
+    (this : Fed (length gained) (conns n) (later n)) (others : (c : ℕ) → (n == c) ≡ false → Stays (conns c) (later c)) where
+  each_fed : (c : ℕ) (b : Bool) → (n == c) ≡ b → StreamStands opened es count c (conns c) (streams c) → StreamStands opened (Piece n bytes ∷ es) count c (later c) (read_if b new (streams c))
+  each_fed c false is h = stream_stays opened opened es (Piece n bytes ∷ es) count count c (conns c) (later c) (streams c) (others c is) h refl
+      (open_still opened c (Piece n bytes) es refl refl) (hung_still opened c (Piece n bytes) es refl) (text_other opened c n bytes es is)
+  each_fed c true is h =
+      let at : n ≡ c = eqb-true n c is in
+      fed_here opened n bytes es count c plans (conns c) (later c) (streams c) new gained
+      (ap (λ m. is_open_value count m (conns m)) (sym at) ∙ there) (ap (λ m. is_heard (conns m) (streams m)) (sym at) ∙ on)
+      (subst (λ m. ReadsTo plans (streams m).reader bytes new gained) at reads) (subst (λ m. Fed (length gained) (conns m) (later m)) at this) h is
+
+  pub streams_fed : HasStreams opened es count conns streams → HasStreams opened (Piece n bytes ∷ es) count later (λ c. read_if (n == c) new (streams c))
+  streams_fed h = record {
+    below = λ place its. let lt = h.below place its in omega (arith, lt);
+    count_is = h.count_is;
+    each = λ c. each_fed c (n == c) refl (h.each c);
+  }
+
+-- ---- nothing comes, or one request or refusal
+
+enters_fed : (n : Now) (c : ℕ) (x : Coming) (v : ConnectionValue) → Fed 1 v (step n (Comes c x) v).conn
+enters_fed n c x v = by v.broken refl
   where
-    by_reading : (r : Reading) → Brings v.plans i r f.pushed f.new v.machine w.machine → (w.machine ≡ v.machine) ⊎ ((x : Coming) × Enters i x v.machine w.machine)
-    by_reading (Partial left) b = inl b.1
-    by_reading (Waiting q) b = inr (Request q (arrival_of v.plans q), b.2)
-    by_reading (Stopped r) b = inr (Refused r, b.1)
-    by_reading Done b = inl b.1
+    by : (b : Bool) → v.broken ≡ b → Fed 1 v (if b then stepped v [] else stepped (entered (arriving n x v) v) (arriving n x v).jobs).conn
+    by true is = record { closed_is = refl; broken_was = λ e. e; next_is = λ whole. absurd (let clash : true ≡ false = sym is ∙ whole in cc) }
+    by false is = record {
+      closed_is = refl;
+      broken_was = λ e. e;
+      next_is = λ whole. let size : length (v.slots ++ (arriving n x v).reply ∷ []) ≡ length v.slots + 1 = length-append v.slots ((arriving n x v).reply ∷ []) in omega (arith, size);
+    }
 
--- a connection that is not broken after a piece was so before
-pub fed_back : (i n : ℕ) (bytes : List ℕ) (v w : GatewayValue) → i < length v.machine.conns → IsOrderly v.machine → (conn_at i v.machine.conns).broken ≡ false → Feeds i n bytes v w
-    → (c : ℕ) (k : ConnValue) → conn_of c w.machine.conns ≡ Some k → k.broken ≡ false → (x : ConnValue) × (conn_of c v.machine.conns ≡ Some x) × (x.broken ≡ false) × (k.hung_up ≡ x.hung_up)
-fed_back i n bytes v w lt orderly unbroken f c k k_is on = by_machine (feeds_machine i n bytes v w f)
-  where
-    this : ConnValue
-    this = conn_at i v.machine.conns
-
-    by_enters : (x : Coming) → Enters i x v.machine w.machine → (b : Bool) → (c == this.number) ≡ b → (x : ConnValue) × (conn_of c v.machine.conns ≡ Some x) × (x.broken ≡ false) × (k.hung_up ≡ x.hung_up)
-    by_enters x enters false ne = (k, sym (other_conn i x v.machine w.machine lt orderly unbroken enters c ne) ∙ k_is, on, refl)
-    by_enters x enters true its =
-        let at : c ≡ this.number = eqb-true c this.number its in (
-          this,
-          ap (λ m. conn_of m v.machine.conns) at ∙ conn_found i v.machine.conns lt orderly.conns_apart,
-          unbroken,
-          ⊎_elim (λ (broke : k.broken ≡ true). absurd (let clash : true ≡ false = sym broke ∙ on in cc)) (λ (e : k ≡ added (arriving_at i x v.machine).reply this). ap (λ (y : ConnValue). y.hung_up) e)
-              (this_conn i x v.machine w.machine lt orderly unbroken enters k (ap (λ m. conn_of m w.machine.conns) (sym at) ∙ k_is)),
-        )
-
-    by_machine : (w.machine ≡ v.machine) ⊎ ((x : Coming) × Enters i x v.machine w.machine) → (x : ConnValue) × (conn_of c v.machine.conns ≡ Some x) × (x.broken ≡ false) × (k.hung_up ≡ x.hung_up)
-    by_machine (inl e) = (k, ap (λ (y : MachineValue). conn_of c y.conns) (sym e) ∙ k_is, on, refl)
-    by_machine (inr (x, enters)) = by_enters x enters (c == this.number) refl
-
--- ---- a piece
-
--- where the events are not those of its connections
-never : (e : Event) (history : History) (v w : GatewayValue) → w.plans ≡ v.plans → (HasConns v history.opened history.events → ⊥) → Adds history.opened e history v w
-never e history v w plans_are no_conns = record {
-  plans_are = plans_are;
-  conns = λ h. absurd (no_conns h);
-  lives = λ lived l os at. absurd (no_conns l.conns);
+fed_behind : (more : ℕ) (u v w : ConnectionValue) → Stays u v → Fed more v w → Fed more u w
+fed_behind more u v w g f = record {
+  closed_is = f.closed_is ∙ g.closed_is;
+  broken_was = λ e. g.broken_was (f.broken_was e);
+  next_is = λ e. let a = f.next_is e in let b = g.next_is in omega (arith, a, b);
 }
 
-module _ (n : ℕ) (v w : GatewayValue) (history : History) (serving : IsServing v) where
-  abbrev texts : ℕ → List ℕ
-  texts d = stream history.opened d history.events
+-- the bytes were read so far
+abbrev pub read_to : ℕ → ReaderValue → CoreValue → CoreValue
+read_to n new v = record v { streams = λ c. read_if (n == c) new (v.streams c) }
 
-  same_conns : (bytes : List ℕ) (h : HasConns v history.opened history.events) → ((c : ℕ) (k : ConnValue) (s : StreamValue) → conn_of c v.machine.conns ≡ Some k → stream_of c v.streams ≡ Some s → k.broken ≡ false
-      → (given : List HttpRequest) → HasRead s.reader (stream history.opened c history.events) given → (now : List HttpRequest) × HasRead s.reader (stream history.opened c (Piece n bytes ∷ history.events)) now)
-      → HasConns v history.opened (Piece n bytes ∷ history.events)
-  same_conns bytes h read = conns_piece n bytes v v history.opened history.events refl refl (λ c k k_is on. (k, k_is, on, refl)) (λ c k s k_is on s_is. (s, s_is, read c k s k_is s_is on)) h
+module _ (laws : RequestLaws) (n : ℕ) (bytes : List ℕ) (h : History) (v : CoreValue) (new : ReaderValue)
+    (there : is_open_value v.opened n (v.conns n) ≡ true) (on : is_heard (v.conns n) (v.streams n) ≡ true) where
+  hears : HasConns v h.opened h.events → listens h.opened n h.events ≡ true
+  hears c = is_listening h.opened h.events v.opened n (v.conns n) (v.streams n) (c.each n) there on
 
-  -- the texts, but of a stream whose connection is broken
-  broken_text : (u : GatewayValue) (bytes : List ℕ) → is_broken_in n u.machine.conns ≡ true → (c : ℕ) (b : Bool) → (c == n) ≡ b
-      → (with_bytes n bytes (λ d. stream history.opened d history.events) c ≡ stream history.opened c history.events) ⊎ (is_broken_in c u.machine.conns ≡ true)
-  broken_text u bytes broken c true e = inr (ap (λ m. is_broken_in m u.machine.conns) (eqb-true c n e) ∙ broken)
-  broken_text u bytes broken c false e = inl (ap (λ b. if b then stream history.opened c history.events ++ bytes else stream history.opened c history.events) e)
+  gained_is : (real : List Coming) → ReadsTo v.plans (v.streams n).reader bytes new real → HasConns v h.opened h.events → (gained : List Coming)
+      → Gains v.plans (stream h.opened n h.events) (stream h.opened n h.events ++ bytes) gained → real ≡ gained
+  gained_is real reads c gained gains =
+      let come = (c.each n).has_come there on in
+      gains_unique laws v.plans (stream h.opened n h.events) (stream h.opened n h.events ++ bytes) real gained (reads (stream h.opened n h.events) come.given come.reads).gains gains
 
-  -- one that is not broken is another
-  another : (u : GatewayValue) → is_broken_in n u.machine.conns ≡ true → (c : ℕ) (k : ConnValue) → conn_of c u.machine.conns ≡ Some k → k.broken ≡ false → (n == c) ≡ false
-  another u broken c k k_is unbroken = ne_eqb n c (λ same. let clash : true ≡ false = sym broken ∙ ap (λ m. is_broken_in m u.machine.conns) same
-      ∙ ap (λ o. option_map_or (λ (y : ConnValue). y.broken) o false) k_is ∙ unbroken in absurd (cc))
+  -- nothing comes
+  pub read_adds : ReadsTo v.plans (v.streams n).reader bytes new [] → Adds h.opened (Piece n bytes) h v (read_to n new v)
+  read_adds reads = adds_gained n bytes h v (read_to n new v) refl
+      (λ c. streams_fed h.opened n bytes h.events v.opened v.plans v.conns v.conns v.streams new [] there on reads
+      (record { closed_is = refl; broken_was = λ e. e; next_is = λ e. omega arith }) (λ d ne. stays_itself (v.conns d)) c) [] (λ gained c gains. omega arith) hears
+      (λ gained os c gains all. (tt, subst (λ xs. StandsNow h v (reverse (map (Comes n) xs) ++ os)) (gained_is [] reads c gained gains) all))
 
-  -- none of it is taken
-  pub not_fed_adds : (bytes : List ℕ) → NotListening n v → Adds history.opened (Piece n bytes) history v v
-  not_fed_adds bytes not_listening = by_listens (listens history.opened n history.events) refl
+  -- this comes; the connection may break
+  pub came_adds : (x : Coming) (cs : List ℕ) (begun : ℕ) → begun ≤ v.begun + calls_in x → ReadsTo v.plans (v.streams n).reader bytes new (x ∷ []) → MayAll (Piece n bytes) h v cs
+      → Adds h.opened (Piece n bytes) h v (record (came (Comes n x) cs (λ c. read_if (n == c) new (v.streams c)) v) { begun = begun })
+  came_adds x cs begun few reads may = adds_gained n bytes h v (record (came (Comes n x) cs (λ c. read_if (n == c) new (v.streams c)) v) { begun = begun }) refl
+      (λ c. streams_fed h.opened n bytes h.events v.opened v.plans v.conns (all_after v.now (Comes n x) (all_broken v.now cs v.conns)) v.streams new (x ∷ []) there on reads this others c) cs
+      (λ gained c gains. subst (λ xs. begun ≤ v.begun + calls_arrived (map (Comes n) xs)) (gained_is (x ∷ []) reads c gained gains) (omega (arith, few))) hears
+      (λ gained os c gains all. (
+        may c os all,
+        subst (λ xs. StandsNow h (came (Comes n x) cs (λ c. read_if (n == c) new (v.streams c)) v) (reverse (map (Comes n) xs) ++ (breaks_of cs ++ os))) (gained_is (x ∷ []) reads c gained gains)
+            (let after = breaks_stand v.now h.taken h.handed v.waiting os v.conns all cs in
+            all_step v.now (all_broken v.now cs v.conns) h.taken h.handed v.waiting (breaks_of cs ++ os) (Comes n x) after (λ d is whole. open_still_then d (is ∙ after.numbers d))),
+      ))
     where
-      by_listens : (b : Bool) → listens history.opened n history.events ≡ b → Adds history.opened (Piece n bytes) history v v
-      by_listens false off = adds_none (Piece n bytes) history v v refl
-          (λ h. same_conns bytes h (λ c k s k_is s_is on given read. (given, subst (λ text. HasRead s.reader text given) (sym (text_off history.opened c n bytes history.events off)) read)))
-          (λ c. text_off history.opened c n bytes history.events off)
-          (λ h os at. subst (λ b. MatchBool b ((gained : List Coming) × Gains v.plans (stream history.opened n history.events) (stream history.opened n history.events ++ bytes) gained × (os ≡ map (Comes n) gained)) (os ≡ [])) off at)
-          (λ os h l. l)
-      by_listens true on = adds_gained n bytes v v history refl
-          (λ h. same_conns bytes h (λ c k s k_is s_is unbroken given read.
-          (given, subst (λ text. HasRead s.reader text given) (sym (text_other history.opened c n bytes history.events (another v (broken h) c k k_is unbroken))) read))) on
-          (λ gained os h gains l. (
-            [],
-            tt,
-            comings_quiet n gained v (with_bytes n bytes (λ d. stream history.opened d history.events)) history.taken history.handed os serving.orderly (broken h)
-                (texts_else v texts (with_bytes n bytes (λ d. stream history.opened d history.events)) history.taken history.handed os (λ c. broken_text v bytes (broken h) c (c == n) refl) l),
-          ))
-        where
-          broken : HasConns v history.opened history.events → is_broken_in n v.machine.conns ≡ true
-          broken h = not_listening_broken n v history.opened history.events h not_listening on
+      this : Fed 1 (v.conns n) (all_after v.now (Comes n x) (all_broken v.now cs v.conns) n)
+      this = subst (λ b. Fed 1 (v.conns n) (if b then (step v.now (Comes n x) (all_broken v.now cs v.conns n)).conn else all_broken v.now cs v.conns n)) (sym (eq-eqb n n refl))
+          (fed_behind 1 (v.conns n) (all_broken v.now cs v.conns n) _ (broken_stays v.now v.conns cs n) (enters_fed v.now n x (all_broken v.now cs v.conns n)))
 
-  module _ (i : ℕ) (l : ListensAt n v i) where
-    pub here : conn_of n v.machine.conns ≡ Some (conn_at i v.machine.conns)
-    here = ap (λ m. conn_of m v.machine.conns) (sym l.conn_is) ∙ conn_found i v.machine.conns l.conn_there serving.orderly.conns_apart
+      others : (c : ℕ) → (n == c) ≡ false → Stays (v.conns c) (all_after v.now (Comes n x) (all_broken v.now cs v.conns) c)
+      others c ne = subst (λ b. Stays (v.conns c) (if b then (step v.now (Comes n x) (all_broken v.now cs v.conns c)).conn else all_broken v.now cs v.conns c)) (sym ne) (broken_stays v.now v.conns cs c)
 
-    stream_here : stream_of n v.streams ≡ Some (stream_at i v.streams)
-    stream_here = ap (λ m. stream_of m v.streams) (sym l.stream_is) ∙ stream_found i v.streams l.stream_there (streams_apart v serving)
+      not_closed : (a b : Bool) → (a && not b) ≡ true → b ≡ false
+      not_closed true false e = refl
+      not_closed true true e = absurd (cc)
+      not_closed false b e = absurd (cc)
 
-    pub listening : HasConns v history.opened history.events → listens history.opened n history.events ≡ true
-    listening h = rw (h.open_are n ∙ ap (λ o. is_some o) here, sym (h.hung_are n (conn_at i v.machine.conns) here l.unbroken) ∙ l.on) refl
+      open_still_then : (d : ℕ) → n ≡ d → (all_broken v.now cs v.conns d).closed ≡ false
+      open_still_then d at = (broken_stays v.now v.conns cs d).closed_is ∙ ap (λ m. (v.conns m).closed) (sym at) ∙ not_closed (nat_lt n v.opened) (v.conns n).closed there
 
-    pub read_here : HasConns v history.opened history.events → (given : List HttpRequest) × HasRead (stream_at i v.streams).reader (stream history.opened n history.events) given
-    read_here h = h.reads_are n (conn_at i v.machine.conns) (stream_at i v.streams) here stream_here (rw (l.unbroken, l.on) refl)
+-- ---- what comes on a connection that is broken does nothing
 
-    -- it can break by a piece of its stream
-    can_break_now : (bytes : List ℕ) → listens history.opened n history.events ≡ true → (us : List Occurrence) → is_broken n (marked us) ≡ false → MayBreak history.opened (Piece n bytes) history.events n us
-    can_break_now bytes on us whole = (whole, ap (λ b. b && listens history.opened n history.events) (eq-eqb n n refl) ∙ on)
+module _ (n : Now) (conns : ℕ → ConnectionValue) (taken : ℕ → List ReplyEntry) (handed waiting : List JobValue) (c : ℕ) (broke : (conns c).broken ≡ true) where
+  one_quiet : (os : List Occurrence) (x : Coming) → AllStand n conns taken handed waiting os → AllStand n conns taken handed waiting (Comes c x ∷ os)
+  one_quiet os x h =
+      subst (λ m. AllStand m conns taken handed waiting (Comes c x ∷ os)) (ap (λ m. now_of m n.drained) (omega arith))
+      (subst (λ js. AllStand (now_after (Comes c x) n) conns taken handed js (Comes c x ∷ os)) (ap (λ js. waiting ++ js) none ∙ append-nil waiting)
+      (subst (λ (k : ℕ → ConnectionValue). AllStand (now_after (Comes c x) n) k taken handed (waiting ++ all_started n (Comes c x) conns) (Comes c x ∷ os)) (λ i d. same d (c == d) refl i)
+      (all_step n conns taken handed waiting os (Comes c x) h (λ d is whole. absurd (let clash : true ≡ false = sym broke ∙ ap (λ m. (conns m).broken) (is ∙ h.numbers d) ∙ whole in cc)))))
+    where
+      none : all_started n (Comes c x) conns ≡ []
+      none = ap (λ b. (if b then stepped (conns c) [] else stepped (entered (arriving n x (conns c)) (conns c)) (arriving n x (conns c)).jobs).jobs) broke
 
-    if_listening : (u : GatewayValue) (bytes : List ℕ) → u.plans ≡ v.plans → (listens history.opened n history.events ≡ true → Adds history.opened (Piece n bytes) history v u) → Adds history.opened (Piece n bytes) history v u
-    if_listening u bytes plans_are f = by_listens (listens history.opened n history.events) refl
-      where
-        by_listens : (b : Bool) → listens history.opened n history.events ≡ b → Adds history.opened (Piece n bytes) history v u
-        by_listens true on = f on
-        by_listens false off = never (Piece n bytes) history v u plans_are (λ h. let clash : true ≡ false = sym (listening h) ∙ off in cc)
+      same : (d : ℕ) (b : Bool) → (c == d) ≡ b → (if b then (step n (Comes c x) (conns d)).conn else conns d) ≡ conns d
+      same d true is = ap (λ b. (if b then stepped (conns d) [] else stepped (entered (arriving n x (conns d)) (conns d)) (arriving n x (conns d)).jobs).conn) (ap (λ m. (conns m).broken) (sym (eqb-true c d is)) ∙ broke)
+      same d false is = refl
 
-    -- the stream is over
-    pub dropped_adds : RequestLaws → (bytes : List ℕ) → is_over (stream_at i v.streams).reader.reading ≡ true → Adds history.opened (Piece n bytes) history v v
-    dropped_adds laws bytes over = if_listening v bytes refl (λ on. adds_gained n bytes v v history refl
-        (λ h. same_conns bytes h (λ c k s k_is s_is unbroken given read. by_number on c s s_is given read (n == c) refl)) on
-        (λ gained os h gains lives. (
-          [],
-          tt,
-          subst (λ xs. GatewayLives v (with_bytes n bytes (λ d. stream history.opened d history.events)) history.taken history.handed (reverse (map (Comes n) xs) ++ os))
-              (gains_unique laws v.plans (stream history.opened n history.events) (stream history.opened n history.events ++ bytes) [] gained
-              (over_gains laws v.plans (stream_at i v.streams).reader (stream history.opened n history.events) bytes (read_here h).0 over (read_here h).1) gains)
-              (texts_over os lives),
-        )))
-      where
-        by_number : listens history.opened n history.events ≡ true → (c : ℕ) (s : StreamValue) → stream_of c v.streams ≡ Some s → (given : List HttpRequest) → HasRead s.reader (stream history.opened c history.events) given → (b : Bool) → (n == c) ≡ b
-            → (now : List HttpRequest) × HasRead s.reader (stream history.opened c (Piece n bytes ∷ history.events)) now
-        by_number on c s s_is given read false e = (given, subst (λ text. HasRead s.reader text given) (sym (text_other history.opened c n bytes history.events e)) read)
-        by_number on c s s_is given read true e =
-            let at : n ≡ c = eqb-true n c e in
-            let its : stream_at i v.streams ≡ s = some_same (sym stream_here ∙ ap (λ m. stream_of m v.streams) at ∙ s_is) in (
-              given,
-              subst (λ text. HasRead s.reader text given) (sym (text_on history.opened c n bytes history.events on ∙ ap (λ b. if b then stream history.opened c history.events ++ bytes else stream history.opened c history.events) (eq-eqb c n (sym at))))
-                  (over_more laws s.reader (stream history.opened c history.events) bytes given (ap (λ (x : StreamValue). is_over x.reader.reading) (sym its) ∙ over) read),
-            )
+  all_quiet : (xs : List Coming) (os : List Occurrence) → AllStand n conns taken handed waiting os → AllStand n conns taken handed waiting (reverse (map (Comes c) xs) ++ os)
+  all_quiet [] os h = h
+  all_quiet (x ∷ xs) os h =
+      subst (λ us. AllStand n conns taken handed waiting us)
+      (sym (append_assoc (reverse (map (Comes c) xs)) (Comes c x ∷ []) os) ∙ ap (λ us. us ++ os) (sym (reverse-append (Comes c x ∷ []) (map (Comes c) xs))))
+      (all_quiet xs (Comes c x ∷ os) (one_quiet os x h))
 
-        texts_over : (os : List Occurrence) → GatewayLives v (λ c. stream history.opened c history.events) history.taken history.handed os → GatewayLives v (with_bytes n bytes (λ d. stream history.opened d history.events)) history.taken history.handed os
-        texts_over os stands = record {
-          closed = stands.closed;
-          lives = stands.lives;
-          conns_live = stands.conns_live;
-          streams_stand = λ c k s k_is s_is going. by_text c k s s_is (stands.streams_stand c k s k_is s_is going) (c == n) refl;
-          unopened = stands.unopened;
-          begun_is = stands.begun_is;
-        }
-          where
-            by_text : (c : ℕ) (k : ConnValue) (s : StreamValue) → stream_of c v.streams ≡ Some s → HasCome k s.reader (stream history.opened c history.events) → (b : Bool) → (c == n) ≡ b
-                → HasCome k s.reader (if c == n then stream history.opened c history.events ++ bytes else stream history.opened c history.events)
-            by_text c k s s_is come false e = subst (λ text. HasCome k s.reader text) (sym (ap (λ b. if b then stream history.opened c history.events ++ bytes else stream history.opened c history.events) e)) come
-            by_text c k s s_is come true e =
-                let its : stream_at i v.streams ≡ s = some_same (sym stream_here ∙ ap (λ m. stream_of m v.streams) (sym (eqb-true c n e)) ∙ s_is) in
-                subst (λ text. HasCome k s.reader text) (sym (ap (λ b. if b then stream history.opened c history.events ++ bytes else stream history.opened c history.events) e)) (record {
-                  given = come.given;
-                  reads = over_more laws s.reader (stream history.opened c history.events) bytes come.given (ap (λ (x : StreamValue). is_over x.reader.reading) (sym its) ∙ over) come.reads;
-                  settled = come.settled;
-                  came = come.came;
-                })
+-- those break
+abbrev pub breaking : List ℕ → CoreValue → CoreValue
+breaking cs v = record v { conns = all_broken v.now cs v.conns }
 
-    -- the reader found no memory
-    pub unread_adds : (bytes : List ℕ) → w ≡ record v { machine = broken_at n v.machine } → Adds history.opened (Piece n bytes) history v w
-    unread_adds bytes w_is = subst (λ x. Adds history.opened (Piece n bytes) history v x) (sym w_is) (if_listening u bytes refl (λ on. adds_gained n bytes v u history refl
-        (λ h. conns_piece n bytes v u history.opened history.events refl (numbers_broken n v.machine.conns) (λ c k k_is unbroken. let was = (goes_broken n v.machine).back c k k_is unbroken in (was.0, was.1, was.2, was.4))
-        (λ c k s k_is unbroken s_is. (s, s_is, λ given read. (given, subst (λ text. HasRead s.reader text given) (sym (text_other history.opened c n bytes history.events (another u broken c k k_is unbroken))) read))) h) on
-        (λ gained os h gains lives. (
-          n ∷ [],
-          (can_break_now bytes on os (sym (lives.conns_live.broken_are n (conn_at i v.machine.conns) here) ∙ l.unbroken), tt),
-          comings_quiet n gained u (with_bytes n bytes (λ d. stream history.opened d history.events)) history.taken history.handed (Break n ∷ os) (broken_order n v.machine (broken_at n v.machine) refl serving.orderly) broken
-              (texts_else u texts (with_bytes n bytes (λ d. stream history.opened d history.events)) history.taken history.handed (Break n ∷ os) (λ c. broken_text u bytes broken c (c == n) refl)
-              (broken_lives n (conn_at i v.machine.conns) v texts history.taken history.handed os here lives)),
-        ))))
-      where
-        u : GatewayValue
-        u = record v { machine = broken_at n v.machine }
+module _ (n : ℕ) (bytes : List ℕ) (h : History) (v : CoreValue) where
+  each_quiet : (cs : List ℕ) (c : ℕ) (b : Bool) → (n == c) ≡ b → (all_broken v.now cs v.conns n).broken ≡ true → StreamStands h.opened h.events v.opened c (v.conns c) (v.streams c)
+      → StreamStands h.opened (Piece n bytes ∷ h.events) v.opened c (all_broken v.now cs v.conns c) (v.streams c)
+  each_quiet cs c false is broke s = stream_stays h.opened h.opened h.events (Piece n bytes ∷ h.events) v.opened v.opened c (v.conns c) (all_broken v.now cs v.conns c) (v.streams c) (broken_stays v.now v.conns cs c) s refl
+      (open_still h.opened c (Piece n bytes) h.events refl refl) (hung_still h.opened c (Piece n bytes) h.events refl) (text_other h.opened c n bytes h.events is)
+  each_quiet cs c true is broke s =
+      let g : Stays (v.conns c) (all_broken v.now cs v.conns c) = broken_stays v.now v.conns cs c in
+      let here : (all_broken v.now cs v.conns c).broken ≡ true = ap (λ m. (all_broken v.now cs v.conns m).broken) (sym (eqb-true n c is)) ∙ broke in record {
+        unopened = λ unborn. let u = s.unopened unborn in (g.next_is ∙ u.0, g.closed_is ∙ u.1);
+        open_is = open_still h.opened c (Piece n bytes) h.events refl refl ∙ s.open_is ∙ ap (λ b. nat_lt c v.opened && not b) (sym g.closed_is);
+        hung_is = λ there whole. absurd (let clash : true ≡ false = sym here ∙ whole in cc);
+        has_come = λ there heard. absurd (let clash : false ≡ true = ap (λ b. not b && not (v.streams c).hung_up) (sym here) ∙ heard in cc);
+      }
 
-        broken : is_broken_in n u.machine.conns ≡ true
-        broken = just_broken n n v.machine.conns (eq-eqb n n refl) (ap (λ o. is_some o) here)
+  -- none of it is taken, or it breaks at it
+  pub quiet_adds : (cs : List ℕ) → (HasConns v h.opened h.events → listens h.opened n h.events ≡ true) → (HasConns v h.opened h.events → (all_broken v.now cs v.conns n).broken ≡ true)
+      → MayAll (Piece n bytes) h v cs → Adds h.opened (Piece n bytes) h v (breaking cs v)
+  quiet_adds cs on broke may = adds_gained n bytes h v (breaking cs v) refl
+      (λ c. record {
+        below = λ place its. let lt = c.below place its in omega (arith, lt);
+        count_is = c.count_is;
+        each = λ d. each_quiet cs d (n == d) refl (broke c) (c.each d);
+      }) cs (λ gained c gains. omega arith) on
+      (λ gained os c gains all. (
+        may c os all,
+        all_quiet v.now (all_broken v.now cs v.conns) h.taken h.handed v.waiting n (broke c) gained (breaks_of cs ++ os) (breaks_stand v.now h.taken h.handed v.waiting os v.conns all cs),
+      ))
 
-    -- so many bytes were read, and what they brought came
-    pub came_adds : RequestLaws → (m : ℕ) (bytes : List ℕ) → is_over (stream_at i v.streams).reader.reading ≡ false → Feeds i m bytes v w → Adds history.opened (Piece n (take m bytes)) history v w
-    came_adds laws m bytes going f = if_listening w (take m bytes) f.plans_are (λ on. adds_gained n (take m bytes) v w history f.plans_are
-        (λ h. conns_piece n (take m bytes) v w history.opened history.events f.opened_is same_numbers (fed_back i m bytes v w l.conn_there serving.orderly l.unbroken f) (λ c k s k_is unbroken s_is. by_number on c s s_is (n == c) refl) h) on
-        (λ gained os h gains lives. by_what on gained os gains lives
-        (what i m bytes v w texts history.taken history.handed os l.conn_there l.stream_there serving.orderly (streams_apart v serving) (l.stream_is ∙ sym l.conn_is) l.unbroken l.on going f lives)))
-      where
-        more : List ℕ
-        more = take m bytes
+  -- by the definitions none of it is taken
+  off_adds : listens h.opened n h.events ≡ false → Adds h.opened (Piece n bytes) h v v
+  off_adds off = none_adds h v (Piece n bytes)
+      (λ c. record {
+        below = λ place its. let lt = c.below place its in omega (arith, lt);
+        count_is = c.count_is;
+        each = λ d. stream_stays h.opened h.opened h.events (Piece n bytes ∷ h.events) v.opened v.opened d (v.conns d) (v.conns d) (v.streams d) (stays_itself (v.conns d)) (c.each d) refl
+            (open_still h.opened d (Piece n bytes) h.events refl refl) (hung_still h.opened d (Piece n bytes) h.events refl) (text_off h.opened d n bytes h.events off);
+      })
+      (λ c os at. subst (λ b. MatchBool b ((gained : List Coming) × Gains v.plans (stream h.opened n h.events) (stream h.opened n h.events ++ bytes) gained × (os ≡ map (Comes n) gained)) (os ≡ [])) off at)
 
-        new : StreamValue
-        new = record (stream_at i v.streams) { reader = f.new }
+  -- the connection is not open, or no piece of it is taken any more
+  pub not_fed_adds : (is_open_value v.opened n (v.conns n) && is_heard (v.conns n) (v.streams n)) ≡ false → Adds h.opened (Piece n bytes) h v v
+  not_fed_adds deaf = by (listens h.opened n h.events) refl
+    where
+      both : (a b : Bool) → (a && not b) ≡ true → (a ≡ true) × (b ≡ false)
+      both true false e = (refl, refl)
+      both true true e = absurd (cc)
+      both false b e = absurd (cc)
 
-        same_numbers : numbers w.machine.conns ≡ numbers v.machine.conns
-        same_numbers = by_machine (feeds_machine i m bytes v w f)
-          where
-            by_machine : (w.machine ≡ v.machine) ⊎ ((x : Coming) × Enters i x v.machine w.machine) → numbers w.machine.conns ≡ numbers v.machine.conns
-            by_machine (inl e) = ap (λ (y : MachineValue). numbers y.conns) e
-            by_machine (inr (x, enters)) = (keeps_entered i x v.machine w.machine l.conn_there l.unbroken enters).numbers_are
+      broke : HasConns v h.opened h.events → listens h.opened n h.events ≡ true → (b : Bool) → (v.conns n).broken ≡ b → (v.conns n).broken ≡ true
+      broke c on true is = is
+      broke c on false is = absurd (
+          let parts = both (is_open h.opened n h.events) (hung_up h.opened n h.events) on in
+          let there : is_open_value v.opened n (v.conns n) ≡ true = sym (c.each n).open_is ∙ parts.0 in
+          let whole : is_heard (v.conns n) (v.streams n) ≡ true = rw (is, (c.each n).hung_is there is, parts.1) refl in
+          let clash : true ≡ false = sym (rw (there, whole) refl) ∙ deaf in cc)
 
-        stream_is : (c : ℕ) → stream_of c w.streams ≡ (if c == (stream_at i v.streams).number then Some new else stream_of c v.streams)
-        stream_is c = ap (stream_of c) f.streams_are ∙ stream_set c i new v.streams l.stream_there (streams_apart v serving) refl
-
-        by_number : listens history.opened n history.events ≡ true → (c : ℕ) (s : StreamValue) → stream_of c w.streams ≡ Some s → (b : Bool) → (n == c) ≡ b → (y : StreamValue) × (stream_of c v.streams ≡ Some y)
-            × ((given : List HttpRequest) → HasRead y.reader (stream history.opened c history.events) given → (now : List HttpRequest) × HasRead s.reader (stream history.opened c (Piece n more ∷ history.events)) now)
-        by_number on c s s_is false e =
-            let ne : (c == (stream_at i v.streams).number) ≡ false = ne_eqb c (stream_at i v.streams).number
-            (λ same. let clash : true ≡ false = sym (eq-eqb n c (sym (same ∙ l.stream_is))) ∙ e in absurd (cc)) in (
-              s,
-              sym (stream_is c ∙ ap (λ b. if b then Some new else stream_of c v.streams) ne) ∙ s_is,
-              λ given read. (given, subst (λ text. HasRead s.reader text given) (sym (text_other history.opened c n more history.events e)) read),
-            )
-        by_number on c s s_is true e =
-            let at : n ≡ c = eqb-true n c e in
-            let its : (c == (stream_at i v.streams).number) ≡ true = eq-eqb c (stream_at i v.streams).number (sym at ∙ sym l.stream_is) in
-            let same : new ≡ s = some_same (sym (stream_is c ∙ ap (λ b. if b then Some new else stream_of c v.streams) its) ∙ s_is) in (
-              stream_at i v.streams,
-              ap (λ m. stream_of m v.streams) (sym at) ∙ stream_here,
-              λ given read.
-                  let now = feeds_read i m bytes v w (stream history.opened c history.events) given f read in (
-                    now.0,
-                    subst (λ text. HasRead s.reader text now.0) (sym (text_on history.opened c n more history.events on ∙ ap (λ b. if b then stream history.opened c history.events ++ more else stream history.opened c history.events) (eq-eqb c n (sym at))))
-                        (subst (λ (y : StreamValue). HasRead y.reader (stream history.opened c history.events ++ more) now.0) same now.1),
-                  ),
-            )
-
-        num : ℕ
-        num = (conn_at i v.machine.conns).number
-
-        gains_are : (gained real : List Coming) → Gains v.plans (stream history.opened n history.events) (stream history.opened n history.events ++ more) gained
-            → Gains v.plans (stream history.opened num history.events) (stream history.opened num history.events ++ more) real → real ≡ gained
-        gains_are gained real gains also = sym (gains_unique laws v.plans (stream history.opened n history.events) (stream history.opened n history.events ++ more) gained real gains
-            (subst (λ k. Gains v.plans (stream history.opened k history.events) (stream history.opened k history.events ++ more) real) l.conn_is also))
-
-        come_of : (os : List Occurrence) (lives : GatewayLives v texts history.taken history.handed os) → HasCome (conn_at i v.machine.conns) (stream_at i v.streams).reader (texts num)
-        come_of os lives = come i m bytes v w texts history.taken history.handed os l.conn_there l.stream_there serving.orderly (streams_apart v serving) (l.stream_is ∙ sym l.conn_is) l.unbroken l.on going f lives
-
-        by_what : listens history.opened n history.events ≡ true → (gained : List Coming) (os : List Occurrence) → Gains v.plans (stream history.opened n history.events) (stream history.opened n history.events ++ more) gained
-            → (lives : GatewayLives v texts history.taken history.handed os)
-            → ((w.machine ≡ v.machine) × (calls_brought v.plans f.pushed.reading ≡ 0) × Brought v.plans (texts num) (texts num ++ more) (come_of os lives).given f.new [])
-            ⊎ ((x : Coming) × Enters i x v.machine w.machine × (calls_brought v.plans f.pushed.reading ≡ calls_in x) × Brought v.plans (texts num) (texts num ++ more) (come_of os lives).given f.new (x ∷ []))
-            → (cs : List ℕ) × AreBreaks (MayBreak history.opened (Piece n more) history.events) (breaks_of cs) os
-            × GatewayLives w (with_bytes n more (λ d. stream history.opened d history.events)) history.taken history.handed (reverse (map (Comes n) gained) ++ (breaks_of cs ++ os))
-        by_what on gained os gains lives (inl (m_is, calls, b)) = (
-          [],
-          tt,
-          subst (λ xs. GatewayLives w (with_bytes n more (λ d. stream history.opened d history.events)) history.taken history.handed (reverse (map (Comes n) xs) ++ os)) (gains_are gained [] gains b.gains)
-              (subst (λ k. GatewayLives w (with_bytes k more (λ d. stream history.opened d history.events)) history.taken history.handed os) l.conn_is
-              (still_lives i m bytes v w texts history.taken history.handed os l.conn_there l.stream_there serving.orderly (streams_apart v serving) (l.stream_is ∙ sym l.conn_is) l.unbroken l.on going f lives m_is calls b)),
-        )
-        by_what on gained os gains lives (inr (x, enters, calls, b)) = (
-          newly_broken v.machine.conns w.machine.conns,
-          fed_may i m bytes v w texts history.taken history.handed os l.conn_there l.stream_there serving.orderly (streams_apart v serving) (l.stream_is ∙ sym l.conn_is) l.unbroken l.on going f lives x enters
-              (MayBreak history.opened (Piece n more) history.events)
-              (λ us whole. subst (λ k. MayBreak history.opened (Piece n more) history.events k us) (sym l.conn_is) (can_break_now more on us (ap (λ k. is_broken k (marked us)) (sym l.conn_is) ∙ whole))),
-          subst (λ xs. GatewayLives w (with_bytes n more (λ d. stream history.opened d history.events)) history.taken history.handed (reverse (map (Comes n) xs) ++ (breaks_of (newly_broken v.machine.conns w.machine.conns) ++ os)))
-              (gains_are gained (x ∷ []) gains b.gains)
-              (subst (λ k. GatewayLives w (with_bytes k more (λ d. stream history.opened d history.events)) history.taken history.handed (Comes k x ∷ (breaks_of (newly_broken v.machine.conns w.machine.conns) ++ os))) l.conn_is
-              (fed_lives i m bytes v w texts history.taken history.handed os l.conn_there l.stream_there serving.orderly (streams_apart v serving) (l.stream_is ∙ sym l.conn_is) l.unbroken l.on going f lives x enters calls b)),
-        )
+      by : (b : Bool) → listens h.opened n h.events ≡ b → Adds h.opened (Piece n bytes) h v v
+      by false off = off_adds off
+      by true on = quiet_adds [] (λ c. on) (λ c. broke c on (v.conns n).broken refl) (λ c os all. tt)

@@ -1,23 +1,19 @@
 -- For a connection that is shut nothing comes of what occurs; and one that was opened and is not open has closed.
-use Rattle.std.proofs.Common.{◌≡◌, ℕ, ◌<◌, Bool, true, false, List, [], ◌∷◌, length, None, refl, sym, ap, ◌∙◌, subst, arith, ⊎_elim, inl, inr}
-use Rattle.std.specs.Prelude.{◌⊎◌, if◌then◌else◌, ◌&&◌, ◌||◌, not, ◌==◌, is_some, nat_lt, filter, option_and_then}
+use Rattle.std.proofs.Common.{◌≡◌, ℕ, Bool, true, false, List, [], None, refl, sym, ap, ◌∙◌, subst, ⊎_elim, inl, inr}
+use Rattle.std.specs.Prelude.{◌⊎◌, ◌&&◌, not, ◌==◌, is_some, filter, option_and_then}
 use Rattle.std.specs.Option.{option_map_or}
-use Rattle.std.proofs.lemmas.Bool.{cases_Bool, cond_both, eqb-true, ltb-true, lt-ltb}
+use Rattle.std.proofs.lemmas.Bool.{cases_Bool, cond_both, eqb-true}
 use Rattle.connect_codec.specs.declared.answer.Outcome.{Outcome}
-use Rattle.call_plan.specs.Plan.{PlanRecord}
 use Rattle.gateway_model.specs.declared.id.CallId.{CallId}
 use Rattle.gateway_model.specs.Known.{is_of}
-use Rattle.gateway_model.specs.Events.{Before, Occurs, OccursAt, connections, is_closing_of, is_open, once}
-use Rattle.gateway_model.specs.declared.event.Event.{Event}
-use Rattle.gateway_model.specs.declared.event.Event.TheVariants.{Opening, Piece, HangUp, Moment, BranchResult, Drain, Closing}
+use Rattle.gateway_model.specs.declared.event.Event.TheVariants.{Opening, HangUp, Moment, Drain, Closing}
 use Rattle.gateway_theory.specs.Breaks.{starting_conn}
 use Rattle.gateway_model.specs.Occurrence.{Occurrence}
 use Rattle.gateway_model.specs.Occurrence as occurs
 use Rattle.gateway_model.specs.Past.{Past, asked_now, call, call_id, counts, ends_at_arrival, coming_on, arrivals, event_by, is_answer_to, is_call, is_shut, is_out, mark_of, marked, is_broken}
 use Rattle.gateway_model.specs.Past as past
-use Rattle.gateway_model.specs.Starts.{Placed, jobs_by, jobs_started, occurrences}
-use Rattle.gateway_theory.specs.lemmas.Cases.{and_false, or_true}
-use Rattle.gateway_theory.specs.lemmas.CutLemmas.{back, occurrences_onto}
+use Rattle.gateway_model.specs.Starts.{jobs_by, jobs_started}
+use Rattle.gateway_theory.specs.lemmas.Cases.{and_false}
 use Rattle.gateway_theory.specs.lemmas.Frame.{none_start}
 use Rattle.gateway_theory.specs.lemmas.JobLemmas.{uncounted_jobs}
 use Rattle.gateway_theory.specs.lemmas.Readings.{none_by}
@@ -103,49 +99,3 @@ shut_jobs c o os (no_coming, inl closed) = by_what o refl
     by_what occurs.Drain e = ap (λ y. filter (is_of c) (jobs_by y (mark_of (marked os) y) (marked os))) e
     by_what (occurs.Closing d) e = ap (λ y. filter (is_of c) (jobs_by y (mark_of (marked os) y) (marked os))) e
     by_what (occurs.Break d) e = ap (λ y. filter (is_of c) (jobs_by y (mark_of (marked os) y) (marked os))) e
-
-still_closed : (c : ℕ) (new os : List Occurrence) → is_shut c (marked os) ≡ true → is_shut c (marked (back new os)) ≡ true
-still_closed c [] os e = e
-still_closed c (o ∷ new) os e = still_closed c new (o ∷ os) (ap (λ b. past.shuts c o || b) e ∙ or_true (past.shuts c o))
-
--- a connection that was opened and is not open has closed
-pub closed_by : (plans : List PlanRecord) (opened : List ℕ) (c : ℕ) (es : Before) (occurred : List Placed) → Occurs plans opened es occurred → c < connections opened es
-    → is_open opened c es ≡ false → is_shut c (marked (occurrences occurred)) ≡ true
-closed_by plans opened c [] occurred o lt shut = absurd (omega (arith, lt))
-closed_by plans opened c (e ∷ es) occurred (before, was, (os, at, is)) lt shut =
-    by_known (nat_lt c (connections opened es)) refl (λ known gone. closed_by plans opened c es before was known gone)
-  where
-    after : is_shut c (marked (back os (occurrences before))) ≡ true → is_shut c (marked (occurrences occurred)) ≡ true
-    after x = ap (λ us. is_shut c (marked (occurrences us))) is ∙ ap (λ us. is_shut c (marked us)) (occurrences_onto (length es) os before) ∙ x
-
-    by_known : (b : Bool) → nat_lt c (connections opened es) ≡ b → (c < connections opened es → is_open opened c es ≡ false → is_shut c (marked (occurrences before)) ≡ true)
-        → is_shut c (marked (occurrences occurred)) ≡ true
-    by_known false x earlier = absurd (
-        let open_now : is_open opened c (e ∷ es) ≡ true =
-        ap (λ b. if b then is_open opened c es && not (is_closing_of c e) else nat_lt c (connections opened (e ∷ es))) x ∙ lt-ltb c (connections opened (e ∷ es)) lt in
-        let clash : true ≡ false = sym open_now ∙ shut in cc)
-    by_known true x earlier = by_open (is_open opened c es) refl
-      where
-        parts : (is_open opened c es && not (is_closing_of c e)) ≡ false
-        parts = sym (ap (λ b. if b then is_open opened c es && not (is_closing_of c e) else nat_lt c (connections opened (e ∷ es))) x) ∙ shut
-
-        by_open : (b : Bool) → is_open opened c es ≡ b → is_shut c (marked (occurrences occurred)) ≡ true
-        by_open false y = after (still_closed c os (occurrences before) (earlier (ltb-true c (connections opened es) x) y))
-        by_open true y = by_event e refl (closing (is_closing_of c e) (ap (λ b. b && not (is_closing_of c e)) (sym y) ∙ parts))
-          where
-            closing : (b : Bool) → not b ≡ false → b ≡ true
-            closing true z = refl
-            closing false z = absurd (cc)
-
-            by_event : (f : Event) → e ≡ f → is_closing_of c e ≡ true → is_shut c (marked (occurrences occurred)) ≡ true
-            by_event (Closing d) f_is closes =
-                let same : (d == c) ≡ true = ap (is_closing_of c) (sym f_is) ∙ closes in
-                let opens : is_open opened d es ≡ true = ap (λ n. is_open opened n es) (eqb-true d c same) ∙ y in
-                let os_is : os ≡ occurs.Closing d ∷ [] = subst (λ g. OccursAt plans opened g es os) f_is at ∙ ap (λ b. once b (occurs.Closing d)) opens in
-                after (ap (λ us. is_shut c (marked (back us (occurrences before)))) os_is ∙ ap (λ b. b || is_shut c (marked (occurrences before))) same)
-            by_event Opening f_is closes = absurd (let clash : false ≡ true = ap (is_closing_of c) (sym f_is) ∙ closes in cc)
-            by_event (Piece d bytes) f_is closes = absurd (let clash : false ≡ true = ap (is_closing_of c) (sym f_is) ∙ closes in cc)
-            by_event (HangUp d) f_is closes = absurd (let clash : false ≡ true = ap (is_closing_of c) (sym f_is) ∙ closes in cc)
-            by_event (Moment m) f_is closes = absurd (let clash : false ≡ true = ap (is_closing_of c) (sym f_is) ∙ closes in cc)
-            by_event (BranchResult d k i r) f_is closes = absurd (let clash : false ≡ true = ap (is_closing_of c) (sym f_is) ∙ closes in cc)
-            by_event Drain f_is closes = absurd (let clash : false ≡ true = ap (is_closing_of c) (sym f_is) ∙ closes in cc)

@@ -23,7 +23,8 @@ use Rattle.gateway_model.specs.Starts.{jobs_started, branches_started}
 use Rattle.gateway_theory.specs.lemmas.LimitLemmas.{out_started, same_call}
 use Rattle.gateway_theory.specs.lemmas.Unborn.{unborn}
 use Rattle.gateway_theory.specs.lemmas.Cases.{and_none, and_true, and_false, or_none}
-use Rattle.gateway_theory.specs.Step.{Live, call_state, kept, ended, ended_by, ended_live, ending, entry_as, deadlines_in, deadlines_then, first_of, rest_of, next_out, is_last_answer, counted, result_on, step, moment_after}
+use Rattle.gateway_theory.specs.Step.{kept, ended, ended_by, ended_live, ending, entry_as, deadlines_in, deadlines_then, first_of, rest_of, next_out, is_last_answer, counted, result_on, step, moment_after}
+use Rattle.gateway_theory.specs.Values.{Live, call_state}
 use Rattle.gateway_theory.specs.LiveStands.{is_live, tasks_from, LiveStands, MayLive, CallStands, Stepped}
 use Rattle.gateway_theory.specs.lemmas.Deadlines.{deadlines_same, deadlines_more, expires, outs_are}
 use Rattle.gateway_theory.specs.lemmas.Frame.{Past_it, unasked, call_same, began_same, came_same, answers_same, started_same, decided_same, own_same, own_before, shut_decided, shut_stays, not_started, out_after, out_same, none_start, entry_same}

@@ -1,22 +1,74 @@
--- The store of calls and of connections, and the slots, as the code changes them.
-use Rattle.std.proofs.Common.{◌≡◌, ℕ, zero, suc, ◌+◌, ◌≤◌, ◌<◌, ◌-◌, Bool, true, false, List, [], ◌∷◌, map, length, Option, None, Some, Result, Ok, Err, refl, sym, ap, ◌∙◌, subst, arith, ⊎_elim, inl, inr}
-use Rattle.std.specs.Prelude.{◌⊎◌, OnErr, OnOk, is_err, is_none, is_some, not, if◌then◌else◌, ◌==◌, nat_lt, option_map, slice_index_or, slice_set}
-use Rattle.std.specs.Option.{option_or}
-use Rattle.std.proofs.lemmas.Bool.{cond_both, cases_Bool, cases_eq, eq-eqb, ne_eqb, eqb-true, ltb-true, ltb-false, le-ltb}
-use Rattle.std.proofs.lemmas.List.{get_or-set_same, get_or-set_other, length-set, get_or_default, get_or-map, map-set}
-use Rattle.std.proofs.lemmas.List.Sums.{sum_by-cons}
-use Rattle.gateway_model.specs.declared.entry.ReplyEntry.{ReplyEntry}
+-- Calls in a list, by their ids.
+use Rattle.std.proofs.Common.{◌≡◌, ℕ, zero, suc, ◌+◌, ◌<◌, ◌≢◌, Bool, false, List, [], ◌∷◌, ◌++◌, map, length, filter, Some, refl, sym, ap, ◌∙◌, subst, arith, ⊎_elim, true, Option, None, Result, Ok, Err, ◌≤◌, drop}
+use Rattle.std.specs.Prelude.{slice_set, slice_index_or, OnErr, OnOk, is_err, is_none, is_some, not, if◌then◌else◌}
+use Rattle.std.specs.Option.{option_map_or, option_or}
+use Rattle.std.proofs.lemmas.Bool.{cases_eq, cases_Bool, eq-eqb, cond_both}
+use Rattle.std.proofs.lemmas.List.{get_or-set_same, get_or-set_other, length-set, length-map, get_or_default, length-append}
+use Rattle.std.proofs.lemmas.List.Kept.{AllPairs-filter}
+use Rattle.gateway_theory.specs.Ends.{AreApart}
+use Rattle.gateway_theory.specs.Values.{KeptValue, call_at, gone, CallState}
+use Rattle.gateway_model.specs.Past.{is_call}
+use Rattle.gateway_theory.specs.Store.{kept_at, no_call, IsFound}
 use Rattle.gateway_model.specs.declared.id.CallId.{CallId}
-use Rattle.gateway_model.specs.Past.{call_id, is_call}
-use Rattle.gateway_theory.specs.Step.{call_state, gone}
-use Rattle.gateway_theory.specs.Machine.{slot_at}
-use Rattle.gateway_theory.specs.Kept.{KeptValue}
-use Rattle.gateway_theory.specs.Conn.{ConnValue, conn_value, entry_in, fill_at, filled}
 use Rattle.gateway_theory.specs.Replies.{ReplyValue}
-use Rattle.gateway_theory.specs.Ends.{is_broken_in}
-use Rattle.gateway_theory.specs.Store.{MachineValue, call_at, conn_at, conn_of, kept_at, no_conn, IsFound, given_up, given_up_if, given_where, broken_conn, broken_if, fill_first, waiting_in, waiting}
 use Rattle.gateway_theory.specs.lemmas.LimitLemmas.{same_call}
-use Rattle.gateway_theory.specs.lemmas.Cases.{and_false, or_none}
+use Rattle.std.specs.List.{count_by}
+use Rattle.std.proofs.lemmas.List.Elements.{filter-append}
+use Rattle.std.proofs.lemmas.List.Sums.{length-filter}
+use Rattle.gateway_model.specs.declared.entry.ReplyEntry.{ReplyEntry}
+use Rattle.gateway_theory.specs.Machine.{slot_at}
+
+pub some_same : {A : Type 0} {a b : A} → Some a ≡ Some b → a ≡ b
+some_same {a = a} e = ap (λ o. option_map_or (λ x. x) o a) e
+
+-- ---- what is no two's
+
+pub same_ids : (new calls : List KeptValue) → length new ≡ length calls → ((j : ℕ) → j < length calls → (kept_at j new).id ≡ (kept_at j calls).id) → AreApart calls → AreApart new
+same_ids new calls size ids apart = λ i j lt within.
+    ap (λ x. is_call x (kept_at j new).id) (ids i (omega (arith, lt, within, size))) ∙ ap (λ x. is_call (kept_at i calls).id x) (ids j (omega (arith, within, size)))
+    ∙ apart i j lt (omega (arith, within, size))
+
+at_map : {A B : Type 0} (f : A → B) (a : A) (b : B) (xs : List A) (j : ℕ) → j < length xs → slice_index_or (map f xs) j b ≡ f (slice_index_or xs j a)
+at_map f a b [] j lt = absurd (omega (arith, lt))
+at_map f a b (x ∷ xs) zero lt = refl
+at_map f a b (x ∷ xs) (suc j) lt = at_map f a b xs j (omega (arith, lt))
+
+pub ids_mapped : (f : KeptValue → KeptValue) (calls : List KeptValue) → ((k : KeptValue) → (f k).id ≡ k.id) → AreApart calls → AreApart (map f calls)
+ids_mapped f calls same = same_ids (map f calls) calls (length-map calls f)
+    (λ j lt. ap (λ (x : KeptValue). x.id) (at_map f no_call no_call calls j lt) ∙ same (kept_at j calls))
+
+pub ids_set : (i : ℕ) (new : KeptValue) (calls : List KeptValue) → i < length calls → new.id ≡ (kept_at i calls).id → AreApart calls → AreApart (slice_set calls i new)
+ids_set i new calls lt same = same_ids (slice_set calls i new) calls (length-set calls i new) (λ j within. ⊎_elim
+    (λ (here : j ≡ i). subst (λ n. (kept_at n (slice_set calls i new)).id ≡ (kept_at n calls).id) (sym here) (ap (λ (x : KeptValue). x.id) (get_or-set_same calls i new no_call lt) ∙ same))
+    (λ (ne : j ≢ i). ap (λ (x : KeptValue). x.id) (get_or-set_other calls i j new no_call ne))
+    (cases_eq j i))
+
+pub calls_filtered : (p : KeptValue → Bool) (calls : List KeptValue) → AreApart calls → AreApart (filter p calls)
+calls_filtered p calls apart = λ i j lt within. AllPairs-filter (λ (a b : KeptValue). is_call a.id b.id ≡ false) p calls
+    (λ a b d less inside. ap (λ (x : KeptValue). is_call x.id (slice_index_or calls b d).id) (get_or_default calls a d no_call (omega (arith, less, inside)))
+    ∙ ap (λ (x : KeptValue). is_call (kept_at a calls).id x.id) (get_or_default calls b d no_call inside) ∙ apart a b less inside)
+    i j no_call lt within
+
+-- what holds of each before it and of the last holds of each
+at_append : {A : Type 0} (d x : A) (xs : List A) (P : A → Type 0) (j : ℕ) → j < length (xs ++ x ∷ []) → ((a : ℕ) → a < length xs → P (slice_index_or xs a d)) → P x
+    → P (slice_index_or (xs ++ x ∷ []) j d)
+at_append d x [] P zero lt each last = last
+at_append d x [] P (suc j) lt each last = absurd (omega (arith, lt))
+at_append d x (y ∷ xs) P zero lt each last = each 0 (omega arith)
+at_append d x (y ∷ xs) P (suc j) lt each last = at_append d x xs P j (omega (arith, lt)) (λ a l. each (suc a) (omega (arith, l))) last
+
+-- one more stands behind the others, which are apart from it
+pub calls_more : (k : KeptValue) (calls : List KeptValue) → AreApart calls → ((j : ℕ) → j < length calls → is_call (kept_at j calls).id k.id ≡ false) → AreApart (calls ++ k ∷ [])
+calls_more k [] apart from_it = λ i j lt within. absurd (omega (arith, lt, within))
+calls_more k (x ∷ calls) apart from_it = λ i j lt within. by_place
+    (calls_more k calls (λ a b less inside. apart (suc a) (suc b) (omega (arith, less)) (omega (arith, inside))) (λ a inside. from_it (suc a) (omega (arith, inside)))) i j lt within
+  where
+    by_place : AreApart (calls ++ k ∷ []) → (i j : ℕ) → i < j → j < length (x ∷ calls ++ k ∷ []) → is_call (kept_at i (x ∷ calls ++ k ∷ [])).id (kept_at j (x ∷ calls ++ k ∷ [])).id ≡ false
+    by_place rest zero zero lt within = absurd (omega (arith, lt))
+    by_place rest zero (suc j) lt within = at_append no_call k calls (λ y. is_call x.id y.id ≡ false) j (omega (arith, within))
+        (λ a l. apart 0 (suc a) (omega arith) (omega (arith, l))) (from_it 0 (omega arith))
+    by_place rest (suc i) zero lt within = absurd (omega (arith, lt))
+    by_place rest (suc i) (suc j) lt within = rest i j (omega (arith, lt)) (omega (arith, within))
 
 pub call_itself : (id : CallId) → is_call id id ≡ true
 call_itself id = rw (eq-eqb id.conn id.conn refl, eq-eqb id.request id.request refl) refl
@@ -64,181 +116,6 @@ call_set id other (c ∷ calls) (suc i) new f same =
         (λ (there : is_call c.id other ≡ false). rw there h)
         (cases_Bool (is_call c.id other))
 
--- the call of that id, where calls were given up
-pub call_given : (id : CallId) (over : CallId → Bool) (calls : List KeptValue) → call_at id (map (given_where over) calls) ≡ (if over id then call_state (call_at id calls).out None else call_at id calls)
-call_given id over [] = cond_both (over id) (call_state [] None) gone (λ x. gone ≡ x) (λ _. refl) (λ _. refl)
-call_given id over (k ∷ calls) =
-    ap (λ i. if is_call i id then (given_where over k).call else call_at id (map (given_where over) calls)) its
-    ∙ ⊎_elim (λ (here : is_call k.id id ≡ true).
-    rw here (ap (λ b. (if b then given_up k else k).call) (ap over (same_call k.id id here)) ∙ pick (over id)))
-    (λ (there : is_call k.id id ≡ false). rw there (call_given id over calls))
-    (cases_Bool (is_call k.id id))
-  where
-    its : (given_where over k).id ≡ k.id
-    its = cond_both (over k.id) (given_up k) k (λ x. x.id ≡ k.id) (λ _. refl) (λ _. refl)
-
-    pick : (b : Bool) → (if b then given_up k else k).call ≡ (if b then call_state k.call.out None else k.call)
-    pick true = refl
-    pick false = refl
-
-pub call_given_up : (id : CallId) (c : ℕ) (calls : List KeptValue) → call_at id (map (given_up_if c) calls) ≡ (if id.conn == c then call_state (call_at id calls).out None else call_at id calls)
-call_given_up id c calls = call_given id (λ (x : CallId). x.conn == c) calls
-
--- ---- the store of connections
-
-pub conn_broken : (d c : ℕ) (conns : List ConnValue) → conn_of d (map (broken_if c) conns) ≡ (if d == c then option_map broken_conn (conn_of d conns) else conn_of d conns)
-conn_broken d c [] = cond_both (d == c) None None (λ x. None ≡ x) (λ _. refl) (λ _. refl)
-conn_broken d c (k ∷ conns) =
-    ap (λ n. if n == d then Some (broken_if c k) else conn_of d (map (broken_if c) conns)) its
-    ∙ ⊎_elim (λ (here : (k.number == d) ≡ true).
-    rw here (ap (λ n. Some (if n == c then broken_conn k else k)) (eqb-true k.number d here) ∙ pick (d == c)))
-    (λ (there : (k.number == d) ≡ false). rw there (conn_broken d c conns))
-    (cases_Bool (k.number == d))
-  where
-    its : (broken_if c k).number ≡ k.number
-    its = cond_both (k.number == c) (broken_conn k) k (λ x. x.number ≡ k.number) (λ _. refl) (λ _. refl)
-
-    pick : (b : Bool) → Some (if b then broken_conn k else k) ≡ (if b then Some (broken_conn k) else Some k)
-    pick true = refl
-    pick false = refl
-
-pub conn_filled : (d : ℕ) (r : ReplyValue) (conns : List ConnValue)
-    → conn_of d (fill_first r conns) ≡ (if d == r.id.conn then option_map (filled r.id.request r.entry) (conn_of d conns) else conn_of d conns)
-conn_filled d r [] = cond_both (d == r.id.conn) None None (λ x. None ≡ x) (λ _. refl) (λ _. refl)
-conn_filled d r (k ∷ conns) = ⊎_elim
-    (λ (it : (k.number == r.id.conn) ≡ true).
-    rw it (ap (λ n. if n == d then Some (filled r.id.request r.entry k) else conn_of d conns) its ∙ by_here it (cases_Bool (k.number == d))))
-    (λ (ne : (k.number == r.id.conn) ≡ false). rw ne (⊎_elim
-    (λ (here : (k.number == d) ≡ true).
-    let apart : (d == r.id.conn) ≡ false = ap (λ n. n == r.id.conn) (sym (eqb-true k.number d here)) ∙ ne in
-    rw (here, apart) refl)
-    (λ (there : (k.number == d) ≡ false). rw there (conn_filled d r conns))
-    (cases_Bool (k.number == d))))
-    (cases_Bool (k.number == r.id.conn))
-  where
-    its : (filled r.id.request r.entry k).number ≡ k.number
-    its = cond_both (nat_lt r.id.request k.taken) k (record k { slots = fill_at (r.id.request - k.taken) r.entry k.slots }) (λ x. x.number ≡ k.number) (λ _. refl) (λ _. refl)
-
-    by_here : (k.number == r.id.conn) ≡ true → ((k.number == d) ≡ true) ⊎ ((k.number == d) ≡ false)
-        → (if k.number == d then Some (filled r.id.request r.entry k) else conn_of d conns)
-        ≡ (if d == r.id.conn then option_map (filled r.id.request r.entry) (if k.number == d then Some k else conn_of d conns) else (if k.number == d then Some k else conn_of d conns))
-    by_here it (inl here) =
-        let same : (d == r.id.conn) ≡ true = ap (λ n. n == r.id.conn) (sym (eqb-true k.number d here)) ∙ it in
-        rw (here, same) refl
-    by_here it (inr there) =
-        let apart : (d == r.id.conn) ≡ false = ⊎_elim
-        (λ (e : (d == r.id.conn) ≡ true). absurd (let eq : k.number ≡ d = eqb-true k.number r.id.conn it ∙ sym (eqb-true d r.id.conn e) in
-        let clash : true ≡ false = sym (eq-eqb k.number d eq) ∙ there in cc))
-        (λ (e : (d == r.id.conn) ≡ false). e) (cases_Bool (d == r.id.conn)) in
-        rw (there, apart) refl
-
--- the first connection of the reply's number stands at this place
-pub filled_at : (r : ReplyValue) (conns : List ConnValue) (i : ℕ) (x : ConnValue) → i < length conns → ((j : ℕ) → j < i → (slice_index_or conns j x).number ≡ r.id.conn → ⊥)
-    → x ≡ slice_index_or conns i x → x.number ≡ r.id.conn → fill_first r conns ≡ slice_set conns i (filled r.id.request r.entry x)
-filled_at r [] i x lt none x_is it = absurd (omega (arith, lt))
-filled_at r (k ∷ conns) zero x lt none x_is it =
-    rw (eq-eqb k.number r.id.conn (ap (λ (y : ConnValue). y.number) (sym x_is) ∙ it)) (ap (λ y. filled r.id.request r.entry y ∷ conns) (sym x_is))
-filled_at r (k ∷ conns) (suc i) x lt none x_is it =
-    rw (ne_eqb k.number r.id.conn (none 0 (omega arith)))
-    (ap (λ ks. k ∷ ks) (filled_at r conns i x (omega (arith, lt)) (λ j l. none (suc j) (omega (arith, l))) x_is it))
-
-pub filled_none : (r : ReplyValue) (conns : List ConnValue) (d : ConnValue) → ((j : ℕ) → j < length conns → (slice_index_or conns j d).number ≡ r.id.conn → ⊥) → fill_first r conns ≡ conns
-filled_none r [] d none = refl
-filled_none r (k ∷ conns) d none =
-    rw (ne_eqb k.number r.id.conn (none 0 (omega arith))) (ap (λ ks. k ∷ ks) (filled_none r conns d (λ j l. none (suc j) (omega (arith, l)))))
-
--- ---- the slots
-
--- a connection, of whose slots that of a call may be filled
-pub record Fills (id : CallId) (reply : Option ReplyEntry) (old new : ConnValue) : Type 0 where
-  pub number_is : new.number ≡ old.number
-  pub taken_is : new.taken ≡ old.taken
-  pub broken_is : new.broken ≡ old.broken
-  pub hung_is : new.hung_up ≡ old.hung_up
-  pub size_is : length new.slots ≡ length old.slots
-  pub each : (j : ℕ) → j < length old.slots → slot_at j new.slots ≡ option_or (slot_at j old.slots) (if is_call id (call_id old.number (old.taken + j)) then reply else None)
-
-pub untouched : (id : CallId) (reply : Option ReplyEntry) (k : ConnValue)
-    → ((j : ℕ) → j < length k.slots → (if is_call id (call_id k.number (k.taken + j)) then reply else None) ≡ None) → Fills id reply k k
-untouched id reply k none = record {
-  number_is = refl;
-  taken_is = refl;
-  broken_is = refl;
-  hung_is = refl;
-  size_is = refl;
-  each = λ j lt. sym (or_none (slot_at j k.slots)) ∙ ap (λ o. option_or (slot_at j k.slots) o) (sym (none j lt));
-}
-
-fill_size : (j : ℕ) (e : ReplyEntry) (slots : List (Option ReplyEntry)) → length (fill_at j e slots) ≡ length slots
-fill_size j e slots = cond_both (is_none (slot_at j slots)) (slice_set slots j (Some e)) slots (λ xs. length xs ≡ length slots) (λ _. length-set slots j (Some e)) (λ _. refl)
-
-fill_here : (j : ℕ) (e : ReplyEntry) (slots : List (Option ReplyEntry)) → j < length slots → slot_at j (fill_at j e slots) ≡ option_or (slot_at j slots) (Some e)
-fill_here j e slots lt = by_slot (slot_at j slots) refl
-  where
-    by_slot : (o : Option ReplyEntry) → slot_at j slots ≡ o → slot_at j (fill_at j e slots) ≡ option_or (slot_at j slots) (Some e)
-    by_slot None o_is = rw o_is (get_or-set_same slots j (Some e) None lt)
-    by_slot (Some x) o_is = rw (o_is, o_is) refl
-
-fill_other : (i j : ℕ) (e : ReplyEntry) (slots : List (Option ReplyEntry)) → (j ≡ i → ⊥) → slot_at j (fill_at i e slots) ≡ slot_at j slots
-fill_other i j e slots ne =
-    cond_both (is_none (slot_at i slots)) (slice_set slots i (Some e)) slots (λ xs. slot_at j xs ≡ slot_at j slots) (λ _. get_or-set_other slots i j (Some e) None ne) (λ _. refl)
-
-pub filled_fills : (r : ReplyValue) (k : ConnValue) → k.number ≡ r.id.conn → Fills r.id (Some r.entry) k (filled r.id.request r.entry k)
-filled_fills r k its = ⊎_elim
-    (λ (lt : nat_lt r.id.request k.taken ≡ true).
-    let below : r.id.request < k.taken = ltb-true r.id.request k.taken lt in
-    rw lt (untouched r.id (Some r.entry) k (λ j l. rw (ne_eqb r.id.request (k.taken + j) (λ same. omega (arith, below, same)), and_false (r.id.conn == k.number)) refl)))
-    (λ (ge : nat_lt r.id.request k.taken ≡ false).
-    let above : k.taken ≤ r.id.request = ltb-false r.id.request k.taken ge in
-    rw ge (record {
-      number_is = refl;
-      taken_is = refl;
-      broken_is = refl;
-      hung_is = refl;
-      size_is = fill_size (r.id.request - k.taken) r.entry k.slots;
-      each = λ j lt. ⊎_elim
-          (λ (here : j ≡ r.id.request - k.taken).
-          let at_it : r.id.request ≡ k.taken + j = omega (arith, here, above) in
-          rw (eq-eqb r.id.conn k.number (sym its), eq-eqb r.id.request (k.taken + j) at_it)
-          (subst (λ i. slot_at j (fill_at i r.entry k.slots) ≡ option_or (slot_at j k.slots) (Some r.entry)) here (fill_here j r.entry k.slots lt)))
-          (λ (ne : j ≡ r.id.request - k.taken → ⊥).
-          rw (ne_eqb r.id.request (k.taken + j) (λ same. ne (omega (arith, same))), and_false (r.id.conn == k.number))
-          (fill_other (r.id.request - k.taken) j r.entry k.slots ne ∙ sym (or_none (slot_at j k.slots))))
-          (cases_eq j (r.id.request - k.taken));
-    }))
-    (cases_Bool (nat_lt r.id.request k.taken))
-
--- ---- facts as the checker gives them
-
-pub conn_is : (items conns : List ConnValue) (i : ℕ) (x d : ConnValue) → items ≡ conns → i < length conns → x ≡ slice_index_or items i x → x ≡ slice_index_or conns i d
-conn_is items conns i x d items_are lt x_is = x_is ∙ ap (λ l. slice_index_or l i x) items_are ∙ get_or_default conns i x d lt
-
--- ---- the branches that wait
-
-waiting_given_up : (c : ℕ) (k : KeptValue) → waiting_in (given_up_if c k) ≤ waiting_in k
-waiting_given_up c k = cond_both (k.id.conn == c) (given_up k) k (λ x. waiting_in x ≤ waiting_in k) (λ _. omega arith) (λ _. omega arith)
-
-pub waiting_less : (c : ℕ) (calls : List KeptValue) → waiting (map (given_up_if c) calls) ≤ waiting calls
-waiting_less c [] = omega arith
-waiting_less c (k ∷ calls) =
-    omega (arith, waiting_given_up c k, waiting_less c calls, sum_by-cons waiting_in k calls, sum_by-cons waiting_in (given_up_if c k) (map (given_up_if c) calls))
-
--- ---- a slot, as the code fills it
-
-pub fill_view : (number taken : ℕ) (broken hung_up : Bool) (slots : List (Option ReplyValue)) (k : ℕ) (r : ReplyValue) (x : Option ReplyValue) → taken ≤ k → k - taken < length slots
-    → x ≡ slice_index_or slots (k - taken) x → is_none x ≡ true
-    → conn_value number taken (slice_set slots (k - taken) (Some r)) broken hung_up ≡ filled k r.entry (conn_value number taken slots broken hung_up)
-fill_view number taken broken hung_up slots k r x le lt x_is none =
-    let above : nat_lt k taken ≡ false = le-ltb k taken le in
-    let here : slot_at (k - taken) (map entry_in slots) ≡ entry_in x =
-    get_or-map entry_in slots (k - taken) None None lt ∙ ap entry_in (sym (x_is ∙ get_or_default slots (k - taken) x None lt)) in
-    let empty : is_none (slot_at (k - taken) (map entry_in slots)) ≡ true = ap is_none here ∙ none_in x none in
-    rw (above, empty) (ap (λ s. record { number = number; taken = taken; slots = s; broken = broken; hung_up = hung_up }) (map-set entry_in slots (k - taken) (Some r)))
-  where
-    none_in : (x : Option ReplyValue) → is_none x ≡ true → is_none (entry_in x) ≡ true
-    none_in None e = refl
-    none_in (Some r) e = absurd (cc)
-
 pub on_ok : {T E : Type 0} (r : Result T E) (P : Type 0) → OnOk r P → is_err r ≡ false → P
 on_ok (Ok t) P h e = h
 on_ok (Err x) P h e = absurd (cc)
@@ -251,21 +128,82 @@ pub none_of : (o : Option ReplyValue) (b : Bool) → is_some o ≡ not b → b �
 none_of None b e it = refl
 none_of (Some r) b e it = absurd (let clash : true ≡ false = e ∙ ap not it in cc)
 
--- ---- whether a connection is broken, by its place
+-- ---- calls
 
-pub broken_first : (c i : ℕ) (conns : List ConnValue) → i < length conns → ((j : ℕ) → j < i → ((conn_at j conns).number == c) ≡ false) → ((conn_at i conns).number == c) ≡ true
-    → is_broken_in c conns ≡ (conn_at i conns).broken
-broken_first c i [] lt before its = absurd (omega (arith, lt))
-broken_first c zero (k ∷ conns) lt before its = rw its refl
-broken_first c (suc i) (k ∷ conns) lt before its = rw (before 0 (omega arith)) (broken_first c i conns (omega (arith, lt)) (λ j less. before (suc j) (omega (arith, less))) its)
+-- one more is kept, whose id none had
+pub call_added : (k : KeptValue) (id : CallId) (calls : List KeptValue) → IsFound k.id calls None → call_at id (calls ++ k ∷ []) ≡ (if is_call k.id id then k.call else call_at id calls)
+call_added k id [] f = refl
+call_added k id (x ∷ calls) f = ⊎_elim
+    (λ (here : is_call x.id id ≡ true).
+    let apart : is_call k.id id ≡ false = ⊎_elim
+    (λ (it : is_call k.id id ≡ true).
+    let same : x.id ≡ k.id = same_call x.id id here ∙ sym (same_call k.id id it) in
+    let clash : true ≡ false = sym (call_itself k.id) ∙ ap (λ n. is_call n k.id) (sym same) ∙ f 0 (omega arith) in
+    absurd (cc))
+    (λ (ne : is_call k.id id ≡ false). ne) (cases_Bool (is_call k.id id)) in
+    rw (here, apart) refl)
+    (λ (there : is_call x.id id ≡ false). rw there (call_added k id calls (λ j lt. f (suc j) (omega (arith, lt)))))
+    (cases_Bool (is_call x.id id))
 
-pub absent_not_broken : (c : ℕ) (conns : List ConnValue) → ((j : ℕ) → j < length conns → ((conn_at j conns).number == c) ≡ false) → is_broken_in c conns ≡ false
-absent_not_broken c [] none = refl
-absent_not_broken c (k ∷ conns) none = rw (none 0 (omega arith)) (absent_not_broken c conns (λ j less. none (suc j) (omega (arith, less))))
+pub call_without : (id other : CallId) (calls : List KeptValue) → call_at other (filter (λ k. not (is_call k.id id)) calls) ≡ (if is_call id other then gone else call_at other calls)
+call_without id other [] = cond_both (is_call id other) gone gone (λ c. gone ≡ c) (λ _. refl) (λ _. refl)
+call_without id other (x ∷ calls) = ⊎_elim
+    (λ (its : is_call x.id id ≡ true).
+    rw its (call_without id other calls ∙ by_it its (is_call id other) refl))
+    (λ (ne : is_call x.id id ≡ false). rw ne (⊎_elim
+    (λ (here : is_call x.id other ≡ true).
+    let apart : is_call id other ≡ false = ⊎_elim
+    (λ (it : is_call id other ≡ true).
+    let same : x.id ≡ id = same_call x.id other here ∙ sym (same_call id other it) in
+    let clash : true ≡ false = sym (call_itself id) ∙ ap (λ n. is_call n id) (sym same) ∙ ne in
+    absurd (cc))
+    (λ (none : is_call id other ≡ false). none) (cases_Bool (is_call id other)) in
+    rw (here, apart) refl)
+    (λ (there : is_call x.id other ≡ false). rw there (call_without id other calls))
+    (cases_Bool (is_call x.id other))))
+    (cases_Bool (is_call x.id id))
+  where
+    by_it : is_call x.id id ≡ true → (b : Bool) → is_call id other ≡ b
+        → (if is_call id other then gone else call_at other calls) ≡ (if is_call id other then gone else (if is_call x.id other then x.call else call_at other calls))
+    by_it its true b_is = rw b_is refl
+    by_it its false b_is = ap (λ (c : CallState). if is_call id other then gone else c) (sym (ap (λ b. if b then x.call else call_at other calls) (ap (λ n. is_call n other) (same_call x.id id its) ∙ b_is)))
 
-pub broken_here : (c i : ℕ) (conns : List ConnValue) (x y : ConnValue) → i < length conns → ((j : ℕ) → j < i → ((conn_at j conns).number == c) ≡ false)
-    → x ≡ slice_index_or conns i x → y ≡ slice_index_or conns i y → (x.number == c) ≡ true → y.broken ≡ is_broken_in c conns
-broken_here c i conns x y lt before x_is y_is its =
-    let x_here : x ≡ conn_at i conns = conn_is conns conns i x no_conn refl lt x_is in
-    let y_here : y ≡ conn_at i conns = conn_is conns conns i y no_conn refl lt y_is in
-    ap (λ (k : ConnValue). k.broken) y_here ∙ sym (broken_first c i conns lt before (ap (λ (k : ConnValue). k.number == c) (sym x_here) ∙ its))
+-- ---- slots
+
+fewer_left : (new old : List (Option ReplyEntry)) (more : ℕ → Option ReplyEntry) → length new ≡ length old
+    → ((j : ℕ) → j < length old → slot_at j new ≡ option_or (slot_at j old) (more j)) → length (filter is_none new) ≤ length (filter is_none old)
+fewer_left [] [] more size each = omega arith
+fewer_left [] (y ∷ old) more size each = absurd (cc)
+fewer_left (x ∷ new) [] more size each = absurd (cc)
+fewer_left (x ∷ new) (y ∷ old) more size each =
+    by_slot x y (each 0 (omega arith)) (fewer_left new old (λ j. more (suc j)) (omega (arith, size)) (λ j lt. each (suc j) (omega (arith, lt))))
+  where
+    by_slot : (a b : Option ReplyEntry) → a ≡ option_or b (more 0) → length (filter is_none new) ≤ length (filter is_none old)
+        → length (filter is_none (a ∷ new)) ≤ length (filter is_none (b ∷ old))
+    by_slot None None e rest = omega (arith, rest)
+    by_slot (Some a) None e rest = omega (arith, rest)
+    by_slot None (Some b) e rest = absurd (cc)
+    by_slot (Some a) (Some b) e rest = rest
+
+-- where slots are filled no more are empty
+pub fewer : (new old : List (Option ReplyEntry)) (more : ℕ → Option ReplyEntry) → length new ≡ length old
+    → ((j : ℕ) → j < length old → slot_at j new ≡ option_or (slot_at j old) (more j)) → count_by is_none new ≤ count_by is_none old
+fewer new old more size each = omega (arith, fewer_left new old more size each, length-filter is_none new, length-filter is_none old)
+
+pub fewer_behind : (slots : List (Option ReplyEntry)) → count_by is_none (drop 1 slots) ≤ count_by is_none slots
+fewer_behind slots = omega (arith, behind slots, length-filter is_none (drop 1 slots), length-filter is_none slots)
+  where
+    behind : (xs : List (Option ReplyEntry)) → length (filter is_none (drop 1 xs)) ≤ length (filter is_none xs)
+    behind [] = omega arith
+    behind (None ∷ xs) = omega arith
+    behind (Some x ∷ xs) = omega arith
+
+-- one slot more, which is empty or is not
+pub one_more : (slots : List (Option ReplyEntry)) (reply : Option ReplyEntry) → count_by is_none (slots ++ reply ∷ []) ≡ count_by is_none slots + length (filter is_none (reply ∷ []))
+one_more slots reply = omega (
+  arith,
+  length-filter is_none slots,
+  length-filter is_none (slots ++ reply ∷ []),
+  ap (λ (xs : List (Option ReplyEntry)). length xs) (filter-append is_none slots (reply ∷ [])),
+  length-append (filter is_none slots) (filter is_none (reply ∷ [])),
+)

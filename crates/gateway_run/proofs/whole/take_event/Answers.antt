@@ -1,5 +1,5 @@
 use Rattle.std.proofs.Common.{◌∙◌, sym, ap, subst}
-use Rattle.gateway_theory.specs.Gateway.{GatewayValue}
+use Rattle.gateway_theory.specs.Values.{GatewayValue}
 use Rattle.gateway_run.specs.Log.{StartsAll}
 use Rattle.gateway_run.specs.Stepping.{log_after}
 use Rattle.gateway_run.proofs.EventRuns.{event_run}

@@ -1,7 +1,6 @@
 use Rattle.std.proofs.Common.{◌∷◌, ◌++◌, []}
 use Rattle.gateway_theory.specs.lemmas.LaterOpenings.{same_count, same_openings}
-use Rattle.gateway_theory.specs.lemmas.ServedOpens.{shrunk}
-use Rattle.gateway_theory.specs.lemmas.ServedOpens.{grown, occurs_before}
+use Rattle.gateway_theory.specs.lemmas.ServedOpens.{shrunk, grown, occurs_before}
 use Rattle.gateway_theory.proofs.event_laws.openings_law.Goals as goal
 
 pub returns : goal.returns

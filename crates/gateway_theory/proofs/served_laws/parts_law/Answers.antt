@@ -1,9 +1,11 @@
-use Rattle.gateway_theory.specs.lemmas.ServedWhole.{begun_up, fed_fault, fed_more}
+use Rattle.std.proofs.Common.{Err, Ok}
+use Rattle.gateway_theory.specs.Gateway.{core_of}
+use Rattle.gateway_theory.specs.lemmas.PiecesAdd.{begun_up, feeds_stand}
 use Rattle.gateway_theory.proofs.served_laws.parts_law.Goals as goal
 
 pub returns : goal.returns
 returns c = record {
-  begins = λ n v history h. begun_up c.request_laws.ensures n v history h;
-  goes_on = λ n m p q u v w history serving h f. fed_more c.request_laws.ensures n p q u v w history serving h m f;
-  ends = λ n fault p q u v w history serving then_serving h f. fed_fault c.request_laws.ensures n p q u v w history serving h fault then_serving f;
+  begins = λ n v h conns. begun_up c.request_laws.ensures n (core_of v) h conns;
+  goes_on = λ n m p q u v w h serving fed f. feeds_stand c.request_laws.ensures n p q u v w (Ok m) h serving f fed;
+  ends = λ n fault p q u v w h serving fed f. feeds_stand c.request_laws.ensures n p q u v w (Err fault) h serving f fed;
 }

@@ -2,7 +2,7 @@ use Rattle.std.specs.Prelude.{◌==◌}
 use Rattle.std.proofs.Common.{drop}
 use Rattle.whole_pieces.proofs.PieceParts.{all_rest, begins_within, begun, counts_then, empty_rest, fault_same, fault_tells, fed_fault, fed_on, fed_whole, from_err, listening_ok, keeps_then, whole_tells}
 use Rattle.gateway_model.specs.declared.event.Event.TheVariants.{Piece}
-use Rattle.gateway_theory.specs.lemmas.Adding.{served_event}
+use Rattle.gateway_theory.specs.lemmas.Laws.{served_event}
 use Rattle.gateway_theory.specs.declared.fault.StepFault.TheVariants.{Exhausted}
 use Rattle.whole_pieces.proofs.delivery.deliver.Goals as goal
 

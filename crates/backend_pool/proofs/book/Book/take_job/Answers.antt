@@ -1,7 +1,7 @@
 use Rattle.std.specs.Prelude.{Some}
 use Rattle.std.proofs.Common.{ap, subst, arith, [], ◌∷◌}
 use Rattle.backend_pool.specs.Book.{BookValue, GivesJob}
-use Rattle.gateway_theory.specs.Gateway.{GatewayValue}
+use Rattle.gateway_theory.specs.Values.{GatewayValue}
 use Rattle.backend_pool.proofs.BookLemmas.{book_hands, no_result, reached_by_job}
 use Rattle.backend_pool.proofs.book.Book.take_job.Goals as goal
 

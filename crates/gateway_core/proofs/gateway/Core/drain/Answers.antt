@@ -1,22 +1,36 @@
-use Rattle.gateway_theory.specs.lemmas.Adding.{served_event}
-use Rattle.gateway_model.specs.History.{History}
-use Rattle.gateway_model.specs.declared.event.Event.TheVariants.{Drain}
-use Rattle.std.proofs.Common.{true, refl, sym, subst}
-use Rattle.gateway_theory.specs.Gateway.{GatewayValue}
-use Rattle.gateway_theory.specs.Served.{Adds}
+use Rattle.std.proofs.Common.{subst, true}
 use Rattle.gateway_theory.specs.Serving.{Keeps, Breaks}
-use Rattle.gateway_theory.specs.declared.trigger.Trigger.TheVariants.{Drained}
-use Rattle.gateway_theory.specs.lemmas.ServedLemmas.{drain_adds}
-use Rattle.gateway_theory.specs.lemmas.Keeping.{ended_keeps}
+use Rattle.gateway_theory.specs.Told.{AddsEvent, TakesEvent}
+use Rattle.gateway_model.specs.declared.event.Event.TheVariants.{Drain}
+use Rattle.gateway_core.specs.Whole.{gateway_of}
+use Rattle.gateway_core.proofs.TellLemmas.{drains_step, drains_whole}
+use Rattle.gateway_theory.specs.lemmas.Laws.{drains_adds, drains_keeps, drains_stands}
+use Rattle.gateway_core.proofs.StepLemmas.{numbered}
 use Rattle.gateway_core.proofs.gateway.Core.drain.Goals as goal
 
-pub returns : goal.returns
-returns g c =
-    let adds = λ (history : History). subst (λ (x : GatewayValue). Adds history.opened (Drain) history x c.drain.new.self) c.self.view_is
-    (drain_adds c.self.inside.streams c.drain.new.self history c.serving_law.ensures c.drain.ensures.ends) in
-    record {
-      stands = λ history h. served_event (Drain) history _ c.drain.new.self (adds history).plans_are (adds history) h;
-      adds = adds;
-      broke = subst (λ (x : GatewayValue). Breaks x c.drain.new.self c.drain.result) c.self.view_is c.drain.ensures.broke;
-      keeps = subst (λ (x : GatewayValue). Keeps (λ n. true) x c.drain.new.self) c.self.view_is (ended_keeps Drained (record c.self.inside.streams.machine { drained = true }) c.self.inside.streams c.drain.new.self refl refl c.drain.ensures.ends);
-    }
+pub end_calls-requires-clause-all : goal.end_calls-requires-clause-all
+end_calls-requires-clause-all g c = tt
+
+pub end_calls-requires-clause-now : goal.end_calls-requires-clause-now
+end_calls-requires-clause-now g c = tt
+
+pub end_calls-requires-clause-fit : goal.end_calls-requires-clause-fit
+end_calls-requires-clause-fit g c = c.self.invariant.fit
+
+pub end_calls-requires-clause-numbered : goal.end_calls-requires-clause-numbered
+end_calls-requires-clause-numbered g c = numbered c.self.inside.shared c.self.inside.conns.entries c.self.inside.opened c.self.inside.tally c.self.invariant.serving
+
+pub invariant_of-self : goal.invariant_of-self
+invariant_of-self g c = drains_whole c.end_calls.new.shared c.end_calls.new.conns.entries c.self.invariant c.end_calls.result c.end_calls.ensures.fit (drains_step c.end_calls.new.shared c.end_calls.new.conns.entries c.self.invariant c.end_calls.result c.end_calls.ensures.ended c.end_calls.ensures.broke c.end_calls.ensures.drained c.end_calls.ensures.rest)
+
+pub returns-clause-stands : goal.returns-clause-stands
+returns-clause-stands g c = subst (λ x. TakesEvent Drain x (gateway_of c.end_calls.new.shared c.end_calls.new.conns.entries c.self.inside.opened c.self.inside.tally)) c.self.view_is (drains_stands (gateway_of c.self.inside.shared c.self.inside.conns.entries c.self.inside.opened c.self.inside.tally) (gateway_of c.end_calls.new.shared c.end_calls.new.conns.entries c.self.inside.opened c.self.inside.tally) c.end_calls.result (drains_step c.end_calls.new.shared c.end_calls.new.conns.entries c.self.invariant c.end_calls.result c.end_calls.ensures.ended c.end_calls.ensures.broke c.end_calls.ensures.drained c.end_calls.ensures.rest) c.self.invariant.serving)
+
+pub returns-clause-adds : goal.returns-clause-adds
+returns-clause-adds g c = subst (λ x. AddsEvent Drain x (gateway_of c.end_calls.new.shared c.end_calls.new.conns.entries c.self.inside.opened c.self.inside.tally)) c.self.view_is (drains_adds (gateway_of c.self.inside.shared c.self.inside.conns.entries c.self.inside.opened c.self.inside.tally) (gateway_of c.end_calls.new.shared c.end_calls.new.conns.entries c.self.inside.opened c.self.inside.tally) c.end_calls.result (drains_step c.end_calls.new.shared c.end_calls.new.conns.entries c.self.invariant c.end_calls.result c.end_calls.ensures.ended c.end_calls.ensures.broke c.end_calls.ensures.drained c.end_calls.ensures.rest) c.self.invariant.serving)
+
+pub returns-clause-broke : goal.returns-clause-broke
+returns-clause-broke g c = subst (λ x. Breaks x (gateway_of c.end_calls.new.shared c.end_calls.new.conns.entries c.self.inside.opened c.self.inside.tally) c.end_calls.result) c.self.view_is (drains_step c.end_calls.new.shared c.end_calls.new.conns.entries c.self.invariant c.end_calls.result c.end_calls.ensures.ended c.end_calls.ensures.broke c.end_calls.ensures.drained c.end_calls.ensures.rest).ends.broke_is
+
+pub returns-clause-keeps : goal.returns-clause-keeps
+returns-clause-keeps g c = subst (λ x. Keeps (λ d. true) x (gateway_of c.end_calls.new.shared c.end_calls.new.conns.entries c.self.inside.opened c.self.inside.tally)) c.self.view_is (drains_keeps (gateway_of c.self.inside.shared c.self.inside.conns.entries c.self.inside.opened c.self.inside.tally) (gateway_of c.end_calls.new.shared c.end_calls.new.conns.entries c.self.inside.opened c.self.inside.tally) c.end_calls.result (drains_step c.end_calls.new.shared c.end_calls.new.conns.entries c.self.invariant c.end_calls.result c.end_calls.ensures.ended c.end_calls.ensures.broke c.end_calls.ensures.drained c.end_calls.ensures.rest) c.self.invariant.serving)

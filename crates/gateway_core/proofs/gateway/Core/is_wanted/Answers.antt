@@ -1,9 +1,10 @@
-use Rattle.std.proofs.Common.{subst}
-use Rattle.gateway_theory.specs.Gateway.{GatewayValue}
+use Rattle.std.proofs.Common.{sym, subst, ap, ◌∙◌}
+use Rattle.std.specs.Prelude.{is_some}
 use Rattle.gateway_theory.specs.Told.{IsWanted}
-use Rattle.gateway_theory.specs.lemmas.Telling.{wanted_told}
+use Rattle.gateway_core.specs.Whole.{gateway_of}
+use Rattle.gateway_core.proofs.TakenLemmas.{kept_is}
+use Rattle.gateway_theory.specs.lemmas.Laws.{wanted_is}
 use Rattle.gateway_core.proofs.gateway.Core.is_wanted.Goals as goal
 
 pub returns : goal.returns
-returns g c = subst (λ (x : GatewayValue). IsWanted c.args.call.now x c.is_live.result) c.self.view_is
-    (wanted_told c.args.call.now c.self.inside.streams c.serving_law.ensures.orderly c.is_live.result c.is_live.ensures)
+returns g c = subst (λ x. IsWanted c.args.call.now x c.is_live.result) c.self.view_is (subst (λ b. IsWanted c.args.call.now (gateway_of c.self.inside.shared c.self.inside.conns.entries c.self.inside.opened c.self.inside.tally) b) (sym (c.is_live.ensures ∙ ap (λ k. is_some k.live) (kept_is c.args.call.now (gateway_of c.self.inside.shared c.self.inside.conns.entries c.self.inside.opened c.self.inside.tally)))) (wanted_is c.args.call.now (gateway_of c.self.inside.shared c.self.inside.conns.entries c.self.inside.opened c.self.inside.tally) c.self.invariant.serving))

@@ -1,51 +1,53 @@
-use Rattle.gateway_theory.specs.lemmas.Adding.{served_event}
-use Rattle.gateway_model.specs.History.{History}
+use Rattle.std.proofs.Common.{sym, subst, ap, ◌∙◌, false, arith, [], ◌∷◌}
+use Rattle.std.specs.Prelude.{◌≡◌, ◌==◌}
+use Rattle.gateway_theory.specs.Gateway.{one_if_open}
+use Rattle.gateway_theory.specs.Serving.{KeepsBut}
+use Rattle.gateway_theory.specs.Steps.{absent, Tallies}
+use Rattle.gateway_theory.specs.Told.{AddsEvent, TakesEvent, TellsTook}
+use Rattle.gateway_theory.specs.lemmas.ServingSteps.{results_serving, taken_like}
 use Rattle.gateway_model.specs.declared.event.Event.TheVariants.{BranchResult}
-use Rattle.std.specs.Prelude.{◌==◌}
-use Rattle.std.proofs.Common.{[], ◌∷◌, false, sym, ap, ◌∙◌, subst, ⊎_elim}
-use Rattle.gateway_theory.specs.Gateway.{GatewayValue}
-use Rattle.gateway_theory.specs.Served.{Adds}
-use Rattle.gateway_theory.specs.Serving.{Breaks, KeepsBut}
-use Rattle.gateway_theory.specs.lemmas.ServedLemmas.{result_adds, starved_adds}
-use Rattle.gateway_theory.specs.lemmas.Keeping.{result_keeps, starved_keeps, unknown_kept}
-use Rattle.gateway_theory.specs.Told.{IsSeen}
-use Rattle.gateway_theory.specs.lemmas.Telling.{seen_told}
-use Rattle.gateway_theory.specs.lemmas.SeenResults.{breaks_of, result_breaks_are, result_broke, result_seen, starved_breaks_are, starved_broke, starved_seen}
+use Rattle.gateway_core.specs.Whole.{gateway_of, held_at}
+use Rattle.gateway_core.proofs.StepLemmas.{left_whole, may_step, moves_left, results_step}
+use Rattle.gateway_theory.specs.lemmas.Laws.{results_adds, results_keeps, results_stands, results_tells}
+use Rattle.std.specs.BTreeMap.{is_at}
+use Rattle.std.specs.Map.{set_value}
+use Rattle.std.specs.Ordering.{nat_cmp}
+use Rattle.gateway_theory.specs.Held.{is_gone}
+use Rattle.gateway_core.specs.Whole.{IsWithout}
+use Rattle.std.specs.Prelude.{if◌then◌else◌}
+use Rattle.gateway_model.specs.Past.{call_id}
 use Rattle.gateway_core.proofs.gateway.Core.result.Goals as goal
 
--- its result is taken, or it comes back with nothing: what stands is the same
-pub returns : goal.returns
-returns g c =
-    let adds = λ (history : History). subst (λ (x : GatewayValue). Adds history.opened (BranchResult c.args.call.now.conn c.args.call.now.request c.args.branch c.args.outcome) history x c.result.new.self) c.self.view_is
-    (⊎_elim
-    (λ took. result_adds c.self.inside.streams c.result.new.self history c.serving_law.ensures c.args.call.now c.args.branch c.args.outcome c.result.ensures.taken.0 c.result.result c.result.ensures.rest c.result.ensures.taken.2 took)
-    (λ starved. starved_adds c.self.inside.streams c.result.new.self history c.serving_law.ensures c.args.call.now c.args.branch c.args.outcome c.result.ensures.taken.0 c.result.result c.result.ensures.rest c.result.ensures.taken.2 starved.1)
-    c.result.ensures.taken.1) in
-    record {
-      stands = λ history h. served_event (BranchResult c.args.call.now.conn c.args.call.now.request c.args.branch c.args.outcome) history _ c.result.new.self (adds history).plans_are (adds history) h;
-      adds = adds;
-      tells = record {
-        seen = subst (λ (x : GatewayValue). IsSeen c.args.call.now c.args.branch x c.result.result.seen) c.self.view_is
-            (seen_told c.args.call.now c.self.inside.streams c.serving_law.ensures.orderly c.args.branch c.result.result.seen
-            (⊎_elim
-            (λ took. result_seen c.args.call.now c.args.branch c.self.inside.streams.machine c.result.ensures.taken.0 c.result.result c.args.outcome took)
-            (λ starved. starved_seen c.args.call.now c.args.branch c.self.inside.streams.machine c.result.ensures.taken.0 c.result.result starved.1)
-            c.result.ensures.taken.1));
-        counted = λ e. ⊎_elim
-            (λ took. result_broke c.args.call.now c.args.branch c.self.inside.streams.machine c.result.ensures.taken.0 c.result.result c.args.outcome took e)
-            (λ starved. starved_broke c.args.call.now c.args.branch c.self.inside.streams.machine c.result.ensures.taken.0 c.result.result starved.1 e)
-            c.result.ensures.taken.1;
-        broke = subst (λ (x : GatewayValue). Breaks x c.result.new.self c.result.result.broke) c.self.view_is (breaks_of c.self.inside.streams c.result.new.self c.result.result.broke
-            (⊎_elim
-            (λ took. result_breaks_are c.args.call.now c.args.branch c.self.inside.streams.machine c.result.ensures.taken.0 c.result.new.self.machine c.result.result c.serving_law.ensures.orderly c.result.ensures.taken.2 c.args.outcome took)
-            (λ starved. starved_breaks_are c.args.call.now c.args.branch c.self.inside.streams.machine c.result.ensures.taken.0 c.result.new.self.machine c.result.result c.serving_law.ensures.orderly c.result.ensures.taken.2 starved.1)
-            c.result.ensures.taken.1));
-        unknown = λ e. unknown_kept c.self.inside.streams c.result.new.self c.result.ensures.rest (c.result.ensures.unknown e) ∙ ap (λ (x : GatewayValue). record x { tally = c.result.new.self.tally }) c.self.view_is;
-        none_spent = c.result.ensures.none_spent;
-      };
-      keeps = subst (λ (x : GatewayValue). KeepsBut (λ n. false) (λ n. n == c.args.call.now.conn) (c.result.result.seen ∷ []) x c.result.new.self) c.self.view_is
-          (⊎_elim
-          (λ took. result_keeps c.args.call.now c.args.branch c.result.ensures.taken.0 c.result.result c.self.inside.streams c.result.new.self c.serving_law.ensures.orderly c.result.ensures.rest c.result.ensures.taken.2 c.result.ensures.tally c.args.outcome took)
-          (λ starved. starved_keeps c.args.call.now c.args.branch c.result.ensures.taken.0 c.result.result c.self.inside.streams c.result.new.self c.serving_law.ensures.orderly c.result.ensures.rest c.result.ensures.taken.2 c.result.ensures.tally starved.1)
-          c.result.ensures.taken.1);
-    }
+pub result-took-requires : goal.result-took-requires
+result-took-requires g c = may_step c.self.invariant c.number-number.result c.in-Some.held.now c.in-Some.ensures.value
+
+pub invariant_of-self-2 : goal.invariant_of-self-2
+invariant_of-self-2 g c =
+    let x = taken_like c.self.inside.shared.moment (call_id c.in-Some.held.now.number c.args.call.now.request) c.args.branch c.args.outcome c.in-Some.held.now c.result-took.new.self c.result-took.ensures.takes.jobs c.result-took.result c.result-took.ensures.takes.takes (c.self.invariant.serving.each c.number-number.result c.in-Some.held.now (sym c.in-Some.ensures.value)).holds in
+    let one : one_if_open c.result-took.new.self ≡ one_if_open c.in-Some.held.now = ap (λ b. if b then 0 else 1) x.0.closed_is in
+    left_whole c.self.invariant c.args.call.now.conn c.in-Some.held.now c.result-took.new.self (c.in-Some.ensures.value ∙ ap (λ m. held_at m c.self.inside.conns.entries) c.number-number.ensures) ((c.get_mut.follows.holds c.result-took.new.self).0 ∙ ap (λ m. set_value (is_at (nat_cmp m)) c.self.inside.conns.entries c.result-took.new.self) c.number-number.ensures) (subst (λ m. IsWithout (is_gone c.result-took.new.self) m (c.get_mut.follows.lender c.result-took.new.self).entries c.remove_if.new.conns.entries) c.number-number.ensures (subst (λ b. IsWithout b c.number-number.result (c.get_mut.follows.lender c.result-took.new.self).entries c.remove_if.new.conns.entries) c.is_gone-gone.ensures c.remove_if.ensures)) c.result-took.new.shared c.result-took.ensures.takes.jobs c.add-2.new.self c.self.inside.open c.result-took.ensures.takes.rest c.result-took.ensures.tied x.0.number_is x.1
+    (omega (arith, one)) (results_serving c.args.call.now c.args.branch c.args.outcome (gateway_of c.self.inside.shared c.self.inside.conns.entries c.self.inside.opened c.self.inside.tally) (gateway_of c.result-took.new.shared c.remove_if.new.conns.entries c.self.inside.opened c.add-2.new.self) c.result-took.result (results_step c.self.invariant c.args.call.now c.args.branch c.result-took.result c.in-Some.held.now c.result-took.new.self (c.in-Some.ensures.value ∙ ap (λ m. held_at m c.self.inside.conns.entries) c.number-number.ensures) (moves_left c.self.invariant c.args.call.now.conn c.in-Some.held.now c.result-took.new.self (c.in-Some.ensures.value ∙ ap (λ m. held_at m c.self.inside.conns.entries) c.number-number.ensures) ((c.get_mut.follows.holds c.result-took.new.self).0 ∙ ap (λ m. set_value (is_at (nat_cmp m)) c.self.inside.conns.entries c.result-took.new.self) c.number-number.ensures) (subst (λ m. IsWithout (is_gone c.result-took.new.self) m (c.get_mut.follows.lender c.result-took.new.self).entries c.remove_if.new.conns.entries) c.number-number.ensures (subst (λ b. IsWithout b c.number-number.result (c.get_mut.follows.lender c.result-took.new.self).entries c.remove_if.new.conns.entries) c.is_gone-gone.ensures c.remove_if.ensures)) c.result-took.new.shared c.add-2.new.self) c.add-2.ensures c.args.outcome c.result-took.ensures.takes c.result-took.ensures.begun) c.self.invariant.serving)
+
+pub returns-in_default-clause-stands : goal.returns-in_default-clause-stands
+returns-in_default-clause-stands g c = subst (λ x. TakesEvent (BranchResult c.args.call.now.conn c.args.call.now.request c.args.branch c.args.outcome) x (gateway_of c.self.inside.shared c.get_mut.follows.lender-at-none.entries c.self.inside.opened c.add.new.self)) c.self.view_is (results_stands c.args.call.now c.args.branch c.args.outcome (gateway_of c.self.inside.shared c.self.inside.conns.entries c.self.inside.opened c.self.inside.tally) (gateway_of c.self.inside.shared c.get_mut.follows.lender-at-none.entries c.self.inside.opened c.add.new.self) c.unknown.result (absent (sym (c.in_default.ensures.value ∙ ap (λ m. held_at m c.self.inside.conns.entries) c.number-number.ensures)) c.unknown.ensures (subst (λ q. Tallies q.seen (gateway_of c.self.inside.shared c.self.inside.conns.entries c.self.inside.opened c.self.inside.tally) (gateway_of c.self.inside.shared c.get_mut.follows.lender-at-none.entries c.self.inside.opened c.add.new.self)) (sym c.unknown.ensures) c.add.ensures) (ap (λ m. gateway_of c.self.inside.shared m.entries c.self.inside.opened c.add.new.self) c.get_mut.follows.holds-at-none)) c.self.invariant.serving)
+
+pub returns-in_default-clause-adds : goal.returns-in_default-clause-adds
+returns-in_default-clause-adds g c = subst (λ x. AddsEvent (BranchResult c.args.call.now.conn c.args.call.now.request c.args.branch c.args.outcome) x (gateway_of c.self.inside.shared c.get_mut.follows.lender-at-none.entries c.self.inside.opened c.add.new.self)) c.self.view_is (results_adds c.args.call.now c.args.branch c.args.outcome (gateway_of c.self.inside.shared c.self.inside.conns.entries c.self.inside.opened c.self.inside.tally) (gateway_of c.self.inside.shared c.get_mut.follows.lender-at-none.entries c.self.inside.opened c.add.new.self) c.unknown.result (absent (sym (c.in_default.ensures.value ∙ ap (λ m. held_at m c.self.inside.conns.entries) c.number-number.ensures)) c.unknown.ensures (subst (λ q. Tallies q.seen (gateway_of c.self.inside.shared c.self.inside.conns.entries c.self.inside.opened c.self.inside.tally) (gateway_of c.self.inside.shared c.get_mut.follows.lender-at-none.entries c.self.inside.opened c.add.new.self)) (sym c.unknown.ensures) c.add.ensures) (ap (λ m. gateway_of c.self.inside.shared m.entries c.self.inside.opened c.add.new.self) c.get_mut.follows.holds-at-none)) c.self.invariant.serving)
+
+pub returns-in_default-clause-tells : goal.returns-in_default-clause-tells
+returns-in_default-clause-tells g c = subst (λ x. TellsTook c.args.call.now c.args.branch c.unknown.result x (gateway_of c.self.inside.shared c.get_mut.follows.lender-at-none.entries c.self.inside.opened c.add.new.self)) c.self.view_is (results_tells c.args.call.now c.args.branch c.args.outcome (gateway_of c.self.inside.shared c.self.inside.conns.entries c.self.inside.opened c.self.inside.tally) (gateway_of c.self.inside.shared c.get_mut.follows.lender-at-none.entries c.self.inside.opened c.add.new.self) c.unknown.result (absent (sym (c.in_default.ensures.value ∙ ap (λ m. held_at m c.self.inside.conns.entries) c.number-number.ensures)) c.unknown.ensures (subst (λ q. Tallies q.seen (gateway_of c.self.inside.shared c.self.inside.conns.entries c.self.inside.opened c.self.inside.tally) (gateway_of c.self.inside.shared c.get_mut.follows.lender-at-none.entries c.self.inside.opened c.add.new.self)) (sym c.unknown.ensures) c.add.ensures) (ap (λ m. gateway_of c.self.inside.shared m.entries c.self.inside.opened c.add.new.self) c.get_mut.follows.holds-at-none)) c.self.invariant.serving)
+
+pub returns-in_default-clause-keeps : goal.returns-in_default-clause-keeps
+returns-in_default-clause-keeps g c = subst (λ x. KeepsBut (λ d. false) (λ d. d == c.args.call.now.conn) (c.unknown.result.seen ∷ []) x (gateway_of c.self.inside.shared c.get_mut.follows.lender-at-none.entries c.self.inside.opened c.add.new.self)) c.self.view_is (results_keeps c.args.call.now c.args.branch c.args.outcome (gateway_of c.self.inside.shared c.self.inside.conns.entries c.self.inside.opened c.self.inside.tally) (gateway_of c.self.inside.shared c.get_mut.follows.lender-at-none.entries c.self.inside.opened c.add.new.self) c.unknown.result (absent (sym (c.in_default.ensures.value ∙ ap (λ m. held_at m c.self.inside.conns.entries) c.number-number.ensures)) c.unknown.ensures (subst (λ q. Tallies q.seen (gateway_of c.self.inside.shared c.self.inside.conns.entries c.self.inside.opened c.self.inside.tally) (gateway_of c.self.inside.shared c.get_mut.follows.lender-at-none.entries c.self.inside.opened c.add.new.self)) (sym c.unknown.ensures) c.add.ensures) (ap (λ m. gateway_of c.self.inside.shared m.entries c.self.inside.opened c.add.new.self) c.get_mut.follows.holds-at-none)) c.self.invariant.serving)
+
+pub returns-clause-stands : goal.returns-clause-stands
+returns-clause-stands g c = subst (λ x. TakesEvent (BranchResult c.args.call.now.conn c.args.call.now.request c.args.branch c.args.outcome) x (gateway_of c.result-took.new.shared c.remove_if.new.conns.entries c.self.inside.opened c.add-2.new.self)) c.self.view_is (results_stands c.args.call.now c.args.branch c.args.outcome (gateway_of c.self.inside.shared c.self.inside.conns.entries c.self.inside.opened c.self.inside.tally) (gateway_of c.result-took.new.shared c.remove_if.new.conns.entries c.self.inside.opened c.add-2.new.self) c.result-took.result (results_step c.self.invariant c.args.call.now c.args.branch c.result-took.result c.in-Some.held.now c.result-took.new.self (c.in-Some.ensures.value ∙ ap (λ m. held_at m c.self.inside.conns.entries) c.number-number.ensures) (moves_left c.self.invariant c.args.call.now.conn c.in-Some.held.now c.result-took.new.self (c.in-Some.ensures.value ∙ ap (λ m. held_at m c.self.inside.conns.entries) c.number-number.ensures) ((c.get_mut.follows.holds c.result-took.new.self).0 ∙ ap (λ m. set_value (is_at (nat_cmp m)) c.self.inside.conns.entries c.result-took.new.self) c.number-number.ensures) (subst (λ m. IsWithout (is_gone c.result-took.new.self) m (c.get_mut.follows.lender c.result-took.new.self).entries c.remove_if.new.conns.entries) c.number-number.ensures (subst (λ b. IsWithout b c.number-number.result (c.get_mut.follows.lender c.result-took.new.self).entries c.remove_if.new.conns.entries) c.is_gone-gone.ensures c.remove_if.ensures)) c.result-took.new.shared c.add-2.new.self) c.add-2.ensures c.args.outcome c.result-took.ensures.takes c.result-took.ensures.begun) c.self.invariant.serving)
+
+pub returns-clause-adds : goal.returns-clause-adds
+returns-clause-adds g c = subst (λ x. AddsEvent (BranchResult c.args.call.now.conn c.args.call.now.request c.args.branch c.args.outcome) x (gateway_of c.result-took.new.shared c.remove_if.new.conns.entries c.self.inside.opened c.add-2.new.self)) c.self.view_is (results_adds c.args.call.now c.args.branch c.args.outcome (gateway_of c.self.inside.shared c.self.inside.conns.entries c.self.inside.opened c.self.inside.tally) (gateway_of c.result-took.new.shared c.remove_if.new.conns.entries c.self.inside.opened c.add-2.new.self) c.result-took.result (results_step c.self.invariant c.args.call.now c.args.branch c.result-took.result c.in-Some.held.now c.result-took.new.self (c.in-Some.ensures.value ∙ ap (λ m. held_at m c.self.inside.conns.entries) c.number-number.ensures) (moves_left c.self.invariant c.args.call.now.conn c.in-Some.held.now c.result-took.new.self (c.in-Some.ensures.value ∙ ap (λ m. held_at m c.self.inside.conns.entries) c.number-number.ensures) ((c.get_mut.follows.holds c.result-took.new.self).0 ∙ ap (λ m. set_value (is_at (nat_cmp m)) c.self.inside.conns.entries c.result-took.new.self) c.number-number.ensures) (subst (λ m. IsWithout (is_gone c.result-took.new.self) m (c.get_mut.follows.lender c.result-took.new.self).entries c.remove_if.new.conns.entries) c.number-number.ensures (subst (λ b. IsWithout b c.number-number.result (c.get_mut.follows.lender c.result-took.new.self).entries c.remove_if.new.conns.entries) c.is_gone-gone.ensures c.remove_if.ensures)) c.result-took.new.shared c.add-2.new.self) c.add-2.ensures c.args.outcome c.result-took.ensures.takes c.result-took.ensures.begun) c.self.invariant.serving)
+
+pub returns-clause-tells : goal.returns-clause-tells
+returns-clause-tells g c = subst (λ x. TellsTook c.args.call.now c.args.branch c.result-took.result x (gateway_of c.result-took.new.shared c.remove_if.new.conns.entries c.self.inside.opened c.add-2.new.self)) c.self.view_is (results_tells c.args.call.now c.args.branch c.args.outcome (gateway_of c.self.inside.shared c.self.inside.conns.entries c.self.inside.opened c.self.inside.tally) (gateway_of c.result-took.new.shared c.remove_if.new.conns.entries c.self.inside.opened c.add-2.new.self) c.result-took.result (results_step c.self.invariant c.args.call.now c.args.branch c.result-took.result c.in-Some.held.now c.result-took.new.self (c.in-Some.ensures.value ∙ ap (λ m. held_at m c.self.inside.conns.entries) c.number-number.ensures) (moves_left c.self.invariant c.args.call.now.conn c.in-Some.held.now c.result-took.new.self (c.in-Some.ensures.value ∙ ap (λ m. held_at m c.self.inside.conns.entries) c.number-number.ensures) ((c.get_mut.follows.holds c.result-took.new.self).0 ∙ ap (λ m. set_value (is_at (nat_cmp m)) c.self.inside.conns.entries c.result-took.new.self) c.number-number.ensures) (subst (λ m. IsWithout (is_gone c.result-took.new.self) m (c.get_mut.follows.lender c.result-took.new.self).entries c.remove_if.new.conns.entries) c.number-number.ensures (subst (λ b. IsWithout b c.number-number.result (c.get_mut.follows.lender c.result-took.new.self).entries c.remove_if.new.conns.entries) c.is_gone-gone.ensures c.remove_if.ensures)) c.result-took.new.shared c.add-2.new.self) c.add-2.ensures c.args.outcome c.result-took.ensures.takes c.result-took.ensures.begun) c.self.invariant.serving)
+
+pub returns-clause-keeps : goal.returns-clause-keeps
+returns-clause-keeps g c = subst (λ x. KeepsBut (λ d. false) (λ d. d == c.args.call.now.conn) (c.result-took.result.seen ∷ []) x (gateway_of c.result-took.new.shared c.remove_if.new.conns.entries c.self.inside.opened c.add-2.new.self)) c.self.view_is (results_keeps c.args.call.now c.args.branch c.args.outcome (gateway_of c.self.inside.shared c.self.inside.conns.entries c.self.inside.opened c.self.inside.tally) (gateway_of c.result-took.new.shared c.remove_if.new.conns.entries c.self.inside.opened c.add-2.new.self) c.result-took.result (results_step c.self.invariant c.args.call.now c.args.branch c.result-took.result c.in-Some.held.now c.result-took.new.self (c.in-Some.ensures.value ∙ ap (λ m. held_at m c.self.inside.conns.entries) c.number-number.ensures) (moves_left c.self.invariant c.args.call.now.conn c.in-Some.held.now c.result-took.new.self (c.in-Some.ensures.value ∙ ap (λ m. held_at m c.self.inside.conns.entries) c.number-number.ensures) ((c.get_mut.follows.holds c.result-took.new.self).0 ∙ ap (λ m. set_value (is_at (nat_cmp m)) c.self.inside.conns.entries c.result-took.new.self) c.number-number.ensures) (subst (λ m. IsWithout (is_gone c.result-took.new.self) m (c.get_mut.follows.lender c.result-took.new.self).entries c.remove_if.new.conns.entries) c.number-number.ensures (subst (λ b. IsWithout b c.number-number.result (c.get_mut.follows.lender c.result-took.new.self).entries c.remove_if.new.conns.entries) c.is_gone-gone.ensures c.remove_if.ensures)) c.result-took.new.shared c.add-2.new.self) c.add-2.ensures c.args.outcome c.result-took.ensures.takes c.result-took.ensures.begun) c.self.invariant.serving)

@@ -1,5 +1,5 @@
 use Rattle.std.proofs.Common.{[], ◌∷◌, ap, append-nil, refl, sym}
-use Rattle.gateway_theory.specs.Gateway.{GatewayValue}
+use Rattle.gateway_theory.specs.Values.{GatewayValue}
 use Rattle.gateway_loop.proofs.GrowLemmas.{begins_by, begins_same, continues_all, noted_job, onward}
 use Rattle.gateway_loop.proofs.ServingLemmas.{serving_jobs}
 use Rattle.gateway_loop.proofs.clients.Clients.take_job.Goals as goal

@@ -1,0 +1,16 @@
+pub mod DueLemmas
+pub mod TimedLemmas
+pub mod KeptLemmas
+pub mod GroupLemmas
+pub mod HoldsLemmas
+pub mod LinkedLemmas
+pub mod ToldLemmas
+pub mod DoneLemmas
+pub mod SlotLemmas
+pub mod EnterLemmas
+pub mod SettleLemmas
+pub mod EndLemmas
+pub mod LentLemmas
+pub mod BroadcastLemmas
+pub mod TakenLemmas
+pub mod StreamLemmas

@@ -1,0 +1,12 @@
+use Rattle.std.proofs.Common.{ap, refl}
+use Rattle.std.specs.Arc.{arc_value}
+use Rattle.gateway_theory.specs.Task.{task_of}
+use Rattle.gateway_connection.proofs.GroupLemmas.{gone_more, ok_is}
+use Rattle.gateway_connection.proofs.begin.give.Goals as goal
+
+pub loop-index-preserved : goal.loop-index-preserved
+loop-index-preserved c =
+    gone_more c.args.id.now (arc_value c.args.asked.now) c.loop-index.index c.loop-index.group c.go.new.self c.loop-index.first.items c.keep.new.first.items
+    (task_of c.args.id.now (arc_value c.in_ok-try_clone.field-0) c.loop-index.index) c.in-Ok.started c.loop-index.invariant
+    (ap (λ x. task_of c.args.id.now x c.loop-index.index) c.in_ok-try_clone.ensures)
+    (λ room. (ok_is _ _ _ _ refl refl (c.in-Ok.ensures.started room).0, (c.in-Ok.ensures.started room).1)) c.in-Ok.ensures.queued c.in_ok-keep.ensures

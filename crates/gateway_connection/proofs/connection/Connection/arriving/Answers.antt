@@ -1,0 +1,12 @@
+use Rattle.std.proofs.Common.{ap, ◌∙◌}
+use Rattle.std.specs.Prelude.{is_some}
+use Rattle.gateway_theory.specs.lemmas.ArrivalLemmas.{no_call, timely}
+use Rattle.gateway_connection.proofs.connection.Connection.arriving.Goals as goal
+
+pub new-requires-clause-timely : goal.new-requires-clause-timely
+new-requires-clause-timely g c =
+    timely c.timeout_law.ensures c.args.request c.is_some.result c.in_ok-verdict.verdict c.in-Ask.timeout c.in-Ask.request_id c.in_ok-verdict.ensures.first_rule c.in-Ask.is
+
+pub unreachable-requires : goal.unreachable-requires
+unreachable-requires g c =
+    no_call c.args.request c.is_some.result c.in_ok-verdict.verdict c.in-Ask.timeout c.in-Ask.request_id c.in_ok-verdict.ensures.first_rule c.in-Ask.is (c.is_some.ensures ∙ ap is_some c.in-None-plan.is)

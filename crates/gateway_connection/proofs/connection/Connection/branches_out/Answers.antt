@@ -1,0 +1,14 @@
+use Rattle.std.proofs.Common.{◌∙◌, ap, sym}
+use Rattle.std.specs.List.{count_by}
+use Rattle.gateway_model.specs.Past.{call_id}
+use Rattle.gateway_theory.specs.Values.{CallState, HeldConnection}
+use Rattle.gateway_theory.specs.lemmas.StoreLemmas.{call_missing}
+use Rattle.gateway_connection.proofs.HoldsLemmas.{found_call}
+use Rattle.gateway_connection.proofs.connection.Connection.branches_out.Goals as goal
+
+pub returns-in-Some : goal.returns-in-Some
+returns-in-Some c = c.outs.ensures ∙ sym (ap (λ (x : CallState). count_by (λ b. b) x.out)
+    (found_call (call_id c.args.self.now.number c.args.request) c.self.inside.calls.items c.args.self.now.calls c.in-Some.index c.index.result.now (ap (λ (k : HeldConnection). k.calls) c.self.view_is) c.in-Some.ensures c.index.ensures))
+
+pub returns-in-None : goal.returns-in-None
+returns-in-None c = sym (ap (λ (x : CallState). count_by (λ b. b) x.out) (call_missing (call_id c.args.self.now.number c.args.request) c.args.self.now.calls c.in-None.ensures))

@@ -1,0 +1,116 @@
+use Rattle.std.proofs.Common.{◌≡◌, ◌<◌, ◌++◌, ◌∷◌, ◌∙◌, Some, [], ap, append-nil, arith, length, refl, sym, subst, true}
+use Rattle.std.specs.Prelude.{if◌then◌else◌, is_some, option_map, option_to_list, slice_set}
+use Rattle.gateway_replies.specs.Contexts.{without}
+use Rattle.gateway_theory.specs.Values.{KeptValue, HeldConnection}
+use Rattle.gateway_theory.specs.Replies.{reply_with}
+use Rattle.gateway_theory.specs.Store.{given_up, kept_at, no_call, waiting, waiting_in}
+use Rattle.gateway_theory.specs.lemmas.Cases.{err_if}
+use Rattle.gateway_theory.specs.Held.{Holds, broken_held}
+use Rattle.gateway_connection.specs.Ends.{ending_of}
+use Rattle.gateway_connection.specs.Holds.{held_by}
+use Rattle.gateway_connection.specs.Jobs.{JobsValue}
+use Rattle.gateway_connection.specs.Linked.{ends_with, event_for}
+use Rattle.gateway_connection.specs.OwnContexts.{LeavesContexts, LeavesOthers}
+use Rattle.gateway_connection.specs.lemmas.OwnContexts.{keeps_leaves, others_same, without_leaves}
+use Rattle.gateway_connection.proofs.DoneLemmas.{part_waits, given_first, given_waits, some_ends}
+use Rattle.gateway_connection.proofs.HoldsLemmas.{here_is, holds_set}
+use Rattle.gateway_connection.proofs.connection.Connection.end_one.Goals as goal
+
+pub invariant_of-self-2 : goal.invariant_of-self-2
+invariant_of-self-2 g c =
+    let items = ap (λ (k : HeldConnection). k.calls) c.self.view_is in
+    let lt : c.args.index < length c.self.inside.calls.items = (let within = c.requires.there in omega (arith, within, ap length items)) in
+    let was = here_is c.self.inside.calls.items c.self.inside.calls.items c.args.index c.index_mut-call.result.now refl lt c.index_mut-call.ensures.value in (
+      c.self.invariant.0,
+      holds_set (held_by c.self.inside.number c.self.inside.taken c.self.inside.slots.items c.self.inside.calls.items c.self.inside.broken c.self.inside.closed c.self.inside.hung_up c.self.inside.reader) (held_by c.self.inside.number c.self.inside.taken c.self.inside.slots.items (slice_set c.self.inside.calls.items c.args.index c.end.new.self) c.self.inside.broken c.self.inside.closed c.self.inside.hung_up c.self.inside.reader)
+          c.args.index c.end.new.self refl refl refl refl refl (ap (λ (x : KeptValue). x.id) (c.end.ensures.given ∙ ap given_up was)) (λ shut. ap (λ (x : KeptValue). x.call.live) c.end.ensures.given) c.self.invariant.1,
+    )
+
+pub returns-in_err-reply-clause-err : goal.returns-in_err-reply-clause-err
+returns-in_err-reply-clause-err g c =
+    let items = ap (λ (k : HeldConnection). k.calls) c.self.view_is in
+    let lt : c.args.index < length c.self.inside.calls.items = (let within = c.requires.there in omega (arith, within, ap length items)) in
+    let seen : c.index.result.now ≡ kept_at c.args.index c.args.self.now.calls = here_is c.self.inside.calls.items c.args.self.now.calls c.args.index c.index.result.now items lt c.index.ensures in
+    let named : c.index-2.result.now ≡ kept_at c.args.index c.args.self.now.calls = here_is c.self.inside.calls.items c.args.self.now.calls c.args.index c.index-2.result.now items lt c.index-2.ensures in
+    let was : c.index_mut-call.result.now ≡ kept_at c.args.index c.args.self.now.calls = here_is c.self.inside.calls.items c.args.self.now.calls c.args.index c.index_mut-call.result.now items lt c.index_mut-call.ensures.value in
+    let live : is_some (kept_at c.args.index c.args.self.now.calls).call.live ≡ true = ap (λ (x : KeptValue). is_some x.call.live) (sym seen) ∙ sym c.is_live.ensures ∙ c.if-not-is_live.false in
+    let event : event_for c.args.shared.now.moment (kept_at c.args.index c.args.self.now.calls).id c.args.shared.now.contexts.standing ≡ Some c.in-Some.event =
+    ap (λ d. event_for c.args.shared.now.moment d c.args.shared.now.contexts.standing) (sym (c.id-id.ensures ∙ ap (λ (x : KeptValue). x.id) named)) ∙ sym c.ending.ensures ∙ c.in-Some.is in
+    let ends = some_ends c.in-Some.event (event_for c.args.shared.now.moment (kept_at c.args.index c.args.self.now.calls).id c.args.shared.now.contexts.standing) (kept_at c.args.index c.args.self.now.calls) event live in
+    let given : c.end.new.self ≡ given_up (kept_at c.args.index c.args.self.now.calls) = c.end.ensures.given ∙ ap given_up was in
+    let fewer : c.waiting.result ≡ waiting_in (kept_at c.args.index c.args.self.now.calls) = c.waiting.ensures ∙ ap waiting_in was in
+    let part = part_waits c.args.self.now.calls c.args.index c.requires.there in
+    let h = subst Holds c.self.view_is c.self.invariant.1 in
+    let own = (ap (λ (x : KeptValue). x.id.conn) was ∙ h.own c.args.index no_call c.requires.there) in
+    let others : LeavesOthers c.args.self.now.number c.args.shared.now.contexts c.end.new.contexts =
+    others_same c.args.self.now.number c.args.shared.now.contexts c.end.new.contexts
+    (subst (λ n. LeavesContexts n c.args.shared.now.contexts.standing c.end.new.contexts.standing) own
+    (keeps_leaves c.index_mut-call.result.now.id.conn c.args.shared.now.contexts.standing c.end.new.contexts.standing c.in_err-reply.ensures.goes.others)) c.end.ensures.goes.stocks_are in
+    err_if c.from_residual-in_err-reply.result (record {
+      ends = ends.1;
+      broken = ap broken_held (ap (λ (k : HeldConnection). record k { calls = slice_set k.calls c.args.index c.end.new.self }) c.self.view_is) ∙ ap (λ ks. record c.args.self.now { calls = ks; broken = true }) (given_first c.args.self.now.calls c.args.index c.end.new.self given);
+      number_is = ap (λ (k : HeldConnection). k.number) c.self.view_is;
+      begun_is = refl;
+      rest = record {
+        plans_are = refl;
+        moment_is = refl;
+        jobs_are = ap (λ (q : JobsValue). q.jobs) c.release.ensures ∙ sym (append-nil c.args.shared.now.jobs.jobs);
+        waits = omega (
+          arith,
+          ap (λ (q : JobsValue). q.waiting) c.release.ensures,
+          fewer,
+          part,
+          c.requires.waits,
+          given_waits c.args.self.now.calls c.args.index c.end.new.self c.requires.there given,
+          ap (λ (k : HeldConnection). waiting (slice_set k.calls c.args.index c.end.new.self)) c.self.view_is,
+        );
+        others = others;
+      };
+    })
+
+pub returns-clause-ok : goal.returns-clause-ok
+returns-clause-ok g c =
+    let items = ap (λ (k : HeldConnection). k.calls) c.self.view_is in
+    let lt : c.args.index < length c.self.inside.calls.items = (let within = c.requires.there in omega (arith, within, ap length items)) in
+    let seen : c.index.result.now ≡ kept_at c.args.index c.args.self.now.calls = here_is c.self.inside.calls.items c.args.self.now.calls c.args.index c.index.result.now items lt c.index.ensures in
+    let named : c.index-2.result.now ≡ kept_at c.args.index c.args.self.now.calls = here_is c.self.inside.calls.items c.args.self.now.calls c.args.index c.index-2.result.now items lt c.index-2.ensures in
+    let was : c.index_mut-call.result.now ≡ kept_at c.args.index c.args.self.now.calls = here_is c.self.inside.calls.items c.args.self.now.calls c.args.index c.index_mut-call.result.now items lt c.index_mut-call.ensures.value in
+    let live : is_some (kept_at c.args.index c.args.self.now.calls).call.live ≡ true = ap (λ (x : KeptValue). is_some x.call.live) (sym seen) ∙ sym c.is_live.ensures ∙ c.if-not-is_live.false in
+    let event : event_for c.args.shared.now.moment (kept_at c.args.index c.args.self.now.calls).id c.args.shared.now.contexts.standing ≡ Some c.in-Some.event =
+    ap (λ d. event_for c.args.shared.now.moment d c.args.shared.now.contexts.standing) (sym (c.id-id.ensures ∙ ap (λ (x : KeptValue). x.id) named)) ∙ sym c.ending.ensures ∙ c.in-Some.is in
+    let ends = some_ends c.in-Some.event (event_for c.args.shared.now.moment (kept_at c.args.index c.args.self.now.calls).id c.args.shared.now.contexts.standing) (kept_at c.args.index c.args.self.now.calls) event live in
+    let given : c.end.new.self ≡ given_up (kept_at c.args.index c.args.self.now.calls) = c.end.ensures.given ∙ ap given_up was in
+    let fewer : c.waiting.result ≡ waiting_in (kept_at c.args.index c.args.self.now.calls) = c.waiting.ensures ∙ ap waiting_in was in
+    let part = part_waits c.args.self.now.calls c.args.index c.requires.there in
+    let h = subst Holds c.self.view_is c.self.invariant.1 in
+    let own = (ap (λ (x : KeptValue). x.id.conn) was ∙ h.own c.args.index no_call c.requires.there) in
+    let others : LeavesOthers c.args.self.now.number c.args.shared.now.contexts c.end.new.contexts =
+    others_same c.args.self.now.number c.args.shared.now.contexts c.end.new.contexts
+    (subst (λ n. LeavesContexts n c.args.shared.now.contexts.standing c.end.new.contexts.standing) own
+    (subst (LeavesContexts c.index_mut-call.result.now.id.conn c.args.shared.now.contexts.standing) (sym c.in_ok-reply.ensures.goes.gone) (without_leaves c.index_mut-call.result.now.id c.args.shared.now.contexts.standing))) c.end.ensures.goes.stocks_are in
+    let its : option_map (reply_with (kept_at c.args.index c.args.self.now.calls).id) (ending_of c.args.index c.args.self.now c.args.shared.now).reply ≡ Some c.in_ok-reply.reply =
+    ap (λ e. option_map (reply_with (kept_at c.args.index c.args.self.now.calls).id) (ends_with e (kept_at c.args.index c.args.self.now.calls).call.out (kept_at c.args.index c.args.self.now.calls).call.live).reply) event
+    ∙ ap (λ (x : KeptValue). option_map (reply_with x.id) (ends_with (Some c.in-Some.event) x.call.out x.call.live).reply) (sym was) ∙ c.in_ok-reply.ensures.made in
+    record {
+      conn_is = ap (λ (k : HeldConnection). record k { calls = slice_set k.calls c.args.index c.end.new.self }) c.self.view_is ∙ ap (λ y. record c.args.self.now { calls = slice_set c.args.self.now.calls c.args.index y }) (given ∙ sym ends.0);
+      made_are = c.push_reserved.ensures.items ∙ ap (λ rs. rs ++ c.in_ok-reply.reply ∷ []) c.reserve.ensures.items ∙ ap (λ o. c.args.shared.now.made.items ++ option_to_list o) (sym its);
+      standing_is = c.in_ok-reply.ensures.goes.gone ∙ ap (λ (x : KeptValue). without x.id c.args.shared.now.contexts.standing) was
+          ∙ sym (ap (λ b. if b then without (kept_at c.args.index c.args.self.now.calls).id c.args.shared.now.contexts.standing else c.args.shared.now.contexts.standing) ends.1);
+      stocks_are = c.end.ensures.goes.stocks_are;
+      begun_is = refl;
+      rest = record {
+        plans_are = refl;
+        moment_is = refl;
+        jobs_are = ap (λ (q : JobsValue). q.jobs) c.release.ensures ∙ sym (append-nil c.args.shared.now.jobs.jobs);
+        waits = omega (
+          arith,
+          ap (λ (q : JobsValue). q.waiting) c.release.ensures,
+          fewer,
+          part,
+          c.requires.waits,
+          given_waits c.args.self.now.calls c.args.index c.end.new.self c.requires.there given,
+          ap (λ (k : HeldConnection). waiting (slice_set k.calls c.args.index c.end.new.self)) c.self.view_is,
+        );
+        others = others;
+      };
+    }

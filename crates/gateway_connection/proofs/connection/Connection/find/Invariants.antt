@@ -1,0 +1,7 @@
+use Rattle.std.proofs.Common.{◌≡◌, ℕ, ◌<◌, false}
+use Rattle.gateway_model.specs.Past.{call_id, is_call}
+use Rattle.gateway_theory.specs.Store.{kept_at}
+use Rattle.gateway_connection.proofs.connection.Connection.find.Given as goal
+
+abbrev pub invariant-loop-index : goal.invariant-loop-index
+invariant-loop-index l = (j : ℕ) → j < l.index → is_call (kept_at j l.self.calls).id (call_id l.self.number l.request) ≡ false

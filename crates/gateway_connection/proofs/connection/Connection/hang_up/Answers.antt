@@ -1,0 +1,24 @@
+use Rattle.std.proofs.Common.{◌∙◌, [], ap, sym, subst}
+use Rattle.gateway_theory.specs.declared.trigger.Trigger.TheVariants.{HungUp}
+use Rattle.gateway_replies.specs.Contexts.{told}
+use Rattle.gateway_theory.specs.Held.{hung_held}
+use Rattle.gateway_theory.specs.Values.{HeldConnection}
+use Rattle.gateway_connection.specs.Lent.{LeavesRest, MayStep}
+use Rattle.gateway_connection.specs.Linked.{over_by}
+use Rattle.gateway_connection.proofs.StreamLemmas.{hung_may, hung_rest}
+use Rattle.gateway_connection.proofs.connection.Connection.hang_up.Goals as goal
+
+pub end_calls-requires-clause-may : goal.end_calls-requires-clause-may
+end_calls-requires-clause-may g c =
+    subst (λ (k : HeldConnection). MayStep (over_by (HungUp k.number)) (hung_held k) (record c.args.shared.now { contexts = c.tell.new.self })) (sym c.self.view_is)
+    (hung_may c.args.self.now c.args.shared.now c.tell.new.self c.requires.may (c.tell.ensures.ended ∙ ap (λ (k : HeldConnection). told (HungUp k.number) c.args.shared.now.contexts.standing) c.self.view_is) c.tell.ensures.hooks)
+
+pub returns-then-end_calls-clause-rest : goal.returns-then-end_calls-clause-rest
+returns-then-end_calls-clause-rest g c =
+    hung_rest c.args.self.now c.end_calls.new.self c.args.shared.now c.end_calls.new.shared c.tell.new.self (c.tell.ensures.ended ∙ ap (λ (k : HeldConnection). told (HungUp k.number) c.args.shared.now.contexts.standing) c.self.view_is)
+    c.tell.ensures.hooks (subst (λ k. LeavesRest [] k c.end_calls.new.self (record c.args.shared.now { contexts = c.tell.new.self }) c.end_calls.new.shared) (ap hung_held c.self.view_is) c.if-end_calls.ensures.rest)
+
+pub returns-clause-rest : goal.returns-clause-rest
+returns-clause-rest g c =
+    hung_rest c.args.self.now c.end_calls.new.self c.args.shared.now c.end_calls.new.shared c.tell.new.self (c.tell.ensures.ended ∙ ap (λ (k : HeldConnection). told (HungUp k.number) c.args.shared.now.contexts.standing) c.self.view_is)
+    c.tell.ensures.hooks (subst (λ k. LeavesRest [] k c.end_calls.new.self (record c.args.shared.now { contexts = c.tell.new.self }) c.end_calls.new.shared) (ap hung_held c.self.view_is) c.if-end_calls.ensures.rest)

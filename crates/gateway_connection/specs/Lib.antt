@@ -1,0 +1,9 @@
+pub mod KeptCall
+pub mod Comes
+pub mod Linked
+pub mod Ends
+pub mod Holds
+pub mod Jobs
+pub mod Lent
+pub mod OwnContexts
+pub mod lemmas

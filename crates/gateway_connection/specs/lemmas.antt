@@ -1,0 +1,4 @@
+pub mod OwnContexts
+pub mod OwnTies
+pub mod OwnOver
+pub mod OwnTold

@@ -1,0 +1,117 @@
+ghost use Rattle.std.specs.Prelude.{◌≡◌, ◌≤◌, ◌^◌, ◌++◌, IfOk, [], map, length, nat_lt, option_to_list};
+ghost use Rattle.std.specs.List.{range_with_len};
+ghost use Rattle.std.specs.Arc.{arc_value};
+ghost use Rattle.std.specs.Vec.{vec_capacity};
+ghost use Rattle.gateway_model.specs.Past.{deadline_from};
+ghost use Rattle.gateway_connection.specs.KeptCall.{HasGone, IsBegun};
+
+use crate::kept::Kept;
+use crate::live::Live;
+use crate::task::Task;
+use err_group::Group;
+use gateway_model::CallId;
+use gateway_replies::ArrivedCall;
+use std::alloc::{AllocError, Global};
+use std::collections::VecDeque;
+use std::sync::Arc;
+
+/// A call as it begins at this moment, and the branches that start at once: those below the plan's limit. The others wait.
+pub fn begin(
+    alloc: Global,
+    id: CallId,
+    asked: ArrivedCall,
+    moment: u64,
+) -> Result<(Kept, VecDeque<Task>), AllocError>
+    requires { moment ≤ 2 ^ 62 }
+    ensures { IfOk result (λ made. IsBegun moment id asked made.0 made.1.items) }
+{
+    let plan = Arc::try_clone(&asked.plan)?;
+    let asked = Arc::new(alloc, asked)?;
+    let count = plan.branches().len();
+    let events = Vec::with_capacity(alloc, count)?;
+    let out = first_out(alloc, count, count.min(plan.limit() as usize))?;
+    let mut group = Group::new(alloc);
+    let _ = group.set_limit(Some(plan.limit()));
+    let first = give(alloc, &id, &asked, &mut group)?;
+    let deadlines = first_deadlines(alloc, &first, moment, count)?;
+    let live = Some(Live {
+        asked,
+        plan,
+        events,
+        deadlines,
+    });
+    Ok((
+        Kept {
+            id,
+            out,
+            group,
+            live,
+        },
+        first,
+    ))
+}
+
+/// Gives the call's branches to its group, in declared order: those that start at once.
+fn give(
+    alloc: Global,
+    id: &CallId,
+    asked: &Arc<ArrivedCall>,
+    group: &mut Group<Task, ()>,
+) -> Result<VecDeque<Task>, AllocError>
+    requires { HasGone id.now (arc_value asked.now) 0 group.old [] }
+    ensures { IfOk result (λ first. HasGone id.now (arc_value asked.now) (length (arc_value asked.now).plan.branches) group.new first.items) }
+{
+    let mut first = VecDeque::new(alloc);
+    for index in 0..asked.plan.branches().len() {
+        let task = Task {
+            call: *id,
+            branch: index as u32,
+            asked: Arc::try_clone(asked)?,
+        };
+        let Ok(started) = group.go(task) else {
+            return Err(AllocError);
+        };
+        keep(&mut first, started)?;
+    }
+    Ok(first)
+}
+
+/// Keeps the task, if it has started.
+fn keep(first: &mut VecDeque<Task>, started: Option<Task>) -> Result<(), AllocError>
+    ensures { IfOk result (λ _. first.new.items ≡ first.old.items ++ option_to_list started) }
+{
+    if let Some(task) = started {
+        first.push_back(task)?;
+    }
+    Ok(())
+}
+
+/// The branches below `first` are out, of so many.
+fn first_out(alloc: Global, count: usize, first: usize) -> Result<Vec<bool>, AllocError>
+    ensures { IfOk result (λ out. out.items ≡ map (λ i. nat_lt i first) (range_with_len 0 count)) }
+{
+    let mut out = Vec::new(alloc);
+    for index in 0..count {
+        out.push(index < first)?;
+    }
+    Ok(out)
+}
+
+/// The deadlines of the branches that start at this moment, with room for those of so many.
+fn first_deadlines(
+    alloc: Global,
+    first: &VecDeque<Task>,
+    moment: u64,
+    count: usize,
+) -> Result<Vec<Option<u64>>, AllocError>
+    requires moment { moment ≤ 2 ^ 62 }
+    requires few { length first.now.items ≤ count }
+    ensures items { IfOk result (λ made. made.items ≡ map (λ t. deadline_from moment t.asked.plan t.branch) first.now.items) }
+    ensures room { IfOk result (λ made. count ≤ vec_capacity made) }
+{
+    let mut deadlines = Vec::with_capacity(alloc, count)?;
+    for index in 0..first.len() {
+        deadlines.push_reserved(first[index].deadline(moment));
+    }
+    Ok(deadlines)
+}

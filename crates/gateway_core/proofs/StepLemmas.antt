@@ -1,0 +1,214 @@
+-- What a step of one connection makes of the gateway, and what is kept of it then.
+use Rattle.std.proofs.Common.{◌≡◌, ℕ, ◌+◌, ◌≤◌, refl, sym, ap, ◌∙◌, List, [], ◌∷◌, ◌++◌, Option, Some, None, Bool, true, false, subst, arith}
+use Rattle.std.specs.BTreeMap.{is_at}
+use Rattle.std.specs.Map.{set_value}
+use Rattle.std.specs.Ordering.{nat_cmp}
+use Rattle.std.specs.Prelude.{⊤, ◌&&◌, ◌||◌, ◌^◌, if◌then◌else◌, not, Result}
+use Rattle.std.proofs.lemmas.Map.Steps.{set_value_same}
+use Rattle.connect_codec.specs.declared.answer.Outcome.{Outcome}
+use Rattle.gateway_theory.specs.Gateway.{one_if_open, open_count}
+use Rattle.gateway_theory.specs.Values.{GatewayValue, gateway_value, HeldConnection}
+use Rattle.gateway_theory.specs.Held.{HangsUp, Holds, TakesReply, TakesResult, TakesStarved, closed_held, has_out_in, is_gone, left_of}
+use Rattle.gateway_theory.specs.Serving.{IsServing}
+use Rattle.gateway_theory.specs.Steps.{there, closes, Closes, Feeds, HangsUpAt, Moves, Results, Starves, TakesReplyAt, Tallies, open_in}
+use Rattle.gateway_model.specs.Job.{JobValue}
+use Rattle.gateway_model.specs.Past.{call_id}
+use Rattle.gateway_model.specs.declared.id.CallId.{CallId}
+use Rattle.gateway_theory.specs.Replies.{ReplyValue}
+use Rattle.gateway_theory.specs.Store.{waiting}
+use Rattle.gateway_theory.specs.declared.fault.StepFault.{StepFault}
+use Rattle.gateway_theory.specs.declared.fault.Took.{Took}
+use Rattle.gateway_theory.specs.declared.tally.Tally.{Tally}
+use Rattle.gateway_replies.specs.Contexts.{contexts_value}
+use Rattle.gateway_replies.specs.Hooks.{HookedContexts}
+use Rattle.gateway_connection.specs.Comes as comes
+use Rattle.gateway_connection.specs.Ends.{TakesFrom}
+use Rattle.gateway_connection.specs.Lent.{LeavesRest, MayStep}
+use Rattle.gateway_connection.specs.Linked.{none_over}
+use Rattle.gateway_connection.specs.OwnContexts.{IsTied, LeavesOthers, own_contexts}
+use Rattle.gateway_connection.specs.declared.shared.Shared.{Shared}
+use Rattle.gateway_core.specs.Whole.{AreFit, AreNumbered, Conns, IsWhole, IsWithout, TiedAt, gateway_of, held_at, waiting_all, waiting_for}
+use Rattle.gateway_core.proofs.FitLemmas.{dead_waits, gone_tied, tied_at, tied_moved}
+use Rattle.gateway_core.proofs.MapLemmas.{moved_out, moved_set, sum_holds, sum_removed, sum_set}
+
+append_none : {A : Type 0} (xs : List A) → xs ++ [] ≡ xs
+append_none [] = refl
+append_none (x ∷ xs) = ap (λ ys. x ∷ ys) (append_none xs)
+
+left_none : (l : HeldConnection) → is_gone l ≡ true → left_of l ≡ None
+left_none l gone = ap (λ b. if b then None else Some l) gone
+
+left_there : (l : HeldConnection) → is_gone l ≡ false → left_of l ≡ Some l
+left_there l stays = ap (λ b. if b then None else Some l) stays
+
+gone_closed : (l : HeldConnection) → is_gone l ≡ true → l.closed ≡ true
+gone_closed l gone = by l.closed gone
+  where
+    by : (b : Bool) → (b && not (has_out_in l)) ≡ true → b ≡ true
+    by true e = refl
+    by false e = e
+
+open_left : (l : HeldConnection) (b : Bool) → is_gone l ≡ b → open_in (left_of l) ≡ one_if_open l
+open_left l true gone = ap open_in (left_none l gone) ∙ sym (ap (λ b. if b then 0 else 1) (gone_closed l gone))
+open_left l false stays = ap open_in (left_there l stays)
+
+waits_left : (n : ℕ) (k l : HeldConnection) (es fs gs : Conns) → Some k ≡ held_at n es → fs ≡ set_value (is_at (nat_cmp n)) es l → (b : Bool) → is_gone l ≡ b → IsWithout b n fs gs → Holds l
+    → waiting_all gs + waiting_for k ≡ waiting_all es + waiting_for l
+waits_left n k l es fs gs found set true gone (removed, updates, sorted) holds =
+    let sums = sum_removed waiting_for n k l es fs gs (sym found) set removed in
+    let none_waits = dead_waits l.calls (holds.dead (ap (λ b. b || l.broken) (gone_closed l gone))) in
+    omega (arith, sums, none_waits)
+waits_left n k l es fs gs found set false stays same holds = sum_set waiting_for n k l es gs (sym found) (same ∙ set)
+
+-- what is said of a number and a gateway is said of the same ones
+pub at_both : (P : ℕ → GatewayValue → Type 0) {n m : ℕ} {v u : GatewayValue} → n ≡ m → v ≡ u → P n v → P m u
+at_both P {n} {m} {v} {u} n_is v_is p = subst (λ x. P m x) v_is (subst (λ i. P i v) n_is p)
+
+-- one that was looked at stands as it stood
+pub same_is : (n : ℕ) (k : HeldConnection) (es fs : Conns) → Some k ≡ held_at n es → fs ≡ set_value (is_at (nat_cmp n)) es k → fs ≡ es
+same_is n k es fs found set = set ∙ set_value_same (is_at (nat_cmp n)) es k (sym found)
+
+module _ {H : Type 0} where
+  -- ---- what the step needs
+
+  pub numbered : (s : Shared H) (es : Conns) (opened : ℕ) (tally : Tally) → IsServing (gateway_of s es opened tally) → AreNumbered es
+  numbered s es opened tally serving c k is = (serving.each c k is).number_is
+
+  module _ {s : Shared H} {es : Conns} {opened open_now : ℕ} {tally : Tally} (w : IsWhole s es opened open_now tally) (n : ℕ) (k : HeldConnection) (found : Some k ≡ held_at n es) where
+    pub may_step : MayStep none_over k s
+    may_step = record {
+      tied = tied_at none_over n k (held_at n es) s.contexts (sym found) (w.fit.tied n);
+      waits = subst (λ m. waiting k.calls ≤ m) (sym w.fit.waits) (sum_holds waiting_for n k es (sym found));
+      early = w.fit.early;
+    }
+
+    pub its_number : k.number ≡ n
+    its_number = (w.serving.each n k (sym found)).number_is
+
+  -- ---- what is kept then
+
+  pub same_whole : (s : Shared H) (es fs : Conns) (opened open_now : ℕ) (tally : Tally) → fs ≡ es → IsWhole s es opened open_now tally → IsWhole s fs opened open_now tally
+  same_whole s es fs opened open_now tally same w = subst (λ gs. IsWhole s gs opened open_now tally) (sym same) w
+
+  -- the gateway then, as it was but for this
+  pub rest_is : (s t : Shared H) (fs : Conns) (jobs : List JobValue) (opened : ℕ) (tally : Tally) → t.plans ≡ s.plans → t.moment ≡ s.moment
+      → t.contexts.standing.drained ≡ s.contexts.standing.drained → t.jobs.jobs ≡ jobs
+      → gateway_of t fs opened tally ≡ gateway_value s.plans s.moment s.contexts.standing.drained fs jobs opened t.begun tally
+  rest_is s t fs jobs opened tally plans moment drained jobs_are =
+      ap (λ p. gateway_value p t.moment t.contexts.standing.drained fs t.jobs.jobs opened t.begun tally) plans
+      ∙ ap (λ m. gateway_value s.plans m t.contexts.standing.drained fs t.jobs.jobs opened t.begun tally) moment
+      ∙ ap (λ d. gateway_value s.plans s.moment d fs t.jobs.jobs opened t.begun tally) drained
+      ∙ ap (λ js. gateway_value s.plans s.moment s.contexts.standing.drained fs js opened t.begun tally) jobs_are
+
+  -- where the step begins no call and starts no job
+  pub quiet_is : (s t : Shared H) (k l : HeldConnection) (fs : Conns) (opened : ℕ) (tally : Tally) → LeavesRest [] k l s t → t.begun ≡ s.begun
+      → gateway_of t fs opened tally ≡ gateway_value s.plans s.moment s.contexts.standing.drained fs s.jobs.jobs opened s.begun tally
+  quiet_is s t k l fs opened tally rest begun =
+      rest_is s t fs s.jobs.jobs opened tally rest.plans_are rest.moment_is rest.others.contexts.drained_is (rest.jobs_are ∙ append_none s.jobs.jobs)
+      ∙ ap (λ b. gateway_value s.plans s.moment s.contexts.standing.drained fs s.jobs.jobs opened b tally) begun
+
+  pub tally_whole : (s : Shared H) (es fs : Conns) (opened open_now : ℕ) (tally after : Tally) → fs ≡ es → IsWhole s es opened open_now tally → IsServing (gateway_of s fs opened after)
+      → IsWhole s fs opened open_now after
+  tally_whole s es fs opened open_now tally after same w serving = record {
+    serving = serving;
+    fit = subst (AreFit none_over s) (sym same) w.fit;
+    open_is = w.open_is ∙ ap (λ gs. open_count (gateway_of s gs opened after)) (sym same);
+  }
+
+  pub whole_moved : (s t : Shared H) (es fs : Conns) (opened later open_now open_then : ℕ) (tally after : Tally) (n : ℕ) (now : Option HeldConnection) → IsWhole s es opened open_now tally
+      → IsServing (gateway_of t fs later after) → Moves n now (gateway_of s es opened tally) (gateway_of t fs later after) → LeavesOthers n s.contexts t.contexts → TiedAt none_over n now t.contexts
+      → t.jobs.waiting ≡ waiting_all fs → t.moment ≡ s.moment → open_then + open_in (held_at n es) ≡ open_now + open_in now → IsWhole t fs later open_then after
+  whole_moved s t es fs opened later open_now open_then tally after n now w serving moves leaves tied waits moment opens = record {
+    serving = serving;
+    fit = record {
+      tied = tied_moved none_over n es fs s.contexts t.contexts (numbered s es opened tally w.serving) leaves (subst (λ o. TiedAt none_over n o t.contexts) (sym moves.here) tied) moves.others w.fit.tied;
+      waits = waits;
+      early = subst (λ m. m ≤ 2 ^ 62) (sym moment) w.fit.early;
+    };
+    open_is = omega (arith, opens, w.open_is, moves.open_is);
+  }
+
+  -- one connection made a step, and stands where it stood
+  module _ {s : Shared H} {es fs : Conns} {opened open_now : ℕ} {tally : Tally} (w : IsWhole s es opened open_now tally) (n : ℕ) (k l : HeldConnection) (found : Some k ≡ held_at n es)
+      (set : fs ≡ set_value (is_at (nat_cmp n)) es l) where
+    pub moves_for : (u : Shared H) (after : Tally) → Moves n (Some l) (gateway_of s es opened tally) (gateway_of u fs opened after)
+    moves_for u after = moved_set n k l (gateway_of s es opened tally) (gateway_of u fs opened after) (sym found) set w.serving.sorted
+
+    pub set_whole : (t : Shared H) (jobs : List JobValue) (after : Tally) → LeavesRest jobs k l s t → IsTied none_over l t.contexts → l.closed ≡ k.closed → IsServing (gateway_of t fs opened after) → IsWhole t fs opened open_now after
+    set_whole t jobs after rest tied same serving =
+        let sums = sum_set waiting_for n k l es fs (sym found) set in
+        let found_in : open_in (held_at n es) ≡ one_if_open k = ap open_in (sym found) in
+        let one : one_if_open l ≡ one_if_open k = ap (λ b. if b then 0 else 1) same in
+        whole_moved s t es fs opened opened open_now open_now tally after n (Some l) w serving (moves_for t after)
+        (subst (λ m. LeavesOthers m s.contexts t.contexts) (its_number w n k found) rest.others) tied
+        (omega (arith, sums, rest.waits, w.fit.waits)) rest.moment_is (omega (arith, found_in, one))
+
+    pub feeds_step : (t : Shared H) (bytes : List ℕ) (result : Result ℕ StepFault) → comes.Feeds bytes result k l s t → Feeds n bytes (gateway_of s es opened tally) (gateway_of t fs opened tally) result
+    feeds_step t bytes result f = there k l f.jobs (sym found) f.takes (moves_for t tally)
+        (rest_is s t fs (s.jobs.jobs ++ f.jobs) opened tally f.rest.plans_are f.rest.moment_is f.rest.others.contexts.drained_is f.rest.jobs_are)
+
+    pub hangs_step : (t : Shared H) (result : Result ⊤ StepFault) → HangsUp k l result → LeavesRest [] k l s t → t.begun ≡ s.begun → HangsUpAt n (gateway_of s es opened tally) (gateway_of t fs opened tally) result
+    hangs_step t result h rest begun = there k l (sym found) h (moves_for t tally) (quiet_is s t k l fs opened tally rest begun)
+
+    pub reply_step : (reply : Option ReplyValue) → TakesReply k l reply → TakesReplyAt n (gateway_of s es opened tally) (gateway_of s fs opened tally) reply
+    reply_step reply h = there k l (sym found) h (moves_for s tally) refl
+
+  -- ---- one that may be gone
+
+  tied_left_at : (n : ℕ) (l : HeldConnection) (b : Bool) → is_gone l ≡ b → (x : HookedContexts H) → l.number ≡ n → Holds l → IsTied none_over l x → TiedAt none_over n (left_of l) x
+  tied_left_at n l true gone x its holds tied = subst (λ o. TiedAt none_over n o x) (sym (left_none l gone))
+      (subst (λ m. own_contexts m x.standing ≡ contexts_value x.standing.drained [] []) its (gone_tied none_over l x (gone_closed l gone) (holds.dead (ap (λ b. b || l.broken) (gone_closed l gone))) tied))
+  tied_left_at n l false stays x its holds tied = subst (λ o. TiedAt none_over n o x) (sym (left_there l stays)) tied
+
+  -- one connection made a step, and is taken out where nothing comes back to it
+  module _ {s : Shared H} {es fs gs : Conns} {opened open_now : ℕ} {tally : Tally} (w : IsWhole s es opened open_now tally) (n : ℕ) (k l : HeldConnection) (found : Some k ≡ held_at n es)
+      (set : fs ≡ set_value (is_at (nat_cmp n)) es l) (left : IsWithout (is_gone l) n fs gs) where
+    pub moves_left : (u : Shared H) (after : Tally) → Moves n (left_of l) (gateway_of s es opened tally) (gateway_of u gs opened after)
+    moves_left u after = by (is_gone l) refl left
+      where
+        by : (b : Bool) → is_gone l ≡ b → IsWithout b n fs gs → Moves n (left_of l) (gateway_of s es opened tally) (gateway_of u gs opened after)
+        by true gone (removed, updates, sorted) = subst (λ o. Moves n o (gateway_of s es opened tally) (gateway_of u gs opened after)) (sym (left_none l gone))
+            (moved_out n k l (gateway_of s es opened tally) (gateway_of u gs opened after) fs (sym found) set removed updates sorted)
+        by false stays same = subst (λ o. Moves n o (gateway_of s es opened tally) (gateway_of u gs opened after)) (sym (left_there l stays))
+            (moved_set n k l (gateway_of s es opened tally) (gateway_of u gs opened after) (sym found) (same ∙ set) w.serving.sorted)
+
+    pub left_whole : (t : Shared H) (jobs : List JobValue) (after : Tally) (open_then : ℕ) → LeavesRest jobs k l s t → IsTied none_over l t.contexts → l.number ≡ k.number → Holds l
+        → open_then + one_if_open k ≡ open_now + one_if_open l → IsServing (gateway_of t gs opened after) → IsWhole t gs opened open_then after
+    left_whole t jobs after open_then rest tied number holds opens serving =
+        let its : l.number ≡ n = number ∙ its_number w n k found in
+        let sums = waits_left n k l es fs gs found set (is_gone l) refl left holds in
+        let found_in : open_in (held_at n es) ≡ one_if_open k = ap open_in (sym found) in
+        let left_in = open_left l (is_gone l) refl in
+        whole_moved s t es gs opened opened open_now open_then tally after n (left_of l) w serving (moves_left t after)
+        (subst (λ m. LeavesOthers m s.contexts t.contexts) (its_number w n k found) rest.others)
+        (tied_left_at n l (is_gone l) refl t.contexts its holds tied)
+        (omega (arith, sums, rest.waits, w.fit.waits)) rest.moment_is (omega (arith, found_in, left_in, opens))
+
+  -- ---- results
+
+  module _ {s t : Shared H} {es fs : Conns} {opened open_now : ℕ} {tally after : Tally} (w : IsWhole s es opened open_now tally) (id : CallId) (branch : ℕ) (took : Took) (k l : HeldConnection)
+      (found : Some k ≡ held_at id.conn es) (moves : Moves id.conn (left_of l) (gateway_of s es opened tally) (gateway_of t fs opened after))
+      (tallies : Tallies took.seen (gateway_of s es opened tally) (gateway_of t fs opened after)) where
+    pub results_step : (outcome : Outcome) → TakesFrom id.request branch outcome took k l s t → t.begun ≡ s.begun → Results id branch outcome (gateway_of s es opened tally) (gateway_of t fs opened after) took
+    results_step outcome f begun = there k l f.jobs (sym found)
+        (subst (λ n. TakesResult s.moment (call_id n id.request) branch outcome k l f.jobs took) (its_number w id.conn k found) f.takes) moves tallies
+        (rest_is s t fs (s.jobs.jobs ++ f.jobs) opened after f.rest.plans_are f.rest.moment_is f.rest.others.contexts.drained_is f.rest.jobs_are
+        ∙ ap (λ b. gateway_value s.plans s.moment s.contexts.standing.drained fs (s.jobs.jobs ++ f.jobs) opened b after) begun)
+
+    pub starves_step : TakesStarved (call_id k.number id.request) branch k l took → LeavesRest [] k l s t → t.begun ≡ s.begun → Starves id branch (gateway_of s es opened tally) (gateway_of t fs opened after) took
+    starves_step f rest begun = there k l (sym found)
+        (subst (λ n. TakesStarved (call_id n id.request) branch k l took) (its_number w id.conn k found) f) moves tallies (quiet_is s t k l fs opened after rest begun)
+
+  -- ---- closings
+
+  pub closes_step : (s t : Shared H) (es fs : Conns) (opened : ℕ) (tally : Tally) (n : ℕ) (k : HeldConnection) → Some k ≡ held_at n es → k.closed ≡ false
+      → Moves n (left_of (closed_held k)) (gateway_of s es opened tally) (gateway_of t fs opened tally) → LeavesRest [] k (closed_held k) s t → t.begun ≡ s.begun
+      → Closes n (gateway_of s es opened tally) (gateway_of t fs opened tally) true
+  closes_step s t es fs opened tally n k found still moves rest begun = closes k (sym found) still refl moves (quiet_is s t k (closed_held k) fs opened tally rest begun)
+
+  -- one that is open is counted
+  pub one_open : (s : Shared H) (es : Conns) (opened open_now : ℕ) (tally : Tally) (n : ℕ) (k : HeldConnection) → IsWhole s es opened open_now tally → Some k ≡ held_at n es → k.closed ≡ false → 1 ≤ open_now
+  one_open s es opened open_now tally n k w found still =
+      let counted = sum_holds one_if_open n k es (sym found) in
+      let one : one_if_open k ≡ 1 = ap (λ b. if b then 0 else 1) still in
+      omega (arith, counted, one, w.open_is)

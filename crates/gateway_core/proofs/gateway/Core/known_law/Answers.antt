@@ -1,0 +1,5 @@
+use Rattle.gateway_theory.specs.lemmas.Laws.{known}
+use Rattle.gateway_core.proofs.gateway.Core.known_law.Goals as goal
+
+pub returns : goal.returns
+returns g c = record { known = known c.args.self.now }

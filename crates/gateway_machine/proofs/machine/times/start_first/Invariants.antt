@@ -1,6 +1,0 @@
-use Rattle.std.proofs.Common.{◌≡◌}
-use Rattle.gateway_machine.specs.Linked.{first_started}
-use Rattle.gateway_machine.proofs.machine.times.start_first.Given as goal
-
-abbrev pub invariant-loop-branch : goal.invariant-loop-branch
-invariant-loop-branch g l = (l.contexts.standing ≡ first_started l.id l.moment l.asked.plan l.branch l.fn.contexts.standing) × (l.contexts.stocks ≡ l.fn.contexts.stocks)

@@ -1,5 +1,0 @@
-pub mod KeptCall
-pub mod Comes
-pub mod Linked
-pub mod Ended
-pub mod Calls
